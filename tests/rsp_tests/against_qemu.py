@@ -33,7 +33,7 @@ from typing import Counter, List, Sequence, Set, Tuple, Union
 
 from rsp_conformance.table import ROWS, destination, word_of
 from rsp_tests.common.arguments import add_program, reader
-from rsp_tests.common.processes import lacking
+from lib.processes import lacking
 
 CODE = 0x4000  # QEMU's address of the block: a multiple of 4096
 SAVED = 0x1000  # where QEMU's end of a block puts the registers, after the data

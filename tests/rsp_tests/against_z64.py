@@ -14,8 +14,8 @@ from pathlib import Path
 from typing import Any, Dict, List, Optional
 
 from rsp_conformance import play
-from rsp_tests import TOP
-from rsp_tests.common import z64
+from lib import TOP
+from lib import z64
 from rsp_tests.common.arguments import reader
 
 SHOWN = 3

@@ -20,9 +20,9 @@ import time
 from pathlib import Path
 from typing import Any, Dict, List, Optional, Set
 
-from rsp_tests import TOP
+from lib import TOP
 from rsp_tests.common.arguments import reader
-from rsp_tests.common.processes import counts_of, lacking
+from lib.processes import counts_of, lacking
 from rsp_tests.parts import LIBRARY, PARTS, Part
 
 NAMES = [it.name for it in PARTS]

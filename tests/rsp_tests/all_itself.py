@@ -16,9 +16,9 @@ import time
 from pathlib import Path
 from typing import Any, Dict, List, Tuple
 
-from rsp_tests import TOP
+from lib import TOP
 from rsp_tests.common.arguments import reader
-from rsp_tests.common.processes import processes_in, run
+from lib.processes import processes_in, run
 from rsp_tests.common.report import Report
 from rsp_tests.parts import PARTS
 

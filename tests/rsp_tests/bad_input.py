@@ -14,9 +14,9 @@ import tempfile
 from pathlib import Path
 from typing import Iterator, List, Optional, Tuple
 
-from rsp_tests import TESTS
+from lib import TESTS
 from rsp_tests.common.arguments import add_program, reader
-from rsp_tests.common.program import complaints, content, ended, wrong
+from lib.program import complaints, content, ended, wrong
 from rsp_tests.common.report import Report
 
 LONGEST = 1_048_576

@@ -18,9 +18,9 @@ from concurrent.futures import ThreadPoolExecutor
 from pathlib import Path
 from typing import Callable, List, Optional, Set, Tuple, Union
 
-from rsp_tests import TOP
+from lib import TOP
 from rsp_tests.common.arguments import reader
-from rsp_tests.common.processes import need, processes_in
+from lib.processes import need, processes_in
 from rsp_tests.common.report import Report, leave_out
 
 CRATES = """# tiny crates

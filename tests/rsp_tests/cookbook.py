@@ -13,10 +13,10 @@ from fractions import Fraction
 from random import Random
 from typing import Iterator, List, Tuple
 
-from rsp_tests import TOP
+from lib import TOP
 from rsp_tests.common.arguments import add_program, reader
 from rsp_tests.common.cases import unless
-from rsp_tests.common.numbers import clamped, edged, fixed, halves, packed
+from lib.numbers import clamped, edged, fixed, halves, packed
 from rsp_tests.common.report import Report
 
 ROUNDS = 20

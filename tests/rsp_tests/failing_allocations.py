@@ -15,11 +15,11 @@ import tempfile
 from pathlib import Path
 from typing import Dict, Iterator, List, Optional, Sequence, Tuple
 
-from rsp_tests import TESTS, TOP
-from rsp_tests.common import failing
+from lib import TESTS, TOP
+from lib import failing
 from rsp_tests.common.arguments import PROGRAM, absolute, reader
-from rsp_tests.common.processes import need
-from rsp_tests.common.program import need_binary
+from lib.processes import need
+from lib.program import need_binary
 from rsp_tests.common.report import Report
 
 NAME = "tests/part failing-allocations"

@@ -15,12 +15,12 @@ import re
 import sys
 from typing import Any, Dict, Iterator, List, Match, NamedTuple, Optional, Set, Tuple
 
-from rsp_tests import TESTS, TOP
+from lib import TESTS, TOP
 from rsp_tests.common.arguments import reader
 from rsp_tests.common.cases import Case, compared, unless
-from rsp_tests.common.crates import crates
-from rsp_tests.common.definitions import rests_on
-from rsp_tests.common.pages import page, tables
+from lib.crates import crates
+from lib.definitions import rests_on
+from lib.pages import page, tables
 from rsp_tests.common.report import Report
 
 PAGE = "docs/CONTRACTS.md"

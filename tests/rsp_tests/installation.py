@@ -18,13 +18,13 @@ import tempfile
 from pathlib import Path
 from typing import Dict, Optional, Set, Tuple
 
-from rsp_tests import TESTS, TOP
+from lib import TESTS, TOP
 from rsp_tests.common.arguments import LIBRARY, need_library, reader
-from rsp_tests.common.cmake import LOCKSTEP, SAID, test_cmake
-from rsp_tests.common.pages import page
-from rsp_tests.common.processes import Ended, lacking, need, run
+from lib.cmake import LOCKSTEP, SAID, test_cmake
+from lib.pages import page
+from lib.processes import Ended, lacking, need, run
 from rsp_tests.common.report import Report, is_left_out, leave_out
-from rsp_tests.common.symbols import OLDEST, needs
+from lib.symbols import OLDEST, needs
 from rsp_tests.common.workshop import Workshop
 
 NAME = "tests/part installation"

@@ -16,7 +16,7 @@ from typing import Iterator
 from rsp_conformance import table
 from rsp_tests.common.arguments import add_program, reader
 from rsp_tests.common.cases import Case, compared, search
-from rsp_tests.common.pages import data, names_of, page, tables
+from lib.pages import data, names_of, page, tables
 from rsp_tests.common.report import Report
 
 # What selects an instruction, in the words of docs/data: the bits that all such instructions share, the

@@ -12,11 +12,11 @@ import re
 import sys
 from typing import Dict, Iterator
 
-from rsp_tests import TOP
+from lib import TOP
 from rsp_tests.common.arguments import reader
 from rsp_tests.common.cases import Case, compared, unless
-from rsp_tests.common.definitions import rests_on
-from rsp_tests.common.pages import page
+from lib.definitions import rests_on
+from lib.pages import page
 from rsp_tests.common.report import Report
 from rsp_tests.part import modules
 

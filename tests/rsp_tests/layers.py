@@ -16,11 +16,11 @@ import textwrap
 from pathlib import Path
 from typing import Dict, Iterator, List, Set, Tuple
 
-from rsp_tests import TOP
+from lib import TOP
 from rsp_tests.common.arguments import reader
 from rsp_tests.common.cases import Case, compared
-from rsp_tests.common.crates import crates
-from rsp_tests.common.pages import page
+from lib.crates import crates
+from lib.pages import page
 from rsp_tests.common.report import Report
 
 PICTURE, PAGE = TOP / "docs/crates.svg", "docs/ARCHITECTURE.md"

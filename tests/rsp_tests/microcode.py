@@ -19,10 +19,10 @@ from pathlib import Path
 from random import Random
 from typing import Callable, Dict, Iterator, List, NamedTuple, Optional, Sequence, Set, Tuple
 
-from rsp_tests import TOP
+from lib import TOP
 from rsp_tests.common.arguments import add_program, reader
 from rsp_tests.common.cases import Case, search, unless
-from rsp_tests.common.numbers import clamped, edged, fixed, halves, packed, signed
+from lib.numbers import clamped, edged, fixed, halves, packed, signed
 from rsp_tests.common.report import Report
 
 ROUNDS = 25

@@ -17,12 +17,12 @@ import time
 from pathlib import Path
 from typing import Iterator, List, Optional, Sequence, Set, Tuple
 
-from rsp_tests import TOP
+from lib import TOP
 from rsp_tests.common.arguments import reader
-from rsp_tests.common.pages import block_with, page
-from rsp_tests.common.processes import run
+from lib.pages import block_with, page
+from lib.processes import run
 from rsp_tests.common.report import Report, leave_out
-from rsp_tests.common.user import User
+from lib.user import User
 from rsp_tests.parts import PARTS
 
 PAGES = """

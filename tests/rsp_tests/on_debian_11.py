@@ -10,7 +10,7 @@ import tempfile
 from pathlib import Path
 
 from rsp_tests.common.arguments import reader
-from rsp_tests.common.processes import need, run
+from lib.processes import need, run
 
 NAME = "tests/part on-debian-11"
 MIRROR = "http://deb.debian.org/debian"

@@ -35,16 +35,16 @@ from rsp_conformance import bench, programs
 from rsp_conformance.play import short
 from rsp_conformance.table import ROWS
 from rsp_conformance.vectors import VECTORS, entries_in, manifest_in, names_in
-from rsp_tests import TOP, part
+from lib import TOP, part
 from rsp_tests.common.arguments import add_program, reader
 from rsp_tests.common.cases import Case, search, unless
-from rsp_tests.common.idioms import idiom_cases
+from lib.idioms import idiom_cases
 from rsp_tests.common.lengths import length_cases
-from rsp_tests.common.pages import anchor, answered, block_with, blocks, data, listing
-from rsp_tests.common.pages import page, replies, tables, transcripts, words_of
+from lib.pages import anchor, answered, block_with, blocks, data, listing
+from lib.pages import page, replies, tables, transcripts, words_of
 from rsp_tests.common.report import Report, is_left_out
-from rsp_tests.common.rules import rule_cases
-from rsp_tests.common import worked
+from lib.rules import rule_cases
+from lib import worked
 
 MADE = {"instructions": "docs/ROWS.md", "commands": "docs/SCRIPT.md", "faults": "docs/FAULTS.md"}
 OF_VECTORS = "conformance/README.md"

@@ -12,7 +12,7 @@ import sys
 from pathlib import Path
 from typing import Dict
 
-from rsp_tests import TOP
+from lib import TOP
 from rsp_tests.parts import PARTS
 
 HERE = Path(__file__).resolve().parent

@@ -18,10 +18,10 @@ import threading
 from pathlib import Path
 from typing import Any, Callable, Container, Iterator, List, NamedTuple, Optional, Tuple
 
-from rsp_tests.common import failing
+from lib import failing
 from rsp_tests.common.arguments import PROGRAM, absolute, reader
-from rsp_tests.common.processes import is_here, lacking
-from rsp_tests.common.program import ended, need_binary, wrong
+from lib.processes import is_here, lacking
+from lib.program import ended, need_binary, wrong
 from rsp_tests.common.report import Report, leave_out
 
 SIZE = 4096

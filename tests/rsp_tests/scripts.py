@@ -22,10 +22,10 @@ import threading
 from pathlib import Path
 from typing import Any, Dict, Iterable, Iterator, List, Mapping, NamedTuple, Optional, Tuple
 
-from rsp_tests import TESTS, TOP
+from lib import TESTS, TOP
 from rsp_tests.common.arguments import add_program, reader
-from rsp_tests.common.processes import is_here, run
-from rsp_tests.common.program import complaints, content, ended, unlike, wrong
+from lib.processes import is_here, run
+from lib.program import complaints, content, ended, unlike, wrong
 from rsp_tests.common.report import Report, leave_out
 
 LONGEST_IMAGE = 8388608

@@ -11,7 +11,7 @@ import shutil
 import sys
 
 from rsp_tests.common.arguments import PROGRAM, reader
-from rsp_tests.common.processes import counts_of, lacking, run
+from lib.processes import counts_of, lacking, run
 from rsp_tests.common.report import Report
 
 OUT = PROGRAM.parent

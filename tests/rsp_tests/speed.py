@@ -28,10 +28,10 @@ import tempfile
 from pathlib import Path
 from typing import Callable, Dict, Iterable, List, Sequence, Tuple
 
-from rsp_tests import TESTS, TOP
-from rsp_tests.common import z64
+from lib import TESTS, TOP
+from lib import z64
 from rsp_tests.common.arguments import PROGRAM, add_program, reader
-from rsp_tests.common.processes import need, run
+from lib.processes import need, run
 
 SHORT, LONG = 100_000, 500_000
 ROUNDS = (6_000, 30_000)  # on z64

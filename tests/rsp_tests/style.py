@@ -12,9 +12,9 @@ import tempfile
 from pathlib import Path
 from typing import Any, List, Sequence, Tuple, Union
 
-from rsp_tests import TOP
+from lib import TOP
 from rsp_tests.common.arguments import reader
-from rsp_tests.common.processes import run
+from lib.processes import run
 from rsp_tests.common.report import Report, is_left_out
 from rsp_tests.plugin.bench import HEADERS, MIPS
 from rsp_tools.systems.program import definitions

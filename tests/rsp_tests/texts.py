@@ -23,11 +23,11 @@ import tempfile
 from pathlib import Path
 from typing import Iterator, List, Optional, Sequence, Tuple
 
-from rsp_tests import TOP
+from lib import TOP
 from rsp_tests.common.arguments import add_program, reader
 from rsp_tests.common.cases import Case, unless
-from rsp_tests.common.numbers import clamped, halves
-from rsp_tests.common.pages import block_with, replies
+from lib.numbers import clamped, halves
+from lib.pages import block_with, replies
 from rsp_tests.common.report import Report
 
 Ended = subprocess.CompletedProcess

@@ -17,11 +17,11 @@ from pathlib import Path
 from typing import Dict, Iterator, List, Tuple
 
 from rsp_conformance.table import FORMS, ROWS, word_of
-from rsp_tests import TOP
+from lib import TOP
 from rsp_tests.common.arguments import add_program, reader
 from rsp_tests.common.cases import search
-from rsp_tests.common.pages import blocks_of
-from rsp_tests.common.processes import Ended, run
+from lib.pages import blocks_of
+from lib.processes import Ended, run
 from rsp_tests.common.report import Report
 from rsp_tools import build
 from rsp_tools.theorem.instructions import instruction_of

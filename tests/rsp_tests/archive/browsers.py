@@ -7,9 +7,9 @@ from pathlib import Path
 from typing import Iterator, Set
 
 from rsp_tests.archive.unpacked import Archive
-from rsp_tests.common.cmake import SAID as LOCKSTEP
-from rsp_tests.common.pages import page
-from rsp_tests.common.processes import lacking
+from lib.cmake import SAID as LOCKSTEP
+from lib.pages import page
+from lib.processes import lacking
 from rsp_tests.common.report import leave_out
 from rsp_tests.embedding.javascript import OPTIONS, USE
 from rsp_tests.systems import node

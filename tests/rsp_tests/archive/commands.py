@@ -9,12 +9,12 @@ import shutil
 from pathlib import Path
 from typing import Iterator, List, NamedTuple, Tuple
 
-from rsp_tests import TOP
+from lib import TOP
 from rsp_tests.archive.typed import WAYS, Way
-from rsp_tests.common.pages import cells_of, matches
-from rsp_tests.common.processes import run
+from lib.pages import cells_of, matches
+from lib.processes import run
 from rsp_tests.common.report import Report, leave_out
-from rsp_tests.common.user import User
+from lib.user import User
 
 # Programs that a line of commands begins with. A file of the repository that can be run is one, too.
 PROGRAMS = frozenset(

@@ -11,10 +11,10 @@ from pathlib import Path
 from typing import Dict, NamedTuple, Tuple, Type
 
 from rsp_tests.archive.unpacked import Archive
-from rsp_tests.common.cmake import PROJECT
-from rsp_tests.common.cmake import SAID as LOCKSTEP
-from rsp_tests.common.pages import page
-from rsp_tests.common.processes import Ended, lacking
+from lib.cmake import PROJECT
+from lib.cmake import SAID as LOCKSTEP
+from lib.pages import page
+from lib.processes import Ended, lacking
 from rsp_tests.common.report import leave_out
 from rsp_tests.systems.runners import Arm, Runner, Windows
 from rsp_tests.systems.rust import TESTED, rust_for

@@ -30,16 +30,16 @@ import zipfile
 from pathlib import Path
 from typing import Callable, List, Sequence, Tuple
 
-from rsp_tests import TOP
+from lib import TOP
 from rsp_tests.archive import commands, systems
 from rsp_tests.archive.unpacked import BARE, Archive, test_links, test_sums, unpacked
 from rsp_tests.common.arguments import reader
-from rsp_tests.common.cmake import SAID as LOCKSTEP
-from rsp_tests.common.cmake import test_cmake
-from rsp_tests.common.pages import page
-from rsp_tests.common.processes import lacking, run
+from lib.cmake import SAID as LOCKSTEP
+from lib.cmake import test_cmake
+from lib.pages import page
+from lib.processes import lacking, run
 from rsp_tests.common.report import Report, leave_out
-from rsp_tests.common.symbols import OLDEST, needs
+from lib.symbols import OLDEST, needs
 
 OBJECT = TOP / "crates/rsp_main/out/rsp_main.o"
 PLUGIN = "plugin/mupen64plus-rsp-proved.so"

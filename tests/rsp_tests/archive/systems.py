@@ -15,7 +15,7 @@ from rsp_tools.systems import packages
 from rsp_tools.systems.toolchain import llvm
 from rsp_tests.archive import browsers, cross
 from rsp_tests.archive.unpacked import Archive, test_links, test_sums, unpacked
-from rsp_tests.common.processes import lacking, run
+from lib.processes import lacking, run
 from rsp_tests.common.report import Report, leave_out
 from rsp_tests.systems import files, macos, rust
 from rsp_tests.systems.counts import Counts

@@ -2,7 +2,7 @@
 
 from typing import NamedTuple, Tuple
 
-from rsp_tests.common.pages import block_with, page
+from lib.pages import block_with, page
 
 
 class Way(NamedTuple):

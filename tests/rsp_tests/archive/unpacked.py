@@ -9,8 +9,8 @@ import zipfile
 from pathlib import Path
 from typing import Any, Optional, Set
 
-from rsp_tests.common.pages import anchor
-from rsp_tests.common.processes import Ended
+from lib.pages import anchor
+from lib.processes import Ended
 from rsp_tests.common.report import Report
 from rsp_tests.common.workshop import Workshop
 

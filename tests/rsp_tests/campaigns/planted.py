@@ -28,7 +28,7 @@ from rsp_conformance.campaign.task import check
 from rsp_conformance.steps import Entry
 from rsp_conformance.table import ROWS
 from rsp_conformance.vectors import VECTORS, entries_in
-from rsp_tests import TESTS, TOP
+from lib import TESTS, TOP
 from rsp_tests.common.arguments import need_library, reader
 
 CORE, LIST = TESTS / "campaigns/second.c", TESTS / "campaigns/bugs.tsv"

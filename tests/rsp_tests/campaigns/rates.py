@@ -19,7 +19,7 @@ from rsp_conformance.campaign.build import built
 from rsp_conformance.campaign.child import BATCH, check_cases
 from rsp_conformance.campaign.emulators import Object
 from rsp_conformance.campaign.generator import END, INSTRUCTIONS, cases_of, memories_of
-from rsp_tests import TESTS
+from lib import TESTS
 from rsp_tests.common.arguments import need_library, reader
 
 COUNT = 16 * BATCH

@@ -29,9 +29,9 @@ from typing import Any, Callable, Dict, Iterator, List, Tuple
 from rsp_conformance.campaign.shared import PROGRAM, name_of
 from rsp_conformance.cases import signed
 from rsp_conformance.table import ROWS as INSTRUCTIONS
-from rsp_tests import TESTS, TOP
+from lib import TESTS, TOP
 from rsp_tests.common import arguments
-from rsp_tests.common.processes import Ended, run
+from lib.processes import Ended, run
 from rsp_tests.common.report import Report, leave_out
 
 Check = Tuple[str, object, object]  # what, whether it is right, and what was said

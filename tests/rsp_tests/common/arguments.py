@@ -6,7 +6,7 @@ import subprocess
 import sys
 from typing import Optional
 
-from rsp_tests import TOP
+from lib import TOP
 
 PROGRAM = TOP / "crates/rsp_main/out/rsp_main"
 LIBRARY = TOP / "library/c/librsp.a"

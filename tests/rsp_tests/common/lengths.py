@@ -8,7 +8,7 @@ import re
 from pathlib import Path
 from typing import Iterator, List
 
-from rsp_tests import TOP
+from lib import TOP
 from rsp_tests.common.cases import Case, unless
 
 MOST_WORDS = 52_000

@@ -2,7 +2,7 @@
 
 from typing import Iterable, Tuple
 
-from rsp_tests.common.processes import lacking
+from lib.processes import lacking
 
 
 class Report:

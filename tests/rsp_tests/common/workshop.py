@@ -3,8 +3,8 @@
 from pathlib import Path
 from typing import Any, Optional
 
-from rsp_tests import TOP
-from rsp_tests.common.processes import Ended, counts_of, run
+from lib import TOP
+from lib.processes import Ended, counts_of, run
 from rsp_tests.common.report import Report
 
 # The words of a compiler for a program over the library.

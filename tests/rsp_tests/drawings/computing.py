@@ -7,8 +7,8 @@ from typing import Any, Callable, Dict, Iterable, Iterator, List, NamedTuple, Op
 from rsp_conformance import bench
 from rsp_conformance.states import lanes_of
 from rsp_conformance.table import ROWS, word_of
-from rsp_tests.common.numbers import packed, signed
-from rsp_tests.common.worked import FLAGS
+from lib.numbers import packed, signed
+from lib.worked import FLAGS
 from rsp_tests.drawings import svg
 
 Look = Dict[str, Any]

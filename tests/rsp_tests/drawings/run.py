@@ -8,10 +8,10 @@ moves.py draws loads and stores, computing.py the others.
 import sys
 from typing import Dict, Iterator, Tuple
 
-from rsp_tests import TOP
+from lib import TOP
 from rsp_tests.common.arguments import add_program, reader
 from rsp_tests.common.cases import Case, unless
-from rsp_tests.common.pages import tables
+from lib.pages import tables
 from rsp_tests.common.report import Report
 from rsp_tests.drawings import computing, moves
 

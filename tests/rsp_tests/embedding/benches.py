@@ -16,7 +16,7 @@ from typing import Callable, Dict, Iterator, List, Tuple
 import rsp
 from rsp import RspError, Status
 from rsp_tests.common.arguments import PROGRAM
-from rsp_tests.common.program import content, ended
+from lib.program import content, ended
 from rsp_tests.common.report import leave_out
 from rsp_tests.embedding.checks import REPORT, raised, refused, same, see
 from rsp_tests.scripts import image_of, stored, wanted_of

@@ -6,7 +6,7 @@ import json
 import re
 from typing import Any, Dict, List, Set
 
-from rsp_tests import TOP
+from lib import TOP
 from rsp_tests.common.report import is_left_out
 from rsp_tests.common.workshop import Workshop
 from rsp_tests.embedding import shapes

@@ -13,8 +13,8 @@ import tempfile
 from pathlib import Path
 
 import rsp
-from rsp_tests import TOP
-from rsp_tests.common.processes import run
+from lib import TOP
+from lib.processes import run
 from rsp_tests.common.report import is_left_out, leave_out
 from rsp_tests.embedding.checks import REPORT, same, see
 from rsp_tests.embedding.python import copy_of_package

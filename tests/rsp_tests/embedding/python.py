@@ -7,8 +7,8 @@ from importlib.util import find_spec
 from pathlib import Path
 from typing import Dict, List, Optional, Tuple
 
-from rsp_tests import TESTS, TOP
-from rsp_tests.common.pages import blocks, page
+from lib import TESTS, TOP
+from lib.pages import blocks, page
 from rsp_tests.common.report import is_left_out
 from rsp_tests.common.workshop import Workshop
 from rsp_tests.embedding import shapes

@@ -10,7 +10,7 @@ from typing import Any, Dict, List, Tuple
 
 import rsp
 from rsp import routines
-from rsp_tests import TOP
+from lib import TOP
 from rsp_tests.embedding.checks import REPORT, loaded, raised, same, see
 
 SPECS = TOP / "crates/rsp_routines/specs"

@@ -20,10 +20,10 @@ import tempfile
 from pathlib import Path
 from typing import Callable, Dict, List, NamedTuple, Optional, Tuple
 
-from rsp_tests import TESTS, TOP
+from lib import TESTS, TOP
 from rsp_tests.common.arguments import LIBRARY, need_library, reader
-from rsp_tests.common.pages import block_with, page
-from rsp_tests.common.processes import lacking, run
+from lib.pages import block_with, page
+from lib.processes import lacking, run
 from rsp_tests.common.report import Report, is_left_out, leave_out
 from rsp_tests.common.workshop import STRICT, Workshop
 from rsp_tests.embedding import javascript, python, rust, scripts, shapes

@@ -5,7 +5,7 @@ import re
 import shutil
 from typing import Dict
 
-from rsp_tests import TOP
+from lib import TOP
 from rsp_tests.common.report import is_left_out
 from rsp_tests.common.workshop import Workshop
 from rsp_tests.embedding import shapes

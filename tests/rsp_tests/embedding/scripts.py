@@ -3,7 +3,7 @@
 from pathlib import Path
 from typing import Iterator, List
 
-from rsp_tests.common.program import content, ended, wrong
+from lib.program import content, ended, wrong
 from rsp_tests.common.workshop import Workshop
 from rsp_tests.scripts import image_of, stored, wanted_of
 

@@ -4,7 +4,7 @@ import ctypes
 import re
 from typing import Any, Dict, Iterator, List, Mapping, Optional, Tuple, Type
 
-from rsp_tests import TOP
+from lib import TOP
 
 SOURCE = TOP / "crates/rsp_c/src"
 NUMBERS = {

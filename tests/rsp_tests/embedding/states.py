@@ -21,9 +21,9 @@ from typing import Any, Callable, Dict, Iterator, List, Tuple
 
 import rsp
 from rsp import RspError, State
-from rsp_tests import TOP
-from rsp_tests.common.pages import transcripts
-from rsp_tests.common.processes import run
+from lib import TOP
+from lib.pages import transcripts
+from lib.processes import run
 from rsp_tests.common.report import leave_out
 from rsp_tests.embedding import shapes
 from rsp_tests.embedding.checks import REPORT, raised, same, see

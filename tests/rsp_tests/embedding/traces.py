@@ -11,8 +11,8 @@ import sys
 from typing import Dict, Iterator, Tuple, Union
 
 import rsp
-from rsp_tests.common import worked
-from rsp_tests.common.pages import data
+from lib import worked
+from lib.pages import data
 from rsp_tests.embedding.checks import REPORT, same, see
 from rsp_tests.embedding.shapes import groups
 

@@ -7,10 +7,10 @@ import sys
 from pathlib import Path
 from typing import Iterator, List, Optional, Sequence, Tuple
 
-from rsp_tests import TESTS, TOP
-from rsp_tests.common import z64
+from lib import TESTS, TOP
+from lib import z64
 from rsp_tests.common.arguments import LIBRARY
-from rsp_tests.common.processes import run
+from lib.processes import run
 from rsp_tests.common.report import Report
 from rsp_tests.common.workshop import STRICT, Workshop
 

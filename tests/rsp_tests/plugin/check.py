@@ -4,7 +4,7 @@ import re
 import shutil
 from typing import List
 
-from rsp_tests import TOP
+from lib import TOP
 from rsp_tests.common.report import is_left_out
 from rsp_tests.plugin.bench import Z64, Bench, begun, checked, see_played, tasks_of_rom
 from rsp_tests.plugin.interface import DMA

@@ -7,8 +7,8 @@ import subprocess
 from pathlib import Path
 from typing import Any, Dict, Iterator, List
 
-from rsp_tests.common.pages import page
-from rsp_tests.common.processes import run
+from lib.pages import page
+from lib.processes import run
 from rsp_tests.common.report import is_left_out
 from rsp_tests.plugin.bench import CORE, FRONT_END, GRAPHICS, HEADERS, Z64, Bench, results
 

@@ -3,7 +3,7 @@
 import shutil
 from typing import Iterator, List, NamedTuple
 
-from rsp_tests import TOP
+from lib import TOP
 from rsp_tests.common.report import is_left_out
 from rsp_tests.plugin.bench import Bench, begun, shown
 

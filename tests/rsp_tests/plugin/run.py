@@ -17,7 +17,7 @@ import tempfile
 from pathlib import Path
 from typing import Callable, Dict
 
-from rsp_tests import TOP
+from lib import TOP
 from rsp_tests.common.arguments import need_library, reader
 from rsp_tests.common.report import Report
 from rsp_tests.plugin import check, emulator, interface

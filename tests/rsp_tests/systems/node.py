@@ -8,7 +8,7 @@ from typing import List, Set, Tuple
 
 from rsp_tools.systems import header, wasm
 from rsp_tools.systems.toolchain import missing
-from rsp_tests.common.pages import page
+from lib.pages import page
 
 from .counts import Counts
 

@@ -16,7 +16,7 @@ from typing import Dict, Iterator, List, Set, Tuple
 
 from rsp_tests import bad_input, saves, scripts, texts
 from rsp_tests.common.arguments import PROGRAM, reader
-from rsp_tests.common.program import Ended, content, ended
+from lib.program import Ended, content, ended
 from rsp_tools.systems import places, program
 
 from .counts import Counts

@@ -3,7 +3,7 @@
 import re
 from typing import Dict, List, Tuple
 
-from rsp_tests.common.pages import page
+from lib.pages import page
 
 
 def crates() -> Dict[str, Tuple[str, List[str]]]:

@@ -4,8 +4,8 @@ from random import Random
 from typing import Callable, Dict, Iterator, List
 
 from rsp_tests.common.cases import Case, unless
-from rsp_tests.common.numbers import clamped, edged, fixed, packed
-from rsp_tests.common.pages import block_with, replies, tables
+from lib.numbers import clamped, edged, fixed, packed
+from lib.pages import block_with, replies, tables
 
 ROUNDS = 8
 SCALAR = 31  # the vector register whose lane 0 shows the scalar register $1

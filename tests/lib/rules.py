@@ -6,9 +6,9 @@ from typing import Any, Dict, Iterator, List
 from rsp_conformance import bench
 from rsp_conformance.table import ROWS, word_of
 from rsp_tests.common.cases import Case
-from rsp_tests.common.numbers import edged, packed, signed
-from rsp_tests.common.pages import blocks
-from rsp_tests.common.worked import FLAGS
+from lib.numbers import edged, packed, signed
+from lib.pages import blocks
+from lib.worked import FLAGS
 
 ROUNDS = 40  # of eight lanes
 FIELDS = {"e": 0, "vt": 2, "vs": 1, "vd": 3, "de": 0}

@@ -3,9 +3,9 @@
 import shutil
 from pathlib import Path
 
-from rsp_tests import TESTS, TOP
-from rsp_tests.common.pages import page
-from rsp_tests.common.processes import run
+from lib import TESTS, TOP
+from lib.pages import page
+from lib.processes import run
 from rsp_tests.common.workshop import Workshop
 
 PROJECT = TESTS / "installation/CMakeLists.txt"

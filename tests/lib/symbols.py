@@ -4,7 +4,7 @@ import re
 from pathlib import Path
 from typing import List, Tuple
 
-from rsp_tests.common.processes import run
+from lib.processes import run
 
 OLDEST = (2, 17)  # glibc's version of 2012, and that of the wheel's tag, manylinux2014
 

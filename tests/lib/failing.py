@@ -1,19 +1,18 @@
-"""Makes calls of the C library fail in turn: LD_PRELOAD puts those of tests/failing before the others."""
+"""Makes calls of the C library fail in turn: LD_PRELOAD puts those of tests/program/failing before others."""
 
 import os
 from pathlib import Path
 from typing import Iterator, Sequence, Tuple
 
-from rsp_tests import TESTS
-from rsp_tests.common.processes import Ended, run
-from rsp_tests.common.program import ended
+from lib import TESTS
+from lib.processes import Ended, bytes_of, run
 
 
 def library(folder: Path, name: str) -> Path:
     """Builds these calls: `allocations` or `writes`."""
     built = folder / f"{name}.so"
     words = ("-shared", "-fPIC", "-O1", "-U_FORTIFY_SOURCE", "-o", built)
-    run("cc", *words, TESTS / f"failing/{name}.c", check=True)
+    run("cc", *words, TESTS / f"program/failing/{name}.c", check=True)
     return built
 
 
@@ -30,7 +29,7 @@ def runs(
         reading, writing = os.pipe()
         told = {"FAILING": str(number), "LASTING": str(int(lasting)), "TOLD": str(writing)}
         env = {**os.environ, "LD_PRELOAD": str(calls), **told}
-        ran = ended(words[0], words[1:], script, env=env, pass_fds=(writing,))
+        ran = bytes_of(words[0], words[1:], script, env=env, pass_fds=(writing,))
         os.close(writing)
         is_failed = bool(os.read(reading, 1))
         os.close(reading)

@@ -2,13 +2,11 @@
 
 import re
 import subprocess
-import sys
 import tempfile
 from pathlib import Path
 from typing import Dict, Iterable, Iterator, List, Optional, Sequence, Tuple
 
-from rsp_tests import TOP
-from rsp_tests.common.cases import Case
+from lib import TOP
 
 DATA = TOP / "docs/data"
 
@@ -52,8 +50,7 @@ def tables(name: str, heading: str = "") -> Iterator[List[str]]:
     """The lines of a page's tables, or of those below a heading, as cells; without the first two of each."""
     text = page(name)
     found = re.search(rf"(?ms)^{re.escape(heading)}$\n(.*?)(?=^#|\Z)", text)
-    if found is None:
-        sys.exit(f"{name} has no heading `{heading}`\n0 passed, 1 failed")
+    assert found, f"{name} has no heading `{heading}`"
     for table in re.findall(r"(?m)^\|.*\|\n\|[-|]+\|\n((?:\|.*\|\n)+)", found[1] if heading else text):
         yield from map(cells_of, table.splitlines())
 
@@ -61,8 +58,9 @@ def tables(name: str, heading: str = "") -> Iterator[List[str]]:
 def data(name: str) -> List[Dict[str, str]]:
     """The lines of a table of docs/data, each as its cells by the names of the columns."""
     names, *lines = [line.split("\t") for line in (DATA / f"{name}.tsv").read_text().splitlines()]
-    if any(len(cells) != len(names) for cells in lines):
-        sys.exit(f"docs/data/{name}.tsv: a line has not {len(names)} cells\n0 passed, 1 failed")
+    assert {len(cells) for cells in lines} <= {
+        len(names)
+    }, f"docs/data/{name}.tsv: a line has not {len(names)} cells"
     return [dict(zip(names, cells)) for cells in lines]
 
 
@@ -120,7 +118,8 @@ def listing(program: object, text: str, at: str) -> str:
         return said(program, "dis", f"{folder}/words", "--at", at, "--places")
 
 
-def answered(name: str, told: str, wanted: str) -> Case:
-    """A case: whether a reply is as a page has it."""
-    right = matches(told.strip("\n").split("\n"), wanted.strip("\n").split("\n"))
-    return name, [] if right else [f"the page has {wanted!r}, the program says {told!r}"]
+def see_reply(told: str, wanted: str) -> None:
+    """A reply must be as a page has it, `..` being any lines."""
+    assert matches(
+        told.strip("\n").split("\n"), wanted.strip("\n").split("\n")
+    ), f"{wanted!r} is wanted, {told!r} is told"

@@ -4,7 +4,7 @@ import re
 from pathlib import Path
 from typing import Iterator, Optional
 
-from rsp_tests.common.pages import TOP
+from lib import TOP
 
 # A line `use MODULE.{NAME, NAME as OTHER}`, or of a module alone.
 USED = re.compile(r"^(?:ghost |unfoldable )*(pub )?use ([\w.]+?)(?:\.\{(.*?)\}| as \w+)?;?$", re.M)

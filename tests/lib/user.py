@@ -5,7 +5,7 @@ import subprocess
 from pathlib import Path
 from typing import Tuple
 
-from rsp_tests.common.processes import Ended, run
+from lib.processes import Ended, run
 
 NOBODY = 65534
 

@@ -1,0 +1,111 @@
+"""What all tests share: the program and the library under test, a folder, and what a machine may lack.
+
+`tests/all` runs all of them on all processors, `tests/all tests/docs` or `tests/all -k saves` a few: its words
+are pytest's. `pytest tests/program/test_saves.py -k mode` does without tests/all, and `--program PATH` tests
+another program. `pytest --markers` and `pytest --fixtures` say more.
+"""
+
+import os
+import tempfile
+from pathlib import Path
+from typing import Any, Callable, Iterator
+
+import pytest
+
+pytest.register_assert_rewrite("lib")  # before its first import
+
+from lib import TOP  # noqa: E402
+from lib.packages import OTHERS, is_here, without  # noqa: E402
+from lib.program import Ran, ran  # noqa: E402
+from rsp_tools.build import Build  # noqa: E402
+
+LIBRARY = TOP / "library/c"
+WANTED = "nothing to test: "
+
+
+def pytest_addoption(parser: pytest.Parser) -> None:
+    parser.addoption("--program", type=os.path.abspath, help="the program under test (the built one)")
+
+
+def pytest_configure(config: pytest.Config) -> None:
+    # What the tests start has to do without the paths that tools/python may have set.
+    os.environ.pop("PYTHONPATH", None)
+    os.environ.pop("PYTHONSAFEPATH", None)
+    needs = (
+        "needs(tool, ..): skipped where a program, a file or `python:MODULE` isn't, with its Debian package"
+    )
+    config.addinivalue_line("markers", needs)
+
+
+@pytest.hookimpl(optionalhook=True)
+def pytest_xdist_auto_num_workers() -> int:
+    """`-n auto` is a worker for each processor that this process may use."""
+    return len(os.sched_getaffinity(0))
+
+
+def need(*tools: str) -> None:
+    """Skips a test without one of these. With CI=true it fails, unless no package of Debian has the tool."""
+    missing = [it for it in tools if not is_here(it)]
+    if os.environ.get("CI") == "true" and {*missing} - {*OTHERS}:
+        pytest.fail("; ".join(map(without, missing)), pytrace=False)
+    if missing:
+        pytest.skip("; ".join(map(without, missing)))
+
+
+def pytest_runtest_setup(item: pytest.Item) -> None:
+    need(*(tool for mark in item.iter_markers("needs") for tool in mark.args))
+
+
+def stop(request: pytest.FixtureRequest, why: str) -> None:
+    """Fails a test for want of what all others want too, and begins no other."""
+    request.session.shouldfail = why
+    pytest.fail(f"{WANTED}{why}", pytrace=False)
+
+
+@pytest.hookimpl(optionalhook=True)
+def pytest_xdist_node_collection_finished(node: Any) -> None:
+    """The same of xdist, whose workers can't end one another: the first such failure ends them all."""
+    session = node.config.pluginmanager.get_plugin("dsession")
+
+    class First:
+        def pytest_runtest_logreport(self, report: pytest.TestReport) -> None:
+            if report.failed and str(report.longrepr).startswith(WANTED):
+                session.shouldstop = str(report.longrepr)
+
+    if not node.config.pluginmanager.has_plugin("first"):
+        node.config.pluginmanager.register(First(), "first")
+
+
+@pytest.fixture(scope="session")
+def program(request: pytest.FixtureRequest) -> Path:
+    """The program: the built one, if it is built of the sources as they are, or that of --program."""
+    given = request.config.getoption("--program")
+    build = Build("rsp_main")
+    path = Path(given or build.file)
+    if not os.access(path, os.X_OK):
+        stop(request, f"there is no program {path}: type `./rsp run </dev/null`, which builds it")
+    if not given and not build.is_built():
+        stop(request, f"{path} isn't of the sources as they are: type `./rsp run </dev/null`")
+    return path
+
+
+@pytest.fixture(scope="session")
+def library(request: pytest.FixtureRequest) -> Path:
+    """The folder of the C library, built of the sources as they are."""
+    if not (LIBRARY / "librsp.so").is_file() or not Build("rsp_c").is_built():
+        stop(request, f"{LIBRARY} has no library of the sources as they are: type `library/c/build`")
+    return LIBRARY
+
+
+@pytest.fixture
+def folder() -> Iterator[Path]:
+    """A folder that other users may read, and that is gone afterwards (tmp_path is neither)."""
+    with tempfile.TemporaryDirectory() as name:
+        Path(name).chmod(0o755)
+        yield Path(name)
+
+
+@pytest.fixture
+def rsp(program: Path, folder: Path) -> Callable[..., Ran]:
+    """Runs the program with some words in the test's folder."""
+    return lambda *words, script=b"", **how: ran(program, words, script, **{"cwd": folder, **how})

@@ -1,0 +1,62 @@
+"""The tools and files that tests need, with the Debian packages that have them."""
+
+import importlib.util
+import os
+import re
+import shutil
+import subprocess
+import sys
+
+from lib import TOP
+
+# Debian's package of a tool, if it has another name, or of a file or a module of Python.
+PACKAGES = {
+    "c++": "g++",
+    "cc": "gcc",
+    "mips-linux-gnu-gcc": "gcc-mips-linux-gnu",
+    "qemu-mips": "qemu-user",
+    "qemu-x86_64": "qemu-user",
+    "x86_64-w64-mingw32-gcc": "gcc-mingw-w64-x86-64",
+    "cargo-clippy": "rust-clippy",
+    "ar": "binutils",
+    "nm": "binutils",
+    "objdump": "binutils",
+    "objcopy": "binutils",
+    "dot": "graphviz",
+    "Xvfb": "xvfb",
+    "node": "nodejs",
+    "tsc": "node-typescript",
+    "/usr/include/mupen64plus": "libmupen64plus-dev",
+    "/usr/lib/x86_64-linux-gnu/libmupen64plus.so.2": "libmupen64plus2",
+    "/usr/games/mupen64plus": "mupen64plus-ui-console",
+    "/usr/lib/x86_64-linux-gnu/mupen64plus/mupen64plus-video-z64.so": "mupen64plus-video-z64",
+    "/usr/lib/x86_64-linux-gnu/mupen64plus/mupen64plus-rsp-z64.so": "mupen64plus-rsp-z64",
+}
+# What no package of Debian gives, with what is said of it.
+OTHERS = {
+    "rt": "there is no `rt`, the Rattle kit (README.md)",
+    "clean-tree": "the work tree differs from its commit",
+}
+
+
+def is_here(tool: str) -> bool:
+    """Whether a program, a file (with a slash) or a module of this Python (`python:NAME`) is here."""
+    if tool == "clean-tree":
+        words = ["git", "-C", str(TOP), "status", "--porcelain"]
+        return not subprocess.run(words, stdout=subprocess.PIPE).stdout
+    if tool.startswith("python:"):
+        return importlib.util.find_spec(tool[7:]) is not None
+    return os.path.exists(tool) if "/" in tool else shutil.which(tool) is not None
+
+
+def without(tool: str) -> str:
+    """That a tool isn't here, and which package has it."""
+    module = re.sub("^python:", "", tool)
+    if module != tool:
+        return f"{sys.executable} has no {module} (Debian's package python3-{module})"
+    return OTHERS.get(tool, f"there is no {tool} (Debian's package {PACKAGES.get(tool, tool)})")
+
+
+def lacking(*needed: object) -> str:
+    """What is said of those of these tools and files that aren't here; nothing if all are."""
+    return "; ".join(without(it) for it in map(str, needed) if not is_here(it))

@@ -1,0 +1,178 @@
+"""Hostile scripts, texts, files and streams."""
+
+import random
+import re
+import subprocess
+from pathlib import Path
+from typing import Any, Iterator, List, Optional
+
+import pytest
+
+from lib import TESTS
+from lib.program import content
+
+LONGEST = 1_048_576
+STOP = re.compile(rb"stop (Reserved|Halted|Limit) steps (\d+) pc [0-9a-f]{3}")
+TOO_LONG = b"rsp: fault 42 ScriptTooLong\n"
+
+
+def random_images(seed: int, count: int) -> Iterator[bytes]:
+    """Random contents of IMEM: half of any words, half of words whose opcodes the machine knows."""
+    chance = random.Random(seed)
+    opcodes = [0, 1, 2, 3, 4, 5, 8, 13, 15, 16, 18, 18, 18, 32, 35, 40, 43, 50, 58]
+    for number in range(count):
+        words = [chance.getrandbits(32) for _ in range(1024)]
+        if number % 2:
+            words = [chance.choice(opcodes) << 26 | word & 0x3FFFFFF for word in words]
+        yield b"".join(word.to_bytes(4, "big") for word in words)
+
+
+@pytest.mark.parametrize("seed", range(4))
+def test_random_code_is_run(seed: int, rsp: Any) -> None:
+    """64 images, each for 10,000 steps. A line has room for some 120 bytes."""
+    lines: List[str] = []
+    for image in random_images(seed, 64):
+        lines += [f"load imem {at} {image[at : at + 64].hex()}" for at in range(0, len(image), 64)]
+        lines += ["pc 0", "write 4 1", "run 10000"]
+    ran = rsp("run", script="\n".join([*lines, ""]).encode())
+    assert (ran.status, ran.errors) == (0, b"")
+    stops = [STOP.fullmatch(it) for it in ran.output.splitlines() if it.startswith(b"stop")]
+    assert len(stops) == 64 and all(stop and int(stop[2]) <= 10000 for stop in stops)
+
+
+@pytest.mark.parametrize("seed", range(4))
+def test_random_words_come_back(seed: int, rsp: Any, folder: Path) -> None:
+    for image in random_images(seed, 64):
+        (folder / "image").write_bytes(image)
+        (folder / "source").write_bytes(rsp("dis", "image").output)
+        rsp("asm", "source", "words")
+        assert content(folder / "words") == image
+
+
+# What a last line is answered that breaks off inside a number and is a command all the same: the script, the
+# line's place in it and its text. The replies were worked by hand.
+SHORTER_NUMBERS = {
+    ("blocks/block", 6, b"mem imem 0 1"): b"000000: 24\n",
+    ("runs/watch", 2, b"run 1"): b"stop Limit steps 1 pc 004\n",
+    ("runs/watch", 2, b"run 10"): b"stop Watch 0 steps 2 pc 008\n",
+    ("runs/watch", 3, b"run 1"): b"stop Limit steps 1 pc 00c\n",
+    ("runs/watch", 3, b"run 10"): b"stop Halted steps 2 pc 010\n",
+    ("registers/task-run", 3, b"task 0"): b"ok\n",
+    ("registers/task-run", 3, b"task 0x"): b"fault 31 BadNumber\n",
+    ("registers/task-run", 3, b"task 0x4"): b"fault 4 TaskPlace\n",
+    ("registers/task-run", 5, b"run 1"): b"stop Limit steps 1 pc 004\n",
+}
+
+
+def cut_reply(name: str, place: int, cut: bytes, line: bytes) -> bytes:
+    """What the first bytes of a line outside of a block are answered.
+
+    BadCommand until all its words have begun, and then, for the bytes that a load ends with, BadNumber at an
+    odd number of digits. Other last words are in SHORTER_NUMBERS.
+    """
+    if not cut or (name, place, cut) in SHORTER_NUMBERS:
+        return SHORTER_NUMBERS.get((name, place, cut), b"")
+    if len(cut.split()) < len(line.split()):
+        return b"fault 30 BadCommand\n"
+    assert cut.startswith(b"load"), cut
+    return b"fault 31 BadNumber\n" if len(cut.split()[-1]) % 2 else b"ok\n"
+
+
+def prefix_replies(name: str, script: bytes, replies: bytes, length: int) -> bytes:
+    """What the first bytes of a script must print.
+
+    Each of its lines outside of a block, but for `asm`, has one stored reply, and so has the `end` of a
+    block. Lines that are whole, the last one with or without LF, keep theirs. A block that is open at the
+    end, with K lines, is answered `fault 10 BadLine line K+1`; a cut line is one of them.
+    """
+    lines = script.split(b"\n")
+    *whole, cut = script[:length].split(b"\n")
+    if cut and cut == lines[len(whole)]:
+        whole, cut = [*whole, cut], b""
+    answered = 0
+    block: Optional[int] = None
+    for line in whole:
+        if line.startswith(b"asm"):
+            block = 0
+        elif block is not None and line != b"end":
+            block += 1
+        else:
+            answered, block = answered + 1, None
+    told = b"".join(replies.splitlines(keepends=True)[:answered])
+    if block is not None:
+        return told + b"fault 10 BadLine line %d\n" % (block + bool(cut) + 1)
+    return told + cut_reply(name, len(whole), cut, lines[len(whole)] if cut else b"")
+
+
+@pytest.mark.parametrize("name", ("blocks/block", "runs/watch", "registers/task-run"))
+def test_prefixes(name: str, rsp: Any, folder: Path) -> None:
+    """Each prefix of a script gives exactly its replies, which follow from the stored ones."""
+    at = TESTS / "program/scripts" / name
+    script, replies = (at.with_suffix(it).read_bytes() for it in (".script", ".expected"))
+    words = ["run"]
+    if at.with_suffix(".rdram").exists():
+        (folder / "image").write_bytes(bytes(int(at.with_suffix(".rdram").read_text().split()[0])))
+        words += ["--rdram", "image"]
+    for length in range(len(script) + 1):
+        ran = rsp(*words, script=script[:length])
+        assert ran == (0, prefix_replies(name, script, replies, length), b""), f"the first {length} bytes"
+
+
+def test_pipe_that_stays_open(program: Path) -> None:
+    """It is answered at once."""
+    pipe = subprocess.PIPE
+    with subprocess.Popen([program, "run"], stdin=pipe, stdout=pipe) as ran:
+        assert ran.stdin and ran.stdout
+        ran.stdin.write(b"step\n")
+        ran.stdin.flush()
+        assert ran.stdout.readline() == b"step Done pc 004\n"
+        ran.stdin.close()
+        assert ran.wait(120) == 0
+
+
+def test_output_is_closed_early(program: Path) -> None:
+    pipe = subprocess.PIPE
+    with subprocess.Popen([program, "run"], stdin=pipe, stdout=pipe, stderr=pipe) as ran:
+        assert ran.stdin and ran.stdout and ran.stderr
+        ran.stdout.close()
+        try:
+            ran.stdin.write(b"vregs\n" * 1000)
+            ran.stdin.close()
+        except BrokenPipeError:
+            pass
+        assert (ran.stderr.read(), ran.wait(120)) == (b"rsp: fault 41 WriteFault\n", 1)
+
+
+@pytest.mark.parametrize("byte", (b"x", b"\n"), ids=("without LF", "of LF alone"))
+def test_script_too_long(byte: bytes, rsp: Any, folder: Path) -> None:
+    assert rsp("run", "--save", "saved", script=byte * (LONGEST + 1)) == (1, b"", TOO_LONG)
+    assert not (folder / "saved").exists()
+
+
+def test_script_that_never_ends(rsp: Any) -> None:
+    with open("/dev/zero", "rb") as endless:
+        assert rsp("run", stdin=endless) == (1, b"", TOO_LONG)
+
+
+def test_image_is_saved_onto_its_own_file(rsp: Any, folder: Path) -> None:
+    (folder / "image").write_bytes(bytes(64))
+    ran = rsp("run", "--rdram", "image", "--save", "image", script=b"load rdram 60 01020304\n")
+    assert ran == (0, b"ok\n", b"")
+    assert content(folder / "image") == bytes(60) + bytes([1, 2, 3, 4])
+
+
+STEPPED, NO_ROOM = b"step Done pc 004\n", b"rsp: cannot write /dev/full\n"
+FILES = {
+    "a text that never ends": ("asm /dev/zero out", b"", TOO_LONG),
+    "an image that never ends": ("run --rdram /dev/zero", b"", b"rsp: fault 7 SizeFault\n"),
+    "words that never end": ("dis /dev/zero", b"", b"rsp: bad size\n"),
+    "the disk is full": ("run --rdram image --save /dev/full", STEPPED, NO_ROOM),
+    "the disk is full for words": ("asm source /dev/full", b"", NO_ROOM),
+}
+
+
+@pytest.mark.parametrize("words, output, errors", FILES.values(), ids=FILES)
+def test_files(words: str, output: bytes, errors: bytes, rsp: Any, folder: Path) -> None:
+    (folder / "image").write_bytes(bytes(64))
+    (folder / "source").write_bytes(b"nop\n")
+    assert rsp(*words.split(), script=b"step\n") == (1, output, errors)

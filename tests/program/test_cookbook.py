@@ -1,0 +1,216 @@
+"""What the examples of docs/COOKBOOK.md compute, on the program rsp, against mathematics.
+
+Each example is run on its own numbers, and then on random ones that are loaded over them. What has to be
+there is computed from the numbers that went in: from sums, products and divisions, not from the instruction
+table, and not from what the program printed before.
+"""
+
+import math
+import random
+import subprocess
+from fractions import Fraction
+from pathlib import Path
+from random import Random
+from typing import Callable, List, Tuple
+
+import pytest
+
+from lib import TOP
+from lib.numbers import clamped, edged, fixed, halves, packed
+
+ROUNDS = 20
+BANKS = {"dmem": 4096, "rdram": 0x4000}  # as much of them as the examples use
+Loads = List[Tuple[str, int, bytes]]
+FACTORS = [math.sqrt(0.5) / 2] + [0.5] * 7  # of the frequencies of a cosine transform
+
+
+def fixed_at(memory: bytes, high: int, low: int, count: int) -> List[int]:
+    """Numbers whose whole parts are at `high` and whose fractions are at `low`, times 65536."""
+    return fixed(halves(memory, high, count), halves(memory, low, count))
+
+
+class Run:
+    """A run of an example: the memories as it found them, and as it left them."""
+
+    def __init__(self, program: Path, name: str, changes: Loads) -> None:
+        lines = (TOP / "examples" / f"{name}.rsp").read_text().splitlines()
+        last = max(i for i, line in enumerate(lines) if line.startswith("load "))
+        for bank, at, content in changes:
+            pieces = ((at + i, content[i : i + 64]) for i in range(0, len(content), 64))
+            lines[last + 1 : last + 1] = [f"load {bank} {place} {piece.hex()}" for place, piece in pieces]
+        self.before = {bank: bytearray(size) for bank, size in BANKS.items()}
+        for line in lines:
+            words = line.split("#")[0].split()
+            if words[:1] == ["load"] and words[1] in BANKS:
+                content, start = bytes.fromhex(words[3]), int(words[2], 0)
+                self.before[words[1]][start : start + len(content)] = content
+        shown = [f"mem {bank} {at} 256" for bank, size in BANKS.items() for at in range(0, size, 256)]
+        script = "\n".join(lines + shown)
+        ended = subprocess.run([program, "run"], input=script, stdout=subprocess.PIPE, check=True, text=True)
+        rows = ended.stdout.splitlines()[-16 * len(shown) :]
+        found = bytes.fromhex("".join(line.split(": ")[1] for line in rows))
+        self.dmem, self.rdram = found[: BANKS["dmem"]], found[BANKS["dmem"] :]
+
+
+Example = Tuple[Callable[[Random], Loads], Callable[[Run], None]]
+
+
+# Each example: what is loaded over its numbers, as (bank, address, bytes), and what it must have left.
+
+
+def vector_numbers(choose: Random) -> Loads:
+    rows = []
+    for _ in range(4):
+        rows += [choose.choice((0, 1, -1, choose.randrange(-8192, 8192))) for _ in range(8)]
+        rows += [choose.randrange(65536) for _ in range(8)]
+    return [("dmem", 0, packed(rows) + packed(edged(choose) for _ in range(16)))]
+
+
+def see_vector(run: Run) -> None:
+    rows = [fixed_at(run.before["dmem"], 32 * k, 32 * k + 16, 8) for k in range(4)]
+    for pair in (0x080, 0x090):
+        points = halves(run.before["dmem"], pair, 8)
+        sums = [sum(rows[k][lane] * points[lane // 4 * 4 + k] for k in range(4)) for lane in range(8)]
+        wanted = [clamped(number // 65536) for number in sums]
+        assert halves(run.dmem, pair + 32) == wanted, f"pair at {pair:03x}"
+
+
+def fir_numbers(choose: Random) -> Loads:
+    return [("dmem", 0, packed(edged(choose) for _ in range(32)))]
+
+
+def see_fir(run: Run) -> None:
+    taps, samples = halves(run.before["dmem"], 0, 8), halves(run.before["dmem"], 0x10, 24)
+    for n in range(16):
+        exact = sum(Fraction(taps[k], 32768) * samples[n + 8 - k] for k in range(8))
+        wanted = clamped(math.floor(exact + Fraction(1, 2)))
+        assert halves(run.dmem, 96 + 2 * n, 1) == [wanted], f"y[{n}]"
+
+
+def idct_numbers(choose: Random) -> Loads:
+    return [("dmem", 0x80, packed(choose.choice((0, choose.randrange(-4096, 4096))) for _ in range(64)))]
+
+
+def see_idct(run: Run) -> None:
+    for row in range(8):
+        row_of = halves(run.before["dmem"], 0x80 + 16 * row)
+        # A factor is rounded to 1/32768, and the sum to a whole number.
+        most = 0.5 + sum(abs(it) for it in row_of) / 65536 + 1e-6
+        for x, got in enumerate(halves(run.dmem, 0x100 + 16 * row, 8)):
+            angles = ((2 * x + 1) * u * math.pi / 16 for u in range(8))
+            waves = (factor * it * math.cos(angle) for factor, it, angle in zip(FACTORS, row_of, angles))
+            exact = max(-32768, min(32767, sum(waves)))
+            assert got == pytest.approx(exact, rel=0, abs=most), f"row {row}, f[{x}]"
+
+
+def transpose_numbers(choose: Random) -> Loads:
+    return [("dmem", 0, choose.randbytes(128))]
+
+
+def see_transpose(run: Run) -> None:
+    block = [halves(run.before["dmem"], 16 * row, 8) for row in range(8)]
+    for row in range(8):
+        wanted = [block[column][row] for column in range(8)]
+        assert halves(run.dmem, 256 + 16 * row) == wanted, f"row {row}"
+
+
+def perspective_numbers(choose: Random) -> Loads:
+    depths = []
+    for _ in range(8):
+        near, far = (choose.randrange(65536, most * 65536) for most in (4, 64))
+        depths.append(choose.choice((65536, 65537, 32 * 65536, near, far)))
+    points = packed(edged(choose) for _ in range(16))
+    return [("dmem", 0, points + packed(depth >> 16 for depth in depths) + packed(depths))]
+
+
+def see_perspective(run: Run) -> None:
+    """1 / w has sixteen bits of fraction.
+
+    Four products and a doubling that are rounded down leave it right within five of its last bit.
+    """
+    depths = fixed_at(run.before["dmem"], 0x20, 0x30, 8)
+    ones = fixed_at(run.dmem, 0x90, 0xA0, 8)
+    for lane in range(8):
+        inverse = Fraction(65536 * 65536, depths[lane])
+        assert abs(inverse - ones[lane]) <= 5, f"1 / w, lane {lane}"
+    for what, place, result in (("x", 0x00, 0x50), ("y", 0x10, 0x70)):
+        numbers, got = halves(run.before["dmem"], place, 8), fixed_at(run.dmem, result, result + 16, 8)
+        for lane in range(8):
+            exact = Fraction(numbers[lane] * 65536 * 65536, depths[lane])
+            assert abs(exact - got[lane]) <= 5 * abs(numbers[lane]) + 1, f"{what} / w, lane {lane}"
+
+
+def clip_numbers(choose: Random) -> Loads:
+    def point() -> List[int]:
+        small, large = choose.randrange(1, 65536), choose.randrange(65536, 2**31 - 1)
+        w = choose.choice((small, large, 65536 * choose.randrange(1, 1000)))
+        sides = [
+            (w, -w, w - 1, 1 - w, w + 1, -w - 1, 0, choose.randrange(-(2**31), 2**31)) for _ in "xyz"
+        ]
+        return [*(choose.choice(it) for it in sides), w]
+
+    pairs = [point() + point() for _ in range(2)]
+    return [("dmem", 0, b"".join(packed(number >> 16 for number in pair) + packed(pair) for pair in pairs))]
+
+
+def see_clip(run: Run) -> None:
+    codes = []
+    for number in range(4):
+        at = number // 2 * 32 + number % 2 * 8
+        *sides, w = fixed_at(run.before["dmem"], at, at + 16, 4)
+        codes.append(sum((side <= -w) << i | (side >= w) << i + 8 for i, side in enumerate(sides)))
+    assert halves(run.dmem, 64, 4) == codes, "codes"
+    common = codes[0] & codes[1] & codes[2] & codes[3]
+    some = codes[0] | codes[1] | codes[2] | codes[3]
+    assert halves(run.dmem, 72, 2) == [common, some], "common and any"
+
+
+def copy_numbers(choose: Random) -> Loads:
+    return [("rdram", 0x1000, choose.randbytes(256))]
+
+
+def see_copy(run: Run) -> None:
+    tile = b"".join(run.before["rdram"][0x1010 + 64 * row : 0x1020 + 64 * row] for row in range(4))
+    turned = bytes(255 - byte for byte in tile)
+    assert run.rdram[8192:8256].hex() == turned.hex(), "the tile"
+    before, after = (it[0x1000:0x1100].hex() for it in (run.before["rdram"], run.rdram))
+    assert after == before, "the picture"
+
+
+def task_numbers(choose: Random) -> Loads:
+    return [("rdram", 0x300, packed(edged(choose) for _ in range(16)))]
+
+
+def see_task(run: Run) -> None:
+    one, two = halves(run.before["rdram"], 0x300, 8), halves(run.before["rdram"], 0x310, 8)
+    wanted = [clamped(a + b) for a, b in zip(one, two)]
+    assert halves(run.rdram, 896) == wanted, "the mixed sound"
+
+
+def scalar_numbers(choose: Random) -> Loads:
+    return [("dmem", 0, choose.randbytes(12))]
+
+
+def see_scalar(run: Run) -> None:
+    words = [int.from_bytes(run.before["dmem"][at : at + 4], "big") for at in (0, 4, 8)]
+    assert int.from_bytes(run.dmem[16:20], "big") == sum(words) % 2**32, "the sum"
+
+
+EXAMPLES = {
+    "vector": (vector_numbers, see_vector),
+    "fir": (fir_numbers, see_fir),
+    "idct": (idct_numbers, see_idct),
+    "transpose": (transpose_numbers, see_transpose),
+    "perspective": (perspective_numbers, see_perspective),
+    "clip": (clip_numbers, see_clip),
+    "copy": (copy_numbers, see_copy),
+    "task": (task_numbers, see_task),
+    "scalar": (scalar_numbers, see_scalar),
+}
+
+
+@pytest.mark.parametrize("round", range(ROUNDS + 1), ids=lambda it: f"random {it}" if it else "its own")
+@pytest.mark.parametrize("name", EXAMPLES)
+def test_example(name: str, round: int, program: Path) -> None:
+    numbers, see = EXAMPLES[name]
+    see(Run(program, name, numbers(random.Random(f"{name} {round}")) if round else []))

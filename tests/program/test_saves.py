@@ -1,0 +1,418 @@
+"""What `run --save` and `asm` leave of a file, whatever happens meanwhile.
+
+They fail if a write that fails, or a run that is killed in mid-write, doesn't leave the old bytes whole, if a
+link becomes a file, if permissions change, or if what no new file can replace isn't written in place.
+"""
+
+import os
+import re
+import resource
+import shutil
+import signal
+import stat
+import subprocess
+import tempfile
+import threading
+from pathlib import Path
+from typing import Any, Callable, List, NamedTuple, Optional, Tuple
+
+import pytest
+
+from lib import failing
+
+SIZE = 4096
+OLD = bytes(i % 251 for i in range(SIZE))
+NOBODY = 65534
+IS_ROOT = os.geteuid() == 0
+ROOT_ALONE = pytest.mark.skipif(not IS_ROOT, reason="root alone can make files of another owner, and mounts")
+
+
+@pytest.fixture(scope="module")
+def binary(program: Path) -> Any:
+    """A copy of the program, since another user may not reach it where it is."""
+    if program.read_bytes()[:4] != b"\x7fELF":
+        pytest.fail(f"{program} is no binary: a script starts others, which the tests would hit too")
+    with tempfile.TemporaryDirectory() as name:
+        Path(name).chmod(0o755)
+        yield Path(shutil.copy(program, name))
+
+
+class Writer(NamedTuple):
+    """A command that writes a file: its words but for the file's name, its script, its reply, the bytes."""
+
+    words: Tuple[object, ...]
+    script: bytes
+    reply: bytes
+    new: bytes
+    reply_if_refused: bytes
+
+
+@pytest.fixture(params=["run --save", "asm"])
+def writer(request: pytest.FixtureRequest, binary: Path, folder: Path) -> Writer:
+    image, source = folder / "image", folder / "source"
+    image.write_bytes(bytes(SIZE))
+    source.write_text(".word 1\n" * (SIZE // 4))
+    if request.param == "asm":
+        words = bytes.fromhex("00000001") * (SIZE // 4)
+        return Writer((binary, "asm", source), b"", b"ok 1024 words\n", words, b"")
+    run = (binary, "run", "--rdram", image, "--save")
+    return Writer(run, b"load rdram 1 0102\n", b"ok\n", b"\0\1\2" + bytes(SIZE - 3), b"ok\n")
+
+
+class Trial:
+    """A writer with a file of the old bytes in a folder of its own, and its last run."""
+
+    def __init__(self, writer: Writer, folder: Path, mode: int = 0o644, name: str = "file") -> None:
+        self.writer, self.folder = writer, Path(tempfile.mkdtemp(dir=folder))
+        self.folder.chmod(0o755)
+        self.file = self.folder / name
+        self.file.write_bytes(OLD)
+        self.file.chmod(mode)
+
+    def run(self, out: object = None, setting: Optional[Callable[[], object]] = None, **how: Any) -> "Trial":
+        """Runs the writer on the file, or on another."""
+        self.out = out or self.file
+        words = [str(it) for it in (*self.writer.words, self.out)]
+        given: Any = {"stdout": subprocess.PIPE, "stderr": subprocess.PIPE, "timeout": 120, **how}
+        self.ran = subprocess.run(
+            words, input=self.writer.script, preexec_fn=setting, restore_signals=False, **given
+        )
+        return self
+
+    def ends(self, output: Optional[bytes], status: int = 0, errors: bytes = b"") -> "Trial":
+        """The run must have printed this alone."""
+        got = self.ran.returncode, self.ran.stdout, self.ran.stderr
+        assert got == (status, self.ran.stdout if output is None else output, errors)
+        return self
+
+    def saved(self, file: Optional[Path] = None) -> "Trial":
+        """The run must have written the file, or another, whole."""
+        self.ends(self.writer.reply)
+        assert (file or self.file).read_bytes() == self.writer.new
+        return self
+
+    def refused(self) -> "Trial":
+        """The run must have said that it can't write."""
+        return self.ends(self.writer.reply_if_refused, 1, f"rsp: cannot write {self.out}\n".encode())
+
+    def kept(self) -> "Trial":
+        assert self.file.read_bytes() == OLD
+        return self
+
+    def names(self, *names: str) -> "Trial":
+        """The folder must have these files alone."""
+        assert sorted(path.name for path in self.folder.iterdir()) == sorted(names)
+        return self
+
+    def mode(self, mode: int, file: Optional[Path] = None) -> "Trial":
+        assert f"{stat.S_IMODE((file or self.file).stat().st_mode):o}" == f"{mode:o}"
+        return self
+
+
+New = Callable[..., Trial]
+
+
+@pytest.fixture
+def new(writer: Writer, folder: Path) -> New:
+    return lambda *words, **how: Trial(writer, folder, *words, **how)
+
+
+def as_nobody() -> None:
+    """Gives up root's rights, where they are."""
+    if IS_ROOT:
+        os.setgroups([])
+        os.setresgid(NOBODY, NOBODY, NOBODY)
+        os.setresuid(NOBODY, NOBODY, NOBODY)
+
+
+def limited(is_ignored: bool = True) -> None:
+    """As `ulimit -f`: a write past 1024 bytes fails, or ends the process if its signal isn't ignored."""
+    signal.signal(signal.SIGXFSZ, signal.SIG_IGN if is_ignored else signal.SIG_DFL)
+    resource.setrlimit(resource.RLIMIT_FSIZE, (1024, 1024))
+
+
+# Writes that fail.
+
+
+def test_no_room(new: New) -> None:
+    new().run(setting=limited).refused().kept().names("file")
+
+
+def test_killed_by_the_limit(new: New) -> None:
+    """What it has begun stays, and is in nobody's way."""
+    it, beside = new(), ".file.rsp-save-0"
+    it.run(setting=lambda: limited(False)).kept().names("file", beside)
+    assert it.ran.returncode == -signal.SIGXFSZ
+    it.run().saved().names("file", beside)
+    it.run(it.folder / "free", limited).refused().names("file", beside)
+
+
+@pytest.mark.parametrize("out", ("/dev/full", "missing/file"))
+def test_nowhere(out: str, new: New) -> None:
+    it = new()
+    it.run(it.folder / out).refused()
+
+
+# Names and modes.
+
+
+@pytest.mark.parametrize("mode", (0o644, 0o600, 0o755, 0o664, 0o666), ids=oct)
+def test_mode(mode: int, new: New) -> None:
+    new(mode).run().saved().mode(mode).names("file")
+
+
+@pytest.mark.parametrize("mask", (0o022, 0o077), ids=oct)
+def test_new_file(mask: int, new: New) -> None:
+    it = new()
+    free = it.folder / "free"
+    it.run(free, lambda: os.umask(mask)).saved(free).mode(0o666 & ~mask, free).names("file", "free").kept()
+
+
+@pytest.mark.parametrize("name", ("n" * 255, "\u00fc" * 127, ".hidden", "a.b.c"), ids=lambda it: it[:9])
+def test_name(name: str, new: New) -> None:
+    new(name=name).run().saved().names(name)
+
+
+def test_name_without_a_folder(new: New) -> None:
+    it = new()
+    it.run("file", cwd=it.folder).saved().names("file")
+
+
+# Links.
+
+
+@pytest.mark.parametrize("is_far", (False, True), ids=("near", "far"))
+def test_link(is_far: bool, new: New, folder: Path) -> None:
+    it = new(0o640)
+    near = it.folder / "near"
+    near.symlink_to("file")
+    link = folder / "far" if is_far else near
+    if is_far:
+        link.symlink_to(os.path.relpath(near, folder))
+    it.run(link).saved().mode(0o640).names("file", "near")
+    assert link.is_symlink()
+    it.file.write_bytes(OLD)
+    it.run(link, limited).refused().kept()
+
+
+def test_link_to_nothing(new: New, folder: Path) -> None:
+    it, bare = new(), folder / "bare"
+    bare.symlink_to("free")
+    it.run(bare).saved(folder / "free")
+    assert bare.is_symlink()
+
+
+def test_link_to_itself(new: New, folder: Path) -> None:
+    around = folder / "around"
+    around.symlink_to("around")
+    new().run(around).refused()
+
+
+# What no new file can replace.
+
+
+def test_file_with_two_names(new: New) -> None:
+    it = new()
+    other, number = it.folder / "other", it.file.stat().st_ino
+    os.link(it.file, other)
+    it.run().saved(other).names("file", "other")
+    assert it.file.stat().st_ino == number == other.stat().st_ino
+
+
+def test_named_pipe(new: New) -> None:
+    it = new()
+    pipe, got = it.folder / "pipe", []
+    os.mkfifo(pipe)
+    receiver = threading.Thread(target=lambda: got.append(pipe.read_bytes()), daemon=True)
+    receiver.start()
+    it.run(pipe).ends(it.writer.reply)
+    receiver.join(10)
+    assert got == [it.writer.new]
+    assert stat.S_ISFIFO(pipe.stat().st_mode)
+
+
+@pytest.fixture
+def stdout(folder: Path) -> Path:
+    """A link as /dev/stdout is one: root's tests of a program that replaces links would take that away."""
+    link = folder / "stdout"
+    link.symlink_to("/proc/self/fd/1")
+    return link
+
+
+def test_stdout_to_a_pipe(new: New, stdout: Path) -> None:
+    it = new().run(stdout)
+    is_run = it.writer.words[1] == "run"
+    it.ends(it.writer.reply + it.writer.new if is_run else it.writer.new + it.writer.reply)
+
+
+def test_stdout_to_a_file(new: New, stdout: Path) -> None:
+    """Who has the file open must see the bytes, but those that the reply has overwritten."""
+    it = new()
+    with open(it.file, "r+b") as output:
+        it.run(stdout, stdout=output).ends(None)
+        got = os.pread(output.fileno(), 2 * SIZE, 0)
+    overwritten = len(it.writer.reply) if it.writer.words[1] == "asm" else 0
+    assert got[overwritten:] == it.writer.new[overwritten:]
+    it.names("file")
+
+
+@pytest.mark.parametrize("is_removed", (False, True), ids=("open", "removed"))
+def test_open_file(is_removed: bool, new: New) -> None:
+    it = new()
+    with open(it.file, "r+b") as held:
+        if is_removed:
+            it.file.unlink()
+        it.run(f"/dev/fd/{held.fileno()}", pass_fds=[held.fileno()]).ends(it.writer.reply)
+        assert os.pread(held.fileno(), 2 * SIZE, 0) == it.writer.new
+
+
+# Other users.
+
+
+def give(user: int, *paths: Path) -> None:
+    for path in paths:
+        os.chown(path, user, user)
+
+
+def test_folder_without_rights(new: New) -> None:
+    it = new()
+    give(NOBODY if IS_ROOT else -1, it.file)
+    it.folder.chmod(0o555)
+    number = it.file.stat().st_ino
+    it.run(setting=as_nobody).saved()
+    assert it.file.stat().st_ino == number
+    it.run(it.folder / "free", as_nobody).refused()
+
+
+def test_file_without_rights(new: New) -> None:
+    it = new(0o444)
+    give(NOBODY if IS_ROOT else -1, it.file, it.folder)
+    it.run(setting=as_nobody).refused().kept().names("file")
+
+
+@ROOT_ALONE
+@pytest.mark.parametrize("user, mode", ((NOBODY, 0o644), (0, 0o664)), ids=("owner", "group"))
+def test_file_of_another(user: int, mode: int, new: New) -> None:
+    it = new(mode)
+    os.chown(it.file, user, NOBODY)
+    it.run().saved().mode(mode)
+    assert (it.file.stat().st_uid, it.file.stat().st_gid) == (user, NOBODY)
+
+
+@ROOT_ALONE
+def test_link_of_another_in_a_folder_for_all(new: New, folder: Path) -> None:
+    if Path("/proc/sys/fs/protected_symlinks").read_text().strip() != "1":
+        pytest.skip("this system follows them: fs.protected_symlinks isn't 1")
+    it, shared = new(), Path(tempfile.mkdtemp(dir=folder))
+    link = shared / "link"
+    link.symlink_to(it.file)
+    os.chown(link, NOBODY, NOBODY, follow_symlinks=False)
+    shared.chmod(0o1777)
+    it.run(link).refused().kept()
+
+
+# Mounts, runs, and leaves what the file has and which files are beside it. The mounts end with it.
+MOUNTED = """
+eval "$1" && { [ ! -f seed ] || cp seed at/file; } && shift || exit 99
+"$@"
+code=$?
+cp at/file left
+ls -A at >names
+exit $code
+"""
+MOUNTS = {
+    "disk without room for both": ("mount -t tmpfs -o size=4k tmpfs at", True),
+    "disk with room for both": ("mount -t tmpfs -o size=64k tmpfs at", False),
+    "file that is a mount": ("mount --bind other at/file", False),
+}
+
+
+@ROOT_ALONE
+@pytest.mark.parametrize("mount, is_refused", MOUNTS.values(), ids=MOUNTS)
+def test_mount(mount: str, is_refused: bool, new: New, folder: Path) -> None:
+    if subprocess.run(
+        ["unshare", "-m", "mount", "-t", "tmpfs", "tmpfs", folder], capture_output=True
+    ).returncode:
+        pytest.skip("this machine lets nobody mount")
+    it = new(name="other")
+    (it.folder / "at").mkdir()
+    for file in ("at/file", *["seed"] * ("tmpfs" in mount)):
+        (it.folder / file).write_bytes(OLD)
+    words = ("unshare", "-m", "sh", "-c", MOUNTED, "sh", mount, *it.writer.words)
+    it.writer = it.writer._replace(words=words)
+    it.run("at/file", cwd=it.folder)
+    if is_refused:
+        it.refused()
+    else:
+        it.ends(it.writer.reply)
+    assert (it.folder / "left").read_bytes() == (OLD if is_refused else it.writer.new)
+    assert (it.folder / "names").read_text().split() == ["file"]
+
+
+@pytest.mark.needs("cc")
+@pytest.mark.parametrize("is_lasting", (False, True), ids=("one", "all from one on"))
+def test_calls_of_the_system_fail(is_lasting: bool, new: New, folder: Path) -> None:
+    """Each call of the system fails, alone or with all after it: the old bytes stay, or the new come."""
+    it, count = new(), 0
+    it.out = it.folder / "link"
+    it.out.symlink_to("file")
+    words = [*it.writer.words, it.out]
+    for is_failed, it.ran in failing.runs(
+        failing.library(folder, "writes"), words, it.writer.script, is_lasting
+    ):
+        it = it.refused().kept() if it.ran.returncode else it.saved()
+        it = it if is_lasting else it.names("file", "link")
+        count += is_failed
+        for beside in it.folder.glob(".file.*"):
+            beside.unlink()
+        it.file.write_bytes(OLD)
+    assert count >= 6
+
+
+# Runs that are killed while they write eight megabytes.
+
+
+def state(folder: Path) -> List[Tuple[str, int]]:
+    return sorted((entry.name, entry.stat().st_size) for entry in os.scandir(folder))
+
+
+def kill_once(words: List[str], folder: Path, sent: signal.Signals) -> int:
+    """Starts a run that saves, and sends the signal once something in the folder changes. Its status."""
+    before = state(folder)
+    run = subprocess.Popen(words, stdin=subprocess.PIPE, stdout=subprocess.DEVNULL)
+    assert run.stdin
+    run.stdin.write(b"load rdram 0 ff\n")
+    run.stdin.close()
+    while run.poll() is None:
+        try:
+            if state(folder) != before:
+                run.send_signal(sent)
+                break
+        except FileNotFoundError:
+            pass
+    return run.wait(60)
+
+
+@pytest.mark.parametrize("sent", (signal.SIGTERM, signal.SIGKILL), ids=lambda it: it.name)
+def test_killed_in_mid_write(sent: signal.Signals, binary: Path, folder: Path) -> None:
+    old = bytes(8388608)
+    new, big, own, partial = b"\xff" + old[1:], folder / "big", folder / "own", 0
+    own.mkdir()
+    file = own / "file"
+    big.write_bytes(old)
+    words = [str(binary), "run", "--rdram", str(big), "--save", str(file)]
+    for _ in range(100):
+        file.write_bytes(old)
+        status = kill_once(words, own, sent)
+        got = file.read_bytes()
+        is_whole = got in (old, new)
+        assert is_whole, f"the file has {len(got)} bytes, neither the old nor the new"
+        beside = [path for path in own.iterdir() if path != file]
+        assert [it.name for it in beside if not re.fullmatch(r"\.file\.rsp-save-\d+", it.name)] == []
+        assert len(beside) <= 1
+        partial += status == -sent and got == old and len(beside) == 1
+        for it in beside:
+            it.unlink()
+        if partial == 3:
+            break
+    assert partial, "no run was killed in mid-write"

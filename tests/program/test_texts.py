@@ -1,0 +1,394 @@
+"""What helps those who edit microcode: labels, explanations, and blocks of pages that set up a run.
+
+They fail if a label or an explanation is another one than ASSEMBLY's rules give, or a block does something
+else.
+"""
+
+import random
+import re
+import subprocess
+import sys
+from pathlib import Path
+from typing import Any, Callable, List, Optional, Sequence, Tuple
+
+import pytest
+
+from lib import TOP
+from lib.numbers import clamped, halves
+from lib.pages import block_with
+
+# Opcodes with a distance in words from the delay slot, and the codes of opcode 1 that have one.
+BRANCHES = (4, 5, 6, 7)
+SIGNS = (0, 1, 16, 17)
+DISTANCES = {
+    "j": 2 << 26,
+    "jal": 3 << 26,
+    "beq": 4 << 26 | 1 << 21 | 2 << 16,
+    "bne": 5 << 26 | 3 << 21,
+    "blez": 6 << 26 | 4 << 21,
+    "bgtz": 7 << 26 | 5 << 21,
+    "bltz": 1 << 26 | 6 << 21,
+    "bgez": 1 << 26 | 7 << 21 | 1 << 16,
+    "bltzal": 1 << 26 | 16 << 16,
+    "bgezal": 1 << 26 | 31 << 21 | 17 << 16,
+}
+
+
+def target_of(word: int, address: int) -> Optional[int]:
+    """Where a jump or branch leads, without ignored bits and to an address of IMEM; else None."""
+    opcode, rt = word >> 26, word >> 16 & 31
+    if opcode in (2, 3):
+        return 4 * (word & 1023) if word & 0x3FFFC00 == 0 else None
+    if opcode in BRANCHES and (opcode < 6 or rt == 0) or opcode == 1 and rt in SIGNS:
+        distance = (word & 0xFFFF) - (word >> 15 & 1) * 65536
+        target = address + 4 + 4 * distance
+        return target if 0 <= target < 4096 else None
+    return None
+
+
+def packed(words: Sequence[int]) -> bytes:
+    return b"".join(word.to_bytes(4, "big") for word in words)
+
+
+def unpacked(made: bytes) -> List[int]:
+    return [int.from_bytes(made[i : i + 4], "big") for i in range(0, len(made), 4)]
+
+
+class Files:
+    """The program on files of the test's folder."""
+
+    def __init__(self, rsp: Callable[..., Any], folder: Path, program: Path) -> None:
+        self.rsp, self.folder, self.program = rsp, folder, program
+
+    def text_of(self, words: Sequence[int], *options: str) -> List[str]:
+        (self.folder / "words").write_bytes(packed(words))
+        text: str = self.rsp("dis", "words", *options).output.decode()
+        return text.splitlines()
+
+    def words_of(self, lines: Sequence[str], *options: str) -> List[int]:
+        (self.folder / "text").write_text("".join(f"{line}\n" for line in lines))
+        self.rsp("asm", "text", "made", *options)
+        return unpacked((self.folder / "made").read_bytes())
+
+    def replies(self, script: str, *words: str) -> str:
+        said: str = self.rsp("run", *words, script=script.encode()).output.decode()
+        return said
+
+    def shell(self, command: str) -> str:
+        """What a command of a page prints. It has to succeed."""
+        words = ["sh", "-e", "-c", f'rsp() {{ "{self.program}" "$@"; }}\n{command}']
+        return subprocess.run(words, cwd=self.folder, check=True, stdout=subprocess.PIPE, text=True).stdout
+
+
+@pytest.fixture
+def files(rsp: Callable[..., Any], folder: Path, program: Path) -> Files:
+    return Files(rsp, folder, program)
+
+
+# `dis --labels`: the labels are those that are computed here from the words.
+
+
+def labelled(words: Sequence[int], plain: List[str], origin: int, has_places: bool) -> List[str]:
+    """The lines that `--labels` has to print, by the lines without it and by the targets of the words."""
+    addresses = [origin + 4 * i for i in range(len(words))]
+    targets = [target_of(word, at) for word, at in zip(words, addresses)]
+    lines = []
+    for at, line, target in zip(addresses, plain, targets):
+        if at in targets:
+            lines.append(f"{at:03x} " * has_places + f"L{at:03x}:")
+        if target is not None and target in addresses:
+            line = line.replace(f"0x{target:03x}", f"L{target:03x}")
+        lines.append(line)
+    return lines
+
+
+def see_labels(files: Files, words: List[int], origin: int) -> None:
+    at = ["--at", hex(origin)]
+    for more in ((), ("--places",)):  # type: Tuple[str, ...]
+        plain, got = files.text_of(words, *at, *more), files.text_of(words, *at, *more, "--labels")
+        assert got == labelled(words, plain, origin, bool(more))
+    assert files.words_of(files.text_of(words, *at, "--labels"), *at) == words
+
+
+@pytest.mark.parametrize("name", DISTANCES)
+def test_labels_of(name: str, files: Files) -> None:
+    """A file for each kind of jump and branch: one at each of its words, to each address of IMEM in turn."""
+    choose, count, first = random.Random(name), 200, DISTANCES[name]
+    origin = 4 * choose.randrange(1024 - count + 1)
+    end = origin + 4 * count
+    targets = [origin, end - 4, end, origin - 4, 0, 4092]
+    targets += [4 * choose.randrange(-64, 1100) for _ in range(count - 6)]
+    if first >> 26 in (2, 3):
+        fields = [target // 4 % 1024 for target in targets]
+    else:
+        fields = [(to - origin - 4 * i - 4) // 4 % 65536 for i, to in enumerate(targets)]
+    words = [first | it for it in fields]
+    see_labels(files, words, origin)
+    assert {line.split()[0] for line in files.text_of(words, "--at", hex(origin))} - {".word"} == {name}
+
+
+def random_word(choose: random.Random) -> int:
+    """A word, often a jump or a branch to an address nearby."""
+    opcode = choose.choice((None, 1, 2, 3, 4, 5, 6, 7))
+    if opcode is None:
+        return choose.randrange(1 << 32)
+    if opcode in (2, 3):
+        return opcode << 26 | choose.randrange(1024)
+    return opcode << 26 | choose.choice((0, 1, 17, 34)) << 16 | choose.randrange(-20, 20) % 65536
+
+
+@pytest.mark.parametrize("seed", range(60))
+def test_labels_of_random_words(seed: int, files: Files) -> None:
+    choose = random.Random(seed)
+    count = choose.choice((1, 2, 10, 300, 1024))
+    words = [random_word(choose) for _ in range(count)]
+    see_labels(files, words, 4 * choose.randrange(1025 - count))
+
+
+def test_labels_of_no_words(files: Files) -> None:
+    assert files.text_of([], "--labels") == []
+
+
+# The sum of 1 to 10 in $2, by a call of a routine in a loop, with a jump over a word that is no instruction.
+SUM = """
+    ori $1, $0, 10
+    next: jal add
+    nop
+    bne $1, $0, next
+    nop
+    j end
+    nop
+    .word 0x4a00001f
+    add: addu $2, $2, $1
+    jr $31
+    addiu $1, $1, -1
+    end: break
+""".strip().splitlines()
+WITH_SLOT = ("j", "jal", "jr", "bne")
+
+
+def see_edited(files: Files, words: Sequence[int], at: int) -> None:
+    """With lines put in anywhere, the words of SUM, disassembled with labels, do what they did."""
+    choose, text = random.Random(at), files.text_of(words, "--at", hex(at), "--labels")
+    for _ in range(5):
+        edited = list(text)
+        for _ in range(choose.randrange(1, 8)):
+            behind = [i for i in range(2, len(edited) + 1) if edited[i - 1].split()[0] not in WITH_SLOT]
+            edited.insert(choose.choice([0, 1, *behind]), "nop")
+        told = files.replies("\n".join([f"asm {at}", *edited, "end", f"pc {at}", "run 1000", "regs"]))
+        assert "stop Halted" in told
+        assert re.findall(r"(?m)^r00 \S+ \S+ (\S+)", told) == [f"{55:08x}"]
+
+
+@pytest.mark.parametrize("at", (0, 0x80, 4092 - 4 * len(SUM) - 80), ids=hex)
+def test_lines_put_in(at: int, files: Files) -> None:
+    see_edited(files, files.words_of(SUM, "--at", hex(at)), at)
+
+
+@pytest.mark.parametrize(
+    "base, at", ((0x1000, 0x080), (0x04001000, 0xC80), (0x0FFFF000, 0x400)), ids=lambda it: hex(it)
+)
+def test_linked_elsewhere(base: int, at: int, files: Files) -> None:
+    """Code that was linked elsewhere keeps its labels once its jumps are cleared, as ASSEMBLY.md does it."""
+    words = files.words_of(SUM, "--at", hex(at))
+    linked = [word | base >> 2 if word >> 26 in (2, 3) else word for word in words]
+    texts = [line for line in files.text_of(linked, "--at", hex(at), "--labels") if line[0] != "L"]
+    changed = [i for i, word in enumerate(linked) if word != words[i]]
+    assert len(changed) == 2
+    assert [texts[i] for i in changed] == [f".word {linked[i]:#010x}" for i in changed]
+    (files.folder / "linked.bin").write_bytes(packed(linked))
+    files.shell(block_with("docs/ASSEMBLY.md", "python3 -c 'code"))
+    cleared = unpacked((files.folder / "ucode.bin").read_bytes())
+    assert cleared == words
+    see_edited(files, cleared, at)
+
+
+# `asm --explain`: a line that is refused, the fault, the number and text of its operand, and what may be
+# there, as docs/ASSEMBLY.md says. None: no operand is at fault.
+HALF, TARGET, WORD = "-32768 to 65535", "0 to 4092, a multiple of 4", "-2147483648 to 4294967295"
+SCALAR, VECTOR = "a scalar register", "a vector register"
+NUMBER, MEMORY = "a number or a label,", "and a scalar register in parentheses"
+SCALES = {
+    1: "lbv sbv",
+    2: "lsv ssv",
+    4: "llv slv",
+    8: "ldv sdv lpv spv luv suv",
+    16: "lqv sqv lrv srv lhv shv lfv sfv ltv stv swv",
+}
+Refusal = Tuple[str, str, Optional[int], Optional[str], Optional[str]]
+REFUSED: List[Refusal] = [
+    ("addiu $1, $0, 65536", "13 OutOfRange", 3, "65536", HALF),
+    ("addi $1, $0, -32769", "13 OutOfRange", 3, "-32769", HALF),
+    ("ori $1, $0, 0x10000", "13 OutOfRange", 3, "0x10000", HALF),
+    ("lui $1, 99999999999999999999999", "13 OutOfRange", 2, "99999999999999999999999", HALF),
+    ("sll $1, $2, 32", "13 OutOfRange", 3, "32", "0 to 31"),
+    ("sra $1, $2, -1", "13 OutOfRange", 3, "-1", "0 to 31"),
+    ("j 4096", "13 OutOfRange", 1, "4096", TARGET),
+    ("jal 2", "13 OutOfRange", 1, "2", TARGET),
+    ("beq $1, $2, -4", "13 OutOfRange", 3, "-4", TARGET),
+    ("bgez $1, 4098", "13 OutOfRange", 2, "4098", TARGET),
+    ("lw $1, 65536($2)", "13 OutOfRange", 2, "65536($2)", HALF),
+    ("sb $1, -32769($2)", "13 OutOfRange", 2, "-32769($2)", HALF),
+    (".word 1, 4294967296, 2", "13 OutOfRange", 2, "4294967296", WORD),
+    (".word -2147483649", "13 OutOfRange", 1, "-2147483649", WORD),
+    ("x: .word x, x+4294967296", "13 OutOfRange", 2, "x+4294967296", WORD),
+    ("x: j x-8", "13 OutOfRange", 1, "x-8", TARGET),
+    ("x: lqv $v1[0], x+1024($2)", "13 OutOfRange", 2, "x+1024($2)", "-1024 to 1008, a multiple of 16"),
+    ("j nowhere", "15 LabelMissing", 1, "nowhere", f"the label of a line, or {TARGET}"),
+    ("x: .word x, nowhere, elsewhere", "15 LabelMissing", 2, "nowhere", f"the label of a line, or {WORD}"),
+    ("lw $1, gone+4($2)", "15 LabelMissing", 2, "gone+4($2)", f"the label of a line, or {HALF}"),
+    ("addu $1, $v2, $3", "12 BadOperand", 2, "$v2", SCALAR),
+    ("addu $1, $2", "12 BadOperand", 3, None, SCALAR),
+    ("addu $1, $2, $3, $4", "12 BadOperand", 4, "$4", "nothing"),
+    ("jr", "12 BadOperand", 1, None, SCALAR),
+    ("jalr $32", "12 BadOperand", 1, "$32", SCALAR),
+    ("jalr $1, $2, $3", "12 BadOperand", 3, "$3", "nothing"),
+    ("nop nop", "12 BadOperand", 1, "nop", "nothing"),
+    (".word", "12 BadOperand", 1, None, f"{NUMBER} {WORD}"),
+    (".word 1, $2", "12 BadOperand", 2, "$2", f"{NUMBER} {WORD}"),
+    (".word 99999999999, $1", "12 BadOperand", 2, "$1", f"{NUMBER} {WORD}"),
+    ("addiu $1, $2, 4 4", "12 BadOperand", 3, "4 4", f"{NUMBER} {HALF}"),
+    ("andi $1, $2, $3", "12 BadOperand", 3, "$3", f"{NUMBER} {HALF}"),
+    ("sll $1, $2, $3", "12 BadOperand", 3, "$3", f"{NUMBER} 0 to 31"),
+    ("j $1", "12 BadOperand", 1, "$1", f"{NUMBER} {TARGET}"),
+    ("bne $1, $2, 0X10", "12 BadOperand", 3, "0X10", f"{NUMBER} {TARGET}"),
+    ("lw $1, 4 ($2)", "12 BadOperand", 2, "4 ($2)", f"{NUMBER} {HALF}, {MEMORY}"),
+    ("lqv $v1[0], 16", "12 BadOperand", 2, "16", f"{NUMBER} -1024 to 1008, a multiple of 16, {MEMORY}"),
+    ("mfc0 $1, $2", "12 BadOperand", 2, "$2", "an SP register, $c0 to $c15"),
+    ("cfc2 $1, $2", "12 BadOperand", 2, "$2", "$vco, $vcc or $vce"),
+    ("vadd $v1, $2, $v3", "12 BadOperand", 2, "$2", VECTOR),
+    ("vadd $v1, $v2, $v3[8]", "12 BadOperand", 3, "$v3[8]", f"{VECTOR}, with an element or none"),
+    ("lqv $v1[16], 0($2)", "12 BadOperand", 1, "$v1[16]", f"{VECTOR}, with a byte or none"),
+    ("lfv $v1[4], 0($2)", "12 BadOperand", 1, "$v1[4]", f"{VECTOR}, with byte 0 or 8 or none"),
+    ("vrcp $v1, $v2[0]", "12 BadOperand", 1, "$v1", f"{VECTOR}, with a lane"),
+    ("x nop", "11 UnknownName", None, None, None),
+    ("li $1, 99999999", "11 UnknownName", None, None, None),
+    ("1x: nop", "10 BadLine", None, None, None),
+    ("x: j 1", "14 LabelTwice", None, None, None),
+    (".word " + ", ".join("0" * 60), "16 PastEnd", None, None, None),
+]
+# Each vector load and store with offsets next to its range, and one between its steps.
+for scale, names in SCALES.items():
+    allowed = f"{-64 * scale} to {63 * scale}" + f", a multiple of {scale}" * (scale > 1)
+    for offset in (-65 * scale, 64 * scale, *[scale + 1] * (scale > 1)):
+        for name in names.split():
+            REFUSED.append((f"{name} $v1[0], {offset}($2)", "13 OutOfRange", 2, f"{offset}($2)", allowed))
+
+
+@pytest.mark.parametrize("refusal", REFUSED, ids=lambda it: it[0][:40])
+def test_explanation(refusal: Refusal, rsp: Any, folder: Path) -> None:
+    line, fault, number, operand, allowed = refusal
+    first = "x: nop\n" if fault.startswith("14") else "nop # a comment\n"
+    (folder / "text").write_text(first + f"\t{line}  # why not\r\n" + "nop\n")
+    at = ["--at", "4000"] if fault.startswith("16") else []
+    told = f"rsp: fault {fault} line 2\n"
+    assert rsp("asm", "text", "made", *at) == (1, b"", told.encode())
+    told += f"  line: {line}  # why not\n"
+    if number:
+        told += f"  operand {number}: {operand or '(none)'}\n  may be: {allowed}\n"
+    assert rsp("asm", "text", "made", *at, "--explain") == (1, b"", told.encode())
+
+
+def test_nothing_to_explain(rsp: Any, folder: Path) -> None:
+    (folder / "text").write_text("nop\n")
+    assert rsp("asm", "text", "made", "--explain").output == b"ok 1 words\n"
+
+
+def test_explanation_of_no_text(rsp: Any, folder: Path) -> None:
+    (folder / "text").write_bytes(b"\x01bad \xc3\xbc\x1b[0m\n")
+    told = b"rsp: fault 10 BadLine line 1\n  line: .bad ...[0m\n"
+    assert rsp("asm", "text", "made", "--explain").errors == told
+
+
+MIXED_UP = """
+asm a b --labels
+asm a b --explain --explain
+asm a b --explain=yes
+dis a --labels --labels
+dis a --labels=1
+dis a --explain
+run --labels
+"""
+
+
+@pytest.mark.parametrize("line", MIXED_UP.strip().split("\n"))
+def test_refused(line: str, rsp: Any) -> None:
+    ran = rsp(*line.split())
+    assert (ran.status, ran.output, ran.errors[:7]) == (2, b"", b"error: ")
+
+
+# Blocks of pages.
+
+
+def test_labels_of_page(files: Files) -> None:
+    lines = (
+        block_with("docs/ASSEMBLY.md", "rsp dis ucode.bin --at 0x080 --labels").split("\n\n")[1].splitlines()
+    )
+    assert len(lines) == 5
+    at = ("--at", "0x080")
+    assert files.text_of(files.words_of(lines, *at), *at, "--labels") == lines
+
+
+def test_explanation_of_page(rsp: Any, folder: Path) -> None:
+    told = block_with("docs/ASSEMBLY.md", "rsp asm mine.s mine.bin --explain").partition("\n\n")[2]
+    assert told.count("\n") == 4
+    (folder / "mine.s").write_text("nop\nlqv $v30[0], 0x460($0)\n")
+    assert rsp("asm", "mine.s", "mine.bin", "--explain").errors.decode() == told
+
+
+def test_task_of_page(files: Files) -> None:
+    """The image of a task, as MACHINE.md makes it, of examples/task.rsp: the task adds two sounds."""
+    texts = re.findall(r"(?ms)^asm \S+\n(.*?)^end$", (TOP / "examples/task.rsp").read_text())
+    data = random.Random(8).randbytes(32)
+    for name, text, at in (("ucode.bin", texts[0], "0x080"), ("boot.bin", texts[1], "0")):
+        made = packed(files.words_of(text.splitlines(), "--at", at))
+        (files.folder / name).write_bytes(made + bytes(-len(made) % 8))
+    (files.folder / "data.bin").write_bytes(data)
+    block = block_with("docs/MACHINE.md", "import struct")
+    subprocess.run([sys.executable, "-c", block], cwd=files.folder, check=True)
+    told = files.replies("task 0x100\nrun 1000000\nmem rdram 0x8000 16\n", "--rdram", "image")
+    assert told.startswith("ok\nstop Halted")
+    sums = [clamped(a + b) for a, b in zip(halves(data, 0), halves(data, 16))]
+    assert halves(bytes.fromhex(told.split(": ")[-1]), 0) == sums
+    assert len(block.strip().splitlines()) <= 12, "the page has more lines than it says"
+
+
+def test_image_of_page(files: Files) -> None:
+    """Code and data as an image, and the six lines of SCRIPT.md."""
+    choose = random.Random(9)
+    code, data = choose.randbytes(2048), choose.randbytes(4096)
+    (files.folder / "image").write_bytes(code + data)
+    shown = ("dmem 0 256", "dmem 3840 256", "imem 128 256", "imem 1920 256", "imem 2176 16")
+    script = block_with("docs/SCRIPT.md", "write 0 0x1080") + "".join(f"mem {it}\n" for it in shown)
+    told = files.replies(script, "--rdram", "image")
+    assert told.startswith("ok\n" * 6)
+    got = bytes.fromhex("".join(line.split(": ")[1] for line in told.splitlines()[6:]))
+    assert got == data[:256] + data[3840:] + code[:256] + code[1792:] + bytes(16)
+
+
+def test_jump_astray_of_page(files: Files) -> None:
+    """A file of text in an IMEM full of BREAK, and the way back to its `jr`, three steps before the BREAK."""
+    astray = "ori $31, $0, 0x7f0\naddiu $1, $1, 1\naddiu $1, $1, 1\njr $31\naddiu $1, $1, 1\nbreak\n"
+    (files.folder / "mine.s").write_text(astray)
+    (files.folder / "commands").write_text("run 1000000\nback 3\nregs\nmem imem 4092 4\n")
+    told = files.shell(block_with("docs/SCRIPT.md", "(echo asm 0;")).splitlines()
+    wanted = ["ok 1024 words", "ok 6 words", "stop Halted steps 6 pc 7f4", "ok", "pc 00c npc 010"]
+    assert (told[:5], told[-1]) == (wanted, "000ffc: 0000000d")
+
+
+def test_registers_renamed_of_page(files: Files) -> None:
+    given = "vadd $v1, $v2, $V9[1h]\nlqv $v3[0], 16($9)\nvmudn $v9, $v12, $v0\n"
+    (files.folder / "mine.s").write_text(given)
+    files.shell(block_with("microcode/README.md", "sed -E"))
+    wanted = "vadd $v11, $v12, $V19[1h]\nlqv $v13[0], 16($19)\nvmudn $v19, $v12, $v0\n"
+    assert (files.folder / "renamed.s").read_text() == wanted
+
+
+def test_register_kept_of_page(files: Files) -> None:
+    """A routine takes a register, which is kept in DMEM meanwhile."""
+    before, after = block_with("microcode/README.md", "sqv   $v1[0], 0x300($0)").strip().splitlines()
+    setting = ["lqv $v1[0], 0($0)", *(f"ori ${n}, $0, {it}" for n, it in enumerate((32, 64, 64, 16), 1))]
+    routine, data = (TOP / "microcode/copy.s").read_text(), bytes(range(16)).hex()
+    lines = [f"load dmem 0 {data}", "asm 0", *setting, before, routine, after, "sqv $v1[0], 96($0)"]
+    told = files.replies("\n".join([*lines, "break", "end", "run 1000", "mem dmem 96 16", ""]))
+    assert told.splitlines()[-1] == f"000060: {data}"
