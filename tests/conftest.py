@@ -15,7 +15,7 @@ import pytest
 pytest.register_assert_rewrite("lib")  # before its first import
 
 from lib import TOP  # noqa: E402
-from lib.packages import OTHERS, is_here, without  # noqa: E402
+from lib.packages import need  # noqa: E402
 from lib.program import Ran, ran  # noqa: E402
 from rsp_tools.build import Build  # noqa: E402
 
@@ -41,15 +41,6 @@ def pytest_configure(config: pytest.Config) -> None:
 def pytest_xdist_auto_num_workers() -> int:
     """`-n auto` is a worker for each processor that this process may use."""
     return len(os.sched_getaffinity(0))
-
-
-def need(*tools: str) -> None:
-    """Skips a test without one of these. With CI=true it fails, unless no package of Debian has the tool."""
-    missing = [it for it in tools if not is_here(it)]
-    if os.environ.get("CI") == "true" and {*missing} - {*OTHERS}:
-        pytest.fail("; ".join(map(without, missing)), pytrace=False)
-    if missing:
-        pytest.skip("; ".join(map(without, missing)))
 
 
 def pytest_runtest_setup(item: pytest.Item) -> None:

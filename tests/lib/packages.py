@@ -7,6 +7,8 @@ import shutil
 import subprocess
 import sys
 
+import pytest
+
 from lib import TOP
 
 # Debian's package of a tool, if it has another name, or of a file or a module of Python.
@@ -57,6 +59,10 @@ def without(tool: str) -> str:
     return OTHERS.get(tool, f"there is no {tool} (Debian's package {PACKAGES.get(tool, tool)})")
 
 
-def lacking(*needed: object) -> str:
-    """What is said of those of these tools and files that aren't here; nothing if all are."""
-    return "; ".join(without(it) for it in map(str, needed) if not is_here(it))
+def need(*tools: str) -> None:
+    """Skips a test without one of these. With CI=true it fails, unless no package of Debian has the tool."""
+    missing = [it for it in tools if not is_here(it)]
+    if os.environ.get("CI") == "true" and {*missing} - {*OTHERS}:
+        pytest.fail("; ".join(map(without, missing)), pytrace=False)
+    if missing:
+        pytest.skip("; ".join(map(without, missing)))

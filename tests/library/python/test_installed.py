@@ -10,7 +10,7 @@ from typing import Dict
 import pytest
 
 from lib import TOP
-from lib.packages import is_here
+from lib.packages import need
 from lib.processes import run
 
 PIP = ("-m", "pip", "--disable-pip-version-check", "install", "-q", "--no-index", "--no-deps")
@@ -20,8 +20,7 @@ PACKAGE = TOP / "library/python"
 @pytest.fixture(scope="module")
 def site(tmp_path_factory: pytest.TempPathFactory, library: Path) -> Path:
     """The folder with the installed package."""
-    if not is_here("pip"):
-        pytest.skip("there is no pip (Debian's package python3-pip)")
+    need("python:pip")
     tree = tmp_path_factory.mktemp("tree")
     shutil.copytree(PACKAGE, tree / "python", ignore=shutil.ignore_patterns("__pycache__"))
     shutil.copytree(library, tree / "c")
