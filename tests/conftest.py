@@ -1,7 +1,7 @@
 """What all tests share: the program and the library under test, a folder, and what a machine may lack.
 
-`tests/all` runs all of them on all processors, `tests/all tests/docs` or `tests/all -k saves` a few: its words
-are pytest's. `pytest tests/program/test_saves.py -k mode` does without tests/all, and `--program PATH` tests
+`tests/all` runs all of them on all processors, `tests/all tests/docs` or `tests/all -k saves` a few: its
+words are pytest's. `pytest tests/program/test_saves.py -k mode` does without tests/all, and `--program PATH` tests
 another program. `pytest --markers` and `pytest --fixtures` say more.
 """
 

@@ -13,10 +13,16 @@ STRICT = ("-O2", "-Wall", "-Wextra", "-Werror", f"-I{TOP}/library/c")
 
 def run(*words: object, **how: Any) -> "Ended[str]":
     """Runs a command at the top of the repository, to its end: text, errors among the output, no input."""
-    given: Dict[str, Any] = {"cwd": TOP, "stdout": subprocess.PIPE, "stderr": subprocess.STDOUT, **how}
+    given: Dict[str, Any] = {
+        "cwd": TOP,
+        "stdout": subprocess.PIPE,
+        "stderr": subprocess.STDOUT,
+        "timeout": 280,
+    }
+    given.update({"text": True, "errors": "replace", **how})
     if "input" not in given:
         given["stdin"] = subprocess.DEVNULL
-    return subprocess.run([str(it) for it in words], text=True, errors="replace", **{"timeout": 280, **given})
+    return subprocess.run([str(it) for it in words], **given)
 
 
 def succeeds(*words: object, **how: Any) -> str:
