@@ -1,5 +1,5 @@
-/** The Nintendo 64's Reality Signal Processor (RSP): emulator, debugger, assembler and disassembler, proved to follow
- * the instruction table.
+/** The Nintendo 64's Reality Signal Processor (RSP): emulator, debugger, assembler and disassembler. The library that this
+ * module calls is proved to follow the instruction table; the module is tested.
  *
  *     import { IMEM, Reason, Rsp, assemble } from "rsp";
  *

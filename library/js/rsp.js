@@ -1,5 +1,6 @@
-/** The Nintendo 64's Reality Signal Processor (RSP): emulator, debugger, assembler and disassembler, proved to follow
- * the instruction table. docs/EMBEDDING.md shows how it is used, rsp.d.ts has each call. */
+/** The Nintendo 64's Reality Signal Processor (RSP): emulator, debugger, assembler and disassembler. The library that this
+ * module calls is proved to follow the instruction table; the module is tested. docs/EMBEDDING.md shows how it is used,
+ * and rsp.d.ts has each call. */
 
 import { Accumulators, Bank, Changes, Divider, FIELDS, Flags, Reason, Scalars, SpWords, State, Status, Traced, layout,
   read } from "./shapes.js";

@@ -1,5 +1,6 @@
-"""The Nintendo 64's Reality Signal Processor (RSP): emulator, debugger, assembler and disassembler, proved to
-follow the instruction table.
+"""The Nintendo 64's Reality Signal Processor (RSP): emulator, debugger, assembler and disassembler.
+
+The library that this package calls, librsp, is proved to follow the instruction table. The package is tested.
 
     import rsp
 

@@ -1,4 +1,6 @@
-//! The Nintendo 64's Reality Signal Processor (RSP): emulator, debugger, assembler and disassembler, proved to follow the instruction table.
+//! The Nintendo 64's Reality Signal Processor (RSP): emulator, debugger, assembler and disassembler.
+//!
+//! The library that this crate calls, librsp, is proved to follow the instruction table. The crate is tested.
 //!
 //! A [`Machine`] may go to another thread. A refused call returns why, and has changed nothing.
 //!
