@@ -1,7 +1,7 @@
 /* How many blocks of memory are held after rsp_new, rsp_copy, rsp_free, rsp_assemble and the calls of a bench, done or refused, and what each
- * answers: of rsp_new
- * at every depth and for images of every class of lengths. A machine has equally many blocks at each depth but 0, and RSP_NO_MEMORY is
- * answered only if an allocation failed. Linked with -Wl,--wrap=malloc,--wrap=realloc,--wrap=free. */
+ * returns: rsp_new at every depth, rsp_new and rsp_bench_new for images of every class of lengths. A machine has equally many blocks at each
+ * depth except 0, and RSP_NO_MEMORY is returned only if an allocation failed. What a handle held is given back, and a refused call leaves
+ * nothing. Linked with -Wl,--wrap=malloc,--wrap=realloc,--wrap=free. */
 #include "rsp.h"
 #include "counted.h"
 #include <stdio.h>
@@ -12,6 +12,7 @@
 static int passed, failed;
 static uint8_t image[LONGEST + 64];
 static rsp m = RSP_NONE, other = RSP_NONE, none = RSP_NONE;
+static rsp_bench bench = RSP_NONE;
 
 /* A call answers this status, and this many blocks are held after it. No allocation failed. The first ten faults are shown. */
 static void see(const char *what, long of, uint32_t status, uint32_t wanted, long blocks)
@@ -62,26 +63,76 @@ static void depths(long one)
     rsp_free(&m);
 }
 
-/* An image has a multiple of 8 bytes, from 64 to 8388608. */
-static void one_length(size_t n, long one)
+static uint32_t new_machine(size_t len) { return rsp_new(&m, image, len, 1); }
+static uint32_t new_bench(size_t len) { return rsp_bench_new(&bench, image, len); }
+
+/* A call that makes something of an image, and how many blocks that has. An image has a multiple of 8 bytes, from 64 to 8388608. */
+typedef uint32_t makes(size_t len);
+static void one_length(const char *what, makes *call, size_t n, long blocks)
 {
     int is_right = n >= 64 && n <= LONGEST && n % 8 == 0;
     long before = taken;
-    see("rsp_new, of length", (long)n, rsp_new(&m, image, n, 1), is_right ? RSP_OK : RSP_OUT_OF_RANGE, one);
-    see("rsp_new takes memory, of length", (long)n, (taken > before) == is_right ? RSP_OK : RSP_NO_MEMORY, RSP_OK, one);
+    see(what, (long)n, call(n), is_right ? RSP_OK : RSP_OUT_OF_RANGE, blocks);
+    see("it takes memory", (long)n, (taken > before) == is_right ? RSP_OK : RSP_NO_MEMORY, RSP_OK, blocks);
 }
 
-static void lengths(long one)
+static void lengths(const char *what, makes *call)
 {
     size_t n, power;
-    see("rsp_new", 0, rsp_new(&m, image, 64, 1), RSP_OK, one);
-    for (n = 0; n <= 1024; n++) one_length(n, one);
+    uint32_t status = call(64);
+    long blocks = held;
+    see(what, 64, status, RSP_OK, blocks);
+    for (n = 0; n <= 1024; n++) one_length(what, call, n, blocks);
     for (power = 1024; power <= LONGEST; power *= 2)
-        for (n = power - 17; n <= power + 17; n++) one_length(n, one);
-    for (n = LONGEST + 18; n <= sizeof image; n++) one_length(n, one);
-    for (n = LONGEST - 65536; n < LONGEST; n += 8192) one_length(n, one);
-    for (n = 1; n < 8; n++) one_length(5000000 + n, one);
+        for (n = power - 17; n <= power + 17; n++) one_length(what, call, n, blocks);
+    for (n = LONGEST + 18; n <= sizeof image; n++) one_length(what, call, n, blocks);
+    for (n = LONGEST - 65536; n < LONGEST; n += 8192) one_length(what, call, n, blocks);
+    for (n = 1; n < 8; n++) one_length(what, call, 5000000 + n, blocks);
     rsp_free(&m);
+    rsp_bench_free(&bench);
+    see("freed again", 0, RSP_OK, RSP_OK, 0);
+}
+
+static uint32_t copy(size_t len)
+{
+    (void)len;
+    return rsp_copy(&other, &m);
+}
+
+/* A call whose first allocation fails, then its second, until none does: it is refused, and leaves what was held. Then the same over what it made. */
+static void failing(const char *what, makes *call)
+{
+    int turn;
+    for (turn = 0; turn < 2; turn++) {
+        long number = 0, before = held;
+        uint32_t status = RSP_NO_MEMORY;
+        while (status == RSP_NO_MEMORY && number < 1000) {
+            refused = 0;
+            left = number++;
+            status = call(4096);
+            left = -1;
+            if (status == RSP_NO_MEMORY) {
+                int is_right = refused > 0 && held == before;
+                passed += is_right;
+                failed += !is_right;
+                if (!is_right) printf("FAIL %s, allocation %ld: %ld blocks for %ld\n", what, number, held, before);
+            }
+        }
+        refused = 0;
+        see(what, number, status, RSP_OK, turn ? before : held);
+        see("allocations that can fail", number, number > 1 ? RSP_OK : RSP_NO_MEMORY, RSP_OK, held);
+    }
+}
+
+static void no_memory(void)
+{
+    failing("rsp_new without memory", new_machine);
+    failing("rsp_copy without memory", copy);
+    failing("rsp_bench_new without memory", new_bench);
+    rsp_free(&m);
+    rsp_free(&other);
+    rsp_bench_free(&bench);
+    see("all freed", 0, RSP_OK, RSP_OK, 0);
 }
 
 /* An assembly holds nothing when it returns: of words, of a fault, of bytes that are no text, without room, and at a wrong address. */
@@ -133,7 +184,9 @@ int main(void)
     long one = blocks_of(1);
     see("a machine holds blocks", one, one > 0 ? RSP_OK : RSP_NO_MEMORY, RSP_OK, 0);
     depths(one);
-    lengths(one);
+    lengths("rsp_new, of length", new_machine);
+    lengths("rsp_bench_new, of length", new_bench);
+    no_memory();
     texts();
     scripts();
     printf("%d passed, %d failed\n", passed, failed);
