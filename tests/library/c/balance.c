@@ -163,6 +163,7 @@ static void scripts(void)
         uint32_t status = rsp_bench_new(&b, image, n == 2 ? LONGEST : 64);
         if (n == 0) blocks = held;
         see("rsp_bench_new", (long)n, status, RSP_OK, blocks);
+        if (status != RSP_OK) continue;
         for (at = 0; at < sizeof open_block - 1; at += used)
             rsp_bench_take(&b, (const uint8_t *)open_block + at, sizeof open_block - 1 - at, &used, reply, sizeof reply, &written);
         more = held;
