@@ -149,7 +149,7 @@ def lines(system: str) -> Sequence[Line]:
 def page(system: str, version: str, about: Tuple[str, str]) -> bytes:
     """The README of a system's archive. `about` says of what and by what it was built."""
     it = ABOUT[system]
-    model = "a proved model of the Nintendo 64's Reality Signal Processor"
+    model = "the Nintendo 64's Reality Signal Processor as a machine"
     licence = "No licence is chosen yet; the choice is the owner's."
     head = f"For users of this archive: {it.what}, {model}. {it.runs} {licence}"
     lacks = f"{it.lacks} The archive for Linux on x86-64 has all."
