@@ -1,38 +1,57 @@
-/* runner FILE..: runs flat test vectors (form 4), and prints each case that differs. For another machine replace the calls rsp_*. */
+/* runner FILE..: runs flat test vectors (form 4), and prints each case that differs. A file that has something else is refused.
+ * For another machine replace the calls rsp_*. */
 #include "rsp.h"
 #include <stdio.h>
 #include <string.h>
 
 typedef struct { uint32_t size, word, has_choice; char name[16]; uint32_t pieces; } head;
 typedef struct { uint32_t is_after, bank, address, length; } piece; /* its bytes follow, up to a multiple of 4 */
+typedef struct { const uint8_t *at, *end; } rest;                   /* the bytes that nobody has taken yet */
 
 enum { RDRAM_LENGTH = 1 << 17 };
 static uint8_t image[RDRAM_LENGTH], expected[8192 + RDRAM_LENGTH], found[8192 + RDRAM_LENGTH];
 
-static void put_pieces(const uint8_t *at, uint32_t count, uint32_t is_after)
+static uint32_t length_of(uint32_t bank) { return bank < 2 ? 4096 : RDRAM_LENGTH; }
+
+/* Takes the next bytes. Returns 0 if there aren't so many. */
+static int take(rest *r, void *to, size_t length)
 {
-    for (; count--; at += sizeof(piece)) {
-        piece p;
-        memcpy(&p, at, sizeof p);
-        if (p.is_after == is_after) memcpy(expected + 4096 * p.bank + p.address, at + sizeof p, p.length);
-        at += (p.length + 3) & ~3u;
-    }
+    if ((size_t)(r->end - r->at) < length) return 0;
+    memcpy(to, r->at, length);
+    r->at += length;
+    return 1;
 }
 
-static int run(rsp *m, const uint8_t *data)
+/* Puts the pieces before a case, or those after it, into `expected`. Returns 0 if a piece passes the end of the case or of its memory. */
+static int put_pieces(rest from, uint32_t count, uint32_t is_after)
 {
-    const uint8_t *states = data + sizeof(head), *pieces = states + 2 * sizeof(rsp_state);
+    static uint8_t unused[RDRAM_LENGTH];
+    while (count--) {
+        piece p;
+        uint8_t padding[3];
+        if (!take(&from, &p, sizeof p) || p.bank > 2 || p.address > length_of(p.bank) || p.length > length_of(p.bank) - p.address) return 0;
+        if (!take(&from, p.is_after == is_after ? expected + 4096 * p.bank + p.address : unused, p.length)) return 0;
+        if (!take(&from, padding, -p.length & 3)) return 0;
+    }
+    return 1;
+}
+
+/* Runs the case that comes next, and takes it. Returns 1 if it differs, -1 if it isn't a case. */
+static int run(rsp *m, rest *file)
+{
     rsp_state before, after, got;
     head h;
-    memcpy(&h, data, sizeof h);
-    memcpy(&before, states, sizeof before);
-    memcpy(&after, states + sizeof before, sizeof after);
+    rest r = *file;
+    if (!take(&r, &h, sizeof h) || h.size < sizeof h || h.size > (size_t)(file->end - file->at)) return -1;
+    r.end = file->at + h.size;
+    file->at = r.end;
+    if (!take(&r, &before, sizeof before) || !take(&r, &after, sizeof after)) return -1;
     memset(expected, 0, sizeof expected);
-    put_pieces(pieces, h.pieces, 0);
-    for (uint32_t bank = 0; bank < 3; bank++) rsp_load(m, bank, 0, expected + 4096 * bank, bank < 2 ? 4096 : RDRAM_LENGTH);
-    put_pieces(pieces, h.pieces, 1);
+    if (!put_pieces(r, h.pieces, 0)) return -1;
+    for (uint32_t bank = 0; bank < 3; bank++) rsp_load(m, bank, 0, expected + 4096 * bank, length_of(bank));
+    put_pieces(r, h.pieces, 1);
     int is_wrong = rsp_set(m, &before) != RSP_OK || rsp_step(m) != RSP_OK || rsp_get(m, &got) != RSP_OK || memcmp(&got, &after, sizeof got) != 0;
-    for (uint32_t bank = 0; bank < 3; bank++) rsp_memory(m, bank, 0, found + 4096 * bank, bank < 2 ? 4096 : RDRAM_LENGTH);
+    for (uint32_t bank = 0; bank < 3; bank++) rsp_memory(m, bank, 0, found + 4096 * bank, length_of(bank));
     is_wrong |= memcmp(found, expected, sizeof found) != 0;
     if (is_wrong) printf("%.16s (word %08x) differs\n", h.name, h.word);
     return is_wrong;
@@ -42,19 +61,23 @@ int main(int count, char **files)
 {
     static uint8_t data[1 << 24];
     rsp m = RSP_NONE;
-    uint32_t cases = 0, failed = 0, size, number;
+    uint32_t cases = 0, failed = 0, number;
     if (rsp_new(&m, image, sizeof image, 0) != RSP_OK) return 2;
     for (int i = 1; i < count; i++) {
         FILE *file = fopen(files[i], "rb");
-        size_t length = file ? fread(data, 1, sizeof data, file) : 0, at = 16;
-        if (length < 16 || memcmp(data, "RSPCASES\1\0\0", 12) != 0) return fprintf(stderr, "%s has no flat vectors\n", files[i]), 2;
-        fclose(file);
-        memcpy(&number, data + 12, sizeof number);
-        for (cases += number; number--; at += size) {
-            failed += (uint32_t)run(&m, data + at);
-            memcpy(&size, data + at, sizeof size);
+        rest r = { data, data + (file ? fread(data, 1, sizeof data, file) : 0) };
+        char magic[12];
+        if (file) fclose(file);
+        if (!take(&r, magic, sizeof magic) || memcmp(magic, "RSPCASES\1\0\0", sizeof magic) != 0 || !take(&r, &number, sizeof number))
+            return fprintf(stderr, "%s has no flat vectors\n", files[i]), 2;
+        for (uint32_t k = 1; k <= number; k++, cases++) {
+            int is_wrong = run(&m, &r);
+            if (is_wrong < 0) return fprintf(stderr, "%s: case %u of %u isn't whole, or has a piece that no memory has\n", files[i], k, number), 2;
+            failed += (uint32_t)is_wrong;
         }
+        if (r.at != r.end) return fprintf(stderr, "%s has bytes after its last case\n", files[i]), 2;
     }
+    rsp_free(&m);
     printf("%u passed, %u failed\n", cases - failed, failed);
     return failed || !cases;
 }
