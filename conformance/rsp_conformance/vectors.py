@@ -4,7 +4,7 @@ import json
 from pathlib import Path
 from typing import Any, Dict, List, Sequence
 
-from rsp_conformance import HERE
+from rsp_conformance import HERE, bench
 from rsp_conformance.steps import Entry
 from rsp_conformance.table import ROWS
 
@@ -33,25 +33,48 @@ def names_in(folder: Path, wanted: Sequence[str] = ()) -> List[str]:
     return [name.upper() for name in wanted] or found
 
 
+def plain(path: Path) -> Path:
+    """A file, and nothing that one could wait for."""
+    if path.exists() and not path.is_file():
+        raise VectorsFault(f"{path} is no file")
+    return path
+
+
+MEMORIES = ("dmem", "imem", "rdram")
+KEYS = {"before": {*bench.DEFAULT, "divided", *MEMORIES}, "after": {*bench.DEFAULT, *MEMORIES}}
+
+
+def check_entry(entry: Any) -> None:
+    """A ValueError, KeyError, TypeError or AttributeError if this is no case, or names what no state has."""
+    int(entry["word"], 16), entry["name"].lower(), entry["text"].lower()
+    for when, known in KEYS.items():
+        for key, value in entry[when].items():
+            if key not in known:
+                raise ValueError(f"{when} has the unknown key {key!r}")
+            pieces = value.items() if key in MEMORIES else [("0", "")]
+            for address, text in pieces:
+                int(address, 16), bytes.fromhex(text)
+
+
 def entries_in(folder: Path, name: str) -> List[Entry]:
     """The cases of an instruction."""
-    entries, path = [], folder / "steps" / f"{name}.jsonl"
+    entries, path = [], plain(folder / "steps" / f"{name}.jsonl")
     for number, line in enumerate(path.read_bytes().splitlines(), 1):
         try:
             entry = json.loads(line)
-            int(entry["word"], 16), entry["name"], entry["text"], {**entry["before"], **entry["after"]}
-        except (ValueError, KeyError, TypeError):
-            said = repr(line[:40].decode(errors="replace"))
-            raise VectorsFault(f"{path}, line {number}: this isn't a case: {said}") from None
+            check_entry(entry)
+        except (ValueError, KeyError, TypeError, AttributeError, RecursionError) as fault:
+            why = str(fault) if "unknown key" in str(fault) else repr(line[:40].decode(errors="replace"))
+            raise VectorsFault(f"{path}, line {number}: this isn't a case: {why}") from None
         entries.append(entry)
     return entries
 
 
 def manifest_in(folder: Path, name: str) -> Dict[str, Any]:
     """The manifest of an instruction's programs."""
-    path = folder / "programs" / f"{name}.json"
+    path = plain(folder / "programs" / f"{name}.json")
     try:
         found: Dict[str, Any] = json.loads(path.read_bytes())
         return found
-    except ValueError as fault:
+    except (ValueError, RecursionError) as fault:
         raise VectorsFault(f"{path}: this isn't a manifest of programs: {fault}") from None

@@ -4,6 +4,7 @@ import argparse
 import json
 import os
 import platform
+import re
 from pathlib import Path
 from typing import Any, Dict, List, Tuple
 
@@ -29,7 +30,7 @@ def given_in(out: Path) -> Dict[str, Any]:
     try:
         given = {"generator": 1, **json.loads((out / "campaign.json").read_text())}
         return {key: given[key] for key in ("generator", *GIVEN, "hashes")}
-    except (ValueError, TypeError, KeyError):
+    except (ValueError, TypeError, KeyError, RecursionError):
         raise CampaignFault(f"{out}/campaign.json isn't what a campaign wrote") from None
 
 
@@ -77,6 +78,9 @@ class Folder:
             raise CampaignFault(f"{self.given['emulator']}: {result['given up']}")
         if other := [key for key, value in result["hashes"].items() if value != self.given["hashes"][key]]:
             raise CampaignFault(f"a worker has other files of the {other[0]} than this machine")
+        names = [str(result["instruction"]), *(str(it["name"]) for it in result["programs"])]
+        if odd := [it for it in names if not re.fullmatch(r"[\w-]+", it)]:
+            raise CampaignFault(f"a worker has sent a result with the name {odd[0]!r}")
         for program in result["programs"]:
             folder = self.out / "programs"
             folder.mkdir(exist_ok=True)

@@ -5,9 +5,11 @@ import json
 from pathlib import Path
 from typing import Any, Dict, Iterator, List, Tuple
 
+from rsp_conformance.table import ROWS
+
 from . import CampaignFault
 from .shared import PROGRAM, Result
-from .task import add, nothing
+from .task import LISTS, NUMBERS, add, nothing
 
 HEADS = ("", "cases", "not shown", "differ", "choices", "faults", "first difference")
 STYLE = """body { font: 15px/1.4 system-ui, sans-serif; margin: 2em; color: #222 }
@@ -24,12 +26,34 @@ def results_in(out: Path) -> List[Result]:
     return sorted(found, key=lambda it: (it["instruction"] == PROGRAM, it["instruction"], it["start"]))
 
 
+# What a result has, and of what type it is.
+TYPES: Dict[str, Any] = {
+    **{"instruction": str, "start": int, "size": int, "parts": dict},
+    **{key: (int, float) for key in NUMBERS},
+    **{key: list for key in LISTS},
+}
+
+
+def is_result(found: Any) -> bool:
+    """Whether this has the parts of a result, which may be somebody else's."""
+    if not isinstance(found, dict) or any(not isinstance(found.get(key), it) for key, it in TYPES.items()):
+        return False
+    texts = [found["instruction"], *found["shown"], *found["unseen"], found.get("given up", "")]
+    numbers = [found["start"], found["size"], *(found[key] for key in NUMBERS), *found["parts"].values()]
+    has_types = all(isinstance(it, str) for it in texts) and all(
+        isinstance(it, (int, float)) for it in numbers
+    )
+    return has_types and (found["instruction"] == PROGRAM or found["instruction"] in ROWS)
+
+
 def result_in(path: Path) -> Result:
     try:
-        found: Result = json.loads(path.read_text())
-        return found
-    except ValueError:
-        raise CampaignFault(f"{path} isn't a result: delete it, and start the campaign again") from None
+        found: Result = json.loads(path.read_text()) if path.is_file() else None
+    except (ValueError, RecursionError):
+        found = {}
+    if not is_result(found):
+        raise CampaignFault(f"{path} isn't a result: delete it, and start the campaign again")
+    return found
 
 
 def summary(results: List[Result]) -> Dict[str, Result]:
@@ -79,7 +103,7 @@ def html_row(cells: Tuple[Any, ...], it: Result) -> str:
     width = max(share, 1.5 * (share > 0))
     bar = f'<div class=bar title="{share:.4f} %"><i style="width:{width:.2f}%"></i></div>'
     counts = "".join(f"<td class=n>{value or ''}" for value in numbers)
-    return f"<tr><th>{name}{counts}<td>{bar}<td>{parts}<td><code>{html.escape(first)}</code>"
+    return f"<tr><th>{html.escape(name)}{counts}<td>{bar}<td>{parts}<td><code>{html.escape(first)}</code>"
 
 
 def html_table(results: List[Result], title: str) -> str:
@@ -88,4 +112,4 @@ def html_table(results: List[Result], title: str) -> str:
     rows = "".join(html_row(cells, it) for cells, it in zip(rows_of(lines), lines.values()))
     heads = "".join(f"<th>{it}" for it in (*HEADS[:-1], "share", "what differs", HEADS[-1]))
     head = f"<!doctype html><html lang=en><meta charset=utf-8><title>{title}</title><style>{STYLE}</style>"
-    return f"{head}<h1>{title}</h1><p>{last_words(results)}</p><table><tr>{heads}{rows}</table>"
+    return f"{head}<h1>{title}</h1><p>{html.escape(last_words(results))}</p><table><tr>{heads}{rows}</table>"
