@@ -24,6 +24,7 @@ PACKAGES = {
     "nm": "binutils",
     "objdump": "binutils",
     "objcopy": "binutils",
+    "readelf": "binutils",
     "dot": "graphviz",
     "Xvfb": "xvfb",
     "node": "nodejs",

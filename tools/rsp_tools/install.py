@@ -89,6 +89,7 @@ def main() -> None:
         )
     if subprocess.run([TOP / "library/c/build"]).returncode:
         fail("library/c/build has built no library")
+    os.umask(0o022)  # what root installs others read, whatever the umask of root's shell
     files = list(contents(prefix.replace(" ", "\\ "), program()))
     install(Path(prefix), files)
     more = "" if files[-1].name == "bin/rsp" else ", without the program, which ./rsp builds"
