@@ -3,6 +3,9 @@
 from pathlib import Path
 from typing import Any, NamedTuple, Optional, Sequence
 
+import pytest
+
+from lib import TOP
 from lib.processes import bytes_of
 
 
@@ -23,3 +26,9 @@ def ran(program: object, words: Sequence[object], script: bytes = b"", **how: An
 def content(path: Path) -> Optional[bytes]:
     """The bytes of a file; None if there is none."""
     return path.read_bytes() if path.exists() else None
+
+
+def need_binary(program: Path) -> None:
+    """Fails a test that hits each program that it starts: ./rsp starts others before it is the program."""
+    if program == TOP / "rsp":
+        pytest.fail("./rsp starts others: name the program that it builds, crates/rsp_main/out/rsp_main")

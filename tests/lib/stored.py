@@ -10,34 +10,42 @@ Of the examples and of microcode/, NAME.rsp must print NAME.out.
 """
 
 from pathlib import Path
-from typing import List, Optional, Tuple
+from typing import List, Optional
 
 from lib import TESTS, TOP
+from lib.program import Ran, content
+
+SCRIPTS = TESTS / "program/scripts"
 
 
 class Stored:
+    """A script with what is beside it."""
+
     def __init__(self, path: Path) -> None:
         self.path, self.script = path, path.read_bytes()
+        status, expected, out, errors = map(self.beside, ("status", "expected", "out", "stderr"))
+        self.wanted = Ran(int(status or 0), (expected or b"") + (out or b""), errors or b"")
         self.is_saved = self.beside("saved") is not None
-        output = (self.beside("expected") or b"") + (self.beside("out") or b"")
-        self.wanted: Tuple[int, bytes, bytes] = (
-            int(self.beside("status") or 0),
-            output,
-            self.beside("stderr") or b"",
-        )
 
     def __str__(self) -> str:
         return f"{self.path.parent.name}/{self.path.stem}"
 
     def beside(self, suffix: str) -> Optional[bytes]:
-        path = self.path.with_suffix(f".{suffix}")
-        return path.read_bytes() if path.exists() else None
+        return content(self.path.with_suffix(f".{suffix}"))
 
     def image(self) -> Optional[bytes]:
-        words = (self.beside("rdram") or b"").split()
-        return bytes(i * (b"count" in words) % 256 for i in range(int(words[0]))) if words else None
+        length, *count = (self.beside("rdram") or b"").split() or [b""]
+        return bytes(i % 256 if count else 0 for i in range(int(length))) if length else None
+
+    def words(self, folder: Path) -> List[str]:
+        """The words of the command in a folder, into which the image is written."""
+        words, image = ["run", *["--save", "saved"] * self.is_saved], self.image()
+        if image is not None:
+            (folder / "image").write_bytes(image)
+            words += ["--rdram", "image"]
+        return words
 
 
 def stored() -> List[Stored]:
-    places = [*TESTS.glob("scripts/*/*.script"), *TOP.glob("examples/*.rsp"), *TOP.glob("microcode/*.rsp")]
+    places = [*SCRIPTS.glob("*/*.script"), *TOP.glob("examples/*.rsp"), *TOP.glob("microcode/*.rsp")]
     return [Stored(it) for it in sorted(places)]

@@ -1,15 +1,22 @@
-"""Hostile scripts, texts, files and streams."""
+"""Hostile scripts, texts, files and streams.
+
+They fail if random code isn't run, disassembled and assembled back, if a script that breaks off at a byte
+isn't answered as far as it goes, or if pipes that close early and files without end are answered otherwise.
+"""
 
 import random
 import re
+import select
 import subprocess
+from contextlib import suppress
 from pathlib import Path
-from typing import Any, Iterator, List, Optional
+from typing import Any, Dict, Iterator, List, Optional
 
 import pytest
 
-from lib import TESTS
+from lib import devices
 from lib.program import content
+from lib.stored import SCRIPTS, Stored
 
 LONGEST = 1_048_576
 STOP = re.compile(rb"stop (Reserved|Halted|Limit) steps (\d+) pc [0-9a-f]{3}")
@@ -107,40 +114,38 @@ def prefix_replies(name: str, script: bytes, replies: bytes, length: int) -> byt
 @pytest.mark.parametrize("name", ("blocks/block", "runs/watch", "registers/task-run"))
 def test_prefixes(name: str, rsp: Any, folder: Path) -> None:
     """Each prefix of a script gives exactly its replies, which follow from the stored ones."""
-    at = TESTS / "program/scripts" / name
-    script, replies = (at.with_suffix(it).read_bytes() for it in (".script", ".expected"))
-    words = ["run"]
-    if at.with_suffix(".rdram").exists():
-        (folder / "image").write_bytes(bytes(int(at.with_suffix(".rdram").read_text().split()[0])))
-        words += ["--rdram", "image"]
+    stored = Stored(SCRIPTS / f"{name}.script")
+    words, script, replies = stored.words(folder), stored.script, stored.wanted.output
     for length in range(len(script) + 1):
         ran = rsp(*words, script=script[:length])
         assert ran == (0, prefix_replies(name, script, replies, length), b""), f"the first {length} bytes"
 
 
+PIPES: Dict[str, Any] = {"stdin": subprocess.PIPE, "stdout": subprocess.PIPE, "stderr": subprocess.PIPE}
+
+
+@pytest.mark.timeout(50)
 def test_pipe_that_stays_open(program: Path) -> None:
     """It is answered at once."""
-    pipe = subprocess.PIPE
-    with subprocess.Popen([program, "run"], stdin=pipe, stdout=pipe) as ran:
+    with subprocess.Popen([program, "run"], **PIPES) as ran:
         assert ran.stdin and ran.stdout
         ran.stdin.write(b"step\n")
         ran.stdin.flush()
-        assert ran.stdout.readline() == b"step Done pc 004\n"
+        is_answered = select.select([ran.stdout], [], [], 20)[0]
         ran.stdin.close()
-        assert ran.wait(120) == 0
+        assert is_answered and ran.stdout.readline() == b"step Done pc 004\n"
+        assert ran.wait(20) == 0
 
 
+@pytest.mark.timeout(50)
 def test_output_is_closed_early(program: Path) -> None:
-    pipe = subprocess.PIPE
-    with subprocess.Popen([program, "run"], stdin=pipe, stdout=pipe, stderr=pipe) as ran:
+    with subprocess.Popen([program, "run"], **PIPES) as ran:
         assert ran.stdin and ran.stdout and ran.stderr
         ran.stdout.close()
-        try:
+        with suppress(BrokenPipeError):
             ran.stdin.write(b"vregs\n" * 1000)
             ran.stdin.close()
-        except BrokenPipeError:
-            pass
-        assert (ran.stderr.read(), ran.wait(120)) == (b"rsp: fault 41 WriteFault\n", 1)
+        assert (ran.stderr.read(), ran.wait(20)) == (b"rsp: fault 41 WriteFault\n", 1)
 
 
 @pytest.mark.parametrize("byte", (b"x", b"\n"), ids=("without LF", "of LF alone"))
@@ -161,18 +166,20 @@ def test_image_is_saved_onto_its_own_file(rsp: Any, folder: Path) -> None:
     assert content(folder / "image") == bytes(60) + bytes([1, 2, 3, 4])
 
 
-STEPPED, NO_ROOM = b"step Done pc 004\n", b"rsp: cannot write /dev/full\n"
+STEPPED, NO_ROOM = b"step Done pc 004\n", b"rsp: cannot write {full}\n"
 FILES = {
     "a text that never ends": ("asm /dev/zero out", b"", TOO_LONG),
     "an image that never ends": ("run --rdram /dev/zero", b"", b"rsp: fault 7 SizeFault\n"),
     "words that never end": ("dis /dev/zero", b"", b"rsp: bad size\n"),
-    "the disk is full": ("run --rdram image --save /dev/full", STEPPED, NO_ROOM),
-    "the disk is full for words": ("asm source /dev/full", b"", NO_ROOM),
+    "the disk is full": ("run --rdram image --save {full}", STEPPED, NO_ROOM),
+    "the disk is full for words": ("asm source {full}", b"", NO_ROOM),
 }
 
 
 @pytest.mark.parametrize("words, output, errors", FILES.values(), ids=FILES)
 def test_files(words: str, output: bytes, errors: bytes, rsp: Any, folder: Path) -> None:
+    full = str(devices.full(folder)) if "{full}" in words else ""
     (folder / "image").write_bytes(bytes(64))
     (folder / "source").write_bytes(b"nop\n")
-    assert rsp(*words.split(), script=b"step\n") == (1, output, errors)
+    ran = rsp(*words.format(full=full).split(), script=b"step\n")
+    assert ran == (1, output, errors.replace(b"{full}", full.encode()))

@@ -14,11 +14,12 @@ import subprocess
 import tempfile
 import threading
 from pathlib import Path
-from typing import Any, Callable, List, NamedTuple, Optional, Tuple
+from typing import Any, Callable, Iterator, List, NamedTuple, Optional, Tuple
 
 import pytest
 
-from lib import failing
+from lib import devices, failing
+from lib.program import Ran, need_binary, ran
 
 SIZE = 4096
 OLD = bytes(i % 251 for i in range(SIZE))
@@ -28,10 +29,9 @@ ROOT_ALONE = pytest.mark.skipif(not IS_ROOT, reason="root alone can make files o
 
 
 @pytest.fixture(scope="module")
-def binary(program: Path) -> Any:
+def binary(program: Path) -> Iterator[Path]:
     """A copy of the program, since another user may not reach it where it is."""
-    if program.read_bytes()[:4] != b"\x7fELF":
-        pytest.fail(f"{program} is no binary: a script starts others, which the tests would hit too")
+    need_binary(program)
     with tempfile.TemporaryDirectory() as name:
         Path(name).chmod(0o755)
         yield Path(shutil.copy(program, name))
@@ -71,18 +71,14 @@ class Trial:
 
     def run(self, out: object = None, setting: Optional[Callable[[], object]] = None, **how: Any) -> "Trial":
         """Runs the writer on the file, or on another."""
-        self.out = out or self.file
-        words = [str(it) for it in (*self.writer.words, self.out)]
-        given: Any = {"stdout": subprocess.PIPE, "stderr": subprocess.PIPE, "timeout": 120, **how}
-        self.ran = subprocess.run(
-            words, input=self.writer.script, preexec_fn=setting, restore_signals=False, **given
-        )
+        self.out, (program, *words) = out or self.file, self.writer.words
+        given: Any = {"preexec_fn": setting, "restore_signals": False, **how}
+        self.ran = ran(program, [*words, self.out], self.writer.script, **given)
         return self
 
     def ends(self, output: Optional[bytes], status: int = 0, errors: bytes = b"") -> "Trial":
-        """The run must have printed this alone."""
-        got = self.ran.returncode, self.ran.stdout, self.ran.stderr
-        assert got == (status, self.ran.stdout if output is None else output, errors)
+        """The run must have printed this alone; anything if it is None."""
+        assert self.ran == (status, self.ran.output if output is None else output, errors)
         return self
 
     def saved(self, file: Optional[Path] = None) -> "Trial":
@@ -142,15 +138,17 @@ def test_killed_by_the_limit(new: New) -> None:
     """What it has begun stays, and is in nobody's way."""
     it, beside = new(), ".file.rsp-save-0"
     it.run(setting=lambda: limited(False)).kept().names("file", beside)
-    assert it.ran.returncode == -signal.SIGXFSZ
+    assert it.ran.status == -signal.SIGXFSZ
     it.run().saved().names("file", beside)
     it.run(it.folder / "free", limited).refused().names("file", beside)
 
 
-@pytest.mark.parametrize("out", ("/dev/full", "missing/file"))
-def test_nowhere(out: str, new: New) -> None:
-    it = new()
-    it.run(it.folder / out).refused()
+def test_no_room_on_a_device(new: New, folder: Path) -> None:
+    new().run(devices.full(folder)).refused()
+
+
+def test_no_folder(new: New, folder: Path) -> None:
+    new().run(folder / "missing/file").refused()
 
 
 # Names and modes.
@@ -181,18 +179,29 @@ def test_name_without_a_folder(new: New) -> None:
 # Links.
 
 
-@pytest.mark.parametrize("is_far", (False, True), ids=("near", "far"))
-def test_link(is_far: bool, new: New, folder: Path) -> None:
-    it = new(0o640)
-    near = it.folder / "near"
+def linked(it: Trial, is_far: bool) -> Path:
+    """A link beside the file, or one elsewhere to that link."""
+    near, far = it.folder / "near", it.folder.parent / "far"
     near.symlink_to("file")
-    link = folder / "far" if is_far else near
-    if is_far:
-        link.symlink_to(os.path.relpath(near, folder))
+    far.symlink_to(os.path.relpath(near, far.parent))
+    return far if is_far else near
+
+
+NEAR_AND_FAR = pytest.mark.parametrize("is_far", (False, True), ids=("near", "far"))
+
+
+@NEAR_AND_FAR
+def test_link(is_far: bool, new: New) -> None:
+    it = new(0o640)
+    link = linked(it, is_far)
     it.run(link).saved().mode(0o640).names("file", "near")
     assert link.is_symlink()
-    it.file.write_bytes(OLD)
-    it.run(link, limited).refused().kept()
+
+
+@NEAR_AND_FAR
+def test_link_no_room(is_far: bool, new: New) -> None:
+    it = new()
+    it.run(linked(it, is_far), limited).refused().kept()
 
 
 def test_link_to_nothing(new: New, folder: Path) -> None:
@@ -231,27 +240,19 @@ def test_named_pipe(new: New) -> None:
     assert stat.S_ISFIFO(pipe.stat().st_mode)
 
 
-@pytest.fixture
-def stdout(folder: Path) -> Path:
-    """A link as /dev/stdout is one: root's tests of a program that replaces links would take that away."""
-    link = folder / "stdout"
-    link.symlink_to("/proc/self/fd/1")
-    return link
+def test_stdout_to_a_pipe(new: New, folder: Path) -> None:
+    it = new()
+    reply, words = it.writer.reply, it.writer.new
+    it.run(devices.stdout(folder)).ends(words + reply if "asm" in it.writer.words else reply + words)
 
 
-def test_stdout_to_a_pipe(new: New, stdout: Path) -> None:
-    it = new().run(stdout)
-    is_run = it.writer.words[1] == "run"
-    it.ends(it.writer.reply + it.writer.new if is_run else it.writer.new + it.writer.reply)
-
-
-def test_stdout_to_a_file(new: New, stdout: Path) -> None:
+def test_stdout_to_a_file(new: New, folder: Path) -> None:
     """Who has the file open must see the bytes, but those that the reply has overwritten."""
     it = new()
     with open(it.file, "r+b") as output:
-        it.run(stdout, stdout=output).ends(None)
+        it.run(devices.stdout(folder), stdout=output).ends(None)
         got = os.pread(output.fileno(), 2 * SIZE, 0)
-    overwritten = len(it.writer.reply) if it.writer.words[1] == "asm" else 0
+    overwritten = len(it.writer.reply) if "asm" in it.writer.words else 0
     assert got[overwritten:] == it.writer.new[overwritten:]
     it.names("file")
 
@@ -269,14 +270,15 @@ def test_open_file(is_removed: bool, new: New) -> None:
 # Other users.
 
 
-def give(user: int, *paths: Path) -> None:
+def give(*paths: Path) -> None:
+    """Makes them those of the user nobody, if root does it."""
     for path in paths:
-        os.chown(path, user, user)
+        os.chown(path, *[NOBODY if IS_ROOT else -1] * 2)
 
 
 def test_folder_without_rights(new: New) -> None:
     it = new()
-    give(NOBODY if IS_ROOT else -1, it.file)
+    give(it.file)
     it.folder.chmod(0o555)
     number = it.file.stat().st_ino
     it.run(setting=as_nobody).saved()
@@ -286,7 +288,7 @@ def test_folder_without_rights(new: New) -> None:
 
 def test_file_without_rights(new: New) -> None:
     it = new(0o444)
-    give(NOBODY if IS_ROOT else -1, it.file, it.folder)
+    give(it.file, it.folder)
     it.run(setting=as_nobody).refused().kept().names("file")
 
 
@@ -330,9 +332,7 @@ MOUNTS = {
 @ROOT_ALONE
 @pytest.mark.parametrize("mount, is_refused", MOUNTS.values(), ids=MOUNTS)
 def test_mount(mount: str, is_refused: bool, new: New, folder: Path) -> None:
-    if subprocess.run(
-        ["unshare", "-m", "mount", "-t", "tmpfs", "tmpfs", folder], capture_output=True
-    ).returncode:
+    if ran("unshare", ["-m", "mount", "-t", "tmpfs", "tmpfs", folder]).status:
         pytest.skip("this machine lets nobody mount")
     it = new(name="other")
     (it.folder / "at").mkdir()
@@ -341,10 +341,7 @@ def test_mount(mount: str, is_refused: bool, new: New, folder: Path) -> None:
     words = ("unshare", "-m", "sh", "-c", MOUNTED, "sh", mount, *it.writer.words)
     it.writer = it.writer._replace(words=words)
     it.run("at/file", cwd=it.folder)
-    if is_refused:
-        it.refused()
-    else:
-        it.ends(it.writer.reply)
+    it = it.refused() if is_refused else it.ends(it.writer.reply)
     assert (it.folder / "left").read_bytes() == (OLD if is_refused else it.writer.new)
     assert (it.folder / "names").read_text().split() == ["file"]
 
@@ -353,14 +350,12 @@ def test_mount(mount: str, is_refused: bool, new: New, folder: Path) -> None:
 @pytest.mark.parametrize("is_lasting", (False, True), ids=("one", "all from one on"))
 def test_calls_of_the_system_fail(is_lasting: bool, new: New, folder: Path) -> None:
     """Each call of the system fails, alone or with all after it: the old bytes stay, or the new come."""
-    it, count = new(), 0
+    it, calls, count = new(), failing.library(folder, "writes"), 0
     it.out = it.folder / "link"
     it.out.symlink_to("file")
-    words = [*it.writer.words, it.out]
-    for is_failed, it.ran in failing.runs(
-        failing.library(folder, "writes"), words, it.writer.script, is_lasting
-    ):
-        it = it.refused().kept() if it.ran.returncode else it.saved()
+    for is_failed, ended in failing.runs(calls, [*it.writer.words, it.out], it.writer.script, is_lasting):
+        it.ran = Ran(ended.returncode, ended.stdout, ended.stderr)
+        it = it.refused().kept() if it.ran.status else it.saved()
         it = it if is_lasting else it.names("file", "link")
         count += is_failed
         for beside in it.folder.glob(".file.*"):
@@ -376,10 +371,10 @@ def state(folder: Path) -> List[Tuple[str, int]]:
     return sorted((entry.name, entry.stat().st_size) for entry in os.scandir(folder))
 
 
-def kill_once(words: List[str], folder: Path, sent: signal.Signals) -> int:
+def kill_once(words: List[object], folder: Path, sent: signal.Signals) -> int:
     """Starts a run that saves, and sends the signal once something in the folder changes. Its status."""
     before = state(folder)
-    run = subprocess.Popen(words, stdin=subprocess.PIPE, stdout=subprocess.DEVNULL)
+    run = subprocess.Popen([*map(str, words)], stdin=subprocess.PIPE, stdout=subprocess.DEVNULL)
     assert run.stdin
     run.stdin.write(b"load rdram 0 ff\n")
     run.stdin.close()
@@ -395,17 +390,15 @@ def kill_once(words: List[str], folder: Path, sent: signal.Signals) -> int:
 
 @pytest.mark.parametrize("sent", (signal.SIGTERM, signal.SIGKILL), ids=lambda it: it.name)
 def test_killed_in_mid_write(sent: signal.Signals, binary: Path, folder: Path) -> None:
-    old = bytes(8388608)
-    new, big, own, partial = b"\xff" + old[1:], folder / "big", folder / "own", 0
+    old, own, partial = bytes(8388608), folder / "own", 0
     own.mkdir()
-    file = own / "file"
+    big, file = folder / "big", own / "file"
     big.write_bytes(old)
-    words = [str(binary), "run", "--rdram", str(big), "--save", str(file)]
     for _ in range(100):
         file.write_bytes(old)
-        status = kill_once(words, own, sent)
+        status = kill_once([binary, "run", "--rdram", big, "--save", file], own, sent)
         got = file.read_bytes()
-        is_whole = got in (old, new)
+        is_whole = got in (old, b"\xff" + old[1:])
         assert is_whole, f"the file has {len(got)} bytes, neither the old nor the new"
         beside = [path for path in own.iterdir() if path != file]
         assert [it.name for it in beside if not re.fullmatch(r"\.file\.rsp-save-\d+", it.name)] == []

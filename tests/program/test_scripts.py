@@ -1,18 +1,23 @@
-"""The replies to the repository's scripts, and what the program makes of files and of its command line."""
+"""The replies to the repository's scripts, and what the program makes of files and of its command line.
+
+They fail if a reply, an exit status or a file that is written differs from what is stored beside the script
+(lib.stored) or said here.
+"""
 
 import os
 import random
 import subprocess
 import sys
 import threading
+from contextlib import contextmanager, suppress
 from pathlib import Path
-from typing import Any, List, Mapping, NamedTuple, Optional
+from typing import IO, Any, Iterator, List, Mapping, NamedTuple, Optional
 
 import pytest
 
 from lib import TOP
 from lib.processes import run
-from lib.program import content
+from lib.program import Ran, content
 from lib.stored import Stored, stored
 
 LONGEST_IMAGE = 8388608
@@ -20,36 +25,35 @@ LONGEST_SCRIPT = 1048576
 STEP, STEPPED = b"step\n", b"step Done pc 004\n"
 
 
-def feed(pipe: int, script: bytes, step: int) -> None:
-    """Writes a script in packets of some bytes, each of which is one read of the program's."""
-    try:
-        for i in range(0, len(script), step):
-            os.write(pipe, script[i : i + step])
-    except BrokenPipeError:
-        pass
-    os.close(pipe)
+@contextmanager
+def packets(script: bytes, size: int) -> Iterator[IO[bytes]]:
+    """A pipe of which each read gives so many bytes of a script."""
+    reading, writing = os.pipe2(os.O_DIRECT)
+
+    def feed() -> None:
+        with suppress(BrokenPipeError), open(writing, "wb", buffering=0) as pipe:
+            for i in range(0, len(script), size):
+                pipe.write(script[i : i + size])
+
+    threading.Thread(target=feed, daemon=True).start()
+    with open(reading, "rb", buffering=0) as pipe:
+        yield pipe
 
 
-@pytest.mark.parametrize("step", (LONGEST_SCRIPT, 1, 2, 3, 7))
 @pytest.mark.parametrize("script", stored(), ids=str)
-def test_stored(script: Stored, step: int, rsp: Any, folder: Path) -> None:
+def test_stored(script: Stored, rsp: Any, folder: Path) -> None:
     """Each script is answered alike however its bytes come."""
-    words, image = ["run"], script.image()
-    if image is not None:
-        (folder / "image").write_bytes(image)
-        words += ["--rdram", "image"]
-    if script.is_saved:
-        words += ["--save", "saved"]
-    if step == LONGEST_SCRIPT:
-        ran = rsp(*words, script=script.script)
-    else:
-        reading, writing = os.pipe2(os.O_DIRECT)
-        threading.Thread(target=feed, args=(writing, script.script, step), daemon=True).start()
-        ran = rsp(*words, stdin=reading)
-        os.close(reading)
-    assert ran == script.wanted
-    is_kept = not script.is_saved or content(folder / "saved") == image
-    assert is_kept, "the saved image isn't the read one"
+    words = script.words(folder)
+
+    def see(how: str, ran: Ran) -> None:
+        assert ran == script.wanted, how
+        is_kept = not script.is_saved or content(folder / "saved") == script.image()
+        assert is_kept, f"{how}: the saved image isn't the one that was read"
+
+    see("as a whole", rsp(*words, script=script.script))
+    for size in (1, 2, 3, 7):
+        with packets(script.script, size) as pipe:
+            see(f"{size} bytes a read", rsp(*words, stdin=pipe))
 
 
 def test_example(program: Path) -> None:
@@ -198,9 +202,9 @@ REFUSED: List[str] = ["", *NO_COMMANDS.strip().replace("\n", "|").split("|")]
 REFUSED += [f"{verb} --at={it}" for it in NO_ADDRESSES for verb in ("asm a b", "dis a")]
 
 
-@pytest.mark.parametrize("words", [*(it.split() for it in REFUSED), ["run", "--save", b"\xff"]], ids=str)
-def test_refused(words: List[object], rsp: Any) -> None:
-    ran = rsp(*words, script=STEP)
+@pytest.mark.parametrize("line", [*map(str.encode, REFUSED), b"run --save \xff"], ids=str)
+def test_refused(line: bytes, rsp: Any) -> None:
+    ran = rsp(*line.split(), script=STEP)
     assert (ran.status, ran.output) == (2, b"") and ran.errors
 
 

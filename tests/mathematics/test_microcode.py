@@ -1,7 +1,6 @@
-"""Runs each routine of microcode/ on random inputs, on the program rsp, and compares the result with
-mathematics.
+"""Runs each routine of microcode/ on random inputs, and compares the result with mathematics.
 
-It fails if anything but what the routine's theorem promises is there at the end: in DMEM, in RDRAM, or in a
+They fail if anything but what the routine's theorem promises is there at the end: in DMEM, in RDRAM, or in a
 register that the routine's head doesn't list under "Changes". What has to be there is computed from the
 theorem's sentence, by whole numbers. The steps have to be as many as the table of microcode/README.md says
 for the number of bytes or blocks, and the words too. The words of each text are compared with those that the
@@ -9,29 +8,29 @@ theorem is about, in crates/rsp_routines/src.
 """
 
 import math
-import random
 import re
-import subprocess
-import sys
-import tempfile
 from dataclasses import dataclass, field
+from itertools import zip_longest
 from pathlib import Path
 from random import Random
-from typing import Callable, Dict, Iterator, List, NamedTuple, Optional, Sequence, Set, Tuple
+from typing import Any, Callable, Dict, List, NamedTuple, Optional, Sequence, Set, Tuple
+
+import pytest
 
 from lib import TOP
-from rsp_tests.common.arguments import add_program, reader
-from rsp_tests.common.cases import Case, search, unless
 from lib.numbers import clamped, edged, fixed, halves, packed, signed
-from rsp_tests.common.report import Report
+from lib.pages import page
 
 ROUNDS = 25
 HERE = 0x400  # where the routine is in IMEM
 RDRAM = 16384  # its bytes
-
-
-def text_of(name: str) -> str:
-    return (TOP / "microcode" / f"{name}.s").read_text()
+# The table of microcode/README.md: the words of each routine, and its instructions, `A` or `A + B X`.
+COUNTS = {
+    name: (int(words), cost)
+    for name, words, cost in re.findall(
+        r"(?m)^\| \[(\w+)\.s\].* \| (\d+) \| (.*) \|$", page("microcode/README.md")
+    )
+}
 
 
 @dataclass
@@ -76,41 +75,64 @@ def script_of(name: str, state: State) -> List[str]:
     setting = [f"lqv $v{n}[0], {16 * n}($0)" for n in range(32)]
     for n in range(1, 32):
         setting += [f"lui ${n}, {state.scalars[n] >> 16}", f"ori ${n}, ${n}, {state.scalars[n] % 65536}"]
-    routine = [line.split("#")[0].strip() for line in text_of(name).splitlines()]
+    routine = [line.split("#")[0].strip() for line in page(f"microcode/{name}.s").splitlines()]
     lines = [*load_lines(b"".join(map(packed, state.vectors))), "asm 0", *setting, "break", "end"]
-    lines += [f"asm {HERE}", *routine, "break", "end", "run 1000", *load_lines(bytes(state.dmem))]
+    lines += [f"asm {HERE}", *routine, "break", "end", "run 1000", *load_lines(state.dmem)]
     lines += [f"pc {HERE}", "write 4 1", "run 100000", "regs", "vregs"]
-    return lines + [f"mem dmem {at} 256" for at in range(0, 4096, 256)]
+    return [*lines, *(f"mem dmem {at} 256" for at in range(0, 4096, 256)), ""]
 
 
-def run(program: str, name: str, state: State) -> Tuple[State, int]:
+def run(rsp: Any, image: Path, name: str, state: State) -> Tuple[State, int]:
     """The state after the routine, and its steps."""
-    with tempfile.TemporaryDirectory() as folder:
-        image = Path(folder) / "image"
-        image.write_bytes(state.rdram)
-        words = [program, "run", "--rdram", str(image), "--save", str(image)]
-        script = "\n".join(script_of(name, state))
-        ended = subprocess.run(words, input=script, stdout=subprocess.PIPE, check=True, text=True)
-        rdram = image.read_bytes()
-    said = ended.stdout.splitlines()
+    image.write_bytes(state.rdram)
+    ran = rsp("run", "--rdram", image, "--save", image, script="\n".join(script_of(name, state)).encode())
+    assert (ran.status, ran.errors) == (0, b"")
+    said = ran.output.decode().splitlines()
     dmem = bytearray.fromhex("".join(line.split(": ")[1] for line in said[-256:]))
     vectors = [[signed(int(lane, 16)) for lane in line.split()[1:]] for line in said[-288:-256]]
     scalars = [int(word, 16) for line in said[-296:-288] for word in line.split()[1:]]
-    steps = int(search(r"^stop Halted steps (\d+) ", said[-298])[1])
-    return State(dmem, rdram, scalars, vectors), steps - 1
+    stop, why, _, steps, *_ = said[-298].split()
+    assert (stop, why) == ("stop", "Halted")
+    return State(dmem, image.read_bytes(), scalars, vectors), int(steps) - 1
 
 
 def changes(name: str) -> Tuple[Set[int], Set[int]]:
     """The scalar and the vector registers that the routine's head lists."""
-    listed = search(r"(?m)^# Changes  (.*)$", text_of(name))[1]
+    (listed,) = re.findall(r"(?m)^# Changes  (.*)$", page(f"microcode/{name}.s"))
     found: Dict[str, Set[int]] = {"": set(), "v": set()}
     for kind, first, last in re.findall(r"\$(v?)(\d+)(?: to \$v?(\d+))?", listed):
-        found[kind] |= set(range(int(first), int(last or first) + 1))
+        found[kind] |= {*range(int(first), int(last or first) + 1)}
     return found[""], found["v"]
 
 
-def differs(what: str, expected: object, got: object) -> List[str]:
-    return unless(expected == got, f"{what}: expected {expected}, got {got}")
+def expected(name: str, before: State, wanted: Wanted, after: State) -> State:
+    """The state that has to be at the end. What may change, and of which nothing is promised, is as it is."""
+    scalars, vectors = changes(name)
+    assert {*wanted.scalars} <= scalars and {*wanted.lanes} <= vectors, "its head must list what it computes"
+    rdram = before.rdram if wanted.rdram is None else wanted.rdram
+    state = State(bytearray(before.dmem), rdram, [*before.scalars], [*before.vectors])
+    for it in scalars:
+        state.scalars[it] = wanted.scalars.get(it, after.scalars[it])
+    for it in vectors:
+        lanes = wanted.lanes.get(it, {})
+        state.vectors[it] = [lanes.get(lane, got) for lane, got in enumerate(after.vectors[it])]
+    for at, content in wanted.memory.items():
+        state.dmem[at : at + len(content)] = content
+    for at in before.unstated:
+        state.dmem[at] = after.dmem[at]
+    return state
+
+
+def wrong(wanted: State, got: State) -> Dict[str, object]:
+    """What differs: pairs of what is wanted and what is there."""
+    kinds: Dict[str, Tuple[Sequence[object], Sequence[object]]] = {
+        "$": (wanted.scalars, got.scalars),
+        "$v": (wanted.vectors, got.vectors),
+        "DMEM ": (wanted.dmem, got.dmem),
+        "RDRAM ": (wanted.rdram, got.rdram),
+    }
+    pairs = ((kind, at, it) for kind, both in kinds.items() for at, it in enumerate(zip_longest(*both)))
+    return {f"{kind}{at}": it for kind, at, it in pairs if it[0] != it[1]}
 
 
 def areas(choose: Random, count: int, sources: int) -> Tuple[int, List[int]]:
@@ -128,20 +150,13 @@ def counted(choose: Random, most: int = 4095) -> int:
     return choose.choice((0, 1, 2, 15, 16, 17, 30, 32, choose.randrange(100), choose.randrange(most + 1)))
 
 
-def page_numbers() -> Dict[str, Tuple[int, str]]:
-    """The table of microcode/README.md: the words of each routine, and its instructions, `A` or `A + B X`."""
-    table = (TOP / "microcode" / "README.md").read_text()
-    found = re.findall(r"^\| \[(\w+)\.s\].* \| (\d+) \| (.*) \|$", table, re.M)
-    return {name: (int(words), cost) for name, words, cost in found}
-
-
 def cost_of(cost: str, count: int) -> int:
     """The instructions for so many bytes or blocks.
 
     They are A, or A + B for each v (vectors begun, one at least), w (whole vectors) or b (blocks).
     """
     rounds = {"v": max(1, -(-count // 16)), "w": count // 16, "b": count}
-    once, each, kind = search(r"^(\d+)(?: \+ (\d+) ([vwb]))?$", cost).groups()
+    ((once, each, kind),) = re.findall(r"^(\d+)(?: \+ (\d+) ([vwb]))?$", cost)
     return int(once) + (int(each) * rounds[kind] if each else 0)
 
 
@@ -371,76 +386,26 @@ ROUTINES = {it.__name__: it for it in (*MADE, transform, transform_fixed)}
 ROUTINES["filter"] = filter_four
 
 
-def bytes_that_differ(where: str, wanted: bytes, got: bytes, unstated: Set[int]) -> Iterator[str]:
-    for at, (one, other) in enumerate(zip(wanted, got)):
-        if one != other and at not in unstated:
-            yield f"{where} at {at:04x}: expected {one:02x}, got {other:02x}"
+@pytest.mark.parametrize("name", ROUTINES)
+def test_random_inputs(name: str, rsp: Any, folder: Path) -> None:
+    choose = Random(name)
+    for number in range(ROUNDS):
+        before = random_state(choose)
+        wanted = ROUTINES[name](choose, before)
+        after, steps = run(rsp, folder / "image", name, before)
+        assert wrong(expected(name, before, wanted, after), after) == {}, f"expected and got, run {number}"
+        assert steps == cost_of(COUNTS[name][1], wanted.size), f"the steps of run {number}"
 
 
-def faults(program: str, name: str, cost: str, choose: Random) -> Iterator[str]:
-    """What is wrong with a run on random inputs."""
-    before = random_state(choose)
-    wanted = ROUTINES[name](choose, before)
-    after, steps = run(program, name, before)
-    yield from differs("the steps", cost_of(cost, wanted.size), steps)
-    scalars, vectors = changes(name)
-    for it in {*range(32)} - scalars:
-        yield from differs(f"${it}, which it keeps", before.scalars[it], after.scalars[it])
-    for it in {*range(32)} - vectors:
-        yield from differs(f"$v{it}, which it keeps", before.vectors[it], after.vectors[it])
-    for it, value in wanted.scalars.items():
-        yield from differs(f"${it}", value, after.scalars[it])
-    for it, lanes in wanted.lanes.items():
-        yield from differs(f"$v{it}", lanes, {lane: after.vectors[it][lane] for lane in lanes})
-    dmem = bytearray(before.dmem)
-    for at, content in wanted.memory.items():
-        dmem[at : at + len(content)] = content
-    yield from bytes_that_differ("DMEM", dmem, after.dmem, before.unstated)
-    rdram = before.rdram if wanted.rdram is None else wanted.rdram
-    yield from bytes_that_differ("RDRAM", rdram, after.rdram, set())
+def test_routines() -> None:
+    assert {path.stem for path in TOP.glob("microcode/*.s")} == {*ROUTINES} == {*COUNTS}
 
 
-Words = Tuple[int, ...]
-
-
-def proved() -> Dict[str, Words]:
-    """The words that the theorem of each routine is about, which has the text's name."""
-    texts = {name: (TOP / f"crates/rsp_routines/src/{name}.rt").read_text() for name in ROUTINES}
-    found = {name: search(r"(?s)const WORDS: .*?\[\n(.*?)\];", text)[1] for name, text in texts.items()}
-    each = {name: re.findall(r"(?m)^ *0x(\w{8}),", text) for name, text in found.items()}
-    return {name: tuple(int(it, 16) for it in words) for name, words in each.items()}
-
-
-def words_of(program: str, name: str, folder: str) -> Words:
-    out = Path(folder) / name
-    words = [program, "asm", str(TOP / "microcode" / f"{name}.s"), str(out)]
-    subprocess.run(words, stdout=subprocess.DEVNULL, check=True)
-    content = out.read_bytes()
-    return tuple(int.from_bytes(content[at : at + 4], "big") for at in range(0, len(content), 4))
-
-
-def cases(program: str) -> Iterator[Case]:
-    texts = {path.stem for path in (TOP / "microcode").glob("*.s")}
-    yield "the routines", differs("texts", set(ROUTINES), texts)
-    with tempfile.TemporaryDirectory() as folder:
-        words = {name: words_of(program, name, folder) for name in sorted(texts)}
-    yield "words that have a theorem", differs("all", proved(), words)
-    page = page_numbers()
-    counts = {name: number for name, (number, _) in page.items()}
-    yield "the table's words", differs("words", {name: len(its) for name, its in words.items()}, counts)
-    for name in sorted(ROUTINES):
-        choose = random.Random(name)
-        for number_of_run in range(1, ROUNDS + 1):
-            found = [*faults(program, name, page[name][1], choose)]
-            yield f"{name}, random inputs {number_of_run}", found[:5]
-
-
-def main() -> None:
-    words, report = reader("tests/part microcode", __doc__), Report()
-    add_program(words)
-    report.see_all(cases(words.parse_args().program))
-    sys.exit(report.end())
-
-
-if __name__ == "__main__":
-    main()
+@pytest.mark.parametrize("name", ROUTINES)
+def test_words(name: str, rsp: Any, folder: Path) -> None:
+    """They are those that the theorem is about, which has the text's name, and as many as the table says."""
+    assert rsp("asm", TOP / f"microcode/{name}.s", "words").status == 0
+    words = (folder / "words").read_bytes()
+    (proved,) = re.findall(r"(?s)const WORDS: .*?\[\n(.*?)\];", page(f"crates/rsp_routines/src/{name}.rt"))
+    assert words.hex() == "".join(re.findall(r"(?m)^ *0x(\w{8}),", proved))
+    assert len(words) == 4 * COUNTS[name][0]

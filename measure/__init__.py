@@ -1,0 +1,1 @@
+"""What measures, and is no test and no part of the gate: `tools/python measure.NAME --help` says what of."""

@@ -1,0 +1,74 @@
+"""tools/python measure.bad_input [PROGRAM]: how long the slowest known inputs of 1 MiB take.
+
+For each it prints the processor's seconds, the least of three runs, and the status.
+"""
+
+import argparse
+import resource
+import subprocess
+import tempfile
+from pathlib import Path
+from typing import Iterator, Tuple
+
+from rsp_tools import TOP
+
+BUILT = TOP / "crates/rsp_main/out/rsp_main"
+LONGEST = 1_048_576
+
+
+def filled(line: bytes, start: bytes = b"") -> bytes:
+    """An input of at most 1 MiB: a start, and a line again and again."""
+    return start + line * ((LONGEST - len(start)) // len(line))
+
+
+def shapes() -> Iterator[Tuple[str, str, bytes]]:
+    """Inputs that are made to be slow: a name, the command, and the bytes."""
+    labels = b"".join(b"l%x:\n" % n for n in range(160_000))[:LONGEST]
+    used = b"".join(b"used%x: .word used%x\n" % (n, n) for n in range(1_000))
+    yield "labels alone", "asm", labels[: labels.rfind(b"\n") + 1]
+    yield "labels of 32 bytes", "asm", b"".join(b"a%031x:\n" % n for n in range(30_000))
+    yield "labels that are used, then many more", "asm", (used + labels)[:LONGEST].rsplit(b"\n", 1)[0] + b"\n"
+    yield "comments", "asm", filled(b"#" * 255 + b"\n")
+    yield "words in long lines", "asm", (b".word " + b",".join([b"1"] * 120) + b"\n") * 8
+    yield "empty lines", "run", filled(b"\n")
+    yield "many blocks", "run", filled(b"asm 0\nend\n")
+    yield "blocks of one word", "run", filled(b"asm 0\nx: j x\nend\n")
+    yield "one block that never ends", "run", filled(b"x: nop\n", b"asm 0\n")
+    yield "mem lines", "run", filled(b"mem rdram 0 256\n")
+    yield "vregs lines", "run", filled(b"vregs\n")
+    yield "dis lines", "run", filled(b"dis 0 64\n")
+    yield "step lines", "run", filled(b"step\n")
+    yield "back lines", "run", filled(b"step\nback 1\n")
+    yield "watches", "run", filled(b"watch 0 64\nunwatch 0\n")
+    yield "tasks", "run", filled(b"task 0\n", b"load rdram 12 00001000\n")
+
+
+def seconds(program: Path, kind: str, source: Path) -> Tuple[float, int]:
+    """The processor time that one input takes, and how the program ended."""
+    before = resource.getrusage(resource.RUSAGE_CHILDREN)
+    words = [str(source), str(source.with_name("out"))] if kind == "asm" else []
+    with open(source, "rb") as script:
+        ran = subprocess.run([str(program), kind, *words], stdin=script, capture_output=True, timeout=120)
+    after = resource.getrusage(resource.RUSAGE_CHILDREN)
+    return after.ru_utime + after.ru_stime - before.ru_utime - before.ru_stime, ran.returncode
+
+
+def main() -> None:
+    raw = argparse.RawDescriptionHelpFormatter
+    words = argparse.ArgumentParser(
+        usage="tools/python measure.bad_input", description=__doc__, formatter_class=raw
+    )
+    words.add_argument(
+        "program", nargs="?", type=Path, metavar="PROGRAM", default=TOP / "crates/rsp_main/out/rsp_main"
+    )
+    program = words.parse_args().program.resolve()
+    with tempfile.TemporaryDirectory() as folder:
+        for name, kind, data in shapes():
+            source = Path(folder) / "shape"
+            source.write_bytes(data)
+            taken, status = min(seconds(program, kind, source) for _ in range(3))
+            print(f"{taken:7.2f} s  {len(data):8} bytes  status {status}  {name}", flush=True)
+
+
+if __name__ == "__main__":
+    main()

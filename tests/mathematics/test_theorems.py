@@ -1,0 +1,189 @@
+"""Begins theorems by tools/theorem, as an author of microcode does, and proves them.
+
+They fail if one isn't proved as it is written, or a text that it can't take doesn't get its sentence. The
+program rsp assembles the texts. tools/theorem runs in a temporary copy of the crates: on straight code with
+an instruction of each kind, on loops, on routines that return, and on the first example of docs/PROVING.md.
+One `rt check` then has to prove both functions of each. It also has to prove what the loop of docs/PROVING.md
+fills, after the edits that the page says. Every instruction of the table is known.
+"""
+
+import os
+import re
+import shutil
+import tempfile
+from pathlib import Path
+from typing import Dict, Iterable, Iterator, NamedTuple, Tuple
+
+import pytest
+
+from lib import TOP
+from lib.pages import blocks_of, page
+from lib.processes import Ended, run
+from rsp_conformance.table import FORMS, ROWS, word_of
+from rsp_tools import build
+from rsp_tools.theorem.instructions import instruction_of
+
+LONGEST = 1500  # seconds of a check
+pytestmark = [pytest.mark.xdist_group("theorems"), pytest.mark.timeout(LONGEST + 300)]
+NEEDS_RT = pytest.mark.needs("rt")
+PAGE = "docs/PROVING.md"
+COPIED = ("HANDLES", "crates.txt", "crates", "tools", "conformance/rsp_conformance")
+NAMES = "straight_code down_to_zero down_by_eight called_routine up_to_end with_loop sets_count".split()
+TEXTS = {it: page(f"tests/mathematics/theorems/{it}.s") for it in NAMES}
+LABELS = (*TEXTS, "docs/PROVING.md's example", "docs/PROVING.md's loop")
+# A name, a text, and a part of the sentence that refuses them.
+REFUSED = (
+    ("Add", "nop", "is no name like `add_lanes`"),
+    ("loop", "nop", "is a word of the language"),
+    ("run_multiply", "nop", "lib.rt has the name `run_multiply` already"),
+    ("add_lanes", "nop", "`add_lanes` is too near to src/add_lanes.rt"),
+    ("empty", "# nothing", "the text has no instruction"),
+    ("wrong", "vadd $v1", "the text isn't assembled: rsp: fault"),
+    ("halts", "break", "a BREAK halts the machine"),
+    ("moves", "mtc0 $1, $c0", "take the law `transfers` between"),
+    ("locks", "mfc0 $1, $c7", "take the law `transfers` between"),
+    ("reserved", ".word 0x4a000012", "4a000012 is no instruction of the table"),
+    ("branches", "nop\nbeq $1, $2, 0\nnop", "has to be `bne $A, $B` or `bgtz $C`"),
+    ("skips", "bne $1, $2, 12\nnop\nnop", "one loop at most"),
+    ("nests", "nop\nbne $1, $2, 0\nnop\nbne $1, $3, 0\nnop", "one loop at most"),
+    ("jumps", "nop\nj 0\nnop", "has to be the loop's, or `jr $31`"),
+    ("compares", "nop\nbne $1, $2, 0\nnop", "counted by one `addiu $C, $C, N`"),
+    ("counts", "addiu $1, $1, 1\nbne $1, $0, 0\nnop", "has to be counted down"),
+)
+
+
+def example() -> Tuple[str, str]:
+    """The name and the text of the page's example."""
+    name = search(r"(?m)^    tools/theorem (\w+) times\.s$", page(PAGE))[1]
+    return name, search(r"here `times\.s`.*\n(?:\S.*\n)*\n((?:    .*\n)+)", page(PAGE))[1]
+
+
+def link_or_copy(source: str, target: str) -> None:
+    """Makes a file that nobody writes: a second name of it, or a copy where that can't be."""
+    try:
+        os.link(source, target)
+    except OSError:
+        shutil.copy2(source, target)
+
+
+class Copy:
+    """A copy of the crates and of tools/theorem in a folder, with the libraries that are built of them."""
+
+    def __init__(self, folder: Path, program: Path) -> None:
+        self.folder, self.program, self.crate = folder, program, folder / "crates/rsp_routines"
+        for it in COPIED:
+            (folder / it).parent.mkdir(parents=True, exist_ok=True)
+            if (TOP / it).is_dir():
+                shutil.copytree(TOP / it, folder / it, ignore=shutil.ignore_patterns("out", "__pycache__"))
+            else:
+                shutil.copy(TOP / it, folder / it)
+        # `rt` builds what has no stamp or has changed, so without these it would prove all crates below.
+        for built in TOP.glob("crates/*/out/rlib"):
+            shutil.copytree(built, folder / built.relative_to(TOP), copy_function=link_or_copy)
+
+    def files(self) -> Dict[Path, bytes]:
+        return {it: it.read_bytes() for it in self.crate.rglob("*") if it.is_file()}
+
+    def check(self, only: Iterable[str]) -> str:
+        """What the kit says of a check of these modules. `rt ci` leaves all libraries, but without stamps."""
+        words = [word for it in only for word in ("--only", it)]
+        stamps = [build.stamp(it) for it in build.with_below("rsp_routines")[:-1]]
+        is_of_gate = not any(it.exists() for it in stamps)
+        if is_of_gate and all((it.parent / f"{it.parent.parent.parent.name}.rlib").exists() for it in stamps):
+            whole = [*build.over_libraries("check", "rsp_routines"), "src/lib.rt", "--jobs", "1"]
+            return run(*whole, *words, cwd=self.crate, timeout=LONGEST).stdout
+        return run("rt", "check", *words, cwd=self.crate, timeout=LONGEST).stdout
+
+    def begin(self, name: str, text: str) -> "Ended[str]":
+        """Runs tools/theorem, and returns how it ended."""
+        source = self.folder / "text.s"
+        source.write_text(text)
+        where = {**os.environ, "RSP_PROGRAM": str(self.program)}
+        return run(self.folder / "tools/theorem", name, source, env=where)
+
+    def follow_page(self) -> Tuple[str, "Ended[str]"]:
+        """Does to the theorem of the page's loop what the page says."""
+        section = search(r"(?ms)^## Loops\n(.*?)^## ", page(PAGE))[1]
+        name = search(r"`tools/theorem (\w+) masks\.s`", section)[1]
+        text, unmark, result, lemma, _ = blocks_of(section)  # the last one is of another loop
+        use = search(r"`([^`]*)` replaces the `\?`", section)[1]
+        begun, module = self.begin(name, text), module_of(name)
+        run("sh", "-c", unmark, cwd=self.crate, check=True)
+        first, rest = lemma.split("\n", 1)
+        spec, proof = self.crate / f"specs/{module}.antt", self.crate / f"proofs/{module}Runs.antt"
+        spec.write_text(re.sub(r"(?m)^result_of .*\n", lambda _: result, spec.read_text()))
+        words = proof.read_text().replace("\nuse ", f"\n{first}\nuse ", 1)
+        words = words.replace("-- what a round stores\n", rest, 1)
+        proof.write_text(words.replace(" ? ", f" {use} ", 1))
+        return name, begun
+
+
+def search(pattern: str, text: str) -> "re.Match[str]":
+    found = re.search(pattern, text)
+    assert found, f"nothing is like {pattern}"
+    return found
+
+
+def module_of(name: str) -> str:
+    return "".join(part.capitalize() for part in name.split("_"))
+
+
+@pytest.fixture(scope="module")
+def copy(program: Path) -> Iterator[Copy]:
+    with tempfile.TemporaryDirectory(prefix="rsp-theorem-") as room:
+        yield Copy(Path(room), program)
+
+
+class Proofs(NamedTuple):
+    """The name of each theorem with how tools/theorem ended, and what the kit says of one check of all.
+
+    That check costs less than one of each.
+    """
+
+    begun: Dict[str, Tuple[str, "Ended[str]"]]
+    said: str
+
+
+@pytest.fixture(scope="module")
+def proofs(copy: Copy) -> Proofs:
+    texts = [*TEXTS.items(), example()]
+    pairs = [*((name, copy.begin(name, text)) for name, text in texts), copy.follow_page()]
+    return Proofs(dict(zip(LABELS, pairs)), copy.check(name for name, _ in pairs))
+
+
+@NEEDS_RT
+@pytest.mark.parametrize("name, text, sentence", REFUSED, ids=[name for name, *_ in REFUSED])
+def test_refused(name: str, text: str, sentence: str, copy: Copy) -> None:
+    """A text that it can't take gets its sentence, and nothing is written."""
+    before = copy.files()
+    ran = copy.begin(name, text)
+    assert ran.returncode == 1 and ran.stdout.startswith("theorem: ") and sentence in ran.stdout
+    assert copy.files().keys() == before.keys() and copy.files() == before
+
+
+@NEEDS_RT
+@pytest.mark.parametrize("label", LABELS)
+def test_proved(label: str, proofs: Proofs) -> None:
+    """Each theorem is proved as it is written."""
+    name, ran = proofs.begun[label]
+    assert ran.returncode == 0 and ran.stdout.endswith(f"--only {name}\n")
+    lines = proofs.said.splitlines()
+    about = [line[:300] for line in lines if name in line or module_of(name) in line]
+    for function in ("theorem", "words"):
+        assert f"fn rsp_routines::{name}::{function}: proved" in lines, "\n".join(about)
+
+
+@NEEDS_RT
+def test_all_are_counted(proofs: Proofs) -> None:
+    count = 2 * len(LABELS)
+    assert f"only={count} proved={count}" in proofs.said
+
+
+def test_instructions() -> None:
+    """Each instruction of the table is a term, or refused with a sentence."""
+    for row in ROWS.values():
+        try:
+            told = instruction_of(word_of(row, {field: 0 for field in FORMS[row.form]})).term
+        except (SystemExit, KeyError) as fault:
+            told = str(fault)
+        assert told[:1].isupper() != (row.name in ("break", "mtc0")), row.name

@@ -1,0 +1,158 @@
+"""Each allocation and growth of the program, and of the crates' tests, fails in turn.
+
+They fail if an answer isn't the right one, or if the answers don't come in the order of the work.
+
+The program, or a test of the files out_of_memory.rt in rsp_tests_script, rsp_tests_machine and rsp_tests_cli,
+is run again and again: the first time its first allocation fails, the next time its second, and so on, until a
+run has no more of them. The programs are taken as they are: LD_PRELOAD puts the failing allocator before the
+C library's. The crates' tests (`-k crates`) are those that `rt ci`, or `rt test` in a crate, has built.
+"""
+
+import re
+import tempfile
+from pathlib import Path
+from typing import Iterator, Optional, Sequence
+
+import pytest
+
+from lib import TOP, failing
+from lib.program import Ran, need_binary
+from lib.stored import SCRIPTS, Stored
+
+pytestmark = pytest.mark.needs("cc")
+
+CODE = bytes.fromhex("242100011422fffe000000000000000d")
+TEXT = b"loop: addiu $1, $1, 1\nbne $1, $2, loop\nnop\nbreak\n"
+BLOCK = b"step\nasm 0\n" + TEXT + b"end\nmem imem 0 16\n"
+BLOCK_REPLIES = b"step Done pc 004\nok 4 words\n000000: 242100011422fffe000000000000000d\n"
+LISTING = b"addiu $1, $1, 1\nbne $1, $2, 0x000\nnop\nbreak\n"
+TASK = Stored(SCRIPTS / "registers/task-run.script")
+
+# What the program says while it reads its command line and its files. One allocation there only saves later
+# ones (for the list of words).
+READING = r"(17 after 0;)+whole;(17 after 0;)+"
+
+# What a session says, made and asked line by line.
+SESSION = (
+    r";(no session;)+(no memory for loop: [^;]*;)+(no memory for bne [^;]*;)*(no memory for nop [^;]*;)*"
+    r"(no memory for break;)*(no memory for end;)+"
+)
+
+# What the tests of each crate print if an allocation fails, in the order of the work. An allocation of the
+# test's own prints nothing. Tests that do their work twice print it for each time.
+ANSWERS = {
+    "rsp_tests_script": {
+        "out_of_memory::a_text_is_assembled_when_memory_is_there": (
+            r"((no memory at line 2;)+(no memory at line ([1-4][02468]|[468]);)+){2}"
+        ),
+        "out_of_memory::a_text_is_explained_when_memory_is_there": r"(no memory for a label;)+",
+        "out_of_memory::labels_are_added_when_memory_is_there": (
+            r"(no memory for a label at 0;)+(no memory for a label at 12;)*"
+        ),
+        "out_of_memory::a_block_is_assembled_when_memory_is_there": (
+            r"(no memory for loop: [^;]*;)+(no memory for nop;)*(no memory for end: [^;]*;)*"
+            r"((no memory at line 1;)+(no memory at line 3;)*){2}"
+        ),
+        "out_of_memory::a_session_goes_on_when_memory_is_there": SESSION,
+        "out_of_memory::a_line_is_answered_when_memory_is_there": SESSION,
+        # The end of input ends a block without labels, which takes no memory.
+        "out_of_memory::a_bench_goes_on_when_memory_is_there": r";(no session;)+(no memory for a piece;)+",
+        "out_of_memory::a_script_in_pieces_is_answered_when_memory_is_there": (
+            r"(;(no memory for the script;)+){2}"
+        ),
+        "out_of_memory::a_script_is_answered_when_memory_is_there": (
+            r"(;(no session;)+(no sink;)+(no memory after 17 bytes;)+){2}"
+        ),
+        "out_of_memory::a_run_is_whole_when_memory_is_there": (
+            r"(no sink;;(no memory after 0 bytes;)+(no memory after 17 bytes;)+){2}"
+        ),
+    },
+    "rsp_tests_machine": {
+        "out_of_memory::a_listing_is_assembled_when_memory_is_there": r"(no memory for a listing;)+",
+        "out_of_memory::a_machine_comes_back_when_there_is_no_memory": "".join(
+            rf";(no debugger of depth {n};)+" for n in (0, 1, 256, 4096)
+        ),
+    },
+    "rsp_tests_cli": {
+        "program::out_of_memory::work_is_done_when_memory_is_there": (
+            r";+((17 after 0;|;)+(43 after 0;)+(43 after 17;)+){2};+(17 after 0;|;)+"
+        ),
+        "program::out_of_memory::arguments_are_read_when_memory_is_there": r";+(no memory for arguments;|;)+",
+        "program::out_of_memory::a_file_is_read_when_memory_is_there": r"(no memory for a file;)+",
+    },
+}
+
+
+@pytest.fixture
+def binary(program: Path) -> Path:
+    need_binary(program)
+    return program
+
+
+@pytest.fixture(scope="module")
+def calls() -> Iterator[Path]:
+    """The failing allocator."""
+    with tempfile.TemporaryDirectory() as folder:
+        yield failing.library(Path(folder), "allocations")
+
+
+def answers_of(
+    calls: Path, words: Sequence[object], script: bytes, output: bytes, written: Optional[Path] = None
+) -> str:
+    """What the program answers as its allocations fail. `written` is a file that only a whole run writes."""
+    answers = ""
+    for is_failed, ended in failing.runs(calls, words, script):
+        ran = Ran(ended.returncode, ended.stdout, ended.stderr)
+        is_whole = ran == (0, output, b"")
+        if not is_whole:
+            fault = re.fullmatch(rb"rsp: fault (17|43) OutOfMemory\n", ran.errors)
+            assert is_failed and fault and ran.status == 1 and output.startswith(ran.output)
+            answers += f"{fault[1].decode()} after {len(ran.output)};"
+        elif is_failed:
+            answers += "whole;"
+        if written:
+            assert written.exists() == is_whole, f"after `{answers}`"
+            written.unlink(missing_ok=True)
+    return answers
+
+
+@pytest.mark.parametrize(
+    "script, output, first",
+    ((BLOCK, BLOCK_REPLIES, "(43 after 17;)+"), (TASK.script, TASK.wanted.output, "")),
+    ids=("a block", "a task"),
+)
+def test_run(script: bytes, output: bytes, first: str, binary: Path, calls: Path, folder: Path) -> None:
+    image, saved = folder / "image", folder / "saved"
+    image.write_bytes(bytes(128))
+    words = [binary, "run", "--rdram", image, "--save", saved]
+    answers = answers_of(calls, words, script, output, saved)
+    assert re.fullmatch(rf"{READING}(43 after 0;)+{first}(17 after {len(output)};)*", answers)
+
+
+def test_asm(binary: Path, calls: Path, folder: Path) -> None:
+    (folder / "text").write_bytes(TEXT)
+    made = folder / "made"
+    answers = answers_of(calls, [binary, "asm", folder / "text", made], b"", b"ok 4 words\n", made)
+    assert re.fullmatch(READING, answers)
+
+
+def test_dis(binary: Path, calls: Path, folder: Path) -> None:
+    (folder / "words").write_bytes(CODE)
+    assert re.fullmatch(READING, answers_of(calls, [binary, "dis", folder / "words"], b"", LISTING))
+
+
+@pytest.mark.parametrize(
+    "crate, name",
+    [(crate, name) for crate, named in ANSWERS.items() for name in named],
+    ids=lambda it: it.split("::")[-1],
+)
+def test_crates(crate: str, name: str, calls: Path) -> None:
+    tests, answers = TOP / f"crates/{crate}/out/{crate}_tests", ""
+    if not tests.is_file():
+        pytest.skip(f"{crate} has no built tests: `rt ci` builds them, or `rt test` in its folder")
+    for is_failed, ran in failing.runs(calls, [tests, name]):
+        told, mark, _ = ran.stdout.decode().partition("\ntest result: ok")
+        assert (ran.returncode, bool(mark)) == (0, True), (ran.stdout[-200:], ran.stderr[-200:])
+        assert is_failed or not told.strip(), "it prints something though nothing fails"
+        answers += f"{told.strip()};" * is_failed
+    assert re.fullmatch(ANSWERS[crate][name], answers)
