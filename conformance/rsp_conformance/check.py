@@ -116,11 +116,16 @@ def outcomes_shown(names: List[str]) -> Iterator[Complaints]:
     same = (HERE / "COVERAGE.md").read_text().endswith(f"\n\n{coverage.reasons(table)}")
     yield unless(same, "COVERAGE.md doesn't end with what `conformance/check --reasons` prints")
     for name, outcomes in found.items():
-        row = ROWS[name.lower()]
-        yield from coverage.complaints(row, outcomes)
-        yield from planted.results(row, outcomes)
-        yield from planted.in_steps(row, outcomes)
-        yield from planted.in_programs(row, outcomes, manifest_in(VECTORS, name), PROGRAMS)
+        yield from faults_found(name, outcomes)
+
+
+def faults_found(name: str, outcomes: coverage.Found) -> Iterator[Complaints]:
+    """That each outcome of an instruction occurs in each lane, and that a fault in any is found."""
+    row = ROWS[name.lower()]
+    yield from coverage.complaints(row, outcomes)
+    yield from planted.results(row, outcomes)
+    yield from planted.in_steps(row, outcomes)
+    yield from planted.in_programs(row, outcomes, manifest_in(VECTORS, name), PROGRAMS)
 
 
 def divides_where_it_may(name: str) -> Complaints:
