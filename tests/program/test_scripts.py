@@ -61,41 +61,22 @@ def test_example(program: Path) -> None:
     assert said == "VMULF: 1600 lanes agree with the model\n"
 
 
-class Asked(NamedTuple):
-    """A command in a folder: the files that are given, and what it must print, return and leave."""
-
-    words: str
-    output: bytes = b""
-    status: int = 0
-    errors: bytes = b""
-    script: bytes = b""
-    given: Mapping[str, bytes] = {}
-    left: Mapping[str, Optional[bytes]] = {}  # None: there must be no such file
-    to: Optional[str] = None  # the file that is its standard output
-    seconds: int = 120  # after which it must have ended
-
-
-def fails(words: str, errors: bytes, script: bytes = STEP, **more: Any) -> Asked:
-    """A command that must end with status 1 and one line on standard error; its script is a step."""
-    return Asked(words, status=1, errors=b"rsp: " + errors + b"\n", script=script, **more)
-
-
-def assembled(source: bytes, words: Optional[bytes], fault: bytes = b"") -> Asked:
-    """A text that becomes these words, or is at fault."""
-    how: Any = {"given": {"source": source}, "left": {"words": words}, "seconds": 10}
-    if words is None:
-        return fails("asm source words", b"fault " + fault, **how)
-    return Asked("asm source words", b"ok %d words\n" % (len(words) // 4), **how)
-
-
-TOO_LONG = b"step\n" + b"#" * (LONGEST_SCRIPT - 4)
-FULL = "/dev/full"
+# Files that commands name. Each is written if a command does.
 TEXT = b"loop: addiu $1, $1, 1\nbne $1, $2, loop\r\nnop\nbreak"
 WORDS = bytes.fromhex("242100011422fffe000000000000000d")
-LABELS = b"".join(b"%x:\n" % (0xA00000 + i) for i in range(130000))
-JUMP = {"source": b"j x\nnop\nx: break"}
-AT_80 = Asked("", b"ok 3 words\n", given=JUMP, left={"words": bytes.fromhex("08000022000000000000000d")})
-LISTED = b"go: j x # there\r\n\tnop\n\n# nothing\nx:\n  .word 1, x\nbreak\n"
+GIVEN = {
+    "longest": bytes(LONGEST_IMAGE),
+    "longer": bytes(LONGEST_IMAGE + 8),
+    "text": TEXT,
+    "jump": b"j x\nnop\nx: break",
+    "listed": b"go: j x # there\r\n\tnop\n\n# nothing\nx:\n  .word 1, x\nbreak\n",
+    "unknown": b"nop\nfoo: bar\n",
+    "empty": b"",
+    "half": bytes(6),
+    "many": bytes(4100),
+    "branch": bytes.fromhex("1000fffe00000000"),
+    "code": bytes.fromhex("1000fffe1000fffe002000480020000800000000"),
+}
 LISTING = b"""ok 5 words
 080 go:
 080 08000022 go: j x # there
@@ -105,90 +86,115 @@ LISTING = b"""ok 5 words
 08c 00000088 .word 1, x
 090 0000000d break
 """
-CODE = bytes.fromhex("1000fffe1000fffe002000480020000800000000")
 CODE_LISTED = b".word 0x1000fffe\nbeq $0, $0, 0x000\n.word 0x00200048\njr $1\nnop\n"
-BRANCH = {"words": bytes.fromhex("1000fffe00000000")}
-SAVED = {"saved": bytes(4194302) + b"\x01\x02"}
+PLACES = b"000 1000fffe .word 0x1000fffe\n004 00000000 nop\n"
+PLACES_AT_FF8 = b"ff8 1000fffe beq $0, $0, 0xff4\nffc 00000000 nop\n"
+AT_80 = {"words": bytes.fromhex("08000022000000000000000d")}
+SAVED = {"saved": bytes(4194302) + b"\1\2"}
 ENDS = b"mem rdram 8388607 1\nmem rdram 8388608 1\n"
+TOO_LONG = b"step\n" + b"#" * (LONGEST_SCRIPT - 4)
+NO_SCRIPT = b"rsp: fault 42 ScriptTooLong\n"
+NOBODY_HEARS = b"rsp: fault 41 WriteFault\n"
+
+
+class Asked(NamedTuple):
+    """A command on files and a script, and what it must print and leave."""
+
+    words: str
+    output: bytes = b""
+    script: bytes = STEP
+    errors: bytes = b""
+    left: Mapping[str, Optional[bytes]] = {}  # None: there must be no such file
+
+
+def fails(words: str, errors: bytes, **more: Any) -> Asked:
+    """A command that says one line on standard error."""
+    return Asked(words, errors=b"rsp: " + errors + b"\n", **more)
+
+
 ROWS = {
-    # Files, a script that is too long, and a standard output that is full.
+    # Files, and scripts of the greatest length.
     "missing image": fails("run --rdram missing", b"cannot read missing"),
     "image is a folder": fails("run --rdram .", b"cannot read ."),
-    "longest image": Asked(
-        "run --rdram longest",
-        b"7fffff: 00\nfault 6 RangeFault\n",
-        script=ENDS,
-        given={"longest": bytes(LONGEST_IMAGE)},
-    ),
-    "image too long": fails(
-        "run --rdram longer", b"fault 7 SizeFault", given={"longer": bytes(LONGEST_IMAGE + 8)}
-    ),
+    "longest image": Asked("run --rdram longest", b"7fffff: 00\nfault 6 RangeFault\n", ENDS),
+    "image too long": fails("run --rdram longer", b"fault 7 SizeFault"),
     "image without end": fails("run --rdram /dev/zero", b"fault 7 SizeFault"),
     "image can't be saved": fails("run --save no/saved", b"cannot write no/saved", output=STEPPED),
-    "image is saved": Asked("run --save saved", b"ok\n", script=b"load rdram 0x3ffffe 0102\n", left=SAVED),
-    "script too long": fails(
-        "run --save saved", b"fault 42 ScriptTooLong", TOO_LONG, output=STEPPED, left={"saved": None}
-    ),
-    "longest script": Asked("run", STEPPED + b"fault 32 LineTooLong\n", script=TOO_LONG[:-1]),
-    "output is full": fails("run", b"fault 41 WriteFault", to=FULL),
-    "version can't be printed": fails("--version", b"fault 41 WriteFault", to=FULL),
+    "image is saved": Asked("run --save saved", b"ok\n", b"load rdram 0x3ffffe 0102\n", left=SAVED),
+    "script too long": Asked("run --save saved", STEPPED, TOO_LONG, NO_SCRIPT, {"saved": None}),
+    "longest script": Asked("run", STEPPED + b"fault 32 LineTooLong\n", TOO_LONG[:-1]),
     # Source texts, and their files.
-    "text assembled": assembled(TEXT, WORDS),
-    "empty text": assembled(b"", b""),
-    "text at fault": assembled(b"nop\nfoo\n", None, b"11 UnknownName line 2"),
-    "label in a later line": assembled(b"j a\nfoo\n", None, b"11 UnknownName line 2"),
-    "text isn't UTF-8": assembled(b"nop # \xff\n", None, b"33 NotText"),
-    "text isn't ASCII": assembled(b"nop # \xc3\xbc\n", None, b"10 BadLine line 1"),
-    "text too long": assembled(b"\xff" + b"\n" * LONGEST_SCRIPT, None, b"42 ScriptTooLong"),
-    "longest text": assembled(b"\n" * LONGEST_SCRIPT, b""),
-    "many labels": assembled(LABELS + b".word a00000, affff", None, b"15 LabelMissing line 130001"),
-    "many labels, one twice": assembled(LABELS + b"a00000: foo", None, b"14 LabelTwice line 130001"),
-    "many labels, each found": assembled(LABELS + b".word a00000, a1fbcf", bytes(8)),
-    "text at an address": AT_80._replace(words="asm --at 0x80 source words"),
-    "text at an address in tens": AT_80._replace(words="asm source words --at 128"),
-    "text at an address by =": AT_80._replace(words="asm source --at=0x00000080 words"),
-    "text past the end": fails("asm source words --at 4092", b"fault 16 PastEnd line 2", given=JUMP),
-    "text listed": Asked("asm source words --listing --at 0x80", LISTING, given={"source": LISTED}),
-    "text at fault isn't listed": fails(
-        "asm --listing source words", b"fault 11 UnknownName line 2", given={"source": b"nop\nfoo: bar\n"}
-    ),
+    "text at an address": Asked("asm --at 0x80 jump words", b"ok 3 words\n", left=AT_80),
+    "text at an address in tens": Asked("asm jump words --at 128", b"ok 3 words\n", left=AT_80),
+    "text at an address by =": Asked("asm jump --at=0x00000080 words", b"ok 3 words\n", left=AT_80),
+    "text past the end": fails("asm jump words --at 4092", b"fault 16 PastEnd line 2"),
+    "text listed": Asked("asm listed words --listing --at 0x80", LISTING),
+    "text at fault isn't listed": fails("asm --listing unknown words", b"fault 11 UnknownName line 2"),
     "missing text": fails("asm missing words", b"cannot read missing"),
-    "words can't be written": fails("asm source no/words", b"cannot write no/words", given={"source": TEXT}),
-    "nobody hears of the words": fails(
-        "asm source words", b"fault 41 WriteFault", to=FULL, given={"source": TEXT}, left={"words": WORDS}
-    ),
+    "words can't be written": fails("asm text no/words", b"cannot write no/words"),
     # Words, and their files.
-    "words listed": Asked("dis words", CODE_LISTED, given={"words": CODE}),
-    "no words": Asked("dis words", given={"words": b""}),
-    "half a word": fails("dis words", b"bad size", given={"words": bytes(6)}),
-    "a word too many": fails("dis words", b"bad size", given={"words": bytes(4100)}),
-    "words at 080": Asked("dis words --at 0x80", b"beq $0, $0, 0x07c\nnop\n", given=BRANCH),
-    "words at ff8": Asked("dis words --at 4088", b"beq $0, $0, 0xff4\nnop\n", given=BRANCH),
-    "words with places": Asked(
-        "dis words --places", b"000 1000fffe .word 0x1000fffe\n004 00000000 nop\n", given=BRANCH
-    ),
-    "words at ff8 with places": Asked(
-        "dis words --at 0x0ff8 --places",
-        b"ff8 1000fffe beq $0, $0, 0xff4\nffc 00000000 nop\n",
-        given=BRANCH,
-    ),
-    "words past the end": fails("dis words --at 4092", b"bad size", given=BRANCH),
-    "words past the end with places": fails("dis words --at 0xffc --places", b"bad size", given=BRANCH),
+    "words listed": Asked("dis code", CODE_LISTED),
+    "no words": Asked("dis empty"),
+    "half a word": fails("dis half", b"bad size"),
+    "a word too many": fails("dis many", b"bad size"),
+    "words at 080": Asked("dis branch --at 0x80", b"beq $0, $0, 0x07c\nnop\n"),
+    "words at ff8": Asked("dis branch --at 4088", b"beq $0, $0, 0xff4\nnop\n"),
+    "words with places": Asked("dis branch --places", PLACES),
+    "words at ff8 with places": Asked("dis branch --at 0x0ff8 --places", PLACES_AT_FF8),
+    "words past the end": fails("dis branch --at 4092", b"bad size"),
+    "words past the end with places": fails("dis branch --at 0xffc --places", b"bad size"),
     "words without end": fails("dis /dev/zero", b"bad size"),
     "missing words": fails("dis none", b"cannot read none"),
-    "listing can't be printed": fails("dis words", b"fault 41 WriteFault", given=BRANCH, to=FULL),
 }
+
+
+def give(words: str, folder: Path) -> List[str]:
+    """The words of a command, whose files are written."""
+    for name in GIVEN.keys() & {*words.split()}:
+        (folder / name).write_bytes(GIVEN[name])
+    return words.split()
 
 
 @pytest.mark.parametrize("row", ROWS.values(), ids=ROWS)
 def test_files(row: Asked, rsp: Any, folder: Path) -> None:
-    for name, data in row.given.items():
-        (folder / name).write_bytes(data)
-    how = {"stdout": open(row.to, "wb")} if row.to else {}
-    ran = rsp(*row.words.split(), script=row.script, timeout=row.seconds, **how)
-    assert ran == (row.status, row.output, row.errors)
+    ran = rsp(*give(row.words, folder), script=row.script)
+    assert ran == (int(row.errors != b""), row.output, row.errors)
     changed = [name for name, wanted in row.left.items() if content(folder / name) != wanted]
     assert not changed, "these aren't what they should be"
+
+
+@pytest.mark.parametrize("words", ("run", "--version", "asm text words", "dis branch"))
+def test_output_is_full(words: str, rsp: Any, folder: Path) -> None:
+    with open("/dev/full", "wb") as full:
+        assert rsp(*give(words, folder), script=STEP, stdout=full) == (1, b"", NOBODY_HEARS)
+    assert content(folder / "words") == (WORDS if "asm" in words else None)
+
+
+LABELS = b"".join(b"%x:\n" % (0xA00000 + i) for i in range(130000))
+# Source texts with the words that they become, or their fault.
+SOURCES = {
+    "text assembled": (TEXT, WORDS),
+    "empty text": (b"", b""),
+    "text at fault": (b"nop\nfoo\n", "11 UnknownName line 2"),
+    "label in a later line": (b"j a\nfoo\n", "11 UnknownName line 2"),
+    "text isn't UTF-8": (b"nop # \xff\n", "33 NotText"),
+    "text isn't ASCII": (b"nop # \xc3\xbc\n", "10 BadLine line 1"),
+    "text too long": (b"\xff" + b"\n" * LONGEST_SCRIPT, "42 ScriptTooLong"),
+    "longest text": (b"\n" * LONGEST_SCRIPT, b""),
+    "many labels": (LABELS + b".word a00000, affff", "15 LabelMissing line 130001"),
+    "many labels, one twice": (LABELS + b"a00000: foo", "14 LabelTwice line 130001"),
+    "many labels, each found": (LABELS + b".word a00000, a1fbcf", bytes(8)),
+}
+
+
+@pytest.mark.parametrize("source, made", SOURCES.values(), ids=SOURCES)
+def test_text(source: bytes, made: Any, rsp: Any, folder: Path) -> None:
+    (folder / "source").write_bytes(source)
+    ran, words = rsp("asm", "source", "words", timeout=10), content(folder / "words")
+    if isinstance(made, bytes):
+        assert (ran, words) == ((0, b"ok %d words\n" % (len(made) // 4), b""), made)
+    else:
+        assert (ran, words) == ((1, b"", f"rsp: fault {made}\n".encode()), None)
 
 
 NO_COMMANDS = """

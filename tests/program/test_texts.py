@@ -15,7 +15,7 @@ import pytest
 
 from lib import TOP
 from lib.numbers import clamped, halves
-from lib.pages import block_with
+from lib.pages import block_with, page
 
 # Opcodes with a distance in words from the delay slot, and the codes of opcode 1 that have one.
 BRANCHES = (4, 5, 6, 7)
@@ -203,11 +203,9 @@ def test_linked_elsewhere(base: int, at: int, files: Files) -> None:
     see_edited(files, cleared, at)
 
 
-# `asm --explain`: a line that is refused, the fault, the number and text of its operand, and what may be
-# there, as docs/ASSEMBLY.md says. None: no operand is at fault.
-HALF, TARGET, WORD = "-32768 to 65535", "0 to 4092, a multiple of 4", "-2147483648 to 4294967295"
-SCALAR, VECTOR = "a scalar register", "a vector register"
-NUMBER, MEMORY = "a number or a label,", "and a scalar register in parentheses"
+# `asm --explain`: lines that are refused, their faults, and the number and text of the operand with what may
+# be there, as docs/ASSEMBLY.md says; `-` where no operand is at fault.
+REFUSED = [it.split("\t") for it in page("tests/program/explanations.tsv").splitlines()[1:]]
 SCALES = {
     1: "lbv sbv",
     2: "lsv ssv",
@@ -215,68 +213,18 @@ SCALES = {
     8: "ldv sdv lpv spv luv suv",
     16: "lqv sqv lrv srv lhv shv lfv sfv ltv stv swv",
 }
-Refusal = Tuple[str, str, Optional[int], Optional[str], Optional[str]]
-REFUSED: List[Refusal] = [
-    ("addiu $1, $0, 65536", "13 OutOfRange", 3, "65536", HALF),
-    ("addi $1, $0, -32769", "13 OutOfRange", 3, "-32769", HALF),
-    ("ori $1, $0, 0x10000", "13 OutOfRange", 3, "0x10000", HALF),
-    ("lui $1, 99999999999999999999999", "13 OutOfRange", 2, "99999999999999999999999", HALF),
-    ("sll $1, $2, 32", "13 OutOfRange", 3, "32", "0 to 31"),
-    ("sra $1, $2, -1", "13 OutOfRange", 3, "-1", "0 to 31"),
-    ("j 4096", "13 OutOfRange", 1, "4096", TARGET),
-    ("jal 2", "13 OutOfRange", 1, "2", TARGET),
-    ("beq $1, $2, -4", "13 OutOfRange", 3, "-4", TARGET),
-    ("bgez $1, 4098", "13 OutOfRange", 2, "4098", TARGET),
-    ("lw $1, 65536($2)", "13 OutOfRange", 2, "65536($2)", HALF),
-    ("sb $1, -32769($2)", "13 OutOfRange", 2, "-32769($2)", HALF),
-    (".word 1, 4294967296, 2", "13 OutOfRange", 2, "4294967296", WORD),
-    (".word -2147483649", "13 OutOfRange", 1, "-2147483649", WORD),
-    ("x: .word x, x+4294967296", "13 OutOfRange", 2, "x+4294967296", WORD),
-    ("x: j x-8", "13 OutOfRange", 1, "x-8", TARGET),
-    ("x: lqv $v1[0], x+1024($2)", "13 OutOfRange", 2, "x+1024($2)", "-1024 to 1008, a multiple of 16"),
-    ("j nowhere", "15 LabelMissing", 1, "nowhere", f"the label of a line, or {TARGET}"),
-    ("x: .word x, nowhere, elsewhere", "15 LabelMissing", 2, "nowhere", f"the label of a line, or {WORD}"),
-    ("lw $1, gone+4($2)", "15 LabelMissing", 2, "gone+4($2)", f"the label of a line, or {HALF}"),
-    ("addu $1, $v2, $3", "12 BadOperand", 2, "$v2", SCALAR),
-    ("addu $1, $2", "12 BadOperand", 3, None, SCALAR),
-    ("addu $1, $2, $3, $4", "12 BadOperand", 4, "$4", "nothing"),
-    ("jr", "12 BadOperand", 1, None, SCALAR),
-    ("jalr $32", "12 BadOperand", 1, "$32", SCALAR),
-    ("jalr $1, $2, $3", "12 BadOperand", 3, "$3", "nothing"),
-    ("nop nop", "12 BadOperand", 1, "nop", "nothing"),
-    (".word", "12 BadOperand", 1, None, f"{NUMBER} {WORD}"),
-    (".word 1, $2", "12 BadOperand", 2, "$2", f"{NUMBER} {WORD}"),
-    (".word 99999999999, $1", "12 BadOperand", 2, "$1", f"{NUMBER} {WORD}"),
-    ("addiu $1, $2, 4 4", "12 BadOperand", 3, "4 4", f"{NUMBER} {HALF}"),
-    ("andi $1, $2, $3", "12 BadOperand", 3, "$3", f"{NUMBER} {HALF}"),
-    ("sll $1, $2, $3", "12 BadOperand", 3, "$3", f"{NUMBER} 0 to 31"),
-    ("j $1", "12 BadOperand", 1, "$1", f"{NUMBER} {TARGET}"),
-    ("bne $1, $2, 0X10", "12 BadOperand", 3, "0X10", f"{NUMBER} {TARGET}"),
-    ("lw $1, 4 ($2)", "12 BadOperand", 2, "4 ($2)", f"{NUMBER} {HALF}, {MEMORY}"),
-    ("lqv $v1[0], 16", "12 BadOperand", 2, "16", f"{NUMBER} -1024 to 1008, a multiple of 16, {MEMORY}"),
-    ("mfc0 $1, $2", "12 BadOperand", 2, "$2", "an SP register, $c0 to $c15"),
-    ("cfc2 $1, $2", "12 BadOperand", 2, "$2", "$vco, $vcc or $vce"),
-    ("vadd $v1, $2, $v3", "12 BadOperand", 2, "$2", VECTOR),
-    ("vadd $v1, $v2, $v3[8]", "12 BadOperand", 3, "$v3[8]", f"{VECTOR}, with an element or none"),
-    ("lqv $v1[16], 0($2)", "12 BadOperand", 1, "$v1[16]", f"{VECTOR}, with a byte or none"),
-    ("lfv $v1[4], 0($2)", "12 BadOperand", 1, "$v1[4]", f"{VECTOR}, with byte 0 or 8 or none"),
-    ("vrcp $v1, $v2[0]", "12 BadOperand", 1, "$v1", f"{VECTOR}, with a lane"),
-    ("x nop", "11 UnknownName", None, None, None),
-    ("li $1, 99999999", "11 UnknownName", None, None, None),
-    ("1x: nop", "10 BadLine", None, None, None),
-    ("x: j 1", "14 LabelTwice", None, None, None),
-    (".word " + ", ".join("0" * 60), "16 PastEnd", None, None, None),
-]
 # Each vector load and store with offsets next to its range, and one between its steps.
 for scale, names in SCALES.items():
     allowed = f"{-64 * scale} to {63 * scale}" + f", a multiple of {scale}" * (scale > 1)
     for offset in (-65 * scale, 64 * scale, *[scale + 1] * (scale > 1)):
-        for name in names.split():
-            REFUSED.append((f"{name} $v1[0], {offset}($2)", "13 OutOfRange", 2, f"{offset}($2)", allowed))
+        operand = f"{offset}($2)"
+        REFUSED += [
+            [f"{it} $v1[0], {operand}", "13 OutOfRange", "2", operand, allowed] for it in names.split()
+        ]
 
 
 @pytest.mark.parametrize("refusal", REFUSED, ids=lambda it: it[0][:40])
-def test_explanation(refusal: Refusal, rsp: Any, folder: Path) -> None:
+def test_explanation(refusal: List[str], rsp: Any, folder: Path) -> None:
     line, fault, number, operand, allowed = refusal
     first = "x: nop\n" if fault.startswith("14") else "nop # a comment\n"
     (folder / "text").write_text(first + f"\t{line}  # why not\r\n" + "nop\n")
@@ -284,8 +232,7 @@ def test_explanation(refusal: Refusal, rsp: Any, folder: Path) -> None:
     told = f"rsp: fault {fault} line 2\n"
     assert rsp("asm", "text", "made", *at) == (1, b"", told.encode())
     told += f"  line: {line}  # why not\n"
-    if number:
-        told += f"  operand {number}: {operand or '(none)'}\n  may be: {allowed}\n"
+    told += f"  operand {number}: {operand}\n  may be: {allowed}\n" * (number != "-")
     assert rsp("asm", "text", "made", *at, "--explain") == (1, b"", told.encode())
 
 
