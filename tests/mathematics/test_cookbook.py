@@ -1,26 +1,23 @@
-"""What the examples of docs/COOKBOOK.md compute, on the program rsp, against mathematics.
+"""What the examples of docs/COOKBOOK.md compute, against mathematics.
 
-Each example is run on its own numbers, and then on random ones that are loaded over them. What has to be
-there is computed from the numbers that went in: from sums, products and divisions, not from the instruction
-table, and not from what the program printed before.
+They fail if a result in memory is another one. Each example is run on its own numbers, and then on random
+ones that are loaded over them. What has to be there is computed from the numbers that went in: from sums,
+products and divisions, not from the instruction table, and not from what the program printed before.
 """
 
 import math
-import random
-import subprocess
 from fractions import Fraction
-from pathlib import Path
 from random import Random
-from typing import Callable, List, Tuple
+from typing import Any, Callable, Dict, List, Tuple
 
 import pytest
 
-from lib import TOP
 from lib.numbers import clamped, edged, fixed, halves, packed
+from lib.pages import page
 
 ROUNDS = 20
 BANKS = {"dmem": 4096, "rdram": 0x4000}  # as much of them as the examples use
-Loads = List[Tuple[str, int, bytes]]
+Loads = List[Tuple[str, int, bytes]]  # bank, address, bytes
 FACTORS = [math.sqrt(0.5) / 2] + [0.5] * 7  # of the frequencies of a cosine transform
 
 
@@ -32,30 +29,23 @@ def fixed_at(memory: bytes, high: int, low: int, count: int) -> List[int]:
 class Run:
     """A run of an example: the memories as it found them, and as it left them."""
 
-    def __init__(self, program: Path, name: str, changes: Loads) -> None:
-        lines = (TOP / "examples" / f"{name}.rsp").read_text().splitlines()
+    def __init__(self, rsp: Any, name: str, changes: Loads) -> None:
+        lines = page(f"examples/{name}.rsp").splitlines()
         last = max(i for i, line in enumerate(lines) if line.startswith("load "))
         for bank, at, content in changes:
             pieces = ((at + i, content[i : i + 64]) for i in range(0, len(content), 64))
             lines[last + 1 : last + 1] = [f"load {bank} {place} {piece.hex()}" for place, piece in pieces]
         self.before = {bank: bytearray(size) for bank, size in BANKS.items()}
-        for line in lines:
-            words = line.split("#")[0].split()
+        for words in (line.split("#")[0].split() for line in lines):
             if words[:1] == ["load"] and words[1] in BANKS:
                 content, start = bytes.fromhex(words[3]), int(words[2], 0)
                 self.before[words[1]][start : start + len(content)] = content
         shown = [f"mem {bank} {at} 256" for bank, size in BANKS.items() for at in range(0, size, 256)]
-        script = "\n".join(lines + shown)
-        ended = subprocess.run([program, "run"], input=script, stdout=subprocess.PIPE, check=True, text=True)
-        rows = ended.stdout.splitlines()[-16 * len(shown) :]
+        ran = rsp("run", script="\n".join(lines + shown).encode())
+        assert (ran.status, ran.errors) == (0, b"")
+        rows = ran.output.decode().splitlines()[-16 * len(shown) :]
         found = bytes.fromhex("".join(line.split(": ")[1] for line in rows))
         self.dmem, self.rdram = found[: BANKS["dmem"]], found[BANKS["dmem"] :]
-
-
-Example = Tuple[Callable[[Random], Loads], Callable[[Run], None]]
-
-
-# Each example: what is loaded over its numbers, as (bank, address, bytes), and what it must have left.
 
 
 def vector_numbers(choose: Random) -> Loads:
@@ -75,20 +65,12 @@ def see_vector(run: Run) -> None:
         assert halves(run.dmem, pair + 32) == wanted, f"pair at {pair:03x}"
 
 
-def fir_numbers(choose: Random) -> Loads:
-    return [("dmem", 0, packed(edged(choose) for _ in range(32)))]
-
-
 def see_fir(run: Run) -> None:
     taps, samples = halves(run.before["dmem"], 0, 8), halves(run.before["dmem"], 0x10, 24)
     for n in range(16):
         exact = sum(Fraction(taps[k], 32768) * samples[n + 8 - k] for k in range(8))
         wanted = clamped(math.floor(exact + Fraction(1, 2)))
-        assert halves(run.dmem, 96 + 2 * n, 1) == [wanted], f"y[{n}]"
-
-
-def idct_numbers(choose: Random) -> Loads:
-    return [("dmem", 0x80, packed(choose.choice((0, choose.randrange(-4096, 4096))) for _ in range(64)))]
+        assert halves(run.dmem, 0x60 + 2 * n, 1) == [wanted], f"y[{n}]"
 
 
 def see_idct(run: Run) -> None:
@@ -103,15 +85,11 @@ def see_idct(run: Run) -> None:
             assert got == pytest.approx(exact, rel=0, abs=most), f"row {row}, f[{x}]"
 
 
-def transpose_numbers(choose: Random) -> Loads:
-    return [("dmem", 0, choose.randbytes(128))]
-
-
 def see_transpose(run: Run) -> None:
     block = [halves(run.before["dmem"], 16 * row, 8) for row in range(8)]
     for row in range(8):
         wanted = [block[column][row] for column in range(8)]
-        assert halves(run.dmem, 256 + 16 * row) == wanted, f"row {row}"
+        assert halves(run.dmem, 0x100 + 16 * row) == wanted, f"row {row}"
 
 
 def perspective_numbers(choose: Random) -> Loads:
@@ -159,36 +137,24 @@ def see_clip(run: Run) -> None:
         at = number // 2 * 32 + number % 2 * 8
         *sides, w = fixed_at(run.before["dmem"], at, at + 16, 4)
         codes.append(sum((side <= -w) << i | (side >= w) << i + 8 for i, side in enumerate(sides)))
-    assert halves(run.dmem, 64, 4) == codes, "codes"
+    assert halves(run.dmem, 0x40, 4) == codes, "codes"
     common = codes[0] & codes[1] & codes[2] & codes[3]
     some = codes[0] | codes[1] | codes[2] | codes[3]
-    assert halves(run.dmem, 72, 2) == [common, some], "common and any"
-
-
-def copy_numbers(choose: Random) -> Loads:
-    return [("rdram", 0x1000, choose.randbytes(256))]
+    assert halves(run.dmem, 0x48, 2) == [common, some], "common and any"
 
 
 def see_copy(run: Run) -> None:
     tile = b"".join(run.before["rdram"][0x1010 + 64 * row : 0x1020 + 64 * row] for row in range(4))
     turned = bytes(255 - byte for byte in tile)
-    assert run.rdram[8192:8256].hex() == turned.hex(), "the tile"
+    assert run.rdram[0x2000:0x2040].hex() == turned.hex(), "the tile"
     before, after = (it[0x1000:0x1100].hex() for it in (run.before["rdram"], run.rdram))
     assert after == before, "the picture"
-
-
-def task_numbers(choose: Random) -> Loads:
-    return [("rdram", 0x300, packed(edged(choose) for _ in range(16)))]
 
 
 def see_task(run: Run) -> None:
     one, two = halves(run.before["rdram"], 0x300, 8), halves(run.before["rdram"], 0x310, 8)
     wanted = [clamped(a + b) for a, b in zip(one, two)]
-    assert halves(run.rdram, 896) == wanted, "the mixed sound"
-
-
-def scalar_numbers(choose: Random) -> Loads:
-    return [("dmem", 0, choose.randbytes(12))]
+    assert halves(run.rdram, 0x380) == wanted, "the mixed sound"
 
 
 def see_scalar(run: Run) -> None:
@@ -196,21 +162,25 @@ def see_scalar(run: Run) -> None:
     assert int.from_bytes(run.dmem[16:20], "big") == sum(words) % 2**32, "the sum"
 
 
-EXAMPLES = {
+# Each example: what is loaded over its numbers, and what sees what it has left.
+EXAMPLES: Dict[str, Tuple[Callable[[Random], Loads], Callable[[Run], None]]] = {
     "vector": (vector_numbers, see_vector),
-    "fir": (fir_numbers, see_fir),
-    "idct": (idct_numbers, see_idct),
-    "transpose": (transpose_numbers, see_transpose),
+    "fir": (lambda it: [("dmem", 0, packed(edged(it) for _ in range(32)))], see_fir),
+    "idct": (
+        lambda it: [("dmem", 0x80, packed(it.choice((0, it.randrange(-4096, 4096))) for _ in range(64)))],
+        see_idct,
+    ),
+    "transpose": (lambda it: [("dmem", 0, it.randbytes(128))], see_transpose),
     "perspective": (perspective_numbers, see_perspective),
     "clip": (clip_numbers, see_clip),
-    "copy": (copy_numbers, see_copy),
-    "task": (task_numbers, see_task),
-    "scalar": (scalar_numbers, see_scalar),
+    "copy": (lambda it: [("rdram", 0x1000, it.randbytes(256))], see_copy),
+    "task": (lambda it: [("rdram", 0x300, packed(edged(it) for _ in range(16)))], see_task),
+    "scalar": (lambda it: [("dmem", 0, it.randbytes(12))], see_scalar),
 }
 
 
-@pytest.mark.parametrize("round", range(ROUNDS + 1), ids=lambda it: f"random {it}" if it else "its own")
+@pytest.mark.parametrize("number", range(ROUNDS + 1), ids=lambda it: f"random {it}" if it else "its own")
 @pytest.mark.parametrize("name", EXAMPLES)
-def test_example(name: str, round: int, program: Path) -> None:
+def test_example(name: str, number: int, rsp: Any) -> None:
     numbers, see = EXAMPLES[name]
-    see(Run(program, name, numbers(random.Random(f"{name} {round}")) if round else []))
+    see(Run(rsp, name, numbers(Random(f"{name} {number}")) if number else []))
