@@ -4,15 +4,9 @@ import re
 import subprocess
 import tempfile
 from pathlib import Path
-from typing import Dict, Iterable, Iterator, List, Optional, Sequence, Tuple
+from typing import Iterable, Iterator, List, Optional, Sequence, Tuple
 
-from lib import TOP
-
-DATA = TOP / "docs/data"
-
-
-def page(name: str) -> str:
-    return (TOP / name).read_text()
+from rsp_tools.pages import anchor, data, page  # noqa: F401 (for those who import them from here)
 
 
 def blocks_of(text: str) -> List[str]:
@@ -55,20 +49,6 @@ def tables(name: str, heading: str = "") -> Iterator[List[str]]:
         yield from map(cells_of, table.splitlines())
 
 
-def data(name: str) -> List[Dict[str, str]]:
-    """The lines of a table of docs/data, each as its cells by the names of the columns."""
-    names, *lines = [line.split("\t") for line in (DATA / f"{name}.tsv").read_text().splitlines()]
-    assert {len(cells) for cells in lines} <= {
-        len(names)
-    }, f"docs/data/{name}.tsv: a line has not {len(names)} cells"
-    return [dict(zip(names, cells)) for cells in lines]
-
-
-def anchor(heading: str) -> str:
-    """What a link has after its `#`, as the usual viewers of Markdown make it."""
-    return re.sub(r"[^\w\- ]", "", heading.lower()).replace(" ", "-")
-
-
 def matches(told: Sequence[str], wanted: Sequence[str]) -> bool:
     """Whether the lines of a reply are the wanted ones, `..` being any lines."""
     form = "".join(r"(?:.*\n)*" if it == ".." else re.escape(it) + "\n" for it in wanted)
@@ -78,7 +58,8 @@ def matches(told: Sequence[str], wanted: Sequence[str]) -> bool:
 def said(program: object, *words: object, given: str = "") -> str:
     """The standard output of the program, which has to succeed."""
     command = [str(program), *map(str, words)]
-    return subprocess.run(command, input=given, stdout=subprocess.PIPE, check=True, text=True).stdout
+    ran = subprocess.run(command, input=given, stdout=subprocess.PIPE, check=True, text=True, timeout=280)
+    return ran.stdout
 
 
 def replies(program: object, script: str) -> str:
@@ -120,6 +101,5 @@ def listing(program: object, text: str, at: str) -> str:
 
 def see_reply(told: str, wanted: str) -> None:
     """A reply must be as a page has it, `..` being any lines."""
-    assert matches(
-        told.strip("\n").split("\n"), wanted.strip("\n").split("\n")
-    ), f"{wanted!r} is wanted, {told!r} is told"
+    lines, form = told.strip("\n").split("\n"), wanted.strip("\n").split("\n")
+    assert matches(lines, form), f"{wanted!r} is wanted, {told!r} is told"

@@ -8,15 +8,9 @@ with an address, `pc`, `npc`, `VCC`, `SP_STATUS`, `DIV_IN`, `DIV_OUT`, `mark`; o
 import re
 from typing import Any, Dict, Iterator, Tuple, Union
 
+from drawings.looks import FLAGS
 from rsp_conformance import bench
 
-FLAGS = {
-    "carry": ("vco", 0),
-    "not-equal": ("vco", 8),
-    "compare": ("vcc", 0),
-    "clip": ("vcc", 8),
-    "extra": ("vce", 0),
-}
 KEYS = {
     "a": "v1",
     "b": "v2",

@@ -1,9 +1,15 @@
-"""The idioms of docs/COOKBOOK.md that work on vectors, on random numbers, against mathematics."""
+"""The idioms of docs/COOKBOOK.md that work on vectors, on random numbers, against mathematics.
 
+It fails if a block leaves other numbers than sums and products of those that went in, or if the program
+leaves others of the page's table of products than the table has.
+"""
+
+from pathlib import Path
 from random import Random
-from typing import Callable, Dict, Iterator, List
+from typing import Callable, Dict, List
 
-from rsp_tests.common.cases import Case, unless
+import pytest
+
 from lib.numbers import clamped, edged, fixed, packed
 from lib.pages import block_with, replies, tables
 
@@ -107,7 +113,7 @@ RULES: Dict[str, Rule] = {
 }
 
 
-def left(program: str, block: str, given: Given) -> Given:
+def left(program: Path, block: str, given: Given) -> Given:
     """The vector registers after a block that begins with these."""
     loads = [f"load dmem {16 * n} {packed(lanes).hex()}" for n, lanes in given.items()]
     setting = [f"lqv $v{n}[0], {16 * n}($0)" for n in given]
@@ -117,20 +123,22 @@ def left(program: str, block: str, given: Given) -> Given:
     return {n: [int(it, 16) for it in line.split()[1:]] for n, line in enumerate(shown)}
 
 
-def idiom_cases(program: str) -> Iterator[Case]:
-    """Each block leaves what its rule says, in each of some rounds."""
-    for start, rule in RULES.items():
-        block, random, wrong = block_with("docs/COOKBOOK.md", start), Random(start), []
-        for _ in range(ROUNDS):
-            given = {n: [edged(random) for _ in range(8)] for n in range(1, 8)}
-            wanted, found = rule(given), left(program, block, given)
-            for n, lanes in wanted.items():
-                told = [f"{it % 65536:04x}" for it in lanes]
-                has = [f"{it:04x}" for it in found[n][: len(lanes)]]
-                wrong += unless(has == told, f"$v{n} is {has}, not {told}, of {given}")
-        yield f"COOKBOOK.md `{start}`, its numbers", wrong[:1]
-    block = block_with("docs/COOKBOOK.md", "vmudn $v3, $v1, $v2[0]")
-    for cells in tables("docs/COOKBOOK.md", "### Products"):
-        given = {n: [int(it, 16)] * 8 for n, it in enumerate(cells[0].split(" by "), 1)}
-        shown = " ".join(f"{left(program, block, given)[n][0]:04x}" for n in (3, 4, 5, 6))
-        yield f"COOKBOOK.md {cells[0]}", unless(shown == " ".join(cells[1:]), f"the program says {shown}")
+@pytest.mark.parametrize("start", RULES)
+def test_idiom(start: str, program: Path) -> None:
+    """The block leaves what its rule says, in each of some rounds."""
+    block, random = block_with("docs/COOKBOOK.md", start), Random(start)
+    for _ in range(ROUNDS):
+        given = {n: [edged(random) for _ in range(8)] for n in range(1, 8)}
+        wanted, found = RULES[start](given), left(program, block, given)
+        has = {n: found[n][: len(lanes)] for n, lanes in wanted.items()}
+        assert has == {n: [it % 65536 for it in lanes] for n, lanes in wanted.items()}, f"of {given}"
+
+
+def test_products(program: Path) -> None:
+    """The page's table of products, by its block."""
+    block, rows = block_with("docs/COOKBOOK.md", "vmudn $v3, $v1, $v2[0]"), 0
+    for factors, *wanted in tables("docs/COOKBOOK.md", "### Products"):
+        given = {n: [int(it, 16)] * 8 for n, it in enumerate(factors.split(" by "), 1)}
+        shown, rows = left(program, block, given), rows + 1
+        assert " ".join(f"{shown[n][0]:04x}" for n in (3, 4, 5, 6)) == " ".join(wanted), factors
+    assert rows

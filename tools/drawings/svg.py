@@ -2,7 +2,7 @@
 
 import colorsys
 from html import escape
-from typing import Iterable, Sequence
+from typing import Iterable, List, Sequence
 
 # The fills that aren't the colour of a number: of the paper and of what is kept, of zeros, and of lines.
 PAPER, ZERO, INK = "paper", "zero", "ink"
@@ -42,6 +42,11 @@ def box(x: float, y: float, width: float, height: float, fill: str) -> str:
     """A box of a colour, or of paper or zero."""
     filled = f"fill='{fill}'" if fill.startswith("#") else f"class='{fill}'"
     return f"<rect x='{x:g}' y='{y:g}' width='{width:g}' height='{height:g}' {filled}/>"
+
+
+def cell(x: float, y: float, width: float, height: float, fill: str, words: object) -> List[str]:
+    """A box of a colour with words in it, both to be joined to other parts."""
+    return [box(x, y, width, height, fill), text(x + width / 2, y + round(0.58 * height + 2), words, "on")]
 
 
 def grid(x: float, y: float, width: float, height: float, columns: int, kind: str, rows: int = 1) -> str:

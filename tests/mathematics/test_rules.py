@@ -1,14 +1,19 @@
-"""The rules that docs/INSTRUCTIONS.md has as Python, against the program on random values."""
+"""The rules that docs/INSTRUCTIONS.md has as Python, against the program on random values.
 
+It fails if VCH, VCL, VCR, or the answers of the long divides differ from the function of the page.
+"""
+
+from pathlib import Path
 from random import Random
 from typing import Any, Dict, Iterator, List
 
-from rsp_conformance import bench
-from rsp_conformance.table import ROWS, word_of
-from rsp_tests.common.cases import Case
+import pytest
+
+from drawings.looks import FLAGS
 from lib.numbers import edged, packed, signed
 from lib.pages import blocks
-from lib.worked import FLAGS
+from rsp_conformance import bench
+from rsp_conformance.table import ROWS, word_of
 
 ROUNDS = 40  # of eight lanes
 FIELDS = {"e": 0, "vt": 2, "vs": 1, "vd": 3, "de": 0}
@@ -61,23 +66,20 @@ def divided(x: int) -> Look:
     return {**bench.DEFAULT, **loaded, "v2": packed([x] + [0] * 7).hex()}
 
 
-def rule_cases(program: str) -> Iterator[Case]:
-    """Each rule that is a function of the page: VCH, VCL, VCR, and the answers of the divides."""
-    rules, choose = page_rules(), Random("rules")
-    for name in ("vch", "vcl", "vcr"):
-        row = ROWS[name]
-        cases = [(row, word_of(row, FIELDS), it) for it in clip_states(choose)]
-        found: List[str] = []
-        for look in bench.observe(program, cases):
-            found += clip_complaints(name, rules[name], look["before"], look["after"])
-        yield f"INSTRUCTIONS.md, {name}", found[:3]
+@pytest.mark.parametrize("name", ["vch", "vcl", "vcr"])
+def test_clip(name: str, program: Path) -> None:
+    row, rule = ROWS[name], page_rules()[name]
+    cases = [(row, word_of(row, FIELDS), it) for it in clip_states(Random(name))]
+    looks = bench.observe(str(program), cases)
+    assert not [it for look in looks for it in clip_complaints(name, rule, look["before"], look["after"])]
+
+
+@pytest.mark.parametrize("name", ["vrcpl", "vrsql"])
+def test_divide(name: str, program: Path) -> None:
+    row, answer, choose = ROWS[name], page_rules()["answer"], Random(name)
     sizes = [choose.getrandbits(choose.randrange(1, 33)) for _ in range(300)]
     numbers = [signed(it, 32) for it in (*sizes, 0, 1, -1, -32768, -32769, 2**31 - 1, -(2**31))]
-    for name in ("vrcpl", "vrsql"):
-        row, wrong = ROWS[name], []
-        looks = bench.observe(program, [(row, word_of(row, FIELDS), divided(it)) for it in numbers])
-        for x, look in zip(numbers, looks):
-            wanted, after = rules["answer"](x, name == "vrsql"), look["after"]
-            told = int(after["out"], 16) << 16 | lane(after, "v3", 0)
-            wrong += [f"of {x} the rule gives {wanted:08x}, the program {told:08x}"] * (told != wanted)
-        yield f"INSTRUCTIONS.md, {name}", wrong[:3]
+    cases = [(row, word_of(row, FIELDS), divided(it)) for it in numbers]
+    for x, look in zip(numbers, bench.observe(str(program), cases)):
+        left = int(look["after"]["out"], 16) << 16 | lane(look["after"], "v3", 0)
+        assert left == answer(x, name == "vrsql"), f"of {x}"

@@ -1,0 +1,126 @@
+"""The blocks of README, ASSEMBLY, COOKBOOK, TUTORIAL and SCRIPT that are commands, texts and their replies.
+
+It fails if the program replies otherwise, or refuses a text. The preprocessors that COOKBOOK names are run as
+far as they are here.
+"""
+
+from pathlib import Path
+from typing import Any, List
+
+import pytest
+
+from lib.pages import block_with, blocks, listing, page, replies, see_reply, transcripts
+from lib.processes import succeeds
+
+TUTORIAL, COOKBOOK = "docs/TUTORIAL.md", "docs/COOKBOOK.md"
+# The page and the heading from which on blocks have replies beside their commands.
+BESIDE = "docs/SCRIPT.md", "## My microcode is wrong"
+
+
+def by_first_lines(names: str, values: List[Any]) -> Any:
+    """A test for each block, or tuple whose last but one is a block, with the name of its first line."""
+    found = [it if isinstance(it, str) else it[-2] for it in values]
+    return pytest.mark.parametrize(names, values, ids=[it.lstrip("\n").split("\n")[0] for it in found])
+
+
+def test_readme(program: Path) -> None:
+    """The session. Script and replies may follow each other without a sentence: then they are one block."""
+    script, _, told = block_with("README.md", "load dmem 0  0001").partition("\n\n")
+    see_reply(replies(program, script + "\n"), told or block_with("README.md", "load dmem 0  0001", 1))
+
+
+def test_assembly(program: Path) -> None:
+    """The listing of the sum of 1 to 10."""
+    name = "docs/ASSEMBLY.md"
+    sums = listing(program, block_with(name, "# the sum of 1 to 10"), "0")
+    see_reply(sums, block_with(name, "000 2401000a"))
+
+
+def sessions() -> "list[tuple[str, str, str]]":
+    """The pairs of blocks of the tutorial, each with the commands of its session before it.
+
+    A block that begins with a comment is a session of its own.
+    """
+    parts, session, found = [it.strip("\n") for it in blocks(TUTORIAL)], "", []
+    for commands, wanted in zip(parts[::2], parts[1::2]):
+        is_alone = commands.startswith("#")
+        found.append(("" if is_alone else session, commands, wanted))
+        session = session if is_alone else f"{session}{commands}\n"
+    return found
+
+
+@by_first_lines("before, commands, wanted", sessions())
+def test_tutorial(before: str, commands: str, wanted: str, program: Path) -> None:
+    told = replies(program, f"{before}{commands}\n")
+    see_reply(told[len(replies(program, before)) :], wanted)
+
+
+def test_blocks_of_tutorial() -> None:
+    found = blocks(TUTORIAL)
+    assert found and len(found) % 2 == 0, "commands have no replies"
+
+
+@by_first_lines("script, wanted", [*transcripts(*BESIDE)])
+def test_script(script: str, wanted: str, program: Path) -> None:
+    see_reply(replies(program, script), wanted)
+
+
+def test_blocks_of_script() -> None:
+    assert len([*transcripts(*BESIDE)]) >= 10
+
+
+def idioms() -> List[str]:
+    """The blocks of the cookbook's idioms."""
+    text = page(COOKBOOK).partition("\n## Idioms\n")[2].partition("\n## Macros\n")[0]
+    return [it for it in blocks(COOKBOOK) if it.split("\n")[0] in text]
+
+
+@by_first_lines("block", idioms())
+def test_idiom(block: str, program: Path) -> None:
+    """The program assembles it, each line to a word."""
+    told = replies(program, f"asm 0\n{block}end\n")
+    assert told == f"ok {len(block.strip().splitlines())} words\n"
+
+
+def test_idioms() -> None:
+    assert len(idioms()) > 10
+
+
+# A text for cpp, and the statements that are left of it; those of the page's text for m4.
+FOR_CPP = """#define push(r) addiu $sp, $sp, -4; sw r, 0($sp)
+#if 0
+not this
+#endif
+push($ra) // before the call
+loop: bne $1, $0, loop; nop /* the delay
+slot */
+# a comment
+"""
+OF_CPP = ["addiu $sp, $sp, -4", "sw $ra, 0($sp)", "loop: bne $1, $0, loop", "nop"]
+OF_M4 = ["addiu $sp, $sp, -4", "sw $ra, 0($sp)", "addiu $2, $0, 52"]
+
+
+def see_macros(program: Path, folder: Path, command: str, wanted: List[str]) -> None:
+    """A command of the page makes a text with these statements, which the program takes."""
+    assert command.strip() in page(COOKBOOK)
+    succeeds("sh", "-c", command, cwd=folder)
+    made = (folder / "text.s").read_text()
+    left = [line.partition("#")[0].strip() for line in made.splitlines()]
+    assert [line for line in left if line] == wanted
+    assert replies(program, f"asm 0\n{made}end\n") == f"ok {len(wanted)} words\n"
+
+
+@pytest.mark.needs("cpp")
+def test_cpp(program: Path, folder: Path) -> None:
+    (folder / "text.S").write_text(FOR_CPP)
+    see_macros(program, folder, block_with(COOKBOOK, "cpp -P"), OF_CPP)
+
+
+@pytest.mark.needs("m4")
+def test_m4(program: Path, folder: Path) -> None:
+    (folder / "text.m4").write_text(block_with(COOKBOOK, "define(`push'"))
+    see_macros(program, folder, "m4 text.m4 > text.s", OF_M4)
+
+
+def test_command_of_m4() -> None:
+    assert "`m4 text.m4 > text.s`" in page(COOKBOOK)

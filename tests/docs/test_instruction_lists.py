@@ -1,0 +1,109 @@
+"""The lists of instructions against the instruction table, as `rsp dis` of the program shows it.
+
+It fails if docs/data/instructions.tsv, docs/INSTRUCTIONS.md, rsp_conformance.table or every-row.script lacks
+an instruction, or selects it by other bits than the program.
+"""
+
+import re
+from pathlib import Path
+from typing import Dict, Iterator, Optional
+
+import pytest
+
+from lib.lists import see_same
+from lib.pages import data, names_of, page, tables
+from rsp_conformance import table
+
+# What selects an instruction, in the words of docs/data: the bits that all such instructions share, the
+# lowest bit of the values, and the values.
+SELECTORS = {
+    "SPECIAL (opcode 0x00), function": (0, 0, range(64)),
+    "REGIMM (opcode 0x01), rt": (1 << 26, 16, range(32)),
+    "COP0 (opcode 0x10), rs": (0x10 << 26, 21, range(32)),
+    "COP2 (opcode 0x12), rs": (0x12 << 26, 21, range(16)),
+    "COP2 (opcode 0x12), function": (0x12 << 26 | 1 << 25, 0, range(64)),
+    "LWC2 (opcode 0x32), operation": (0x32 << 26, 11, range(32)),
+    "SWC2 (opcode 0x3a), operation": (0x3A << 26, 11, range(32)),
+    "opcode": (0, 26, [it for it in range(64) if it not in (0x00, 0x01, 0x10, 0x12, 0x32, 0x3A)]),
+}
+COMPUTING, LOADS, STORES = list(SELECTORS)[4:7]
+WORDS = {
+    first | value << low: f"{by} {value:#04x}"
+    for by, (first, low, values) in SELECTORS.items()
+    for value in values
+}
+PAGE = "docs/INSTRUCTIONS.md"
+pytestmark = pytest.mark.xdist_group("instruction lists")
+
+
+@pytest.fixture(scope="module")
+def names(program: Path) -> Dict[str, Optional[str]]:
+    """The instruction that each selector selects, None where it is reserved."""
+    return dict(zip(WORDS.values(), names_of(program, list(WORDS))))
+
+
+@pytest.fixture(scope="module")
+def rows(names: Dict[str, Optional[str]]) -> "set[str]":
+    """Each instruction with its selector."""
+    return {f"{name} {by}" for by, name in names.items() if name}
+
+
+def in_instructions() -> Iterator[str]:
+    """The page: what selects scalar and computing instructions, and vector loads and stores."""
+    long_names = {by.split(" (")[0] + by.partition(")")[2]: by for by in SELECTORS}
+    for name, value in re.findall(r"\b(V[A-Z]+) (0x\w\w)\b", page(PAGE)):
+        yield f"{name} {COMPUTING} {value}"
+    for names, by, *cells in tables(PAGE):
+        for letter, value in re.findall(r"\b([A-Z]) (0x\w\w), \d", names):
+            for kind, text in ((LOADS, by), (STORES, cells[0])):
+                if text != "reserved":
+                    yield f"{kind[0]}{letter}V {kind} {value}"
+        by, _, values = by.partition(" 0x")
+        if by in long_names and values:
+            listed = names.split(", "), f"0x{values}".split(", ")
+            assert len(listed[0]) == len(listed[1]), f"{PAGE}: {names} by {values}"
+            yield from (f"{name} {long_names[by]} {value}" for name, value in zip(*listed))
+
+
+def test_data(rows: "set[str]") -> None:
+    see_same((f"{it['Instruction']} {it['Selected by']}" for it in data("instructions")), rows)
+
+
+def test_page(rows: "set[str]") -> None:
+    see_same(in_instructions(), rows)
+
+
+def test_reserved_functions(names: Dict[str, Optional[str]]) -> None:
+    """The sentence of the page on functions that are reserved."""
+    (said,) = re.findall(r"The functions ([^.]+) are reserved\.", " ".join(page(PAGE).split()))
+    ranges = re.findall(r"0x(\w\w)(?: to 0x(\w\w))?", said)
+    listed = [it for first, last in ranges for it in range(int(first, 16), int(last or first, 16) + 1)]
+    see_same(listed, [it for it in range(64) if not names[f"{COMPUTING} {it:#04x}"]])
+
+
+def test_table(rows: "set[str]") -> None:
+    see_same((f"{it.name.upper()} {WORDS.get(it.value)}" for it in table.ROWS.values()), rows)
+
+
+def test_bits_of_the_table(program: Path) -> None:
+    """Another bit that selects makes another instruction, an ignored one a word that isn't canonical."""
+    wrong, bits = [], [1 << it for it in range(32)]
+    tries = [
+        (row, bit)
+        for row in table.ROWS.values()
+        for bit in bits
+        if (row.mask | table.ignored_bits(row)) & bit
+    ]
+    for (row, bit), name in zip(tries, names_of(program, [row.value ^ bit for row, bit in tries])):
+        if row.mask & bit and name == row.name.upper():
+            wrong.append(f"{row.name}: bit {bit:#x} does not select it")
+        elif not row.mask & bit and name:
+            wrong.append(f"{row.name}: bit {bit:#x} is not ignored")
+    assert not wrong
+
+
+def test_every_row() -> None:
+    """The script that has the example of each instruction."""
+    script = page("tests/program/scripts/blocks/every-row.script")
+    (block,) = re.findall(r"(?ms)^asm 0\n(.*?)^end$", script)
+    see_same(block.splitlines(), [it["Example"] for it in data("instructions")])

@@ -1,0 +1,150 @@
+"""The tables of docs/data against the program, and what pages have of them.
+
+It fails if the program does something else than a line of a table says, or if a page isn't what
+`tools/python rsp_tools.pages` makes of the tables, of crates.txt and of the test vectors.
+
+  docs/data/instructions.tsv   each instruction's word, and its worked case, stepped once
+  docs/data/commands.tsv       each command's sample, and how many lines it is answered with
+  docs/data/faults.tsv         each fault is what its example ends with; `$ ` begins a command of the shell
+  conformance/README.md        how many cases the small set has, and the instructions of whole programs
+"""
+
+import re
+from difflib import unified_diff
+from pathlib import Path
+from typing import Any, Dict, Iterator, List, Tuple
+
+import pytest
+
+from lib import worked
+from lib.lists import see_same
+from lib.pages import data, page, replies, tables, words_of
+from lib.processes import run
+from rsp_conformance import bench, programs
+from rsp_conformance.table import ROWS
+from rsp_conformance.vectors import VECTORS, entries_in, names_in
+from rsp_tools import pages
+
+Line = Dict[str, str]
+OF_VECTORS = "conformance/README.md"
+OPEN_BLOCK = "fault 10 BadLine line 1\n"  # what a script ends with that hasn't closed its block
+FAULTS = {*range(4, 8), *range(10, 18), *range(20, 28), *range(30, 34), *range(40, 44)}
+
+
+def lines_of(name: str) -> Any:
+    """A test for each line of a table, with the name of its first cell."""
+    return pytest.mark.parametrize("line", data(name), ids=lambda it: next(iter(it.values())))
+
+
+@pytest.mark.parametrize("name", sorted(it.stem for it in pages.DATA.glob("*.tsv")))
+def test_cells(name: str) -> None:
+    head, *lines = [it.split("\t") for it in page(f"docs/data/{name}.tsv").splitlines()]
+    assert lines and {len(cells) for cells in lines} == {len(head)}
+
+
+@pytest.mark.parametrize("name", [*pages.TABLES.values(), pages.LAYERS, OF_VECTORS])
+def test_made_pages(name: str) -> None:
+    """Each page that is made is the one that is made again."""
+    made = unified_diff(page(name).splitlines(), pages.made()[name].splitlines(), name, "as it is made", n=0)
+    differ = "\n".join(made)
+    assert not differ, "`tools/python rsp_tools.pages` makes it again"
+
+
+def test_cases_of_vectors() -> None:
+    """How many cases the page says that each instruction has in the small set."""
+    head = r"\| Instructions \| Cases of each \|\n\|[-|]+\|\n"
+    (table,) = re.findall(rf"{head}((?:\|.*\n)+)", page(OF_VECTORS))
+    counts = {len(entries_in(VECTORS, name)) for name in names_in(VECTORS)}
+    assert {*map(int, re.findall(r"\d+", table))} == counts
+
+
+def test_whole_programs() -> None:
+    """The instructions that whole programs of the vectors use are those that the page names."""
+    (said,) = re.findall(r"(?s)Setting up uses (.*?)If all", page(OF_VECTORS))
+    texts = (one.lines for row in ROWS.values() for one in programs.programs_of(row, "1", 20))
+    lines = [line for text in texts for line in text if not line.endswith(":")]
+    used = {line.split("#")[0].split()[0].upper() for line in lines} - {"NOP", ".WORD"}
+    see_same({*re.findall(r"\b[A-Z]+[0-9]?\b", said.replace("BREAK-2", ""))}, used)
+
+
+@pytest.fixture(scope="module")
+def ran(program: Path) -> Dict[str, Tuple[List[str], Dict[str, Any]]]:
+    """By instruction: the word and the disassembly of its example, and the looks of its worked case."""
+    lines = data("instructions")
+    at = [int(it["Word"].partition(" at ")[2] or "0", 16) for it in lines]
+    examples = words_of(program, [(it["Example"], place) for it, place in zip(lines, at)])
+    steps = words_of(program, [(it["Worked"], 0) for it in lines])
+    states = [
+        (ROWS[it["Instruction"].lower()], int(word, 16), worked.state_of(it["Before"]))
+        for it, (_, word, _) in zip(lines, steps)
+    ]
+    looks = bench.observe(str(program), states)
+    return {it["Instruction"]: (made[1:], look) for it, made, look in zip(lines, examples, looks)}
+
+
+def differing(look: Dict[str, Any], cell: str) -> Iterator[str]:
+    """What differs in a look from a cell of a worked case."""
+    for key, value in worked.parts(cell):
+        found = worked.part(look, key)
+        if found != value:
+            yield f"{key} is {found}, not {value}"
+
+
+@pytest.mark.xdist_group("docs/data/instructions.tsv")
+class TestInstructions:
+    def test_all(self) -> None:
+        see_same((it["Instruction"].lower() for it in data("instructions")), ROWS)
+
+    @lines_of("instructions")
+    def test_line(self, line: Line, ran: Dict[str, Any]) -> None:
+        """An instruction's example has its word and text, and its worked case leaves what the table says."""
+        made, look = ran[line["Instruction"]]
+        assert made == [line["Word"].partition(" at ")[0], line["Example"]]
+        assert not [*differing(look["before"], line["Before"])]
+        assert not [*differing(look["after"], line["After"])]
+        if line["After"] == "nothing":
+            assert {**look["after"], "pc": "", "npc": ""} == {**look["before"], "pc": "", "npc": ""}
+
+
+@lines_of("commands")
+def test_command(line: Line, program: Path) -> None:
+    """How many lines a command's sample is answered with."""
+    lines = [f"{it}\n" for it in line["Sample"].split(" / ")]
+    told = replies(program, "".join(lines))
+    if lines[-1] != "end\n":
+        told = told[len(replies(program, "".join(lines[:-1]))) :]
+    if lines[-1].startswith("asm"):
+        told = told.replace(OPEN_BLOCK, "")
+    assert "fault" not in told and told.count("\n") == int(line["Its lines"])
+    assert line["Lines"] in (line["Its lines"], "N", "LEN / 16, rounded up")
+
+
+@lines_of("faults")
+def test_fault(line: Line, program: Path, folder: Path) -> None:
+    """A fault is what its example ends with; `-` has none."""
+    example = line["Example"]
+    if example.startswith("$ "):
+        ended = run("sh", "-c", f'rsp() {{ "{program}" "$@"; }}; {example[2:]}', cwd=folder)
+        told = re.sub("^rsp: ", "", ended.stdout.splitlines()[-1])
+    elif example != "-":
+        told = replies(program, "\n".join(example.split(" / ")) + "\n").splitlines()[-1]
+    assert example == "-" or re.fullmatch(rf"fault {line['Fault']}( line \d+)?", told.strip())
+
+
+def test_numbers_of_faults() -> None:
+    assert {int(it["Fault"].split()[0]) for it in data("faults")} == FAULTS
+
+
+def test_faults_of_texts() -> None:
+    """ASSEMBLY names those of texts."""
+    of_texts = {it["Fault"] for it in data("faults") if it["Fault"][:2] in map(str, range(10, 17))}
+    assert {*re.findall(r"`(1[0-6] \w+)`", page("docs/ASSEMBLY.md"))} == of_texts
+
+
+def test_messages() -> None:
+    """FAULTS lists the program's messages."""
+    source = page("crates/rsp_cli_files/src/fault.rt")
+    messages = re.findall(r'#\[error\("(cannot .*|bad .*|fault .*)"\)\]', source)
+    listed = [cells[1] for cells in tables("docs/FAULTS.md", "## Exit statuses and messages")]
+    assert len(messages) > 9
+    assert not [it for it in messages if f"`rsp: {it.replace('{0}', 'FILE')}`" not in listed]

@@ -1,0 +1,64 @@
+"""Computing instructions on lanes, accumulators and flags, and what the program leaves of them."""
+
+from itertools import islice
+from random import Random
+from typing import Any, Dict, Iterator, List, Sequence, Tuple
+
+from rsp_conformance import bench
+from rsp_conformance.table import ROWS, word_of
+
+Look = Dict[str, Any]
+Flags = Dict[str, str]
+Case = Tuple[Any, int, Look]
+
+# The flags in the words of the pages: each with its register, and the bit of lane 0 there.
+FLAGS = {
+    "carry": ("vco", 0),
+    "not-equal": ("vco", 8),
+    "compare": ("vcc", 0),
+    "clip": ("vcc", 8),
+    "extra": ("vce", 0),
+}
+CLEAR = {"vco": "0000", "vcc": "0000", "vce": "00"}
+ZEROS = [0] * 8
+NAMES = [name for name, row in ROWS.items() if row.form in ("vector", "lane", "nothing")]
+
+
+def case(
+    name: str,
+    a: Sequence[int] = ZEROS,
+    b: Sequence[int] = ZEROS,
+    element: int = 0,
+    accumulators: Sequence[int] = ZEROS,
+    flags: Flags = CLEAR,
+    vs: int = 1,
+) -> Case:
+    """An instruction `$v3, $v1, $v2[element]` on these lanes, accumulators and flags."""
+    fields = {"e": element, "vt": 2, "vs": vs, "vd": 3, "de": 0}
+    vectors = {
+        f"v{n}": "".join(f"{it % 65536:04x}" for it in lanes) for n, lanes in enumerate((a, b, ZEROS), 1)
+    }
+    values = {f"a{lane}": f"{it % 2**48:012x}" for lane, it in enumerate(accumulators)}
+    return ROWS[name], word_of(ROWS[name], fields), {**bench.DEFAULT, **flags, **vectors, **values}
+
+
+def after(program: str, cases: Sequence[Case]) -> List[Look]:
+    """The looks after these instructions."""
+    return [it["after"] for it in bench.observe(program, cases)]
+
+
+def after_each(program: str, cases: Dict[str, List[Case]]) -> Iterator[Tuple[str, List[Look]]]:
+    """The looks after the cases of each name, which are all run by one run of the program."""
+    looks = iter(after(program, [it for found in cases.values() for it in found]))
+    yield from ((name, [*islice(looks, len(found))]) for name, found in cases.items())
+
+
+def accumulators_of(look: Look) -> List[int]:
+    return [(int(look[f"a{lane}"], 16) ^ 1 << 47) - (1 << 47) for lane in range(8)]
+
+
+def random_state(chance: Random) -> Tuple[List[int], List[int], Flags]:
+    """Operands of which many are equal, opposite or complements of each other, and flags."""
+    a = [chance.choice((0, 1, 5, 32767, 32768, 65535, chance.randrange(65536))) for _ in range(8)]
+    b = [chance.choice((it, -it, ~it, 1, 32768, chance.randrange(65536))) & 0xFFFF for it in a]
+    return a, b, {it: f"{chance.randrange(16 ** len(none)):0{len(none)}x}" for it, none in CLEAR.items()}
