@@ -1,27 +1,24 @@
-"""Checks the tables of docs/CONTRACTS.md against the sources, and what docs/GUARANTEES.md assumes.
+"""The tables of docs/CONTRACTS.md against the sources, and what docs/GUARANTEES.md assumes.
 
 It fails if a table lacks a crate, a precondition or a call that may need memory, or names one that isn't
-there.
+there. It runs nothing and proves nothing.
 
 GUARANTEES names each module of the kit whose definitions the main theorem cites. "Preconditions" names each
 `requires` of each public function, and nothing else. The three tables of "Calls that allocate" name each
 public function that takes an allocator or may return AllocError, and tests that are there. "Laws" names each
 public function of each laws.rt, and "Crates without mutation tests" each crate without a file
-must-fail/*.edit. Each crate says at the head of its sources what it is. What is missing is named, with the
-line to add. It runs nothing and proves nothing.
+must-fail/*.edit. Each crate says at the head of its sources what it is.
 """
 
 import re
-import sys
-from typing import Any, Dict, Iterator, List, Match, NamedTuple, Optional, Set, Tuple
+from pathlib import Path
+from typing import Dict, Iterator, List, Match, NamedTuple, Optional, Set, Tuple
 
 from lib import TESTS, TOP
-from rsp_tests.common.arguments import reader
-from rsp_tests.common.cases import Case, compared, unless
-from lib.crates import crates
 from lib.definitions import rests_on
+from lib.lists import see_same
 from lib.pages import page, tables
-from rsp_tests.common.report import Report
+from rsp_tools.pages import crates
 
 PAGE = "docs/CONTRACTS.md"
 # What a source is read by: the beginning and the end of a block of methods, a function, and a precondition.
@@ -67,12 +64,11 @@ def passed_on(root: str) -> Names:
     return names
 
 
-def see_all_read(path: Any, text: str, found: List[Match[str]]) -> None:
-    """Ends the test if a source has a function or a `requires` in a form that FOUND doesn't know."""
+def see_all_read(path: Path, text: str, found: List[Match[str]]) -> None:
+    """Fails if a source has a function or a `requires` in a form that FOUND doesn't know."""
     for form, group in ((r"^[^/\"\n]*\bfn \w+[(<]", "name"), (r"^\s*requires\b", "clause")):
-        if len(re.findall(form, text, re.M)) > sum(it[group] is not None for it in found):
-            where = f"{path.relative_to(TOP)}: tests/part guarantees cannot read each {group}"
-            sys.exit(f"{where}. Teach it this form\n0 passed, 1 failed")
+        read = sum(it[group] is not None for it in found)
+        assert len(re.findall(form, text, re.M)) <= read, f"{path}: not each {group} can be read"
 
 
 def parts_of(
@@ -109,11 +105,6 @@ def public_parts(crate: str) -> Iterator[Part]:
         yield from parts_of(text, found, named.get(module, set()), types)
 
 
-def allocating(crate: str) -> Set[str]:
-    """The calls that other crates can name, and that take an allocator or may return AllocError."""
-    return {it.call for it in public_parts(crate) if OF_MEMORY.search(it.signature)}
-
-
 def quoted(heading: str) -> List[List[List[str]]]:
     """The lines of a table of the page, each cell as what is in backquotes."""
     return [[re.findall(r"`([^`]*)`", cell) for cell in cells] for cells in tables(PAGE, heading)]
@@ -129,103 +120,94 @@ def is_said(written: Tuple[str, str], call: str, clause: str) -> bool:
     return calls and (required == clause or (required.endswith(" ..") and clause.startswith(required[:-2])))
 
 
-def precondition_cases(names: List[str]) -> Iterator[Case]:
-    """For each clause of the sources and each line of the table: what is wrong with it."""
+def test_preconditions() -> None:
+    """The table says each clause of the sources, and no other."""
     lines = quoted("## Preconditions")
     said = {(name, call, it) for line in lines for name in line[0] for call in line[1] for it in line[2]}
     used: Set[Tuple[str, str, str]] = set()
-    for name in names:
-        found = {(it.call, it.clause) for it in public_parts(name) if it.clause is not None}
-        for call, clause in sorted(found):
+    lost, count = [], 0
+    for name in crates():
+        for call, clause in sorted(
+            {(it.call, it.clause) for it in public_parts(name) if it.clause is not None}
+        ):
             fitting = {it for it in said if it[0] == name and is_said(it[1:], call, clause)}
-            line = f"| `{name}` | `{call}` | `{clause}` | why in words |"
-            yield f"{name} {call}", unless(fitting, f"add {line} to the table `Preconditions` of {PAGE}")
-            used |= fitting
-    strays = [f"no public function requires {it}: take it out" for it in sorted(said - used)]
-    yield f"{PAGE}, `Preconditions`", strays
+            lost += [] if fitting else [f"| `{name}` | `{call}` | `{clause}` | why in words |"]
+            used, count = used | fitting, count + 1
+    assert count > 50 and not lost, "add these lines to the table"
+    assert not said - used, "no public function requires these: take them out"
 
 
-def assumed_cases() -> Iterator[Case]:
+def test_assumed() -> None:
     """GUARANTEES names what no proof covers, and which definitions of the kit run_bench's contract cites."""
     assumed = page("docs/GUARANTEES.md").partition("\n## Assumed\n")[2].partition("\n## ")[0]
     for words in ("`tools/packaging/start.c`", '"known to compile some correct code wrongly"'):
-        is_named = words in " ".join(assumed.split())
-        yield f"docs/GUARANTEES.md, assumed: {words}", unless(is_named, "it isn't named")
-    std, (_, modules) = "Rattle.std.specs.", rests_on(TOP / "crates/rsp_bench/src/run.rt")
-    wanted = {it[len(std) :] if it.startswith(std) else it for it in modules if ".declared." not in it}
+        assert words in " ".join(assumed.split())
+    modules = {
+        re.sub(r"^Rattle\.std\.specs\.", "", it) for it in rests_on(TOP / "crates/rsp_bench/src/run.rt")[1]
+    }
     head = "**The definitions of the kit that the main theorem cites**"
     cited = assumed.partition(head)[2].partition("\n- **")[0]
     named = {*re.findall(r"`([^`]*)`", cited)} - {"Rattle.std.specs"}
-    yield compared("docs/GUARANTEES.md, definitions of the kit", named, wanted)
+    see_same(named, [it for it in modules if ".declared." not in it])
 
 
-def system_case() -> Case:
+def test_system() -> None:
     """Where a page names the system, it names the kind of processor too: the program needs x86-64-v2."""
     more = TOP / "tools/packaging/README.md", TOP / "library/c/rsp.h"
     pages = [*TOP.glob("*.md"), *TOP.glob("docs/*.md"), *more]
-    short = [it for it in pages if re.search(r"\b(?:on|for)\s+x86-64\b(?!-v2)", it.read_text())]
-    return "x86-64-v2", [f"{it.relative_to(TOP)} says x86-64 where it names a system" for it in short]
+    assert not [it for it in pages if re.search(r"\b(?:on|for)\s+x86-64\b(?!-v2)", it.read_text())]
 
 
 def is_a_test(name: str) -> bool:
     """Whether a test in which allocations fail has this name."""
-    tests = (TESTS / "rsp_tests/failing_allocations.py").read_text()
-    return f'::{name}"' in tests or (TESTS / "embedding" / name).is_file()
+    tests = (TESTS / "program/test_failing_allocations.py").read_text()
+    return f'::{name}"' in tests or (TESTS / "library/c" / name).is_file()
 
 
-def allocation_cases(names: List[str]) -> Iterator[Case]:
-    """For each call that may need memory and each line of the three tables: what is wrong with it.
+def calls_that_allocate() -> List[Tuple[str, List[List[str]]]]:
+    """The lines of the three tables, each with the heading of its table."""
+    return [(heading, cells) for heading in ALLOCATING for cells in quoted(heading)]
+
+
+def test_allocations() -> None:
+    """The three tables name each public call that may need memory, and no other.
 
     A line of `rsp_*` names each call that no other line names.
     """
-    lines = [(heading, cells) for heading in ALLOCATING for cells in quoted(heading)]
-    named = {(crate, call) for _, cells in lines for crate in cells[0] for call in cells[1]}
-    where, used = f"`Calls that allocate` of {PAGE}", set()
-    for name in names:
-        for call in sorted(allocating(name)):
+    named = {(crate, call) for _, cells in calls_that_allocate() for crate in cells[0] for call in cells[1]}
+    lost, used = [], set()
+    for name in crates():
+        for call in sorted({it.call for it in public_parts(name) if OF_MEMORY.search(it.signature)}):
             fitting = {(name, call), (name, f"{call.split('_')[0]}_*")} & named
-            yield f"{name} {call}", unless(fitting, f"add it to one of the tables of {where}")
+            lost += [] if fitting else [(name, call)]
             used |= {(name, call)} & fitting or fitting
-    yield where, [f"no public call {it} may need memory: take it out" for it in sorted(named - used)]
-    tests = [test for heading, cells in lines if ALLOCATING[heading] for test in cells[-1] or [""]]
-    yield f"tests of {where}", [f"no test has the name {test}" for test in tests if not is_a_test(test)]
+    assert not lost, "add them to one of the tables"
+    assert used and not named - used, "no such public call may need memory: take it out"
 
 
-def cases() -> Iterator[Case]:
-    names = list(crates())
-    yield system_case()
-    yield from assumed_cases()
-    folders = {path.parent.name for path in TOP.glob("crates/*/src")}
-    yield compared("crates.txt, lines with a comment above them", names, folders)
-    yield from precondition_cases(names)
-    yield from allocation_cases(names)
-    yield from law_cases()
-    without = [it for it in names if not [*TOP.glob(f"crates/{it}/must-fail/*.edit")]]
-    heading = "### Crates without mutation tests"
-    listed = (name for cells in quoted(heading) for name in cells[0])
-    yield compared(f"{PAGE}, `{heading.strip('# ')}`", listed, without)
+def test_tests_of_allocations() -> None:
+    """The tests that the tables name are there."""
+    tests = [
+        it for heading, cells in calls_that_allocate() if ALLOCATING[heading] for it in cells[-1] or [""]
+    ]
+    assert tests and not [it for it in tests if not is_a_test(it)]
 
 
-def law_cases() -> Iterator[Case]:
-    """The table of laws has each public one, and the head of each crate says what the crate is."""
+def test_crates() -> None:
+    """crates.txt says of each crate what it is, and so does the head of each crate's sources."""
+    see_same(crates(), {path.parent.name for path in TOP.glob("crates/*/src")})
+    roots = [it for name in ("lib", "main") for it in TOP.glob(f"crates/*/src/{name}.rt")]
+    assert len(roots) >= len(crates()) and not [it for it in roots if not it.read_text().startswith("//! ")]
+
+
+def test_crates_without_mutations() -> None:
+    listed = [name for cells in quoted("### Crates without mutation tests") for name in cells[0]]
+    see_same(listed, [it for it in crates() if not [*TOP.glob(f"crates/{it}/must-fail/*.edit")]])
+
+
+def test_laws() -> None:
+    """The table of laws has each public one."""
     named = [f"{cells[0][0]} {law}" for cells in quoted("## Laws") for law in cells[1]]
     texts = {it.parts[-3]: it.read_text() for it in TOP.glob("crates/*/src/laws.rt")}
-    laws = [
-        f"{crate} {law}" for crate, text in texts.items() for law in re.findall(r"(?m)^pub fn (\w+)", text)
-    ]
-    yield compared(f"{PAGE}, `Laws`", named, laws)
-    for folder in TOP.glob("crates/*/src"):
-        root = next(it for it in (folder / "lib.rt", folder / "main.rt") if it.exists())
-        says = root.read_text().startswith("//! ")
-        yield f"{root.relative_to(TOP)}, its head", unless(says, "begin it with `//!` and what the crate is")
-
-
-def main() -> None:
-    reader("tests/part guarantees", __doc__).parse_args()
-    report = Report()
-    report.see_all(cases())
-    sys.exit(report.end())
-
-
-if __name__ == "__main__":
-    main()
+    laws = [(crate, law) for crate, text in texts.items() for law in re.findall(r"(?m)^pub fn (\w+)", text)]
+    see_same(named, [f"{crate} {law}" for crate, law in laws])

@@ -1,0 +1,90 @@
+"""Those invariants of docs/ARCHITECTURE.md that a search of the sources can find broken.
+
+It fails if one is broken, or if an invariant of the page doesn't end with what checks it: a test, the prover,
+the gate or a reader. It runs nothing.
+
+One private loop makes all steps; `std::simd` and `unsafe` are where the page says; three matches inspect an
+instruction while a step executes it; no definition of the main theorem is called scaffolding.
+"""
+
+import re
+from typing import Dict
+
+import pytest
+
+from lib import TOP
+from lib.definitions import rests_on
+from lib.lists import see_same
+from lib.pages import page
+
+STEP = "crates/rsp_machine/src/step.rt"
+CALLS = ["step", "step_recorded", "steps", "steps_recorded_until", "steps_until"]
+UNSAFE = [
+    "crates/rsp_c/src/handle.rt: unsafe { Box::from_raw(alloc, ptr) }",
+    "crates/rsp_c/src/handle.rt: unsafe impl Send for Handle {}",
+    "crates/rsp_c/src/handle.rt: unsafe impl Send for BenchHandle {}",
+]
+# What of rsp_machine matches on an instruction. `stored_at` is called before a step, not while one executes.
+MATCHES = ["footprint_of", "perform", "stored_at", "take"]
+INVARIANTS = [
+    " ".join(it.split())
+    for it in re.split(r"\n- ", page("docs/ARCHITECTURE.md").partition("\n## Invariants\n")[2])[1:]
+]
+Texts = Dict[str, str]
+
+
+@pytest.fixture(scope="module")
+def texts() -> Texts:
+    """The sources of all crates by their paths, without comments."""
+    found = sorted(TOP.glob("crates/*/src/**/*.rt"))
+    return {str(path.relative_to(TOP)): re.sub(r"//.*", "", path.read_text()) for path in found}
+
+
+def function_at(text: str, at: int) -> str:
+    """The name of the function in which a place of a text is."""
+    return [it[1] for it in re.finditer(r"\bfn (\w+)", text) if it.start() < at][-1]
+
+
+def test_simd(texts: Texts) -> None:
+    assert {path.split("/")[1] for path, it in texts.items() if re.search(r"\bstd::simd\b", it)} == {
+        "rsp_lanes"
+    }
+
+
+def test_unsafe(texts: Texts) -> None:
+    lines = [(path, line.strip()) for path, text in texts.items() for line in text.splitlines()]
+    found = [it for it in lines if re.search(r"\bunsafe\b", it[1].replace("#[unsafe(no_mangle)]", ""))]
+    see_same((f"{path}: {line}" for path, line in found), UNSAFE)
+
+
+def test_loop(texts: Texts) -> None:
+    """run_loop is private, and a few public calls are over it."""
+    assert [path for path, text in texts.items() if re.search(r"\brun_loop\b", text)] == [STEP]
+    assert re.search(r"^    fn run_loop<", texts[STEP], re.M)
+    see_same((it for it in re.findall(r"^    pub fn (\w+)", texts[STEP], re.M) if it != "undo"), CALLS)
+
+
+def test_matches(texts: Texts) -> None:
+    """Where an instruction is inspected, and that no other crate executes one."""
+    others = {path: text for path, text in texts.items() if not path.startswith("crates/rsp_machine/")}
+    assert not [path for path, text in others.items() if re.search(r"\bexecute\(", text)]
+    matching = re.compile(r"\bmatch \*inst\b|\bif let Inst::\w+ .*= inst\b")
+    machine = [text for path, text in texts.items() if path not in others]
+    see_same((function_at(text, it.start()) for text in machine for it in matching.finditer(text)), MATCHES)
+
+
+def test_scaffolding() -> None:
+    files, _ = rests_on(TOP / "crates/rsp_bench/src/run.rt")
+    assert files and not [it for it in files if it.read_text().startswith("-- Scaffolding")]
+
+
+@pytest.mark.parametrize("invariant", INVARIANTS, ids=lambda it: it[:40])
+def test_page(invariant: str) -> None:
+    """It ends with what checks it, in parentheses: tests that are there, or `By reading.` .."""
+    last = re.search(r"\(([^()]*)\)\.?$", invariant)
+    assert last and re.match(r"`tests/|`rt ci`|The prover|By reading", last[1])
+    assert not [it for it in re.findall(r"`(tests/[^`]*)`", last[1]) if not (TOP / it).exists()]
+
+
+def test_invariants() -> None:
+    assert len(INVARIANTS) >= 10
