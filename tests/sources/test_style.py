@@ -1,7 +1,7 @@
 """The layout, the types and the warnings of code outside the crates.
 
 It fails if black, flake8 or mypy refuses Python, shellcheck a script of the shell, gcc or clang C with -Wall
--Wextra -Wconversion, or clippy Rust. It looks at what is tracked, and at new files that aren't ignored.
+-Wextra -Wconversion, rustfmt or clippy Rust. It looks at what is tracked, and at new files that aren't ignored.
 """
 
 import os
@@ -91,6 +91,12 @@ def test_c(name: str, compiler: str, folder: Path) -> None:
     command = next((it for end, it in COMPILERS[compiler].items() if name.endswith(end)), (compiler,))
     need(command[0], *[HEADERS] * (name == FRONT), *[WINDOWS] * name.endswith("windows.c"))
     succeeds(*command, *STRICT, *FOLDERS, *DEFINED, name, "-o", folder / "out.s")
+
+
+@pytest.mark.needs("cargo", "rustfmt")
+@pytest.mark.parametrize("manifest", CRATES)
+def test_rustfmt(manifest: str) -> None:
+    succeeds("cargo", "fmt", "--check", "--manifest-path", manifest)
 
 
 @pytest.mark.needs("cargo-clippy")
