@@ -6,7 +6,7 @@ an instruction, or selects it by other bits than the program.
 
 import re
 from pathlib import Path
-from typing import Dict, Iterator, Optional
+from typing import Dict, Iterator
 
 import pytest
 
@@ -33,19 +33,15 @@ WORDS = {
     for value in values
 }
 PAGE = "docs/INSTRUCTIONS.md"
+Rows = Dict[str, str]
 pytestmark = pytest.mark.xdist_group("instruction lists")
 
 
 @pytest.fixture(scope="module")
-def names(program: Path) -> Dict[str, Optional[str]]:
-    """The instruction that each selector selects, None where it is reserved."""
-    return dict(zip(WORDS.values(), names_of(program, list(WORDS))))
-
-
-@pytest.fixture(scope="module")
-def rows(names: Dict[str, Optional[str]]) -> "set[str]":
-    """Each instruction with its selector."""
-    return {f"{name} {by}" for by, name in names.items() if name}
+def rows(program: Path) -> Rows:
+    """Each selector that isn't reserved, with its instruction before it."""
+    names = zip(WORDS.values(), names_of(program, list(WORDS)))
+    return {by: f"{name} {by}" for by, name in names if name}
 
 
 def in_instructions() -> Iterator[str]:
@@ -65,41 +61,34 @@ def in_instructions() -> Iterator[str]:
             yield from (f"{name} {long_names[by]} {value}" for name, value in zip(*listed))
 
 
-def test_data(rows: "set[str]") -> None:
-    see_same((f"{it['Instruction']} {it['Selected by']}" for it in data("instructions")), rows)
+def test_data(rows: Rows) -> None:
+    see_same((f"{it['Instruction']} {it['Selected by']}" for it in data("instructions")), rows.values())
 
 
-def test_page(rows: "set[str]") -> None:
-    see_same(in_instructions(), rows)
+def test_page(rows: Rows) -> None:
+    see_same(in_instructions(), rows.values())
 
 
-def test_reserved_functions(names: Dict[str, Optional[str]]) -> None:
+def test_reserved_functions(rows: Rows) -> None:
     """The sentence of the page on functions that are reserved."""
     (said,) = re.findall(r"The functions ([^.]+) are reserved\.", " ".join(page(PAGE).split()))
     ranges = re.findall(r"0x(\w\w)(?: to 0x(\w\w))?", said)
     listed = [it for first, last in ranges for it in range(int(first, 16), int(last or first, 16) + 1)]
-    see_same(listed, [it for it in range(64) if not names[f"{COMPUTING} {it:#04x}"]])
+    see_same(listed, [it for it in range(64) if f"{COMPUTING} {it:#04x}" not in rows])
 
 
-def test_table(rows: "set[str]") -> None:
-    see_same((f"{it.name.upper()} {WORDS.get(it.value)}" for it in table.ROWS.values()), rows)
+def test_table(rows: Rows) -> None:
+    see_same((f"{it.name.upper()} {WORDS.get(it.value)}" for it in table.ROWS.values()), rows.values())
 
 
 def test_bits_of_the_table(program: Path) -> None:
     """Another bit that selects makes another instruction, an ignored one a word that isn't canonical."""
-    wrong, bits = [], [1 << it for it in range(32)]
-    tries = [
-        (row, bit)
-        for row in table.ROWS.values()
-        for bit in bits
-        if (row.mask | table.ignored_bits(row)) & bit
-    ]
-    for (row, bit), name in zip(tries, names_of(program, [row.value ^ bit for row, bit in tries])):
-        if row.mask & bit and name == row.name.upper():
-            wrong.append(f"{row.name}: bit {bit:#x} does not select it")
-        elif not row.mask & bit and name:
-            wrong.append(f"{row.name}: bit {bit:#x} is not ignored")
-    assert not wrong
+    bits, rows = [1 << it for it in range(32)], table.ROWS.values()
+    tries = [(row, bit) for row in rows for bit in bits if (row.mask | table.ignored_bits(row)) & bit]
+    found = [*zip(tries, names_of(program, [row.value ^ bit for row, bit in tries]))]
+    selected = [(row.name, bit) for (row, bit), name in found if row.mask & bit and name == row.name.upper()]
+    named = [(row.name, bit) for (row, bit), name in found if not row.mask & bit and name]
+    assert found and not selected and not named
 
 
 def test_every_row() -> None:

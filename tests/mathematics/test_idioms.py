@@ -6,7 +6,7 @@ leaves others of the page's table of products than the table has.
 
 from pathlib import Path
 from random import Random
-from typing import Callable, Dict, List
+from typing import Callable, Dict, List, Tuple
 
 import pytest
 
@@ -18,8 +18,11 @@ SCALAR = 31  # the vector register whose lane 0 shows the scalar register $1
 Lanes = List[int]
 Given = Dict[int, Lanes]  # vector registers with their lanes
 Wanted = Dict[int, Lanes]  # the same, or as many of their first lanes as are known
-# It changes registers 1 to 7 to numbers that the block is for, and says what the block leaves.
-Rule = Callable[[Given], Wanted]
+
+
+def longs(v: Given) -> List[Tuple[int, int]]:
+    """The numbers of 32 bits in registers 1 and 2, each with that in 3 and 4."""
+    return [*zip(fixed(v[1], v[2]), fixed(v[3], v[4]))]
 
 
 def halves_of(high: int, low: int, numbers: Lanes) -> Wanted:
@@ -27,18 +30,9 @@ def halves_of(high: int, low: int, numbers: Lanes) -> Wanted:
     return {high: [it >> 16 for it in numbers], low: [it & 0xFFFF for it in numbers]}
 
 
-def constant(_: Given) -> Wanted:
-    return {1: [5] * 8}
-
-
 def whole_product(v: Given) -> Wanted:
     products = [it * v[2][0] for it in v[1]]
     return {3: products, 4: [clamped(it) for it in products], **halves_of(5, 6, products)}
-
-
-def fixed_product(v: Given) -> Wanted:
-    pairs = zip(fixed(v[1], v[2]), fixed(v[3], v[4]))
-    return halves_of(5, 6, [clamped(x * y >> 16, 32) for x, y in pairs])
 
 
 def product_by_whole(v: Given) -> Wanted:
@@ -57,8 +51,7 @@ def fractions(v: Given) -> Wanted:
 
 
 def long_sums(v: Given) -> Wanted:
-    pairs = list(zip(fixed(v[1], v[2]), fixed(v[3], v[4])))
-    sums, differences = [x + y for x, y in pairs], [x - y for x, y in pairs]
+    sums, differences = [x + y for x, y in longs(v)], [x - y for x, y in longs(v)]
     high, low = [clamped(it >> 16) for it in sums], [it & 0xFFFF for it in sums]
     return {5: high, 6: low, 7: [clamped(it >> 16) for it in differences], 8: differences}
 
@@ -68,19 +61,10 @@ def sum_of_lanes(v: Given) -> Wanted:
     return {1: [sum(v[1])]}
 
 
-def absolute(v: Given) -> Wanted:
-    return {2: [min(abs(it), 32767) for it in v[1]]}
-
-
 def larger_smaller(v: Given) -> Wanted:
     v[3] = [min(abs(it), 32767) for it in v[3]]
     within = [max(-w, min(w, it)) for it, w in zip(v[1], v[3])]
-    pairs = list(zip(v[1], v[2]))
-    return {5: [max(a, b) for a, b in pairs], 6: [min(a, b) for a, b in pairs], 7: within}
-
-
-def largest(v: Given) -> Wanted:
-    return {2: [max(v[1])]}
+    return {5: [*map(max, v[1], v[2])], 6: [*map(min, v[1], v[2])], 7: within}
 
 
 def choice(v: Given) -> Wanted:
@@ -90,24 +74,25 @@ def choice(v: Given) -> Wanted:
 def clip_codes(v: Given) -> Wanted:
     v[1][:4] = [it & 0x7FFF for it in v[1][:4]]  # what the lanes become is said of numbers from 0 on
     v[3] = [it & 0x7FFF for it in v[3]]
-    pairs = list(zip(fixed(v[1], v[2]), fixed(v[3], v[4])))
-    low = sum(1 << i for i, (x, w) in enumerate(pairs) if x <= -w and (x or w))
-    high = sum(256 << i for i, (x, w) in enumerate(pairs) if x >= w)
-    return {SCALAR: [low | high], **halves_of(5, 6, [min(x, w) for x, w in pairs[:4]])}
+    low = sum(1 << i for i, (x, w) in enumerate(longs(v)) if x <= -w and (x or w))
+    high = sum(256 << i for i, (x, w) in enumerate(longs(v)) if x >= w)
+    return {SCALAR: [low | high], **halves_of(5, 6, [min(x, w) for x, w in longs(v)[:4]])}
 
 
-RULES: Dict[str, Rule] = {
-    "addiu $1, $0, 5": constant,
+# By the beginning of a block its rule, which changes registers 1 to 7 to numbers that the block is for, and
+# says what the block leaves.
+RULES: Dict[str, Callable[[Given], Wanted]] = {
+    "addiu $1, $0, 5": lambda v: {1: [5] * 8},
     "vmudn $v3, $v1, $v2[0]": whole_product,
-    "vmudl $v6, $v2, $v4 ": fixed_product,
+    "vmudl $v6, $v2, $v4 ": lambda v: halves_of(5, 6, [clamped(x * y >> 16, 32) for x, y in longs(v)]),
     "vmudn $v6, $v2, $v3": product_by_whole,
     "vmudl $v6, $v2, $v3": shift_right,
     "vmulf $v5, $v1, $v2[0]": fractions,
     "vaddc $v6, $v2, $v4": long_sums,
     "vadd  $v1, $v1, $v1[1q]": sum_of_lanes,
-    "vabs  $v2, $v1, $v1": absolute,
+    "vabs  $v2, $v1, $v1": lambda v: {2: [min(abs(it), 32767) for it in v[1]]},
     "vge   $v5, $v1, $v2": larger_smaller,
-    "vge   $v2, $v1, $v1[1q]": largest,
+    "vge   $v2, $v1, $v1[1q]": lambda v: {2: [max(v[1])]},
     "vlt   $v4, $v1, $v2": choice,
     "vch   $v5, $v1, $v3": clip_codes,
 }

@@ -1,5 +1,6 @@
 """The pictures of accumulators and of clamps."""
 
+from bisect import bisect
 from random import Random
 from typing import Callable, Dict, Iterable, Iterator, List, NamedTuple, Sequence, Tuple
 
@@ -28,18 +29,13 @@ class Product(NamedTuple):
     rounding: int  # what it adds
 
 
-def bits_of(number: int) -> List[int]:
-    """The bits of 48 that are set, lowest first."""
-    return [k for k in range(48) if number >> k & 1]
-
-
 def changed(befores: Iterable[Sequence[int]], looks: Iterable[Look]) -> List[int]:
-    """The bits that differ in an accumulator of any look."""
+    """The bits that differ in an accumulator of any look, lowest first."""
     number = 0
     for before, look in zip(befores, looks):
         for value, left in zip(before, accumulators_of(look)):
             number |= value ^ left
-    return bits_of(number)
+    return [k for k in range(48) if number >> k & 1]
 
 
 def products(program: str) -> Iterator[Tuple[str, Product]]:
@@ -52,7 +48,7 @@ def products(program: str) -> Iterator[Tuple[str, Product]]:
 def planes(program: str) -> Iterator[List[int]]:
     """For each element of VSAR the bits of an accumulator that it reads, lowest first."""
     eights = [[1 << k for k in range(i, i + 8)] for i in range(0, 48, 8)]
-    cases = {str(e): [case("vsar", element=e, accumulators=it) for it in eights] for e in (8, 9, 10)}
+    cases = {str(e): [case("vsar", e=e, accs=it) for it in eights] for e in (8, 9, 10)}
     for _, looks in after_each(program, cases):
         read = [lane for look in looks for lane in lanes_of(look["v3"])]
         yield [k for k in range(48) if read[k]]
@@ -63,7 +59,7 @@ def written_bits(program: str) -> Iterator[Tuple[str, List[int]]]:
     chance = Random(2)
     states = [(*random_state(chance)[:2], [chance.randrange(2**48) for _ in range(8)]) for _ in range(8)]
     names = [it for it in NAMES if it not in (*ADDING, "vmulq", "vmacq")]
-    cases = {name: [case(name, a, b, accumulators=it) for a, b, it in states] for name in names}
+    cases = {name: [case(name, a, b, accs=it) for a, b, it in states] for name in names}
     for name, looks in after_each(program, cases):
         yield name, changed([it for _, _, it in states], looks)
 
@@ -141,7 +137,7 @@ def other_rows(program: str, others: Dict[str, List[int]]) -> Iterator[Tuple[str
     """
     values = [sign << bit for sign in (1, -1) for bit in range(47)]
     groups = [(values + ZEROS)[i : i + 8] for i in range(0, len(values), 8)]
-    bits = changed(groups, after(program, [case("vmacq", accumulators=it) for it in groups]))
+    bits = changed(groups, after(program, [case("vmacq", accs=it) for it in groups]))
     yield "VMACQ", "", [(bits, ORANGE, "32 up or down")]
     bars: List[Bar] = []
     for vs, fill, told in ((1, ORANGE, "odd"), (0, SAND, "even")):
@@ -153,26 +149,9 @@ def other_rows(program: str, others: Dict[str, List[int]]) -> Iterator[Tuple[str
     yield "the others", "", [(written, ORANGE, "written")]
 
 
-# The ranges of an accumulator without its low 16 bits, h: its words, and accumulators in it with both its
-# ends.
-BELOW = [-(2**47), -(2**40) + 4660, -(2**31) - 1, -(2**33) + 4660, -(2**32), -(2**31) - 65536]
-ABOVE = [
-    2**31,
-    2**31 + 4660,
-    2**47 - 1,
-    2**46,
-    2**33 + 4660,
-    2**32,
-    2**40 + 17,
-    2**31 + 65535,
-]
-NEGATIVE = [-(2**31), -(2**31) + 4660, -1, -65536, -65537, -4660, -(2**24) - 3, -(2**30)]
-RANGES = {
-    "h < -32768": [*BELOW, -(2**35) - 17, -(2**31) - 4660],
-    "h from -32768 to -1": NEGATIVE,
-    "h from 0 to 32767": [0, 1, 4660, 65535, 65536, 2**31 - 1, 2**30 + 4660, 2**31 - 65536],
-    "h > 32767": ABOVE,
-}
+# The ranges of h, an accumulator without its low 16 bits, and the ends of the accumulators in them.
+RANGES = ("h < -32768", "h from -32768 to -1", "h from 0 to 32767", "h > 32767")
+ENDS = (-(2**47), -(2**31), 0, 2**31, 2**47)
 # What a result can be, by the accumulator; the first that fits all is shown.
 RESULTS: Dict[str, Callable[[int], int]] = {
     "8000": lambda n: 0x8000,
@@ -187,9 +166,14 @@ CLAMPS = {"signed clamp": "vmacf", "unsigned clamp": "vmacu", "low clamp": "vmad
 
 def clamp_results(program: str) -> Dict[str, List[str]]:
     """The result of each clamp in each range: that of an instruction that adds nothing to the accumulator."""
-    cases = {clamp: [case(it, accumulators=some) for some in RANGES.values()] for clamp, it in CLAMPS.items()}
+    chance = Random(4)
+    ranges = [
+        [low, low + 65535, high - 65536, high - 1, *(chance.randrange(low, high) for _ in range(4))]
+        for low, high in zip(ENDS, ENDS[1:])
+    ]
+    cases = {clamp: [case(name, accs=some) for some in ranges] for clamp, name in CLAMPS.items()}
     return {
-        clamp: [result_in(some, lanes_of(look["v3"])) for some, look in zip(RANGES.values(), looks)]
+        clamp: [result_in(some, lanes_of(look["v3"])) for some, look in zip(ranges, looks)]
         for clamp, looks in after_each(program, cases)
     }
 
@@ -198,30 +182,26 @@ def result_in(values: List[int], results: List[int]) -> str:
     return next(name for name, rule in RESULTS.items() if [*map(rule, values)] == results)
 
 
-def clamp_of(value: int, results: List[str]) -> int:
-    """The result of a clamp, which is given by its results in the ranges, for one accumulator."""
-    h = value >> 16
-    return RESULTS[results[(h >= -32768) + (h >= 0) + (h > 32767)]](value)
-
-
 def users_of_clamps(program: str, results: Dict[str, List[str]]) -> Dict[str, List[str]]:
     """Which instructions use each clamp: the one that gives all their results, on operands that look random
     and on the greatest."""
     chance, ends = Random(3), [32767, 32768, 65535, 1]
     states = [[[chance.randrange(65536) for _ in range(8)] for _ in "ab"] for _ in range(12)]
     states += [[[end] * 4 + [1] * 4, ends * 2] for end in ends]
-    starts = [
-        [chance.randrange(-(2**47), 2**47) >> chance.randrange(32) for _ in range(8)] for _ in states
-    ]
-    cases = {
-        name: [case(name, a, b, accumulators=it) for (a, b), it in zip(states, starts)] for name in ADDING
-    }
+    for state in states:
+        state.append([chance.randrange(-(2**47), 2**47) >> chance.randrange(32) for _ in range(8)])
+    cases = {name: [case(name, a, b, accs) for a, b, accs in states] for name in ADDING}
     users: Dict[str, List[str]] = {clamp: [] for clamp in results}
     for name, looks in after_each(program, cases):
         pairs = [it for look in looks for it in zip(accumulators_of(look), lanes_of(look["v3"]))]
         (clamp,) = [it for it in results if all(clamp_of(value, results[it]) == one for value, one in pairs)]
         users[clamp].append(name.upper())
     return users
+
+
+def clamp_of(value: int, results: List[str]) -> int:
+    """The result of a clamp, which is given by its results in the ranges, for one accumulator."""
+    return RESULTS[results[bisect(ENDS, value) - 1]](value)
 
 
 def clamps(program: str) -> str:

@@ -26,7 +26,7 @@ def elements(program: str) -> str:
     """The lane of vt that each lane takes, by the element: VAND with ones gives what the element selects."""
     down = [92 + 30 * n + 10 * ((n > 1) + (n > 3) + (n > 7)) for n in range(16)]
     names = ["", "[v]", "[0q]", "[1q]", *(f"[{i}h]" for i in range(4)), *(f"[{i}]" for i in range(8))]
-    looks = after(program, [case("vand", [-1] * 8, range(8), element=e) for e in range(16)])
+    looks = after(program, [case("vand", [-1] * 8, range(8), e=e) for e in range(16)])
     parts = [svg.text(182 + 64 * i, 86, f"lane {i}", "small") for i in range(8)]
     for y, name, look in zip(down, names, looks):
         parts.append(svg.text(140, y + 17, "$v2" + name, "right bold"))

@@ -9,6 +9,7 @@ from rsp_conformance.table import ROWS, word_of
 
 Look = Dict[str, Any]
 Flags = Dict[str, str]
+Lanes = Sequence[int]
 Case = Tuple[Any, int, Look]
 
 # The flags in the words of the pages: each with its register, and the bit of lane 0 there.
@@ -25,21 +26,15 @@ NAMES = [name for name, row in ROWS.items() if row.form in ("vector", "lane", "n
 
 
 def case(
-    name: str,
-    a: Sequence[int] = ZEROS,
-    b: Sequence[int] = ZEROS,
-    element: int = 0,
-    accumulators: Sequence[int] = ZEROS,
-    flags: Flags = CLEAR,
-    vs: int = 1,
+    name: str, a: Lanes = ZEROS, b: Lanes = ZEROS, accs: Lanes = ZEROS, flags: Flags = CLEAR, **fields: int
 ) -> Case:
-    """An instruction `$v3, $v1, $v2[element]` on these lanes, accumulators and flags."""
-    fields = {"e": element, "vt": 2, "vs": vs, "vd": 3, "de": 0}
+    """An instruction `$v3, $v1, $v2`, but for these fields, on these lanes, accumulators and flags."""
+    word = word_of(ROWS[name], {"e": 0, "vt": 2, "vs": 1, "vd": 3, "de": 0, **fields})
     vectors = {
         f"v{n}": "".join(f"{it % 65536:04x}" for it in lanes) for n, lanes in enumerate((a, b, ZEROS), 1)
     }
-    values = {f"a{lane}": f"{it % 2**48:012x}" for lane, it in enumerate(accumulators)}
-    return ROWS[name], word_of(ROWS[name], fields), {**bench.DEFAULT, **flags, **vectors, **values}
+    values = {f"a{lane}": f"{it % 2**48:012x}" for lane, it in enumerate(accs)}
+    return ROWS[name], word, {**bench.DEFAULT, **flags, **vectors, **values}
 
 
 def after(program: str, cases: Sequence[Case]) -> List[Look]:

@@ -56,10 +56,8 @@ def grid(x: float, y: float, width: float, height: float, columns: int, kind: st
     return f"<path class='{kind}' d='{''.join(steps)}'/>"
 
 
-def line(x: float, y: float, to_x: float, to_y: float, ends: str = "") -> str:
-    """A line, with an arrow at its end where `ends` is "arrow"."""
-    marker = " marker-end='url(#arrow)'" if ends == "arrow" else ""
-    return f"<path d='M{x:g} {y:g}L{to_x:g} {to_y:g}' class='line'{marker}/>"
+def arrow(x: float, y: float, to_x: float, to_y: float) -> str:
+    return f"<path d='M{x:g} {y:g}L{to_x:g} {to_y:g}' class='line' marker-end='url(#arrow)'/>"
 
 
 def shared(name: str, parts: Iterable[str]) -> str:
@@ -78,8 +76,7 @@ def picture(
     head = f"<svg xmlns='http://www.w3.org/2000/svg' viewBox='0 0 {WIDTH} {height:g}'>"
     head += f"<title>{escape(title)}</title><style>{STYLE}</style><defs>{''.join(defs)}</defs>"
     lines = [text(20, 54 + 17 * i, it, "left") for i, it in enumerate(words)]
-    made = "\n".join(
-        [head, box(0, 0, WIDTH, height, PAPER), text(20, 32, title, "left title"), *lines, *parts, "</svg>\n"]
-    )
+    above = [head, box(0, 0, WIDTH, height, PAPER), text(20, 32, title, "left title"), *lines]
+    made = "\n".join([*above, *parts, "</svg>\n"])
     assert len(made.encode()) <= MOST_BYTES, f"{title}: {len(made.encode())} bytes"
     return made

@@ -5,6 +5,7 @@ times, and run k begins with bit k of all numbers. So bit k of what it leaves, o
 the number of the bit that came there. Number 0 is none: the bit has become 0.
 """
 
+from itertools import groupby
 from typing import Any, Dict, Iterable, List, NamedTuple, Sequence, Tuple
 
 from rsp_conformance import bench
@@ -27,21 +28,15 @@ class Transfer(NamedTuple):
 
 
 class Move(NamedTuple):
-    """`width` bits that go from bit `source` on to bit `target` on."""
+    """A byte of DMEM, or `width` bits of it, and the first bit of the registers where they go or are from."""
 
-    source: int
-    target: int
+    byte: int
+    bit: int
     width: int
 
 
-class Trace(NamedTuple):
-    """An instruction's moves, none longer than a byte of DMEM, and its zeros, each (first bit, width)."""
-
-    moves: List[Move]
-    zeros: List[Tuple[int, int]]
-
-
-Traces = Dict[Transfer, Trace]
+# The moves of an instruction, and the zeros that it leaves in registers, each (first bit, width).
+Trace = Tuple[List[Move], List[Tuple[int, int]]]
 
 
 def numbered_state(k: int) -> Dict[str, Any]:
@@ -58,38 +53,30 @@ def bits_of(look: Dict[str, Any]) -> str:
     return f"{int(text, 16):0{BITS}b}"
 
 
-def word(transfer: Transfer) -> int:
-    fields = {"base": 1, "vt": transfer.vt, "e": transfer.element, "off": transfer.quads}
-    return word_of(ROWS[transfer.name], fields)
-
-
-def traces(program: str, transfers: Sequence[Transfer]) -> Traces:
+def traces(program: str, transfers: Sequence[Transfer]) -> Dict[Transfer, Trace]:
     """The trace of each transfer."""
-    cases = [
-        (ROWS[it.name], word(it), {**numbered_state(k), "r1": f"{it.at:08x}"})
-        for it in transfers
-        for k in range(RUNS)
-    ]
+    states, cases = [numbered_state(k) for k in range(RUNS)], []
+    for it in transfers:
+        row, fields = ROWS[it.name], {"base": 1, "vt": it.vt, "e": it.element, "off": it.quads}
+        cases += [(row, word_of(row, fields), {**state, "r1": f"{it.at:08x}"}) for state in states]
     looks = [bits_of(it["after"]) for it in bench.observe(program, cases)]
     return {it: trace_of(looks[RUNS * i : RUNS * (i + 1)]) for i, it in enumerate(transfers)}
 
 
 def trace_of(runs: Iterable[str]) -> Trace:
     """The trace that the bits of all runs tell."""
-    moves: List[Move] = []
-    zeros: List[Tuple[int, int]] = []
-    for target, bits in enumerate(zip(*runs)):
-        source = sum(int(bit) << k for k, bit in enumerate(bits)) - 1
-        if source < 0:
-            if zeros and sum(zeros[-1]) == target:
-                zeros[-1] = (zeros[-1][0], zeros[-1][1] + 1)
-            else:
-                zeros.append((target, 1))
-        elif source != target:
-            last = moves[-1] if moves else Move(-9, -9, 0)
-            in_memory = min(source, target)
-            if (source, target) == (last.source + last.width, last.target + last.width) and in_memory % 8:
-                moves[-1] = last._replace(width=last.width + 1)
-            else:
-                moves.append(Move(source, target, 1))
-    return Trace(moves, zeros)
+    sources = [sum(int(bit) << k for k, bit in enumerate(bits)) - 1 for bits in zip(*runs)]
+
+    def together(target: int) -> Tuple[int, int]:
+        """What bits beside one another share: they became 0, or went as far and are of one byte of DMEM."""
+        source = sources[target]
+        return (source - target, min(source, target) // 8) if source >= 0 else (0, -1)
+
+    moves, zeros = [], []
+    for (way, byte), group in groupby(range(BITS), together):
+        first, *others = group
+        if byte < 0:
+            zeros.append((first - MEMORY, 1 + len(others)))
+        elif way:
+            moves.append(Move(byte, max(first, sources[first]) - MEMORY, 1 + len(others)))
+    return moves, zeros
