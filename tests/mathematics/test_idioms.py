@@ -64,7 +64,8 @@ def sum_of_lanes(v: Given) -> Wanted:
 def larger_smaller(v: Given) -> Wanted:
     v[3] = [min(abs(it), 32767) for it in v[3]]
     within = [max(-w, min(w, it)) for it, w in zip(v[1], v[3])]
-    return {5: [*map(max, v[1], v[2])], 6: [*map(min, v[1], v[2])], 7: within}
+    pairs = [*zip(v[1], v[2])]
+    return {5: [max(a, b) for a, b in pairs], 6: [min(a, b) for a, b in pairs], 7: within}
 
 
 def choice(v: Given) -> Wanted:

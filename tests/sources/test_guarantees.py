@@ -11,6 +11,7 @@ must-fail/*.edit. Each crate says at the head of its sources what it is.
 """
 
 import re
+from itertools import product
 from pathlib import Path
 from typing import Dict, Iterator, List, Match, NamedTuple, Optional, Set, Tuple
 
@@ -110,31 +111,26 @@ def quoted(heading: str) -> List[List[List[str]]]:
     return [[re.findall(r"`([^`]*)`", cell) for cell in cells] for cells in tables(PAGE, heading)]
 
 
-def is_said(written: Tuple[str, str], call: str, clause: str) -> bool:
-    """Whether what is written, a call and a clause, says this one.
+Clause = Tuple[str, ...]  # a crate, a call, and what the call requires
 
-    `T::*` is each call of T, and a clause that ends with `..` each one that begins so.
-    """
-    named, required = written
+
+def is_said(written: Clause, found: Clause) -> bool:
+    """Whether what is written says this. `T::*` is each call of T, `A ..` each clause that begins so."""
+    (crate, named, required), (name, call, clause) = written, found
     calls = named == call or (named.endswith("::*") and call.startswith(named[:-1]))
-    return calls and (required == clause or (required.endswith(" ..") and clause.startswith(required[:-2])))
+    clauses = required == clause or (required.endswith(" ..") and clause.startswith(required[:-2]))
+    return crate == name and calls and clauses
 
 
 def test_preconditions() -> None:
     """The table says each clause of the sources, and no other."""
-    lines = quoted("## Preconditions")
-    said = {(name, call, it) for line in lines for name in line[0] for call in line[1] for it in line[2]}
-    used: Set[Tuple[str, str, str]] = set()
-    lost, count = [], 0
-    for name in crates():
-        for call, clause in sorted(
-            {(it.call, it.clause) for it in public_parts(name) if it.clause is not None}
-        ):
-            fitting = {it for it in said if it[0] == name and is_said(it[1:], call, clause)}
-            lost += [] if fitting else [f"| `{name}` | `{call}` | `{clause}` | why in words |"]
-            used, count = used | fitting, count + 1
-    assert count > 50 and not lost, "add these lines to the table"
-    assert not said - used, "no public function requires these: take them out"
+    said = {it for cells in quoted("## Preconditions") for it in product(*cells[:3])}
+    parts = [(name, it) for name in crates() for it in public_parts(name)]
+    found = {(name, it.call, it.clause) for name, it in parts if it.clause is not None}
+    fitting = {it: {line for line in said if is_said(line, it)} for it in found}
+    lost = ["| `{}` | `{}` | `{}` | why in words |".format(*it) for it in sorted(found) if not fitting[it]]
+    assert found and not lost, "add these lines to the table"
+    assert not said.difference(*fitting.values()), "no public function requires these: take them out"
 
 
 def test_assumed() -> None:
@@ -142,13 +138,12 @@ def test_assumed() -> None:
     assumed = page("docs/GUARANTEES.md").partition("\n## Assumed\n")[2].partition("\n## ")[0]
     for words in ("`tools/packaging/start.c`", '"known to compile some correct code wrongly"'):
         assert words in " ".join(assumed.split())
-    modules = {
-        re.sub(r"^Rattle\.std\.specs\.", "", it) for it in rests_on(TOP / "crates/rsp_bench/src/run.rt")[1]
-    }
+    _, modules = rests_on(TOP / "crates/rsp_bench/src/run.rt")
+    wanted = [it.replace("Rattle.std.specs.", "") for it in modules if ".declared." not in it]
     head = "**The definitions of the kit that the main theorem cites**"
     cited = assumed.partition(head)[2].partition("\n- **")[0]
     named = {*re.findall(r"`([^`]*)`", cited)} - {"Rattle.std.specs"}
-    see_same(named, [it for it in modules if ".declared." not in it])
+    see_same(named, wanted)
 
 
 def test_system() -> None:
@@ -164,32 +159,26 @@ def is_a_test(name: str) -> bool:
     return f'::{name}"' in tests or (TESTS / "library/c" / name).is_file()
 
 
-def calls_that_allocate() -> List[Tuple[str, List[List[str]]]]:
-    """The lines of the three tables, each with the heading of its table."""
-    return [(heading, cells) for heading in ALLOCATING for cells in quoted(heading)]
-
-
 def test_allocations() -> None:
     """The three tables name each public call that may need memory, and no other.
 
     A line of `rsp_*` names each call that no other line names.
     """
-    named = {(crate, call) for _, cells in calls_that_allocate() for crate in cells[0] for call in cells[1]}
+    named = {it for table in ALLOCATING for cells in quoted(table) for it in product(*cells[:2])}
     lost, used = [], set()
-    for name in crates():
-        for call in sorted({it.call for it in public_parts(name) if OF_MEMORY.search(it.signature)}):
-            fitting = {(name, call), (name, f"{call.split('_')[0]}_*")} & named
-            lost += [] if fitting else [(name, call)]
-            used |= {(name, call)} & fitting or fitting
+    for name, it in ((name, it) for name in crates() for it in public_parts(name)):
+        if OF_MEMORY.search(it.signature):
+            fitting = {(name, it.call), (name, f"{it.call.split('_')[0]}_*")} & named
+            lost += [] if fitting else [(name, it.call)]
+            used |= {(name, it.call)} & fitting or fitting
     assert not lost, "add them to one of the tables"
     assert used and not named - used, "no such public call may need memory: take it out"
 
 
 def test_tests_of_allocations() -> None:
     """The tests that the tables name are there."""
-    tests = [
-        it for heading, cells in calls_that_allocate() if ALLOCATING[heading] for it in cells[-1] or [""]
-    ]
+    lines = [cells for heading, has_tests in ALLOCATING.items() if has_tests for cells in quoted(heading)]
+    tests = [it for cells in lines for it in cells[-1] or [""]]
     assert tests and not [it for it in tests if not is_a_test(it)]
 
 
@@ -209,5 +198,6 @@ def test_laws() -> None:
     """The table of laws has each public one."""
     named = [f"{cells[0][0]} {law}" for cells in quoted("## Laws") for law in cells[1]]
     texts = {it.parts[-3]: it.read_text() for it in TOP.glob("crates/*/src/laws.rt")}
-    laws = [(crate, law) for crate, text in texts.items() for law in re.findall(r"(?m)^pub fn (\w+)", text)]
-    see_same(named, [f"{crate} {law}" for crate, law in laws])
+    see_same(
+        named, [f"{crate} {law}" for crate in texts for law in re.findall(r"(?m)^pub fn (\w+)", texts[crate])]
+    )

@@ -1,7 +1,7 @@
 """The layout, the types and the warnings of code outside the crates.
 
 It fails if black, flake8 or mypy refuses Python, shellcheck a script of the shell, gcc or clang C with -Wall
--Wextra -Wconversion, rustfmt or clippy Rust. It looks at what is tracked, and at new files that aren't ignored.
+-Wextra -Wconversion, rustfmt or clippy Rust. It looks at what is tracked, and at new files.
 """
 
 import os
