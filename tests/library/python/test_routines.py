@@ -10,8 +10,9 @@ from typing import Any, Dict, List, Tuple
 import pytest
 
 import rsp
-from rsp import routines
 from lib import TOP
+from lib.library.module import loaded, raised
+from rsp import routines
 
 SPECS = TOP / "crates/rsp_routines/specs"
 # The names that the theorem of blocks gives to what the registers hold.
@@ -109,13 +110,10 @@ def test_table(name: str) -> None:
     assert set(routines.PREMISES[name]) == set(premises_of(name, TEXTS[name], KNOWN))
 
 
-def machine_at(
-    name: str, place: int, scalars: Dict[int, int], before: str = "", after: str = "break"
-) -> rsp.Rsp:
-    """A machine that is about to run a routine at an address of IMEM."""
-    machine = rsp.Rsp(bytes(4096))
-    machine.load_words(rsp.IMEM, 0, rsp.assemble(before))
-    machine.load_words(rsp.IMEM, place, [*routines.WORDS[name], *rsp.assemble(after)])
+def machine_at(name: str, place: int, scalars: Dict[int, int], before: str = "") -> rsp.Rsp:
+    """A machine that is about to run a routine at an address of IMEM, after other instructions."""
+    machine = loaded(before)
+    machine.load_words(rsp.IMEM, place, [*routines.WORDS[name], *rsp.assemble("break")])
     state = machine.get()
     for number, value in scalars.items():
         state.words[number] = value
@@ -149,8 +147,7 @@ def test_ones_that_are_not_there() -> None:
     machine = machine_at("dot", 0, {})
     told = "$v31 == [1] * 8: $v31 is [0, 0, 0, 0, 0, 0, 0, 0]"
     assert routines.broken(machine, "dot") == (told,)
-    with pytest.raises(ValueError, match="broken: there is no routine clap"):
-        routines.broken(machine, "clap")
+    raised(ValueError, "broken: there is no routine clap", routines.broken, machine, "clap")
 
 
 def test_routine_over_the_end_of_imem() -> None:

@@ -1,0 +1,7 @@
+"""What the tests of the library share: what the examples print, and programs over it."""
+
+from lib.pages import block_with, page
+
+LOCKSTEP = page("examples/c/lockstep.expected")
+# What docs/EMBEDDING.md says that the examples of first_difference print.
+FIRST_DIFFERENCE = block_with("docs/EMBEDDING.md", "step 3").lstrip("\n")

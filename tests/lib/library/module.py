@@ -1,0 +1,41 @@
+"""What the tests of the Python module `rsp` share: a machine with a program, and calls that are refused."""
+
+import re
+import shutil
+from pathlib import Path
+from typing import Any, Callable, Type
+
+import pytest
+
+import rsp
+from lib import TOP
+
+
+def refused(status: rsp.Status, call: Callable[..., Any], *words: Any) -> None:
+    """That a call is refused with this status."""
+    with pytest.raises(rsp.RspError) as caught:
+        call(*words)
+    assert caught.value.status is status
+
+
+def raised(kind: Type[BaseException], text: str, call: Callable[..., Any], *words: Any) -> None:
+    """That a call raises this kind of error and no narrower one, with this text in its message."""
+    with pytest.raises(kind, match=re.escape(text)) as caught:
+        call(*words)
+    assert caught.type is kind
+
+
+def loaded(source: str, depth: int = 0) -> rsp.Rsp:
+    """A machine with a program in IMEM."""
+    machine = rsp.Rsp(bytes(4096), depth)
+    machine.load_words(rsp.IMEM, 0, rsp.assemble(source))
+    return machine
+
+
+def copy_of_package(folder: Path) -> Path:
+    """A copy of library/python, beside the library as in the repository."""
+    package, ignored = folder / "tree/python", shutil.ignore_patterns("__pycache__")
+    shutil.copytree(TOP / "library/python", package, ignore=ignored)
+    (folder / "tree/c").mkdir()
+    shutil.copy(TOP / "library/c/librsp.so", folder / "tree/c")
+    return package

@@ -1,0 +1,110 @@
+"""Each call of the library from C and C++, and what docs/EMBEDDING.md and rsp.h say of memory and threads.
+
+They fail if a call in its range or out of it does something else, also under valgrind and with each
+allocation failing; if a call uses more stack than rsp.h says (stack.c), or another takes memory than those
+that may (no_memory.c), or keeps some (balance.c); if a machine can't go from thread to thread (threads.c), or
+SP registers and RDRAM of a program's own differ (owner.c).
+"""
+
+import re
+from pathlib import Path
+
+import pytest
+
+from lib import TOP
+from lib.library import LOCKSTEP, shapes
+from lib.library.programs import BOTH, COUNTED, HERE, Language, built, passes, said_by
+from lib.pages import block_with, page
+from lib.processes import STRICT, compiled, run, succeeds
+
+pytestmark = [pytest.mark.needs("cc"), pytest.mark.usefixtures("library")]
+EXAMPLE = TOP / "examples/c/lockstep.c"
+EMBEDDING = page("docs/EMBEDDING.md")
+
+
+@pytest.mark.parametrize("language", BOTH)
+def test_calls(language: Language, folder: Path) -> None:
+    passes(built(folder, HERE / "calls.c", language=language))
+
+
+@pytest.mark.parametrize("language", BOTH)
+def test_lockstep(language: Language, folder: Path) -> None:
+    assert succeeds(built(folder, EXAMPLE, language=language)) == LOCKSTEP
+
+
+@pytest.mark.parametrize("language", BOTH)
+def test_program_of_the_page(language: Language, folder: Path) -> None:
+    """The program at the top of EMBEDDING.md prints what the page says."""
+    source = folder / "page.c"
+    source.write_text(block_with("docs/EMBEDDING.md", '#include "rsp.h"'))
+    wanted = re.findall(r"It prints `(.*)`", EMBEDDING)[0]
+    assert succeeds(built(folder, source, language=language)) == f"{wanted}\n"
+
+
+@pytest.mark.parametrize("language", BOTH)
+def test_calls_for_an_emulator(language: Language, folder: Path) -> None:
+    """The blocks of EMBEDDING.md's section for emulators, one after another."""
+    section = re.findall(r"(?ms)^## The calls for an emulator\n(.*?)^## ", EMBEDDING)[0]
+    wanted = re.findall(r"[Tt]his\sprints\s`([^`]*)`", section)
+    begin = "static const uint8_t image[64] = { 0 };\nrsp m = RSP_NONE;\n"
+    begin += "if (rsp_new(&m, image, 64, 100) != RSP_OK) return 1;\n"
+    lines = begin + "\n".join(re.findall(r"(?m)^    (.*)", section))
+    assert said_by(folder, lines, language).splitlines() == wanted
+    assert len(wanted) == 8
+
+
+@pytest.mark.parametrize("name", ("stack", "owner", "threads"))
+def test_program(name: str, folder: Path) -> None:
+    passes(built(folder, HERE / f"{name}.c", "-pthread"))
+
+
+@pytest.mark.parametrize("name", ("stack.c", "no_memory.c"))
+def test_no_call_is_missing(name: str) -> None:
+    text = (HERE / name).read_text()
+    assert [call for call, *_ in shapes.exported() if f"{call}(" not in text] == []
+
+
+def no_memory(folder: Path) -> Path:
+    """calls.c inside a program that fails each of its allocations."""
+    defined = ("-Dmain=all_calls", "-DQUIET")
+    calls = compiled(folder / "all_calls.o", "-std=c99", *STRICT, *defined, "-c", HERE / "calls.c")
+    return built(folder, HERE / "no_memory.c", COUNTED, calls)
+
+
+def test_no_memory(folder: Path) -> None:
+    passes(no_memory(folder))
+
+
+def test_balance(folder: Path) -> None:
+    passes(built(folder, HERE / "balance.c", COUNTED))
+
+
+@pytest.mark.needs("valgrind")
+@pytest.mark.parametrize("name", ("calls", "no_memory"))
+def test_valgrind(name: str, folder: Path) -> None:
+    program = no_memory(folder) if name == "no_memory" else built(folder, HERE / "calls.c")
+    said = succeeds("valgrind", "-q", "--leak-check=full", "--error-exitcode=9", program)
+    assert "==" not in said
+
+
+def test_threads_under_a_sanitizer(folder: Path) -> None:
+    """It is skipped where the sanitizer can't run: not every machine gives it its layout of memory."""
+    sanitizer = "-fsanitize=thread"
+    (folder / "empty.c").write_text("int main(void) { return 0; }\n")
+    made = run("cc", sanitizer, "-o", "empty", "empty.c", cwd=folder)
+    if made.returncode or run("./empty", cwd=folder).returncode:
+        pytest.skip(f"{sanitizer} doesn't run here (Debian's package libtsan2)")
+    said = succeeds(built(folder, HERE / "threads.c", "-pthread", "-g", sanitizer))
+    assert "WARNING" not in said
+
+
+@pytest.mark.needs("nm")
+@pytest.mark.parametrize("source, is_held", ((EXAMPLE, False), (HERE / "script.c", True)), ids=str)
+def test_a_program_pays_for_its_calls_alone(source: Path, is_held: bool, folder: Path) -> None:
+    """One that makes no bench doesn't hold the bench's code."""
+    names = succeeds("nm", built(folder, source, "-Wl,--gc-sections"))
+    assert [it in names for it in ("rsp_bench_take", "rsp_commands")] == [is_held, is_held]
+
+
+def test_size_of_the_shared_library(library: Path) -> None:
+    assert (library / "librsp.so").stat().st_size <= 430080

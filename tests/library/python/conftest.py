@@ -1,0 +1,24 @@
+"""The module `rsp` of library/python, over the library that the sources make.
+
+Where it can't be imported, because no library is built, it is imported over one without calls: its tests can
+be listed then, and the first that runs says what to type.
+"""
+
+from pathlib import Path
+from unittest import mock
+
+import pytest
+
+FAULT = ""
+try:
+    import rsp
+except (AttributeError, ImportError, OSError) as fault:
+    FAULT = str(fault)
+    CALLS = mock.Mock(**{"rsp_version.return_value": 1})
+    with mock.patch("ctypes.CDLL", return_value=CALLS), mock.patch("os.path.exists", return_value=True):
+        import rsp  # noqa: F401
+
+
+@pytest.fixture(scope="session", autouse=True)
+def module(library: Path) -> None:
+    assert not FAULT, f"`import rsp` fails: {FAULT}"

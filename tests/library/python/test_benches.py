@@ -1,0 +1,189 @@
+"""Benches of the Python module beside the program, on the scripts of the repository and on random ones.
+
+They fail if the replies differ from those that are stored, or from what `rsp run` writes, if the image does,
+or if a call is refused otherwise than its text says. A script comes whole by run_script, and cut at random
+into calls of `feed`.
+"""
+
+import random
+from pathlib import Path
+from typing import Callable, Dict, Iterator, List, Tuple
+
+import pytest
+
+import rsp
+from lib.library.module import raised, refused
+from lib.program import content, ran
+from lib.stored import Stored, stored
+from rsp import RspError, Status
+
+COUNT, PARTS = 1000, 4  # random scripts, and the tests that share them
+LONGEST = 1048576
+Chance = random.Random
+
+
+def items(rows: str) -> List[str]:
+    """The items of a table, which has semicolons between them, and ends of lines."""
+    return [it for row in rows.strip("\n").split("\n") for it in row.split(";")]
+
+
+TEXTS = items(
+    """
+nop;break;addiu $1, $1, 1;ori $2, $0, 0x1000;sw $1, 4($0);sw $2, 0x40($1);lqv $v1[0], 0($0);sqv $v1[0], 16($0)
+vaddc $v2, $v1, $v1;vmulf $v3, $v1, $v2[1];vrcp $v4[0], $v1[3];mtc0 $2, $c2;mfc0 $3, $c7;mtc0 $1, $c4
+loop: bne $1, $2, loop;j 0;jr $1;.word 0xffffffff;.word 1, 2;x:;# nothing;foo $1;addiu $1, $2;lw $1, loop($0)
+"""
+)
+NO_LINES = items(
+    """
+walk;step 1; ;#;\tstep # one\r;\xff;load rom 0 00;load dmem 0 0;end end;asm;run 0x;mem dmem 0 0
+"""
+)
+# The forms of the commands: A is any address, P one of IMEM, N, L and W numbers, H bytes, B a memory.
+FORMS = items(
+    """
+load B A H;load B A H;asm P;end;step;step;run N;run N;run L;break P;unbreak P;watch L N;unwatch N;back N
+back L;pc P;read N;write N W;write N L;task A;regs;vregs;acc;flags;sp;mem B A L;mem B A N;dis P N;write 2 W
+write 3 L;write 4 1
+"""
+)
+OF: Dict[str, Callable[[Chance], str]] = {
+    "A": lambda c: str(c.choice((c.randrange(256), 8 * c.randrange(512), c.randrange(1 << 24)))),
+    "P": lambda c: hex(c.choice((0, 4 * c.randrange(16), 4 * c.randrange(1024), c.randrange(5000)))),
+    "N": lambda c: str(c.randrange(18)),
+    "L": lambda c: str(c.choice((c.randrange(300), c.randrange(5000)))),
+    "W": lambda c: hex(c.getrandbits(c.choice((4, 16, 32, 33)))),
+    "H": lambda c: bytes(c.randrange(256) for _ in range(c.randrange(1, 40))).hex(),
+    "B": lambda c: c.choice(("dmem", "imem", "imem", "rdram")),
+}
+
+
+def line(chance: Chance) -> bytes:
+    """A command, a line of assembly text, or what is neither."""
+    kind = chance.random()
+    if kind < 0.05:
+        return chance.choice(NO_LINES).encode("latin-1")
+    if kind < 0.25:
+        return chance.choice(TEXTS).encode()
+    words = chance.choice(FORMS).split()
+    return " ".join(OF[it](chance) if it in OF else it for it in words).encode()
+
+
+def random_script(chance: Chance) -> bytes:
+    """Up to 60 lines, some of them in blocks, and the last one with or without LF."""
+    lines: List[bytes] = []
+    for _ in range(chance.randrange(1, 40)):
+        if chance.random() < 0.1:
+            lines += [b"asm 0", *(chance.choice(TEXTS).encode() for _ in range(chance.randrange(6))), b"end"]
+        lines.append(line(chance))
+    return b"\n".join(lines) + b"\n" * chance.randrange(2)
+
+
+def cut(script: bytes, chance: Chance) -> Iterator[bytes]:
+    """The script in pieces, some of them empty."""
+    most, at = 5000 if len(script) > 5000 else chance.choice((1, 7, 100)), 0
+    while at < len(script):
+        length = chance.randrange(most + 1)
+        yield script[at : at + length]
+        at += length
+
+
+def in_pieces(script: bytes, image: bytes, chance: Chance) -> Tuple[bytes, bytes]:
+    """The replies and the image of a bench whose script comes in pieces."""
+    with rsp.Bench(image) as bench:
+        replies = b"".join(bench.feed(it) for it in cut(script, chance))
+        return replies + bench.end(), bench.rdram
+
+
+def by_program(program: Path, script: bytes, image: bytes, folder: Path) -> Tuple[bytes, bytes]:
+    """What `rsp run` writes, and the image that it saves."""
+    given, saved = folder / "image", folder / "saved"
+    given.write_bytes(image)
+    got = ran(program, ["run", "--rdram", given, "--save", saved], script)
+    return got.output, content(saved) or b""
+
+
+def see_equal(what: str, got: Tuple[bytes, bytes], wanted: Tuple[bytes, bytes]) -> None:
+    """That replies and image are the wanted ones; an image is too long to be shown."""
+    assert got[0] == wanted[0], what
+    is_equal = got[1] == wanted[1]
+    assert is_equal, f"{what}: the image is another"
+
+
+def test_there_are_scripts() -> None:
+    assert len(stored()) > 100
+
+
+@pytest.mark.parametrize("script", stored(), ids=str)
+def test_stored(script: Stored, program: Path, folder: Path) -> None:
+    """The replies that are stored, and the image that the program leaves."""
+    given, (status, wanted, _) = script.image(), script.wanted
+    if status:
+        refused(Status.OUT_OF_RANGE, rsp.run_script, script.script, given)
+        return
+    image = bytes(1 << 22) if given is None else given
+    found = rsp.run_script(script.script, given)
+    assert found[0] == wanted
+    see_equal("in pieces", in_pieces(script.script, image, Chance(str(script))), found)
+    see_equal("by the program", by_program(program, script.script, image, folder), found)
+
+
+@pytest.mark.parametrize("part", range(PARTS))
+def test_random(part: int, program: Path, folder: Path) -> None:
+    """The program's replies and its image, of random scripts on a random image."""
+    chance = Chance(68 + part)
+    image, kinds = chance.randbytes(4096), set()
+    for number in range(COUNT // PARTS):
+        script = random_script(chance)
+        wanted = by_program(program, script, image, folder)
+        kinds |= {b" ".join(it.split()[:2]) for it in wanted[0].splitlines()}
+        see_equal(f"script {number} by run_script", rsp.run_script(script, image), wanted)
+        see_equal(f"script {number} in pieces", in_pieces(script, image, chance), wanted)
+    assert len([it for it in kinds if it.startswith(b"fault ")]) > 15
+    assert {
+        b"stop Limit",
+        b"stop Reserved",
+        b"stop Halted",
+        b"ok watch",
+        b"step Done",
+        b"step Halted",
+    } <= kinds
+
+
+def test_feed() -> None:
+    bench = rsp.Bench(bytes(64))
+    assert (bench.rdram, len(rsp.Bench().rdram)) == (bytes(64), 1 << 22)
+    pieces = [bench.feed("st"), bench.feed(b"ep\nstep # 2"), bench.feed(bytearray(b"")), bench.end()]
+    assert pieces == [b"", b"step Done pc 004\n", b"", b"step Done pc 008\n"]
+    for call in (bench.end, lambda: bench.feed(b"step\n")):
+        raised(RspError, "the script has ended", call)
+    assert rsp.run_script("", bytes(8) * 9) == (b"", bytes(72)), "a script without bytes"
+    replies = rsp.Bench(bytes(64)).iter_feed("step\n#\nasm 0\nnop\nend\nste")
+    assert [*replies] == [b"step Done pc 004\n", b"", b"", b"", b"ok 1 words\n"], "one by one"
+
+
+def test_refused_calls() -> None:
+    for length in (0, 63, 65, (1 << 23) + 8):
+        refused(Status.OUT_OF_RANGE, rsp.Bench, bytes(length))
+    bench = rsp.Bench(bytes(64))
+    raised(TypeError, "Bench: image is of type str", rsp.Bench, "image")
+    raised(TypeError, "feed: script is of type int", bench.feed, 3)
+    bench.close()
+    for gone in (bench.end, lambda: bench.feed("step\n"), lambda: bench.rdram):
+        raised(RspError, "is closed", gone)
+
+
+def test_longest_script() -> None:
+    """The byte after the last one that a script may have."""
+    script = b"step\n" + b"#" * (LONGEST - 5)
+    replies, _ = rsp.run_script(script, bytes(64))
+    assert replies == b"step Done pc 004\nfault 32 LineTooLong\n"
+    refused(Status.TOO_LONG, rsp.run_script, script + b"#", bytes(64))
+    bench, told = rsp.Bench(bytes(64)), [b""]
+    with pytest.raises(RspError) as caught:
+        told += bench.iter_feed(script + b"#")
+    assert caught.value.status is Status.TOO_LONG
+    assert told == [b"", b"step Done pc 004\n"], "the replies before it"
+    for call in (bench.end, lambda: bench.feed("")):
+        raised(RspError, "the script has more than 1048576 bytes", call)
+    assert bench.rdram == bytes(64)

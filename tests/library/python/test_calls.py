@@ -1,0 +1,282 @@
+"""Each call of the module rsp, in its range and out of it.
+
+They fail if a call does something else than docs/EMBEDDING.md says, or isn't refused with the right status.
+"""
+
+import threading
+from typing import List
+
+import pytest
+
+import rsp
+from lib.library.module import loaded, refused
+from rsp import Reason, Status
+
+OUT = Status.OUT_OF_RANGE
+COUNTING = "addiu $1, $1, 1\n"
+LOOP = "addiu $1, $0, 3\nloop: addiu $1, $1, -1\nsw $1, 64($0)\nbne $1, $0, loop\nnop\nbreak\n"
+TRACED = "ori $1, $0, 0x8001\nsw $1, 0x1044($0)\nmtc2 $1, $v1[2]\nvaddc $v2, $v1, $v1\nbreak\n"
+
+
+def test_lengths_and_depths() -> None:
+    for length in (0, 63, 65, 68):
+        refused(OUT, rsp.Rsp, bytes(length))
+    for depth in (4097, -1, 1 << 32):
+        refused(OUT, rsp.Rsp, bytes(64), depth)
+
+
+def test_closed_machine() -> None:
+    with rsp.Rsp() as machine:
+        assert machine.regs().npc == 4
+    for name in "get step regs acc flags divider sp copy pass_move".split():
+        refused(Status.NO_MACHINE, getattr(machine, name))
+    for name in "reg vreg read peek run back add_break set_pc trace".split():
+        refused(Status.NO_MACHINE, getattr(machine, name), 4)
+    refused(Status.NO_MACHINE, machine.memory, rsp.DMEM, 0, 4)
+    refused(Status.NO_MACHINE, machine.memory_words, rsp.DMEM, 0, 4)
+    refused(Status.NO_MACHINE, machine.set_sp, rsp.SpWords())
+    refused(Status.NO_MACHINE, machine.run_until_move, 1, 0, 0)
+    refused(Status.NO_MACHINE, list, machine.iter_trace())
+    machine.close()
+
+
+def test_copy() -> None:
+    machine = loaded(3 * COUNTING + "break\n", 2)
+    machine.load(rsp.RDRAM, 4088, b"RDRAMend")
+    machine.step()
+    machine.add_break(8)
+    other = machine.copy()
+    assert other.get() == machine.get() and other.memory(rsp.RDRAM, 4088, 8) == b"RDRAMend"
+    refused(Status.SHORT_HISTORY, other.back, 1)
+    refused(Status.NO_BREAK, other.drop_break, 8)
+    assert (other.run(9), other.reg(1), machine.reg(1)) == ((Reason.HALT, 3, 16, None), 3, 1)
+    refused(Status.SHORT_HISTORY, other.back, 3)
+    other.back(2)
+    machine.close()
+    assert other.reg(1) == 2
+
+
+def test_machine_in_four_threads() -> None:
+    held: List[rsp.Rsp] = []
+    found: List[int] = []
+    for work in (
+        lambda: held.append(loaded("loop: addiu $1, $1, 1\nbne $1, $2, loop\nnop\n", 9)),
+        lambda: held[0].run(300),
+        lambda: found.append(held[0].reg(1)),
+        lambda: held[0].close(),
+    ):
+        thread = threading.Thread(target=work)
+        thread.start()
+        thread.join()
+    assert found == [100]
+    refused(Status.NO_MACHINE, held[0].reg, 1)
+
+
+def test_steps_and_stops() -> None:
+    machine = loaded(LOOP, 8)
+    assert machine.step() is Status.OK and machine.reg(1) == 3
+    refused(Status.SHORT_HISTORY, machine.back, 2)
+    for count in (0, 1000001, -1, 1 << 40):
+        refused(OUT, machine.back, count)
+        refused(OUT, machine.run, count)
+    machine.back(1)
+    machine.add_break(16)
+    refused(Status.BREAK_TWICE, machine.add_break, 16)
+    refused(OUT, machine.add_break, 17)
+    assert machine.run(100) == (Reason.BREAK, 4, 16, None)
+    machine.drop_break(16)
+    refused(Status.NO_BREAK, machine.drop_break, 16)
+    assert (machine.add_watch(64, 4), machine.run(100)) == (0, (Reason.WATCH, 3, 12, 0))
+    refused(OUT, machine.add_watch, 4095, 2)
+    machine.drop_watch(0)
+    refused(Status.NO_WATCH, machine.drop_watch, 0)
+    assert machine.run(100).reason is Reason.HALT and machine.step() is Status.HALTED
+
+
+def test_reserved_word() -> None:
+    machine = loaded("break\n.word 0xfffffffe\n", 8)
+    machine.run(5)
+    machine.write(4, 1)
+    assert machine.step() is Status.RESERVED
+    stop = machine.run(5)
+    assert (stop, stop.word) == ((Reason.RESERVED, 0, 4, None), 0xFFFFFFFE)
+    machine.write(4, 2)
+    stop = machine.run(5)
+    assert stop.reason is Reason.HALT and stop.word is None, "halted goes before reserved"
+
+
+def test_ranges() -> None:
+    machine = rsp.Rsp()
+    refused(Status.TASK_PLACE, machine.start_task, 4)
+    refused(Status.TASK_SIZE, machine.start_task, 0)
+    for number in (-1, 32, 1 << 32):
+        refused(OUT, machine.reg, number)
+        refused(OUT, machine.vreg, number)
+    refused(OUT, machine.write, 0, -1)
+
+
+def test_passed_move() -> None:
+    machine = loaded("mfc0 $3, $c7\nmtc0 $3, $c2\nnop\n")
+    assert machine.pass_move(0xFEDCBA98) is Status.OK
+    assert (machine.reg(3), machine.peek(7)) == (0xFEDCBA98, 0)
+    assert machine.pass_move() is Status.OK
+    assert (machine.reg(3), machine.peek(2)) == (0xFEDCBA98, 0xFF8), "nothing is written"
+    assert machine.regs().pc == 8
+    refused(OUT, machine.pass_move)
+    refused(OUT, machine.pass_move, 1 << 32)
+    machine.write(4, 2)
+    assert machine.pass_move() is Status.HALTED
+
+
+def test_run_until_a_move() -> None:
+    machine = loaded("ori $4, $0, 0x1238\nmfc0 $3, $c7\nmtc0 $4, $c2\nbreak\n", 4)
+    for given in ((0, 0, 0), (1000001, 0, 0), (1, 65536, 0), (1, 0, -1)):
+        refused(OUT, machine.run_until_move, *given)
+    stop = machine.run_until_move(100, 1 << 7, 1 << 2)
+    assert (stop, stop.word) == ((Reason.MOVE, 1, 4, None), None)
+    assert stop.move == (0x40033800, 7, False, 0)
+    assert machine.run_until_move(100, 1 << 7, 0).steps == 0, "it isn't passed"
+    assert machine.pass_move(5) is Status.OK
+    stop = machine.run_until_move(100, 0, 0xFFFF)
+    assert (stop[:2], stop.move) == ((Reason.MOVE, 0), rsp.Move(0x40841000, 2, True, 0x1238))
+    stop = machine.run_until_move(100, 0xFFFF, 0)
+    assert (stop[:2], stop.move, machine.reg(3)) == ((Reason.HALT, 2), None, 5)
+
+
+def test_trace() -> None:
+    machine = loaded(TRACED, 4)
+    for count in (0, 1000001, -1, 1 << 40):
+        refused(OUT, machine.trace, count)
+    stop, entries = machine.trace(8)
+    assert (stop, len(entries)) == ((Reason.HALT, 5, 20, None), 5)
+    first, store, moved, last, _ = entries
+    assert (first.pc, first.word, first.scalar, first.value) == (0, 0x34018001, 1, 0x8001)
+    assert (store.stored, store.address, store.scalar, store.vector) == (1, 0x44, 0, 32)
+    assert (last.vector, last.lanes[1], last.vco) == (2, 2, 2)
+    lanes = "0000 0002 0000 0000 0000 0000 0000 0000"
+    assert str(last) == f"00c 4a010894 $v2 {lanes} vco 0002 vcc 0000 vce 00"
+    assert str(first) == "000 34018001 $1 00008001 vco 0000 vcc 0000 vce 00"
+    assert not moved.diff(moved) and "vco" in [it.name for it in last.diff(moved)]
+    machine.back(4)
+    assert machine.regs().pc == 4, "a trace can be undone"
+
+
+def test_trace_one_by_one() -> None:
+    with loaded("loop: j loop\naddiu $1, $1, 1\n") as machine:
+        entries = list(machine.iter_trace(3000))
+        last = entries[-1]
+        assert (len(entries), last.pc, last.value, machine.reg(1)) == (3000, 4, 1500, 1500)
+    with loaded("nop\nbreak\n") as machine:
+        assert [it.pc for it in machine.iter_trace()] == [0, 4]
+        assert [*machine.iter_trace()] == []
+
+
+def test_sp_registers() -> None:
+    machine = rsp.Rsp()
+    given = machine.sp()
+    assert list(given.words) == [machine.peek(n) for n in range(16)] and given.interrupt == 0
+    for number, word in {0: 0x1FF8, 4: 0x50E2, 7: 1, 15: 5}.items():
+        given.words[number] = word
+    given.interrupt = 1
+    machine.set_sp(given)
+    assert machine.sp() == given and (machine.peek(4), machine.get().interrupt) == (0x50E2, 1)
+    for n, word in enumerate((4, 1, 0, 0, 4, 1, 1, 2)):
+        bad = machine.sp()
+        bad.words[n] = word
+        refused(OUT, machine.set_sp, bad)
+    assert machine.sp() == given, "a refused word changes nothing"
+
+
+def test_state() -> None:
+    machine = rsp.Rsp()
+    state = machine.get()
+    assert (state.pc, state.npc, state.sp[2]) == (0, 4, 0xFF8)
+    state.words[31], state.vectors[31][7], state.accumulators.high[7], state.sp[15] = 1, 2, 3, 4
+    state.divider.loaded = state.interrupt = 1
+    state.flags.extra = 0x80
+    machine.set(state)
+    assert machine.get() == state
+    parts = (machine.reg(31), machine.vreg(31)[7], machine.acc().high[7], machine.peek(15))
+    assert parts == (1, 2, 3, 4)
+    assert (machine.divider().loaded, machine.flags().extra, machine.read(31)) == (1, 0x80, 4)
+    assert rsp.state_fault(state) is None
+    state.npc, state.sp[3] = 4094, 1
+    assert rsp.state_fault(state) == "npc"
+    state.npc = 4
+    assert rsp.state_fault(state) == "sp[3]"
+    state.words[0] = 1
+    assert rsp.state_fault(state) == "words[0]"
+    refused(OUT, machine.set, state)
+    assert machine.get() != state and machine.get().words[31] == 1, "a refused state changes nothing"
+
+
+def test_memories() -> None:
+    machine = rsp.Rsp(bytes(range(64)))
+    assert machine.memory(rsp.RDRAM, 3, 4) == bytes((3, 4, 5, 6))
+    machine.load(rsp.DMEM, 10, b"\1\0\2")
+    assert machine.memory(rsp.DMEM, 9, 5) == b"\0\1\0\2\0"
+    machine.load_words(rsp.DMEM, 4092, [0x01020304])
+    assert machine.memory(rsp.DMEM, 4092, 4) == b"\1\2\3\4"
+    assert machine.memory_words(rsp.DMEM, 4091, 1) == [0x00010203]
+    assert machine.memory_words(rsp.DMEM, 4088, 2) == [0, 0x01020304]
+    assert machine.memory_words(rsp.DMEM, 4096, 0) == []
+    assert machine.memory(rsp.DMEM, 4096, 0) == b""
+    outside = ((3, 0, 1), (rsp.RDRAM, -1, 1), (rsp.RDRAM, 0, -1), (rsp.RDRAM, 0, 1 << 31))
+    for words in (*outside, (rsp.DMEM, 4093, 1), (rsp.RDRAM, 0, 17)):
+        refused(OUT, machine.memory_words, *words)
+    for words in (*outside, (rsp.DMEM, 4096, 1), (rsp.RDRAM, 0, 65)):
+        refused(OUT, machine.memory, *words)
+    refused(OUT, machine.load, rsp.RDRAM, 63, b"ab")
+    refused(OUT, machine.load, rsp.RDRAM, 1 << 32, b"")
+    refused(OUT, machine.load_words, rsp.IMEM, 0, [1 << 32])
+    refused(OUT, machine.load_words, rsp.IMEM, 0, [0] * 1025)
+    refused(OUT, machine.set_pc, 4096)
+    machine.write(1, 8)
+    machine.write(2, 7)
+    assert machine.memory(rsp.DMEM, 0, 8) == bytes(range(8, 16)), "a DMA"
+
+
+def test_assemble() -> None:
+    assert rsp.assemble("nop\nbreak\n") == [0, 13]
+    assert rsp.assemble("") == []
+    with pytest.raises(rsp.AssemblyError) as caught:
+        rsp.assemble("nop\nfoo\n")
+    fault = caught.value
+    assert (fault.line, fault.fault, fault.status) == (2, 11, Status.NO_MEANING)
+    assert str(fault) == "assemble: fault 11 UnknownName line 2: foo"
+    refused(OUT, rsp.assemble, "nop", 2)
+    refused(OUT, rsp.assemble, "nop", -4)
+
+
+# A line that is refused, its fault, the number of its operand, and what that may be.
+EXPLAINED = (
+    ("lqv $v1[0], 0x460($0)", "13 OutOfRange", 2, "-1024 to 1008, a multiple of 16"),
+    ("j nowhere", "15 LabelMissing", 1, "the label of a line, or 0 to 4092, a multiple of 4"),
+    (
+        "lw $1, $2",
+        "12 BadOperand",
+        2,
+        "a number or a label, -32768 to 65535, and a scalar register in parentheses",
+    ),
+    ("vrcp $v1, $v2[0]", "12 BadOperand", 1, "a vector register, with a lane"),
+    ("nop $1", "12 BadOperand", 1, "nothing"),
+)
+
+
+@pytest.mark.parametrize("line, fault, number, allowed", EXPLAINED)
+def test_refused_line(line: str, fault: str, number: int, allowed: str) -> None:
+    with pytest.raises(rsp.AssemblyError) as caught:
+        rsp.assemble(f"nop\n{line}\n")
+    told = f"operand {number} may be {allowed}"
+    assert str(caught.value) == f"assemble: fault {fault} line 2: {line}; {told}"
+    assert caught.value.allowed == told
+
+
+def test_disassembly() -> None:
+    assert rsp.text(0x4A631050, 4) == "vadd $v1, $v2, $v3[1q]"
+    refused(OUT, rsp.text, 0, 4096)
+    refused(OUT, rsp.text, 1 << 32, 0)
+    machine = loaded("nop\nbreak\n")
+    assert machine.listing(0, 2) == [(0, 0, "nop"), (4, 13, "break")]
+    refused(OUT, machine.listing, 4092, 2)
+    refused(OUT, machine.listing, 0, 1 << 31)

@@ -1,0 +1,203 @@
+"""`rsp.first_difference` between a machine and a second one with a planted fault.
+
+They fail if the fault isn't found at its very step, whatever the length of a stretch.
+"""
+
+from typing import Any, Callable, List, Optional, Tuple, Type
+
+import pytest
+
+import rsp
+
+# A DMA of 8 bytes into DMEM and one back, then a loop of 40 turns; at its head $2 is 40, 39, ..
+PROGRAM = """
+      ori $1, $0, 7
+      mtc0 $0, $c0
+      mtc0 $0, $c1
+      mtc0 $1, $c2
+      ori $2, $0, 40
+      lqv $v1[0], 0($0)
+      sw $1, 0($0)
+      mtc0 $0, $c0
+      mtc0 $1, $c3
+loop: vadd $v2, $v2, $v1
+      addiu $2, $2, -1
+      bne $2, $0, loop
+      sqv $v2[0], 32($0)
+      break
+"""
+HEAD, TURN, TURNS = 9, 4, 40
+IMAGE = bytes(range(64))
+
+
+class Faulty(rsp.Rsp):
+    """A machine that spoils something after the instruction at an address while $2 has a value."""
+
+    fault: Optional[Tuple[int, int, Callable[["Faulty"], None]]] = None
+
+    def run(self, steps: int) -> Any:
+        for _ in range(steps):
+            regs = self.regs()
+            self.step()
+            if self.fault and (regs.pc, regs.words[2]) == self.fault[:2]:
+                self.fault[2](self)
+
+    def lane(self) -> None:
+        state = self.get()
+        state.vectors[2][5] ^= 1
+        self.set(state)
+
+
+def byte(bank: int, address: int) -> Callable[[Faulty], None]:
+    """What changes a byte of a memory."""
+    return lambda it: it.load(bank, address, bytes([it.memory(bank, address, 1)[0] ^ 0x80]))
+
+
+def machines(source: str = PROGRAM, *fault: Any) -> Tuple[rsp.Rsp, Faulty]:
+    """A machine with a program, and one with a fault: an address, a value of $2, and what it does."""
+    machine, emulator = rsp.Rsp(IMAGE), Faulty(IMAGE)
+    machine.load_words(rsp.IMEM, 0, rsp.assemble(source))
+    if fault:
+        emulator.fault = fault[0], fault[1], fault[2]
+    return machine, emulator
+
+
+def alone(steps: int) -> rsp.State:
+    """The state after so many steps of the machine alone."""
+    machine, _ = machines()
+    for _ in range(steps):
+        machine.step()
+    return machine.get()
+
+
+def parts_of(found: Optional[rsp.FirstDifference]) -> List[Tuple[Any, ...]]:
+    return [tuple(it) for it in found.parts] if found else []
+
+
+TURN_AT_FAULT = 17
+FAULTS: Tuple[Tuple[str, int, Callable[[Faulty], None], str, str], ...] = (
+    ("a lane", 0, Faulty.lane, "$v2 lane 5", "vadd $v2, $v2, $v1"),
+    ("a lane, in a delay slot", 3, Faulty.lane, "$v2 lane 5", "sqv $v2[0], 32($0)"),
+    ("a byte of DMEM", 1, byte(rsp.DMEM, 0x3F7), "DMEM 3f0", "addiu $2, $2, -1"),
+    ("a byte of IMEM", 2, byte(rsp.IMEM, 0x804), "IMEM 800", "bne $2, $0, 0x024"),
+)
+
+
+@pytest.mark.parametrize("every", (1, 2, 7, 64, 10000))
+@pytest.mark.parametrize("at, spoil, name, text", [it[1:] for it in FAULTS], ids=[it[0] for it in FAULTS])
+def test_fault(at: int, spoil: Callable[[Faulty], None], name: str, text: str, every: int) -> None:
+    """A fault of each kind, for stretches of any length."""
+    step = HEAD + TURN * (TURNS - TURN_AT_FAULT) + 1 + at  # the first is that of VADD of that turn
+    place = 4 * (HEAD + at)
+    machine, emulator = machines(PROGRAM, place, TURN_AT_FAULT - (at > 1), spoil)
+    found = rsp.first_difference(machine, emulator, every)
+    assert found and (found.step, found.place, found.text) == (step, place, text)
+    assert [it[0] for it in parts_of(found)] == [name]
+    assert found.before == alone(step - 1)
+    assert machine.get() == alone(step), "both stay after it"
+    assert str(found).count("\n") == 1
+
+
+@pytest.mark.parametrize("every", (1, 64))
+def test_transfer(every: int) -> None:
+    """A DMA is a stretch of its own, after which RDRAM is compared."""
+    wrong = IMAGE[16:19] + b"\x93" + IMAGE[20:32]
+    quadword = ("RDRAM 010", int.from_bytes(IMAGE[16:32], "big"), int.from_bytes(wrong, "big"), 32)
+    machine, emulator = machines(PROGRAM, 4 * 8, TURNS, byte(rsp.RDRAM, 0x13))
+    found = rsp.first_difference(machine, emulator, every)
+    assert found and (found.step, found.text, found.word) == (9, "mtc0 $1, $c3", 0x40811800)
+    assert parts_of(found) == [quadword]
+
+
+def test_no_difference_up_to_the_halt() -> None:
+    machine, emulator = machines()
+    assert rsp.first_difference(machine, emulator) is None
+    assert machine.step() is rsp.Status.HALTED
+    assert machine.get() == emulator.get() == alone(HEAD + TURN * TURNS + 1)
+
+
+@pytest.mark.parametrize("limit", (0, 20, 21))
+def test_no_difference_in_the_limit(limit: int) -> None:
+    machine, emulator = machines()
+    assert rsp.first_difference(machine, emulator, 8, limit) is None
+    assert machine.get() == alone(limit)
+
+
+def test_fault_after_the_limit() -> None:
+    machine, emulator = machines(PROGRAM, 4 * HEAD, TURNS, Faulty.lane)
+    assert rsp.first_difference(machine, emulator, limit=HEAD) is None
+
+
+def test_reserved_word() -> None:
+    assert rsp.first_difference(*machines(".word 0xffffffff")) is None
+
+
+class Forgetful(rsp.Rsp):
+    """One whose `set` leaves something out."""
+
+    def set(self, state: rsp.State) -> None:
+        super().set(rsp.State(pc=state.pc, npc=state.npc))
+
+
+class Whole(Faulty):
+    """One that differs only in a longer run."""
+
+    def run(self, steps: int) -> Any:
+        super().run(steps)
+        if steps > 1:
+            self.lane()
+
+
+def test_different_from_the_beginning() -> None:
+    machine, _ = machines()
+    state = machine.get()
+    state.words[3] = 5
+    machine.set(state)
+    found = rsp.first_difference(machine, Forgetful(IMAGE))
+    head = "step 0, 000: ori $1, $0, 0x0007"
+    assert str(found) == f"{head}\n  $3 is 00000005 on the machine and 00000000 in the emulator"
+    assert repr(found) == f"<rsp.FirstDifference: {head}>"
+    assert found and "<code>00000005</code>" in found._repr_html_()
+
+
+def test_stretch_that_single_steps_do_not_show() -> None:
+    machine, _ = machines()
+    found = rsp.first_difference(machine, Whole(IMAGE), 3)
+    assert found and (found.step, found.steps, found.place, found.before) == (3, 3, 0, alone(0))
+    text = "steps 1 to 3, from 000 on: no step alone differs, so get and set leave something out\n  "
+    assert str(found).startswith(text)
+    assert str(machine.listing(0, 1)[0]) == "000 34010007 ori $1, $0, 0x0007"
+
+
+class Short(rsp.Rsp):
+    """One whose memories are too short."""
+
+    def memory(self, bank: int, address: int, length: int) -> bytes:
+        return super().memory(bank, address, length)[:8]
+
+
+class Odd(rsp.Rsp):
+    """One without a state."""
+
+    def get(self) -> Any:
+        return None
+
+
+@pytest.mark.parametrize(
+    "emulator, words, kind, told",
+    (
+        (Faulty, [0], ValueError, "first_difference: every is 0, not 1 to 1000000"),
+        (Faulty, [1000001], ValueError, "first_difference: every is 1000001, not 1 to 1000000"),
+        (Faulty, [64, -1], ValueError, "first_difference: limit is -1, not 0 to 4294967295"),
+        (Faulty, ["64"], TypeError, "first_difference: every is of type str, not an integer"),
+        (Short, [], ValueError, "first_difference: the emulator's memory(0, 0, 4096) has 8 bytes"),
+        (Odd, [], TypeError, "diff: other is of type NoneType, not rsp.State"),
+    ),
+)
+def test_typed_wrongly(emulator: Type[rsp.Rsp], words: List[Any], kind: Type[Exception], told: str) -> None:
+    """It is answered by a sentence, and nothing has changed."""
+    machine, _ = machines()
+    with pytest.raises(kind) as caught:
+        rsp.first_difference(machine, emulator(IMAGE), *words)
+    assert (caught.type, str(caught.value)) == (kind, told)
+    assert machine.get() == alone(0)

@@ -1,0 +1,45 @@
+"""The layouts, numbers and calls of the module rsp. They fail if one differs from crates/rsp_c."""
+
+import pytest
+
+import rsp
+from lib.library import shapes
+from rsp._explain import Operand
+
+STRUCTS = {
+    "RspState": rsp.State,
+    "RspScalars": rsp.Scalars,
+    "RspAccumulators": rsp.Accumulators,
+    "RspFlagBits": rsp.Flags,
+    "RspDivideState": rsp.Divider,
+    "RspStop": rsp._Stop,
+    "RspLine": rsp._Line,
+    "RspAssembled": rsp._Assembled,
+    "RspLanes": rsp._Lanes,
+    "RspSpWords": rsp.SpWords,
+    "RspMove": rsp._Move,
+    "RspTraced": rsp.Traced,
+    "RspChanges": rsp.Changes,
+    "RspOperand": Operand,
+}
+
+
+def test_structs() -> None:
+    assert set(STRUCTS) == set(shapes.structs())
+
+
+@pytest.mark.parametrize("name", STRUCTS)
+def test_layout(name: str) -> None:
+    assert shapes.layout(STRUCTS[name]) == shapes.layout(shapes.structs()[name])
+
+
+def test_numbers() -> None:
+    assert {it.name: it.value for it in rsp.Status} == shapes.statuses()
+    assert {it.name: it.value for it in rsp.Bank} == shapes.banks()
+    assert {name: number for number, name in rsp.FAULTS.items()} == shapes.faults()
+    assert {shapes.REASONS[it.name]: it.value for it in rsp.Reason} == shapes.reasons()
+    assert {*rsp._FIELDS} == {*shapes.fields().values(), *range(16, 24)}
+
+
+def test_calls() -> None:
+    assert {*rsp._CALLS, "rsp_free", "rsp_bench_free"} == {name for name, *_ in shapes.exported()}

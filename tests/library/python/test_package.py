@@ -1,0 +1,176 @@
+"""The Python package as pip and tools see it: files, docstrings, names, version, types, and its examples.
+
+They fail if what pip installs, without a network, isn't the package of the repository with its library, or if
+Python 3.8 or `mypy --strict` refuses it. What the module does is tested on the tree's files.
+"""
+
+import ast
+import os
+import re
+import shutil
+import sys
+from pathlib import Path
+from typing import Any, Dict, List, Tuple
+
+import pytest
+
+import rsp
+from lib import TESTS, TOP
+from lib.library import FIRST_DIFFERENCE, LOCKSTEP
+from lib.library.module import copy_of_package
+from lib.library.programs import other_version
+from lib.packages import need
+from lib.pages import page
+from lib.processes import run, succeeds
+
+OURS, EXAMPLES, HERE = TOP / "library/python", TOP / "examples/python", TESTS / "library/python"
+PIP = ("-m", "pip", "--disable-pip-version-check", "install", "-q", "--no-index")
+MODULES = sorted((OURS / "rsp").glob("*.py*"))
+SOURCES = [*MODULES, OURS / "wheels.py", *sorted(EXAMPLES.glob("*.py"))]
+in_site = pytest.mark.xdist_group("installed package")
+
+
+@pytest.fixture(scope="session")
+def site(tmp_path_factory: pytest.TempPathFactory) -> Path:
+    """The folder with the installed package."""
+    need("python:pip")
+    folder = tmp_path_factory.mktemp("package")
+    succeeds(sys.executable, *PIP, "--no-deps", "--target", folder / "site", copy_of_package(folder))
+    return folder / "site"
+
+
+def by_python(*words: object, path: Path) -> str:
+    """What Python says with one folder more on its path."""
+    where = {**os.environ, "PYTHONPATH": str(path), "PYTHONDONTWRITEBYTECODE": "1"}
+    return run(sys.executable, *words, env=where).stdout
+
+
+def files_in(folder: Path) -> Dict[str, bytes]:
+    return {it.name: it.read_bytes() for it in folder.iterdir() if it.is_file()}
+
+
+@in_site
+def test_installed_files(site: Path, library: Path) -> None:
+    """They are the tree's, byte by byte, with the library."""
+    got, wanted = files_in(site / "rsp"), files_in(OURS / "rsp")
+    wanted["librsp.so"] = (library / "librsp.so").read_bytes()
+    assert sorted(got) == sorted(wanted)
+    assert [name for name in got if got[name] != wanted[name]] == []
+
+
+@in_site
+def test_installed_module(site: Path) -> None:
+    asked = "import rsp; print(rsp.__file__, rsp.Rsp().run(3).steps)"
+    assert by_python("-c", asked, path=site) == f"{site}/rsp/__init__.py 3\n"
+
+
+# Examples with their words, and what they print: two beside another emulator, two on a loop of three turns.
+SHOWN: Dict[str, Tuple[List[object], str]] = {
+    "lockstep": ([], LOCKSTEP),
+    "first_difference": ([], FIRST_DIFFERENCE),
+    "step_counts": ([HERE / "turns.s"], (HERE / "turns.counted").read_text()),
+    "step_view": ([HERE / "turns.s", 6, 4], (HERE / "turns.viewed").read_text()),
+}
+
+
+@in_site
+@pytest.mark.parametrize("name", SHOWN)
+def test_example(name: str, site: Path) -> None:
+    words, wanted = SHOWN[name]
+    assert by_python(EXAMPLES / f"{name}.py", *words, path=site) == wanted
+
+
+@pytest.mark.needs("cc", "ar")
+def test_library_of_another_version(folder: Path) -> None:
+    shutil.copytree(OURS / "rsp", folder / "rsp")
+    shutil.copy(other_version(folder) / "librsp.so", folder / "rsp")
+    wanted = "ImportError: librsp.so has version 2 of the interface, and this module is for 1\n"
+    assert by_python("-c", "import rsp", path=folder).endswith(wanted)
+
+
+def test_no_library(folder: Path) -> None:
+    """What `import rsp` says in a clone in which no library is built."""
+    ignored = shutil.ignore_patterns("librsp.so", "__pycache__")
+    shutil.copytree(OURS / "rsp", folder / "library/python/rsp", ignore=ignored)
+    said = by_python("-c", "import rsp", path=folder / "library/python").splitlines()[-1]
+    wanted = "ImportError: the library isn't built: in a clone of rsp, library/c/build makes it"
+    assert said.startswith(wanted)
+
+
+@pytest.mark.timeout(120)
+def test_editable_install(folder: Path) -> None:
+    """An editable install in a venv of its own, without a network."""
+    if run(sys.executable, "-m", "venv", folder / "own").returncode:
+        pytest.skip("there is no venv (Debian's package python3-venv)")
+    package, python = copy_of_package(folder), folder / "own/bin/python"
+    succeeds(python, *PIP, "-e", package)
+    module = package / "rsp/__init__.py"
+    asked = "import rsp; print(rsp.__file__, rsp.Rsp().run(3).steps, getattr(rsp, 'ADDED', 0))"
+    assert succeeds(python, "-c", asked, cwd=folder) == f"{module} 3 0\n"
+    module.write_text(module.read_text() + "ADDED = 5\n")
+    assert succeeds(python, "-c", asked, cwd=folder) == f"{module} 3 5\n"
+
+
+@pytest.mark.parametrize("path", SOURCES, ids=lambda it: it.name)
+def test_source(path: Path) -> None:
+    """Python 3.8 reads it. It has a docstring, and so has each public name of a module."""
+    tree = ast.parse(path.read_text(), feature_version=(3, 8))
+    assert ast.get_docstring(tree)
+    if path in MODULES and path.suffix == ".py":
+        named = [it for it in ast.walk(tree) if isinstance(it, (ast.FunctionDef, ast.ClassDef))]
+        public = [it for it in named if not it.name.startswith("_")]
+        assert [it.name for it in public if not ast.get_docstring(it)] == []
+
+
+def of_module(it: Any) -> bool:
+    return getattr(it, "__module__", "").startswith("rsp")
+
+
+def test_names() -> None:
+    public = {name for name, it in vars(rsp).items() if of_module(it) and not name.startswith("_")}
+    assert set(rsp.__all__) <= set(dir(rsp))
+    assert len(set(rsp.__all__)) == len(rsp.__all__)
+    assert public - {*rsp.__all__, "unset"} == set()
+    named = [(name, getattr(rsp, name)) for name in rsp.__all__] + [*vars(rsp.Rsp).items()]
+    called = [(name, it) for name, it in named if callable(it) or isinstance(it, property)]
+    assert [name for name, it in called if not name.startswith("_") and not it.__doc__] == []
+
+
+def test_version() -> None:
+    assert f'\nversion = "{rsp.__version__}"\n' in page("library/python/pyproject.toml")
+    assert f"#define RSP_VERSION {rsp.VERSION}\n" in page("library/c/rsp.h")
+
+
+TYPED = """import rsp
+state = rsp.State(pc=4)
+state.words = [0] * 32
+state.vectors[3] = range(8)
+lane: int = state.vectors[3][1]
+with rsp.Rsp(depth=3) as machine:
+    machine.set(state)
+    stop: rsp.Stop = machine.run(4)
+    found: rsp.Difference = machine.get().diff(state)
+    reveal_type(machine.get().words[1])
+    first = rsp.first_difference(machine, rsp.Rsp())
+    number: int = first.step if first else 0
+"""
+FIRST = "state = rsp.State(pc=4)"
+WRONG = TYPED.replace(FIRST, f"{FIRST}\nstate.pc = 'a'\nstate.words = 'ab'")
+
+
+@pytest.mark.needs("mypy")
+def test_types(folder: Path) -> None:
+    """`mypy --strict` takes the package and a program over it, and refuses two lines of another."""
+    # Not at the top, whose pyproject.toml has mypy leave out what it doesn't find.
+    how: Dict[str, Any] = {"cwd": folder, "env": {**os.environ, "MYPYPATH": str(OURS)}}
+    strict = ["mypy", "--strict", "--python-version", "3.8", "--cache-dir", folder / "cache"]
+    said = run(*strict, OURS / "rsp", **how).stdout
+    if 'module named "numpy"' in said:
+        pytest.skip("mypy finds no numpy (Debian's package python3-numpy)")
+    assert said.startswith("Success")
+    programs: Tuple[Tuple[str, List[str]], ...] = ((TYPED, []), (WRONG, ["3", "4"]))
+    for text, lines in programs:
+        (folder / "program.py").write_text(text)
+        said = run(*strict, "program.py", **how).stdout
+        assert re.findall(r"py:(\d+): error", said) == lines, said
+        assert 'Revealed type is "builtins.int"' in said

@@ -1,0 +1,264 @@
+"""States in Python: checked fields, `==`, differences, shown forms, messages, and buffers.
+
+They fail if a shown form differs from the replies of examples/ and of docs/SCRIPT.md, a wrong value is taken,
+or a message doesn't say what was wrong.
+"""
+
+import array
+import copy
+import gc
+import itertools
+import operator
+import pickle
+import re
+from typing import Any, Callable, Dict, Iterator, List, Tuple
+from unittest import mock
+
+import pytest
+
+import rsp
+from lib.library.module import raised
+from lib.pages import page, transcripts
+from rsp import RspError, State
+
+Refusal = Tuple[type, str, Callable[[Any], object]]  # the error, what its message has, and the call
+setitem = operator.setitem
+ANY: Any = rsp  # for calls that types forbid
+FIELDS: Tuple[Refusal, ...] = (
+    (ValueError, "pc is 70000, not 0 to 65535", lambda it: setattr(it, "pc", 70000)),
+    (ValueError, "interrupt is -1", lambda it: setattr(it, "interrupt", -1)),
+    (AttributeError, "rsp.State has no field cp; its fields are words", lambda it: setattr(it, "cp", 0)),
+    (AttributeError, ", pc, npc, ", lambda it: setattr(it, "cp", 0)),
+    (TypeError, "pc is of type str", lambda it: setattr(it, "pc", "4")),
+    (ValueError, "words has 31 items, not 32", lambda it: setattr(it, "words", [0] * 31)),
+    (TypeError, "words is of type str", lambda it: setattr(it, "words", "0" * 32)),
+    (TypeError, "flags is of type int, not rsp.Flags", lambda it: setattr(it, "flags", 1)),
+    (ValueError, "words[1] is -64", lambda it: setitem(it.words, 1, -64)),
+    (ValueError, "words[2] is 4294967296", lambda it: setitem(it.words, slice(0, 3), [1, 2, 1 << 32])),
+    (IndexError, "words[32]", lambda it: setitem(it.words, 32, 1)),
+    (TypeError, "index is of type str", lambda it: setitem(it.words, "a", 1)),
+    (ValueError, "lane 2 is 65536", lambda it: setitem(it.vectors[3], 2, 65536)),
+    (ValueError, "vectors[3] has 7 items, not 8", lambda it: setitem(it.vectors, 3, [0] * 7)),
+    (AttributeError, "counter", lambda it: State(counter=1)),
+    (TypeError, "unhashable", hash),
+    (TypeError, "takes each of input, output, loaded at most once", lambda it: rsp.Divider(1, 2, 3, 4)),
+    (TypeError, "rsp.Divider takes each of input, ", lambda it: rsp.Divider(1, input=2)),
+)
+MESSAGES: Tuple[Refusal, ...] = (
+    (RspError, "set: pc is 4098, not a multiple of 4 below 4096", lambda it: it.set(State(pc=4098))),
+    (RspError, "set: sp[0] is 0x1, which SP_MEM_ADDR can't hold", lambda it: it.set(State(sp=[1] * 16))),
+    (RspError, "loaded is 2, not 0 or 1", lambda it: it.set(State(divider=rsp.Divider(loaded=2)))),
+    (RspError, "set_sp: a word", lambda it: it.set_sp(rsp.SpWords(interrupt=2))),
+    (TypeError, "set_sp: given is of type State", lambda it: it.set_sp(State(pc=4098))),
+    (RspError, "pass_move: the word at pc is no MFC0 or MTC0", lambda it: it.pass_move(1)),
+    (RspError, "2 words from 4092 on pass the end of IMEM", lambda it: it.memory_words(rsp.IMEM, 4092, 2)),
+    (TypeError, "state_fault: state is of type dict", lambda it: ANY.state_fault({})),
+    (TypeError, "set: state is of type dict", lambda it: it.set({})),
+    (RspError, "run: steps is 0, not 1 to 1000000", lambda it: it.run(0)),
+    (TypeError, "run: steps is of type str", lambda it: it.run("5")),
+    (TypeError, "run: steps is of type float", lambda it: it.run(2.0)),
+    (RspError, "8 bytes from 4090 on pass the end of DMEM", lambda it: it.memory(rsp.DMEM, 4090, 8)),
+    (RspError, "bank is 4", lambda it: it.memory(4, 0, 8)),
+    (TypeError, "load: bank is of type str", lambda it: it.load("dmem", 0, b"")),
+    (TypeError, "load: data is of type list", lambda it: it.load(rsp.DMEM, 0, [1, 2])),
+    (TypeError, "load: data is of type int", lambda it: it.load(rsp.DMEM, 0, 5)),
+    (RspError, "from 4095 on pass the end of IMEM", lambda it: it.load(rsp.IMEM, 4095, b"ab")),
+    (TypeError, "load_words: words is of type bytes", lambda it: it.load_words(rsp.DMEM, 0, b"ab")),
+    (TypeError, "words[1] is of type str", lambda it: it.load_words(rsp.DMEM, 0, [1, "a"])),
+    (RspError, "words[1] is -1", lambda it: it.load_words(rsp.DMEM, 0, [0, -1])),
+    (RspError, "from 0 on pass the end of DMEM", lambda it: it.load_words(rsp.DMEM, 0, [0] * 1025)),
+    (RspError, "2 bytes from 4095 on pass the end of DMEM", lambda it: it.add_watch(4095, 2)),
+    (RspError, "4 has no breakpoint", lambda it: it.drop_break(4)),
+    (RspError, "fewer states than 1", lambda it: it.back(1)),
+    (TypeError, "reg: number is of type str", lambda it: it.reg("$2")),
+    (RspError, "2 words from 4092", lambda it: it.listing(4092, 2)),
+    (TypeError, "text is of type bytes", lambda it: ANY.assemble(b"nop")),
+    (rsp.AssemblyError, "fault 11 UnknownName line 2: foo $1", lambda it: rsp.assemble("nop\n foo $1")),
+    (RspError, "text: place is 3", lambda it: rsp.text(0, 3)),
+    (RspError, "image has 65 bytes", lambda it: rsp.Rsp(bytes(65))),
+    (RspError, "depth is 5000, not 0 to 4096", lambda it: rsp.Rsp(bytes(64), 5000)),
+    (AttributeError, "rsp has no names", lambda it: ANY.names),
+)
+
+
+@pytest.mark.parametrize("kind, text, call", FIELDS, ids=[text for _, text, _ in FIELDS])
+def test_refused_field(kind: type, text: str, call: Callable[[Any], object]) -> None:
+    state = State()
+    raised(kind, text, call, state)
+    assert state == State(), "a refused field changes nothing"
+
+
+@pytest.mark.parametrize("kind, text, call", MESSAGES, ids=[text for _, text, _ in MESSAGES])
+def test_message(kind: type, text: str, call: Callable[[Any], object]) -> None:
+    raised(kind, text, call, rsp.Rsp())
+
+
+def test_fields() -> None:
+    state = State()
+    assert state == rsp.Rsp().get()
+    state.words, state.vectors[3], state.words[-1] = range(32), [1, 2, 3, 4, 5, 6, 7, 8], 9
+    state.vectors[4:6] = [[4] * 8, (5,) * 8]
+    assert state.words == [*range(31), 9]
+    assert (state.vectors[3][2:4], state.vectors[5]) == ([3, 4], [5] * 8)
+    assert repr(state.vectors[3]) == "[1, 2, 3, 4, 5, 6, 7, 8]"
+    assert repr(rsp.Divider(output=7)) == "Divider(input=0, output=7, loaded=0)"
+
+
+def test_built_state() -> None:
+    built = State(pc=8, words=[0, 5] + [0] * 30, flags=rsp.Flags(clip=3))
+    parts = (built.pc, built.npc, built.words[1], built.flags.clip, built.sp[2])
+    assert parts == (8, 12, 5, 3, 0xFF8)
+    assert rsp.Flags(1, 2, 3, clip=4) == rsp.Flags(carry=1, differ=2, compare=3, clip=4)
+    assert State([0] * 32) == State()
+    machine = rsp.Rsp()
+    machine.set(built)
+    assert machine.get() == built
+    assert repr(built) == "<rsp.State: pc 008, npc 00c>"
+
+
+def test_equality() -> None:
+    one, other = State(), State()
+    assert one == other and not one != other and one != 3
+    gap, zero = bytearray(one), State.zero.offset
+    gap[zero] = 0xA5
+    assert State.from_buffer_copy(gap) == one, "the byte `zero` doesn't count"
+    machine = rsp.Rsp()
+    machine.set(State.from_buffer_copy(gap))
+    assert bytearray(machine.get()) == bytearray(one), "the byte `zero` is 0 in a machine's state"
+    for n in {*range(len(gap))} - {zero}:
+        raw = bytearray(one)
+        raw[n] ^= 1
+        changed = State.from_buffer_copy(raw)
+        assert changed != one and len(one.diff(changed)) == 1, f"byte {n} counts"
+
+
+@pytest.mark.parametrize("copied", (copy.copy, copy.deepcopy, lambda it: pickle.loads(pickle.dumps(it))))
+def test_copy(copied: Callable[[State], State]) -> None:
+    one = State()
+    made = copied(one)
+    assert made == one and isinstance(made.words, type(one.words))
+    made.pc = 16
+    assert one.pc == 0 and made != one
+
+
+def test_differences() -> None:
+    one, other = State(), State(pc=4, npc=4)
+    one.words[3], other.words[3] = 0xFFFFFFF0, 0x3FFFFFF0
+    one.vectors[2][5], one.accumulators.high[7], one.flags.differ = 1, 2, 0x80
+    one.sp[7] = one.divider.loaded = 1
+    found = one.diff(other)
+    names = ["pc", "$3", "$v2 lane 5", "accumulator 7", "vco", "loaded", "SP_SEMAPHORE"]
+    assert [it.name for it in found] == names
+    values = (found[1].value, found[1].other, found[3].value, found[4].value)
+    assert values == (0xFFFFFFF0, 0x3FFFFFF0, 2 << 32, 0x8000)
+    told = found.told("on the machine", "in the emulator").splitlines()
+    assert told[1] == page("examples/c/lockstep.expected").splitlines()[1].strip()
+    row = "<th>$3</th><td><code>fffffff0</code></td><td><code>3ffffff0</code></td>"
+    assert row in found._repr_html_()
+    none = one.diff(copy.copy(one))
+    assert (not none, str(none), repr(none)) == (True, "no difference", "<rsp.Difference: none>")
+    raised(TypeError, "other is of type Scalars, not rsp.State", one.diff, rsp.Scalars())
+
+
+SHOWN: Dict[str, Callable[[rsp.Rsp], str]] = {
+    "regs": lambda machine: str(machine.regs()),
+    "vregs": lambda machine: "\n".join(str(machine.get()).splitlines()[9:41]),
+    "acc": lambda machine: str(machine.acc()),
+    "flags": lambda machine: f"{machine.flags()} {machine.divider()}",
+}
+
+
+def replies(script: str) -> Iterator[str]:
+    """What a script's commands that show registers reply, by the module."""
+    machine, lines = rsp.Rsp(bytes(4096), 100), iter(re.sub(" *#.*", "", script).splitlines())
+    for line in lines:
+        word, *given = line.split() or [""]
+        if word == "asm":
+            block = "\n".join(itertools.takewhile(lambda it: it.strip() != "end", lines))
+            machine.load_words(rsp.IMEM, int(given[0], 0), rsp.assemble(block, int(given[0], 0)))
+        elif word == "load":
+            machine.load(rsp.Bank[given[0].upper()], int(given[1], 0), bytes.fromhex(given[2]))
+        elif word == "run":
+            machine.run(int(given[0], 0))
+        elif word in SHOWN:
+            yield SHOWN[word](machine)
+
+
+@pytest.mark.parametrize("name", ("scalar", "vch", "vector"))
+def test_shown_as_in_examples(name: str) -> None:
+    wanted, made = page(f"examples/{name}.out"), list(replies(page(f"examples/{name}.rsp")))
+    assert made
+    for text in made:
+        assert f"\n{text}\n" in wanted, "it has all in this order"
+        wanted = wanted[wanted.find(text) + len(text) :]
+
+
+def test_shown_as_on_a_page() -> None:
+    known = transcripts("docs/SCRIPT.md", "## My microcode is wrong")
+    script, said = next(it for it in known if it[0].endswith("\nvregs\nflags\n"))
+    vregs, flags = replies(script)
+    wanted = said.split("\n")
+    assert (vregs.splitlines()[1], flags) == (wanted[3], wanted[-1])
+
+
+def test_shown_state() -> None:
+    state = State(pc=12)
+    lines, table = str(state).splitlines(), state._repr_html_()
+    assert len(lines) == 9 + 32 + 1
+    assert lines[:9] == str(rsp.Scalars(pc=12, npc=16)).splitlines()
+    assert lines[-1] == "vco 0000 vcc 0000 vce 00 in 0000 out 0000 loaded 0"
+    assert table.startswith("<table><tr><th>pc</th><td><code>00c</code></td>")
+    assert table.count("<tr>") == 42
+
+
+def test_copied_and_closed_machine() -> None:
+    machine = rsp.Rsp()
+    for made in (copy.copy(machine), copy.deepcopy(machine)):
+        made.set_pc(8)
+        assert (made.regs().pc, machine.regs().pc) == (8, 0)
+        made.close()
+    # While a call in another thread is at work, the handle holds no machine.
+    held, machine._handle.at = machine._handle.at, None
+    raised(RspError, "a call in another thread has it", machine.step)
+    machine._handle.at = held
+    machine.close()
+    raised(RspError, "copy: the machine is closed", copy.copy, machine)
+    raised(RspError, "the machine is closed", machine.step)
+
+
+@pytest.mark.parametrize(
+    "fault",
+    (
+        RspError(rsp.Status.NO_BREAK, "words"),
+        rsp.AssemblyError(2, 11, "foo"),
+        rsp.AssemblyError(2, 12, "jr", "operand 1 may be .."),
+    ),
+    ids=str,
+)
+def test_pickled_error(fault: RspError) -> None:
+    again = pickle.loads(pickle.dumps(fault))
+    assert (type(again), str(again)) == (type(fault), str(fault))
+    assert again.status is fault.status
+
+
+def test_failed_starts() -> None:
+    """A machine that wasn't made is freed in silence."""
+    told: List[object] = []
+    with mock.patch("sys.unraisablehook", told.append):
+        for words in (("x",), (65,), (bytes(64), None), (1, 2, 3), (bytes(65),)):
+            with pytest.raises((TypeError, RspError)):
+                ANY.Rsp(*words)
+        gc.collect()
+    assert not told
+
+
+def test_buffers() -> None:
+    machine = rsp.Rsp()
+    words = array.array("I", [1, 2])
+    datas: Tuple[Any, ...] = (words, memoryview(words), bytearray(words.tobytes()))
+    for data in datas:
+        machine.load(rsp.DMEM, 0, bytes(16))
+        machine.load(rsp.DMEM, 0, data)
+        assert machine.memory(rsp.DMEM, 0, 12) == words.tobytes() + bytes(4), type(data)
+    image: Any = array.array("Q", range(16))
+    assert rsp.Rsp(image).memory(rsp.RDRAM, 0, 128) == image.tobytes()
