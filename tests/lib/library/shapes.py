@@ -19,17 +19,9 @@ C_NUMBERS = {"u8": "uint8_t", "u32": "uint32_t", "usize": "size_t"}
 HANDLES = {"Handle": "rsp", "BenchHandle": "rsp_bench"}
 AS_C = {"u32": "uint32_t", "usize": "size_t", "Global": "", "": "void"}
 AS_C.update({f"&mut {name}": f"{in_c} *" for name, in_c in HANDLES.items()})
-# What the debugger calls the reasons of a stop, by their names in C.
-REASONS = {
-    "RESERVED": "Reserved",
-    "HALT": "Halted",
-    "WATCH": "Watched",
-    "BREAK": "Break",
-    "LIMIT": "Limit",
-    "MOVE": "Move",
-}
 Call = Tuple[str, str, str]  # its name, its result, and its parameters as C has them, between bars
 Struct = Type[ctypes.Structure]
+Layout = Tuple[int, List[Tuple[str, int, int]]]  # its size, and name, offset and size of each field
 
 
 def groups(form: str, text: str) -> Tuple[Any, ...]:
@@ -91,37 +83,23 @@ def numbers(file: str, form: str) -> Dict[str, int]:
     return {it["name"]: int(it["number"]) for it in re.finditer(form, text, re.M)}
 
 
-def statuses() -> Dict[str, int]:
-    return numbers("status.rt", r"pub const (?P<name>\w+): u32 = (?P<number>\d+);")
+def constants(file: str, form: str) -> Dict[str, int]:
+    """The constants whose names have a form."""
+    return numbers(file, rf"^(?:pub )?const (?P<name>{form}): \w+ = (?P<number>\d+);")
 
 
-def banks() -> Dict[str, int]:
-    found = numbers("status.rt", r"(?P<number>\d+) => Some\(Bank::(?P<name>\w+)\),")
-    return {name.upper(): number for name, number in found.items()}
-
-
-def faults() -> Dict[str, int]:
-    """Those of a text."""
-    found = numbers("status.rt", r"AsmFaultKind::(?P<name>\w+) => (?P<number>\d+),")
-    not_text = numbers("texts.rt", r"const (?P<name>NOT_TEXT): u32 = (?P<number>\d+);")
-    return {**found, "NotText": not_text["NOT_TEXT"]}
-
-
-def reasons() -> Dict[str, int]:
-    """Those of a stop, by the names that the debugger has for them."""
-    found = numbers("to_c.rt", r"Reason::(?P<name>\w+)(?:\(k\))? => \((?P<number>\d+),")
-    at_move = numbers("to_c.rt", r"const (?P<name>AT_MOVE): u32 = (?P<number>\d+);")
-    return {**found, "Move": at_move["AT_MOVE"]}
-
-
-def fields() -> Dict[str, int]:
-    """Those of a state that can have a fault."""
-    return numbers("fault.rt", r"^const (?P<name>\w+): u32 = (?P<number>\d+);")
-
-
-def room_for_replies() -> int:
-    """How many bytes a buffer for replies has at least."""
-    return numbers("script.rt", r"^const (?P<name>REPLIES): usize = (?P<number>\d+);")["REPLIES"]
+STATUSES = constants("status.rt", r"\w+")
+HELD = numbers("status.rt", r"(?P<number>\d+) => Some\(Bank::(?P<name>\w+)\),")
+BANKS = {name.upper(): number for name, number in HELD.items()}
+# The faults of a text, the fields of a state that can have one, and the least length of a buffer for replies.
+FAULTS = numbers("status.rt", r"AsmFaultKind::(?P<name>\w+) => (?P<number>\d+),")
+FAULTS["NotText"] = constants("texts.rt", "NOT_TEXT").get("NOT_TEXT", -1)
+FIELDS = constants("fault.rt", r"\w+")
+REPLIES = constants("script.rt", "REPLIES").get("REPLIES", -1)
+# The reasons of a stop, by their names in C, of which two aren't those of the debugger.
+STOPS = numbers("to_c.rt", r"Reason::(?P<name>\w+)(?:\(k\))? => \((?P<number>\d+),")
+REASONS = {{"Halted": "HALT", "Watched": "WATCH"}.get(it, it.upper()): n for it, n in STOPS.items()}
+REASONS["MOVE"] = constants("to_c.rt", "AT_MOVE").get("AT_MOVE", -1)
 
 
 def structs_of(text: str, known: Optional[Mapping[str, Struct]] = None) -> Dict[str, Struct]:
@@ -140,15 +118,17 @@ def structs_of(text: str, known: Optional[Mapping[str, Struct]] = None) -> Dict[
     return made
 
 
+def layout(struct: Struct) -> Layout:
+    places = [(name, getattr(struct, name)) for name, *_ in struct._fields_]
+    return ctypes.sizeof(struct), [(name, at.offset, at.size) for name, at in places]
+
+
 def structs() -> Dict[str, Struct]:
     """The structs of rsp_c, with the entry of a trace, which the debugger has."""
     entry = (TOP / "crates/rsp_debug/src/trace_entry.rt").read_text()
-    entry = entry.replace("struct TraceEntry", "struct RspTraced")
     texts = [(SOURCE / name).read_text() for name in ("c_structs.rt", "explain.rt", "changes.rt")]
-    return structs_of("".join([entry, *texts]))
+    return structs_of("".join([entry.replace("struct TraceEntry", "struct RspTraced"), *texts]))
 
 
-def layout(struct: Struct) -> Tuple[int, List[Tuple[str, int, int]]]:
-    """Its size, and (name, offset, size) of each field."""
-    places = [(name, getattr(struct, name)) for name, *_ in struct._fields_]
-    return ctypes.sizeof(struct), [(name, at.offset, at.size) for name, at in places]
+def layouts(made: Mapping[str, Struct]) -> Dict[str, Layout]:
+    return {name: layout(struct) for name, struct in made.items()}

@@ -8,6 +8,7 @@ SP registers and RDRAM of a program's own differ (owner.c).
 
 import re
 from pathlib import Path
+from typing import List
 
 import pytest
 
@@ -53,38 +54,31 @@ def test_calls_for_an_emulator(language: Language, folder: Path) -> None:
     assert len(wanted) == 8
 
 
-@pytest.mark.parametrize("name", ("stack", "owner", "threads"))
-def test_program(name: str, folder: Path) -> None:
-    passes(built(folder, HERE / f"{name}.c", "-pthread"))
-
-
 @pytest.mark.parametrize("name", ("stack.c", "no_memory.c"))
 def test_no_call_is_missing(name: str) -> None:
     text = (HERE / name).read_text()
     assert [call for call, *_ in shapes.exported() if f"{call}(" not in text] == []
 
 
-def no_memory(folder: Path) -> Path:
-    """calls.c inside a program that fails each of its allocations."""
-    defined = ("-Dmain=all_calls", "-DQUIET")
-    calls = compiled(folder / "all_calls.o", "-std=c99", *STRICT, *defined, "-c", HERE / "calls.c")
-    return built(folder, HERE / "no_memory.c", COUNTED, calls)
+def program(name: str, folder: Path) -> Path:
+    """One of the programs beside this file. no_memory has calls.c inside, and fails its allocations."""
+    words: List[object] = [COUNTED] if name in ("balance", "no_memory") else ["-pthread"]
+    if name == "no_memory":
+        defined = ("-Dmain=all_calls", "-DQUIET")
+        words.append(compiled(folder / "calls.o", "-std=c99", *STRICT, *defined, "-c", HERE / "calls.c"))
+    return built(folder, HERE / f"{name}.c", *words)
 
 
-def test_no_memory(folder: Path) -> None:
-    passes(no_memory(folder))
-
-
-def test_balance(folder: Path) -> None:
-    passes(built(folder, HERE / "balance.c", COUNTED))
+@pytest.mark.parametrize("name", ("balance", "no_memory", "owner", "stack", "threads"))
+def test_program(name: str, folder: Path) -> None:
+    passes(program(name, folder))
 
 
 @pytest.mark.needs("valgrind")
 @pytest.mark.parametrize("name", ("calls", "no_memory"))
 def test_valgrind(name: str, folder: Path) -> None:
-    program = no_memory(folder) if name == "no_memory" else built(folder, HERE / "calls.c")
-    said = succeeds("valgrind", "-q", "--leak-check=full", "--error-exitcode=9", program)
-    assert "==" not in said
+    words = ("valgrind", "-q", "--leak-check=full", "--error-exitcode=9")
+    assert "==" not in succeeds(*words, program(name, folder))
 
 
 def test_threads_under_a_sanitizer(folder: Path) -> None:
@@ -94,12 +88,13 @@ def test_threads_under_a_sanitizer(folder: Path) -> None:
     made = run("cc", sanitizer, "-o", "empty", "empty.c", cwd=folder)
     if made.returncode or run("./empty", cwd=folder).returncode:
         pytest.skip(f"{sanitizer} doesn't run here (Debian's package libtsan2)")
-    said = succeeds(built(folder, HERE / "threads.c", "-pthread", "-g", sanitizer))
-    assert "WARNING" not in said
+    assert "WARNING" not in succeeds(built(folder, HERE / "threads.c", "-pthread", "-g", sanitizer))
 
 
 @pytest.mark.needs("nm")
-@pytest.mark.parametrize("source, is_held", ((EXAMPLE, False), (HERE / "script.c", True)), ids=str)
+@pytest.mark.parametrize(
+    "source, is_held", ((EXAMPLE, False), (HERE / "script.c", True)), ids=("lockstep", "script")
+)
 def test_a_program_pays_for_its_calls_alone(source: Path, is_held: bool, folder: Path) -> None:
     """One that makes no bench doesn't hold the bench's code."""
     names = succeeds("nm", built(folder, source, "-Wl,--gc-sections"))

@@ -1,13 +1,13 @@
 """The structs, numbers and declarations of library/js, as far as they can be seen without its library.
 
-They fail if one differs from crates/rsp_c, or a method from the class of Python. tests/systems runs the module.
+They fail if one differs from crates/rsp_c, or a method from the class of Python.
 """
 
 import ast
 import json
 import re
 from pathlib import Path
-from typing import Any, Dict, List, Set
+from typing import Any, Dict, Set
 
 import pytest
 
@@ -19,7 +19,6 @@ from lib.processes import succeeds
 
 FOLDER = TOP / "library/js"
 TYPES = page("library/js/rsp.d.ts")
-STRUCTS = shapes.structs()
 # What a struct is called in JavaScript, if it is a class there.
 CLASSES = {
     "RspState": "State",
@@ -74,10 +73,6 @@ def numbers(held: Dict[str, Any]) -> Dict[str, int]:
     return names
 
 
-def reasons(held: Dict[str, int]) -> Dict[str, int]:
-    return {shapes.REASONS[name]: number for name, number in held.items()}
-
-
 def python_names(name: str) -> Set[str]:
     """The public methods of a class of the module rsp."""
     tree = ast.parse(page("library/python/rsp/__init__.py"))
@@ -87,16 +82,15 @@ def python_names(name: str) -> Set[str]:
 
 
 def test_layouts(told: Dict[str, Any]) -> None:
-    wanted = {name: json.loads(json.dumps(shapes.layout(struct))) for name, struct in STRUCTS.items()}
-    assert told["layouts"] == wanted
+    assert told["layouts"] == json.loads(json.dumps(shapes.layouts(shapes.structs())))
 
 
 def test_numbers(told: Dict[str, Any]) -> None:
-    assert numbers(told["Status"]) == shapes.statuses()
-    assert numbers(told["Bank"]) == shapes.banks()
-    assert reasons(numbers(told["Reason"])) == shapes.reasons()
-    assert {name: int(number) for number, name in told["FAULTS"].items()} == shapes.faults()
-    fields = {FIELDS[name]: number for name, number in shapes.fields().items()}
+    assert numbers(told["Status"]) == shapes.STATUSES
+    assert numbers(told["Bank"]) == shapes.BANKS
+    assert numbers(told["Reason"]) == shapes.REASONS
+    assert {name: int(number) for number, name in told["FAULTS"].items()} == shapes.FAULTS
+    fields = {FIELDS[name]: number for name, number in shapes.FIELDS.items()}
     fields.update({f"sp[{n}]": fields["sp[0]"] + n for n in range(8)})
     assert {it: int(n) for n, it in told["FIELDS"].items()} == fields
 
@@ -125,14 +119,14 @@ def methods_of(name: str) -> Set[str]:
 
 @pytest.mark.parametrize("struct", CLASSES)
 def test_declared_fields(struct: str) -> None:
-    wanted = [RENAMED.get(field, field) for field, *_ in STRUCTS[struct]._fields_ if field != "zero"]
+    wanted = [RENAMED.get(field, field) for field, *_ in shapes.structs()[struct]._fields_ if field != "zero"]
     assert re.findall(r"(?m)^  (?:readonly )?(\w+): ", body(f"class {CLASSES[struct]}")) == wanted
 
 
 def test_declared_numbers() -> None:
-    assert enum_of("Status") == shapes.statuses()
-    assert enum_of("Bank") == shapes.banks()
-    assert reasons(enum_of("Reason")) == shapes.reasons()
+    assert enum_of("Status") == shapes.STATUSES
+    assert enum_of("Bank") == shapes.BANKS
+    assert enum_of("Reason") == shapes.REASONS
 
 
 @pytest.mark.parametrize("name", ("Rsp", "Bench"))

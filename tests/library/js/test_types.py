@@ -1,14 +1,14 @@
 """tsc takes a program that uses the declarations of library/js, and refuses lines that misuse them."""
 
 import json
+import re
 from pathlib import Path
 
 import pytest
 
 from lib.library.typescript import OPTIONS, USE
-from lib.processes import Ended, run
+from lib.processes import run
 
-pytestmark = pytest.mark.needs("tsc")
 REFUSED = (
     'machine.run("3");',
     "machine.close();",
@@ -21,18 +21,13 @@ REFUSED = (
 )
 
 
-def by_tsc(folder: Path, text: str) -> "Ended[str]":
-    (folder / "tsconfig.json").write_text(json.dumps({"compilerOptions": OPTIONS, "files": ["use.ts"]}))
-    (folder / "use.ts").write_text(text)
-    return run("tsc", "-p", ".", cwd=folder)
-
-
-def test_taken(folder: Path) -> None:
-    ran = by_tsc(folder, USE)
-    assert (ran.returncode, ran.stdout) == (0, "")
-
-
-@pytest.mark.parametrize("line", REFUSED)
-def test_refused(line: str, folder: Path) -> None:
-    ran = by_tsc(folder, f"{USE}{line}\n")
-    assert ran.returncode and ran.stdout.count("error TS") == 1, ran.stdout
+@pytest.mark.needs("tsc")
+def test_types(folder: Path) -> None:
+    """Each line that is refused comes after a copy of the program, and has one error."""
+    texts = {"use.ts": USE, **{f"refused{n}.ts": f"{USE}{line}\n" for n, line in enumerate(REFUSED)}}
+    for name, text in texts.items():
+        (folder / name).write_text(text)
+    (folder / "tsconfig.json").write_text(json.dumps({"compilerOptions": OPTIONS, "files": [*texts]}))
+    said = run("tsc", "-p", ".", cwd=folder).stdout
+    errors = re.findall(r"(?m)^(\S+)\(\d+,\d+\): error TS", said)
+    assert sorted(errors) == sorted({*texts} - {"use.ts"}), said

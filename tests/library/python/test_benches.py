@@ -6,6 +6,7 @@ into calls of `feed`.
 """
 
 import random
+import re
 from pathlib import Path
 from typing import Callable, Dict, Iterator, List, Tuple
 
@@ -17,36 +18,23 @@ from lib.program import content, ran
 from lib.stored import Stored, stored
 from rsp import RspError, Status
 
-COUNT, PARTS = 1000, 4  # random scripts, and the tests that share them
+COUNT, PARTS = 1000, 2  # random scripts, and the tests that share them
 LONGEST = 1048576
 Chance = random.Random
 
 
-def items(rows: str) -> List[str]:
-    """The items of a table, which has semicolons between them, and ends of lines."""
-    return [it for row in rows.strip("\n").split("\n") for it in row.split(";")]
-
-
-TEXTS = items(
-    """
+TEXTS = """\
 nop;break;addiu $1, $1, 1;ori $2, $0, 0x1000;sw $1, 4($0);sw $2, 0x40($1);lqv $v1[0], 0($0);sqv $v1[0], 16($0)
 vaddc $v2, $v1, $v1;vmulf $v3, $v1, $v2[1];vrcp $v4[0], $v1[3];mtc0 $2, $c2;mfc0 $3, $c7;mtc0 $1, $c4
-loop: bne $1, $2, loop;j 0;jr $1;.word 0xffffffff;.word 1, 2;x:;# nothing;foo $1;addiu $1, $2;lw $1, loop($0)
+loop: bne $1, $2, loop;j 0;jr $1;.word 0xffffffff;.word 1, 2;x:;# nothing;foo $1;addiu $1, $2;lw $1, loop($0)\
 """
-)
-NO_LINES = items(
-    """
-walk;step 1; ;#;\tstep # one\r;\xff;load rom 0 00;load dmem 0 0;end end;asm;run 0x;mem dmem 0 0
-"""
-)
+NO_LINES = "walk;step 1; ;#;\tstep # one\r;\xff;load rom 0 00;load dmem 0 0;end end;asm;run 0x;mem dmem 0 0"
 # The forms of the commands: A is any address, P one of IMEM, N, L and W numbers, H bytes, B a memory.
-FORMS = items(
-    """
+FORMS = """\
 load B A H;load B A H;asm P;end;step;step;run N;run N;run L;break P;unbreak P;watch L N;unwatch N;back N
 back L;pc P;read N;write N W;write N L;task A;regs;vregs;acc;flags;sp;mem B A L;mem B A N;dis P N;write 2 W
-write 3 L;write 4 1
+write 3 L;write 4 1\
 """
-)
 OF: Dict[str, Callable[[Chance], str]] = {
     "A": lambda c: str(c.choice((c.randrange(256), 8 * c.randrange(512), c.randrange(1 << 24)))),
     "P": lambda c: hex(c.choice((0, 4 * c.randrange(16), 4 * c.randrange(1024), c.randrange(5000)))),
@@ -58,14 +46,17 @@ OF: Dict[str, Callable[[Chance], str]] = {
 }
 
 
+def one_of(items: str, chance: Chance) -> bytes:
+    """An item of a table, which has semicolons between them, or ends of lines."""
+    return chance.choice(re.split("[;\n]", items)).encode("latin-1")
+
+
 def line(chance: Chance) -> bytes:
     """A command, a line of assembly text, or what is neither."""
     kind = chance.random()
-    if kind < 0.05:
-        return chance.choice(NO_LINES).encode("latin-1")
     if kind < 0.25:
-        return chance.choice(TEXTS).encode()
-    words = chance.choice(FORMS).split()
+        return one_of(NO_LINES if kind < 0.05 else TEXTS, chance)
+    words = one_of(FORMS, chance).decode().split()
     return " ".join(OF[it](chance) if it in OF else it for it in words).encode()
 
 
@@ -74,7 +65,7 @@ def random_script(chance: Chance) -> bytes:
     lines: List[bytes] = []
     for _ in range(chance.randrange(1, 40)):
         if chance.random() < 0.1:
-            lines += [b"asm 0", *(chance.choice(TEXTS).encode() for _ in range(chance.randrange(6))), b"end"]
+            lines += [b"asm 0", *(one_of(TEXTS, chance) for _ in range(chance.randrange(6))), b"end"]
         lines.append(line(chance))
     return b"\n".join(lines) + b"\n" * chance.randrange(2)
 
@@ -140,14 +131,8 @@ def test_random(part: int, program: Path, folder: Path) -> None:
         see_equal(f"script {number} by run_script", rsp.run_script(script, image), wanted)
         see_equal(f"script {number} in pieces", in_pieces(script, image, chance), wanted)
     assert len([it for it in kinds if it.startswith(b"fault ")]) > 15
-    assert {
-        b"stop Limit",
-        b"stop Reserved",
-        b"stop Halted",
-        b"ok watch",
-        b"step Done",
-        b"step Halted",
-    } <= kinds
+    needed = b"stop Limit;stop Reserved;stop Halted;ok watch;step Done;step Halted".split(b";")
+    assert [it for it in needed if it not in kinds] == []
 
 
 def test_feed() -> None:

@@ -1,7 +1,5 @@
 """The layouts, numbers and calls of the module rsp. They fail if one differs from crates/rsp_c."""
 
-import pytest
-
 import rsp
 from lib.library import shapes
 from rsp._explain import Operand
@@ -24,21 +22,16 @@ STRUCTS = {
 }
 
 
-def test_structs() -> None:
-    assert set(STRUCTS) == set(shapes.structs())
-
-
-@pytest.mark.parametrize("name", STRUCTS)
-def test_layout(name: str) -> None:
-    assert shapes.layout(STRUCTS[name]) == shapes.layout(shapes.structs()[name])
+def test_layouts() -> None:
+    assert shapes.layouts(STRUCTS) == shapes.layouts(shapes.structs())
 
 
 def test_numbers() -> None:
-    assert {it.name: it.value for it in rsp.Status} == shapes.statuses()
-    assert {it.name: it.value for it in rsp.Bank} == shapes.banks()
-    assert {name: number for number, name in rsp.FAULTS.items()} == shapes.faults()
-    assert {shapes.REASONS[it.name]: it.value for it in rsp.Reason} == shapes.reasons()
-    assert {*rsp._FIELDS} == {*shapes.fields().values(), *range(16, 24)}
+    assert {it.name: it.value for it in rsp.Status} == shapes.STATUSES
+    assert {it.name: it.value for it in rsp.Bank} == shapes.BANKS
+    assert {name: number for number, name in rsp.FAULTS.items()} == shapes.FAULTS
+    assert {it.name: it.value for it in rsp.Reason} == shapes.REASONS
+    assert {*rsp._FIELDS} == {*shapes.FIELDS.values(), *range(16, 24)}
 
 
 def test_calls() -> None:

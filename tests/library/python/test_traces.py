@@ -7,7 +7,7 @@ machine's. An instruction writes its first operand, except those below.
 """
 
 import re
-from typing import Dict, Iterator, Tuple, Union
+from typing import Dict, Iterator, Sequence, Tuple
 
 import pytest
 
@@ -15,25 +15,23 @@ import rsp
 from lib import worked
 from lib.library.shapes import groups
 from lib.pages import data
+from rsp_conformance.library_states import state_of
+from rsp_conformance.states import numbers_of
 
-Case = Dict[Union[str, int], str]  # parts of a state by their names, or bytes of DMEM by their addresses
 # Jumps and branches write no register, or register 31 as a link.
 NOTHING = {"beq", "bne", "blez", "bgtz", "bltz", "bgez", "j", "jr", "break", "ctc2", "mtc0", "vnop", "vnull"}
 LINKS = {"jal", "bltzal", "bgezal"}
-SCALAR_STORES = {"sb", "sh", "sw"}
-FLAGS = {"vco": ("carry", "differ"), "vcc": ("compare", "clip"), "vce": ("extra",)}
+STORES = r"s[bhw]|s[bsldqrpuhfwt]v"
+CASES = data("instructions")
+ALL = pytest.mark.parametrize("case", CASES, ids=lambda it: it["Worked"].split()[0])
 
 
-def is_store(name: str) -> bool:
-    return name in SCALAR_STORES or re.fullmatch(r"s[bsldqrpuhfwt]v", name) is not None
-
-
-def named(text: str, scalars: Dict[int, int]) -> Tuple[int, int, int, int]:
+def named(text: str, scalars: Sequence[int]) -> Tuple[int, int, int, int]:
     """What an instruction writes: a scalar and a vector register, whether it stores, and where."""
     name, _, operands = text.partition(" ")
-    if is_store(name):
+    if re.fullmatch(STORES, name):
         offset, base = groups(r".*, (-?\d+)\(\$(\d+)\)", operands)
-        return 0, 32, 1, (scalars.get(int(base), 0) + int(offset)) % 4096
+        return 0, 32, 1, (scalars[int(base)] + int(offset)) % 4096
     if name in NOTHING:
         return 0, 32, 0, 0
     if name in LINKS:
@@ -46,43 +44,18 @@ def named(text: str, scalars: Dict[int, int]) -> Tuple[int, int, int, int]:
     return number, 32, 0, 0
 
 
-def machine_of(before: Case) -> rsp.Rsp:
-    """A machine in the state that a worked case begins with."""
-    machine = rsp.Rsp(bytes(4096))
-    state = machine.get()
-    for key, value in before.items():
-        if isinstance(key, int):
-            machine.load(rsp.DMEM, key, bytes.fromhex(value))
-        elif re.fullmatch(r"r\d+", key):
-            state.words[int(key[1:])] = int(value, 16)
-        elif re.fullmatch(r"v\d+", key):
-            state.vectors[int(key[1:])] = [int(value[4 * lane :][:4], 16) for lane in range(8)]
-        elif re.fullmatch(r"a\d", key):
-            for part, digits in (("high", value[:4]), ("middle", value[4:8]), ("low", value[8:])):
-                getattr(state.accumulators, part)[int(key[1:])] = int(digits, 16)
-        elif key in FLAGS:
-            for i, name in enumerate(FLAGS[key]):
-                setattr(state.flags, name, int(value, 16) >> 8 * i & 255)
-        elif key in ("in", "out", "loaded"):
-            setattr(state.divider, {"in": "input", "out": "output"}.get(key, key), int(value, 16))
-        else:
-            raise ValueError(f"a worked case begins with {key}")
-    machine.set(state)
-    return machine
-
-
-def values(entry: rsp.Traced, after: Case) -> Iterator[Tuple[object, str, str]]:
+def values(entry: rsp.Traced, after: str) -> Iterator[Tuple[object, str, str]]:
     """What an entry shows and what the worked case ends with, of each part that both have."""
     lanes = "".join(f"{it:04x}" for it in entry.lanes)
-    for key, value in after.items():
+    for key, value in worked.parts(after):
         if key == f"r{entry.scalar}":
             yield key, f"{entry.value:08x}", value
         elif key == f"v{entry.vector}":
             yield key, lanes, value
         elif isinstance(key, str) and key.startswith(f"v{entry.vector}["):
             yield key, lanes[4 * int(key[-2]) :][:4], value
-        elif isinstance(key, str) and key in FLAGS:
-            yield key, f"{getattr(entry, key):0{len(value)}x}", value
+        elif key in ("vco", "vcc", "vce"):
+            yield key, f"{getattr(entry, str(key)):0{len(value)}x}", value
 
 
 def changed(before: rsp.State, dmem: bytes, by: rsp.Changes) -> Tuple[rsp.State, bytes]:
@@ -92,23 +65,18 @@ def changed(before: rsp.State, dmem: bytes, by: rsp.Changes) -> Tuple[rsp.State,
     if entry.vector < 32:
         after.vectors[entry.vector] = list(entry.lanes)
     after.accumulators, after.divider, after.pc, after.npc = by.accumulators, by.divider, by.pc, by.npc
-    for key, names in FLAGS.items():
-        for i, name in enumerate(names):
-            setattr(after.flags, name, getattr(entry, key) >> 8 * i & 255)
-    if entry.stored:
-        at = [(by.quadword + n) % 4096 for n in range(32)]
-        stored = dict(zip(at, by.bytes))
-        dmem = bytes(stored.get(n, byte) for n, byte in enumerate(dmem))
-    return after, dmem
+    vco, vcc = entry.vco, entry.vcc
+    after.flags = rsp.Flags(vco & 255, vco >> 8, vcc & 255, vcc >> 8, entry.vce)
+    at = {(by.quadword + n) % 4096: byte for n, byte in enumerate(by.bytes)} if entry.stored else {}
+    return after, bytes(at.get(n, byte) for n, byte in enumerate(dmem))
 
 
-CASES = data("instructions")
-ALL = pytest.mark.parametrize("case", CASES, ids=lambda it: it["Worked"].split()[0])
-
-
-def begun(case: Dict[str, str]) -> rsp.Rsp:
+def machine_of(case: Dict[str, str]) -> rsp.Rsp:
     """A machine that is about to run the instruction of a worked case."""
-    machine = machine_of(dict(worked.parts(case["Before"])))
+    machine, before = rsp.Rsp(bytes(4096)), worked.state_of(case["Before"])
+    machine.set(state_of(numbers_of(before)))
+    for address, digits in before.get("dmem", {}).items():
+        machine.load(rsp.DMEM, int(address, 16), bytes.fromhex(digits))
     machine.load_words(rsp.IMEM, 0, rsp.assemble(f"{case['Worked']}\nnop\nnop\nover: nop\n"))
     return machine
 
@@ -119,23 +87,21 @@ def test_each_instruction_has_a_case() -> None:
 
 @ALL
 def test_entry(case: Dict[str, str]) -> None:
-    machine, before = begun(case), dict(worked.parts(case["Before"]))
-    said = {str(key): value for key, value in before.items()}
-    scalars = {int(key[1:]): int(value, 16) for key, value in said.items() if re.fullmatch(r"r\d+", key)}
-    word = machine.memory_words(rsp.IMEM, 0, 1)[0]
+    machine = machine_of(case)
+    scalars, words = list(machine.regs().words), machine.memory_words(rsp.IMEM, 0, 1)
     _, (entry,) = machine.trace(1)
-    assert (entry.pc, entry.word) == (0, word)
+    assert (entry.pc, [entry.word]) == (0, words)
     assert (entry.scalar, entry.vector, entry.stored, entry.address) == named(case["Worked"], scalars)
     assert entry.scalar != 0 or entry.value == 0, "a value of a register without one"
     assert entry.vector != 32 or not any(entry.lanes), "lanes of a register without one"
-    shown = list(values(entry, dict(worked.parts(case["After"]))))
-    assert [(part, got) for part, got, _ in shown] == [(part, wanted) for part, _, wanted in shown]
+    for part, shown, wanted in values(entry, case["After"]):
+        assert shown == wanted, part
 
 
 @ALL
 def test_changes(case: Dict[str, str]) -> None:
     """What the step of a worked case changes, with the entry that a trace has of it."""
-    machine, name = begun(case), case["Worked"].split()[0]
+    machine, name = machine_of(case), case["Worked"].split()[0]
     _, (entry,) = machine.copy().trace(1)
     before, dmem = machine.get(), machine.memory(rsp.DMEM, 0, 4096)
     by = machine.step_changes()

@@ -1,4 +1,4 @@
-"""The crate of library/rust over the library: its layouts and declarations, tests, documentation and examples.
+"""The crate of library/rust over the library: its layouts, declarations, tests, documentation and examples.
 
 They fail if a layout or a call differs from crates/rsp_c, a test fails, or cargo warns of anything.
 """
@@ -26,15 +26,12 @@ Cargo = Callable[..., "Ended[str]"]
 in_crate = pytest.mark.xdist_group("crate of Rust")
 
 
-def test_layouts() -> None:
+def test_layouts_and_calls() -> None:
     raw = page("library/rust/src/raw.rs")
     made = shapes.structs_of(raw, shapes.structs_of(page("library/rust/src/shapes.rs")))
-    layouts = {f"Rsp{name}": shapes.layout(struct) for name, struct in made.items()}
-    assert layouts == {name: shapes.layout(struct) for name, struct in shapes.structs().items()}
-
-
-def test_calls() -> None:
-    assert sorted(shapes.declared_in_rust(page("library/rust/src/raw.rs"))) == sorted(shapes.exported())
+    layouts = shapes.layouts({f"Rsp{name}": struct for name, struct in made.items()})
+    assert layouts == shapes.layouts(shapes.structs())
+    assert sorted(shapes.declared_in_rust(raw)) == sorted(shapes.exported())
 
 
 @pytest.fixture(scope="session")
