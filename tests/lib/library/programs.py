@@ -2,7 +2,6 @@
 
 import re
 from pathlib import Path
-from typing import NamedTuple, Tuple
 
 import pytest
 
@@ -11,36 +10,31 @@ from lib.library import shapes
 from lib.processes import STRICT, compiled, run, succeeds
 
 HERE = TESTS / "library/c"
+# The words that say which language a compiler compiles.
+LANGUAGES = {"cc": ("-std=c99",), "c++": ("-x", "c++", "-std=c++11")}
+by_both = pytest.mark.parametrize(
+    "compiler", [pytest.param(it, marks=pytest.mark.needs(it)) for it in LANGUAGES]
+)
 # The program has the calls of malloc, realloc and free, and counts them.
 COUNTED = "-Wl,--wrap=malloc,--wrap=realloc,--wrap=free"
 
 
-class Language(NamedTuple):
-    """A compiler, and the words that say which language it compiles."""
-
-    compiler: str
-    flags: Tuple[str, ...]
-
-
-C = Language("cc", ("-std=c99",))
-BOTH = [
-    pytest.param(it, id=it.compiler, marks=pytest.mark.needs(it.compiler))
-    for it in (C, Language("c++", ("-x", "c++", "-std=c++11")))
-]
+def built(folder: Path, source: Path, *more: object, compiler: str = "cc") -> Path:
+    """A program over the library."""
+    words = (*STRICT, *LANGUAGES[compiler], source, "-x", "none", *more, TOP / "library/c/librsp.a")
+    return compiled(folder / source.stem, *words, compiler=compiler)
 
 
-def built(folder: Path, source: Path, *more: object, language: Language = C) -> Path:
-    """A program over the library, from a file of C that is C++ too."""
-    words = (*STRICT, *language.flags, source, "-x", "none", *more, TOP / "library/c/librsp.a")
-    return compiled(folder / source.stem, *words, compiler=language.compiler)
-
-
-def said_by(folder: Path, lines: str, language: Language = C) -> str:
-    """What a program with these lines in its main says."""
-    text = f'#include "rsp.h"\n#include <stdio.h>\nint main(void)\n{{\n{lines}\nreturn 0;\n}}\n'
-    source = folder / "lines.c"
+def said_by(folder: Path, text: str, compiler: str = "cc") -> str:
+    """What the program of a text says."""
+    source = folder / "text.c"
     source.write_text(text)
-    return succeeds(built(folder, source, language=language))
+    return succeeds(built(folder, source, compiler=compiler))
+
+
+def main_of(lines: str) -> str:
+    """The text of a program with these lines in its main."""
+    return f'#include "rsp.h"\n#include <stdio.h>\nint main(void)\n{{\n{lines}\nreturn 0;\n}}\n'
 
 
 def passes(program: Path) -> None:

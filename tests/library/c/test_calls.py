@@ -14,44 +14,37 @@ import pytest
 
 from lib import TOP
 from lib.library import LOCKSTEP, shapes
-from lib.library.programs import BOTH, COUNTED, HERE, Language, built, passes, said_by
+from lib.library.programs import COUNTED, HERE, built, by_both, main_of, passes, said_by
 from lib.pages import block_with, page
 from lib.processes import STRICT, compiled, run, succeeds
 
 pytestmark = [pytest.mark.needs("cc"), pytest.mark.usefixtures("library")]
 EXAMPLE = TOP / "examples/c/lockstep.c"
-EMBEDDING = page("docs/EMBEDDING.md")
+SANITIZER = "-fsanitize=thread"
 
 
-@pytest.mark.parametrize("language", BOTH)
-def test_calls(language: Language, folder: Path) -> None:
-    passes(built(folder, HERE / "calls.c", language=language))
+@by_both
+def test_calls(compiler: str, folder: Path) -> None:
+    passes(built(folder, HERE / "calls.c", compiler=compiler))
 
 
-@pytest.mark.parametrize("language", BOTH)
-def test_lockstep(language: Language, folder: Path) -> None:
-    assert succeeds(built(folder, EXAMPLE, language=language)) == LOCKSTEP
+@by_both
+def test_lockstep(compiler: str, folder: Path) -> None:
+    assert succeeds(built(folder, EXAMPLE, compiler=compiler)) == LOCKSTEP
 
 
-@pytest.mark.parametrize("language", BOTH)
-def test_program_of_the_page(language: Language, folder: Path) -> None:
-    """The program at the top of EMBEDDING.md prints what the page says."""
-    source = folder / "page.c"
-    source.write_text(block_with("docs/EMBEDDING.md", '#include "rsp.h"'))
-    wanted = re.findall(r"It prints `(.*)`", EMBEDDING)[0]
-    assert succeeds(built(folder, source, language=language)) == f"{wanted}\n"
-
-
-@pytest.mark.parametrize("language", BOTH)
-def test_calls_for_an_emulator(language: Language, folder: Path) -> None:
-    """The blocks of EMBEDDING.md's section for emulators, one after another."""
-    section = re.findall(r"(?ms)^## The calls for an emulator\n(.*?)^## ", EMBEDDING)[0]
-    wanted = re.findall(r"[Tt]his\sprints\s`([^`]*)`", section)
+@by_both
+def test_page(compiler: str, folder: Path) -> None:
+    """The program at the top of EMBEDDING.md, and its section for emulators, print what the page says."""
+    text = page("docs/EMBEDDING.md")
+    wanted = re.findall(r"It prints `(.*)`", text)[0]
+    assert said_by(folder, block_with("docs/EMBEDDING.md", '#include "rsp.h"'), compiler) == f"{wanted}\n"
+    section = re.findall(r"(?ms)^## The calls for an emulator\n(.*?)^## ", text)[0]
+    lines = re.findall(r"[Tt]his\sprints\s`([^`]*)`", section)
     begin = "static const uint8_t image[64] = { 0 };\nrsp m = RSP_NONE;\n"
     begin += "if (rsp_new(&m, image, 64, 100) != RSP_OK) return 1;\n"
-    lines = begin + "\n".join(re.findall(r"(?m)^    (.*)", section))
-    assert said_by(folder, lines, language).splitlines() == wanted
-    assert len(wanted) == 8
+    program = main_of(begin + "\n".join(re.findall(r"(?m)^    (.*)", section)))
+    assert said_by(folder, program, compiler).splitlines() == lines and len(lines) == 8
 
 
 @pytest.mark.parametrize("name", ("stack.c", "no_memory.c"))
@@ -83,21 +76,18 @@ def test_valgrind(name: str, folder: Path) -> None:
 
 def test_threads_under_a_sanitizer(folder: Path) -> None:
     """It is skipped where the sanitizer can't run: not every machine gives it its layout of memory."""
-    sanitizer = "-fsanitize=thread"
     (folder / "empty.c").write_text("int main(void) { return 0; }\n")
-    made = run("cc", sanitizer, "-o", "empty", "empty.c", cwd=folder)
+    made = run("cc", SANITIZER, "-o", "empty", "empty.c", cwd=folder)
     if made.returncode or run("./empty", cwd=folder).returncode:
-        pytest.skip(f"{sanitizer} doesn't run here (Debian's package libtsan2)")
-    assert "WARNING" not in succeeds(built(folder, HERE / "threads.c", "-pthread", "-g", sanitizer))
+        pytest.skip(f"{SANITIZER} doesn't run here (Debian's package libtsan2)")
+    assert "WARNING" not in succeeds(built(folder, HERE / "threads.c", "-pthread", "-g", SANITIZER))
 
 
 @pytest.mark.needs("nm")
-@pytest.mark.parametrize(
-    "source, is_held", ((EXAMPLE, False), (HERE / "script.c", True)), ids=("lockstep", "script")
-)
-def test_a_program_pays_for_its_calls_alone(source: Path, is_held: bool, folder: Path) -> None:
+@pytest.mark.parametrize("source", (EXAMPLE, HERE / "script.c"), ids=lambda it: it.stem)
+def test_a_program_pays_for_its_calls_alone(source: Path, folder: Path) -> None:
     """One that makes no bench doesn't hold the bench's code."""
-    names = succeeds("nm", built(folder, source, "-Wl,--gc-sections"))
+    names, is_held = succeeds("nm", built(folder, source, "-Wl,--gc-sections")), source != EXAMPLE
     assert [it in names for it in ("rsp_bench_take", "rsp_commands")] == [is_held, is_held]
 
 

@@ -10,20 +10,11 @@ from typing import Dict
 import pytest
 
 from lib.library import shapes
-from lib.library.programs import said_by
+from lib.library.programs import main_of, said_by
 from lib.pages import page
 from lib.processes import succeeds
 
 HEADER = page("library/c/rsp.h")
-
-
-def held(form: str, text: str = HEADER) -> Dict[str, int]:
-    """The names of this form in the header, without RSP_, with their numbers."""
-    return {name: int(value) for name, value in re.findall(rf"RSP_({form}) = (\d+)", text)}
-
-
-def named(prefix: str) -> Dict[str, int]:
-    return {name[len(prefix) :]: value for name, value in held(rf"{prefix}\w+").items()}
 
 
 def test_calls() -> None:
@@ -34,19 +25,23 @@ def test_calls() -> None:
     assert [line for line in HEADER.splitlines() if len(line) >= 110] == []
 
 
-def test_numbers() -> None:
-    statuses = HEADER[HEADER.index("enum rsp_status") : HEADER.index("enum rsp_bank")]
-    assert held(r"\w+", statuses) == shapes.STATUSES
-    assert held("DMEM|IMEM|RDRAM") == shapes.BANKS
-    assert named("AT_") == shapes.REASONS
-    assert re.findall(r"#define RSP_REPLIES (\d+)", HEADER) == [str(shapes.REPLIES)]
-    assert named("FIELD_") == {"NONE": 0, **shapes.FIELDS}
-
-
 @pytest.mark.needs("nm")
 def test_exports(library: Path) -> None:
     shown = succeeds("nm", "-D", "--defined-only", library / "librsp.so").splitlines()
     assert {it.split()[-1] for it in shown} == {name for name, *_ in shapes.exported()}
+
+
+def named(prefix: str, text: str = HEADER) -> Dict[str, int]:
+    """The numbers whose names begin so, by the rest of their names."""
+    return {name: int(value) for name, value in re.findall(rf"RSP_{prefix}(\w+) = (\d+)", text)}
+
+
+def test_numbers() -> None:
+    statuses, banks = re.findall(r"(?s)enum rsp_(?:status|bank) \{.*?\}", HEADER)
+    assert (named("", statuses), named("", banks)) == (shapes.STATUSES, shapes.BANKS)
+    assert named("AT_") == shapes.REASONS
+    assert re.findall(r"#define RSP_REPLIES (\d+)", HEADER) == [str(shapes.REPLIES)]
+    assert named("FIELD_") == {"NONE": 0, **shapes.FIELDS}
 
 
 @pytest.mark.needs("cc")
@@ -61,7 +56,7 @@ def test_layouts(library: Path, folder: Path) -> None:
             numbers = f"offsetof({name}, {field}), sizeof((({name} *)0)->{field})"
             lines.append(f'printf("{name}.{field} %zu %zu\\n", {numbers});')
             wanted.append(f"{name}.{field} {offset} {width}")
-    assert said_by(folder, "\n".join(lines)).splitlines() == wanted
+    assert said_by(folder, main_of("\n".join(lines))).splitlines() == wanted
     assert len(layouts) == 14
 
 
@@ -74,4 +69,4 @@ def test_names(library: Path, folder: Path) -> None:
         lines.append(f'for (n = 0; n < 100; n++) printf("{kind} %u %s\\n", n, rsp_{kind}_name(n));')
         names = {value: name for name, value in known.items()}
         wanted += [f"{kind} {n} {names.get(n, 'unknown')}" for n in range(100)]
-    assert said_by(folder, "\n".join(lines)).splitlines() == wanted
+    assert said_by(folder, main_of("\n".join(lines))).splitlines() == wanted

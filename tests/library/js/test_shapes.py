@@ -85,7 +85,7 @@ def test_layouts(told: Dict[str, Any]) -> None:
     assert told["layouts"] == json.loads(json.dumps(shapes.layouts(shapes.structs())))
 
 
-def test_numbers(told: Dict[str, Any]) -> None:
+def test_numbers_and_calls(told: Dict[str, Any]) -> None:
     assert numbers(told["Status"]) == shapes.STATUSES
     assert numbers(told["Bank"]) == shapes.BANKS
     assert numbers(told["Reason"]) == shapes.REASONS
@@ -93,9 +93,6 @@ def test_numbers(told: Dict[str, Any]) -> None:
     fields = {FIELDS[name]: number for name, number in shapes.FIELDS.items()}
     fields.update({f"sp[{n}]": fields["sp[0]"] + n for n in range(8)})
     assert {it: int(n) for n, it in told["FIELDS"].items()} == fields
-
-
-def test_calls(told: Dict[str, Any]) -> None:
     known = python_names("Rsp") | {"Rsp", "assemble", "text", "first_difference"}
     assert {*told["calls"]} - known == set()
 

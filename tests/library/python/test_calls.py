@@ -18,13 +18,6 @@ LOOP = "addiu $1, $0, 3\nloop: addiu $1, $1, -1\nsw $1, 64($0)\nbne $1, $0, loop
 TRACED = "ori $1, $0, 0x8001\nsw $1, 0x1044($0)\nmtc2 $1, $v1[2]\nvaddc $v2, $v1, $v1\nbreak\n"
 
 
-def test_lengths_and_depths() -> None:
-    for length in (0, 63, 65, 68):
-        refused(OUT, rsp.Rsp, bytes(length))
-    for depth in (4097, -1, 1 << 32):
-        refused(OUT, rsp.Rsp, bytes(64), depth)
-
-
 def test_closed_machine() -> None:
     with rsp.Rsp() as machine:
         assert machine.regs().npc == 4
@@ -106,6 +99,10 @@ def test_reserved_word() -> None:
 
 
 def test_ranges() -> None:
+    for length in (0, 63, 65, 68):
+        refused(OUT, rsp.Rsp, bytes(length))
+    for depth in (4097, -1, 1 << 32):
+        refused(OUT, rsp.Rsp, bytes(64), depth)
     machine = rsp.Rsp()
     refused(Status.TASK_PLACE, machine.start_task, 4)
     refused(Status.TASK_SIZE, machine.start_task, 0)
@@ -248,23 +245,20 @@ def test_assemble() -> None:
     refused(OUT, rsp.assemble, "nop", -4)
 
 
-# A line that is refused, its fault, the number of its operand, and what that may be.
-EXPLAINED = (
-    ("lqv $v1[0], 0x460($0)", "13 OutOfRange", 2, "-1024 to 1008, a multiple of 16"),
-    ("j nowhere", "15 LabelMissing", 1, "the label of a line, or 0 to 4092, a multiple of 4"),
-    (
-        "lw $1, $2",
-        "12 BadOperand",
-        2,
-        "a number or a label, -32768 to 65535, and a scalar register in parentheses",
-    ),
-    ("vrcp $v1, $v2[0]", "12 BadOperand", 1, "a vector register, with a lane"),
-    ("nop $1", "12 BadOperand", 1, "nothing"),
-)
+# Lines that are refused, with their faults, and which of their operands may be what.
+OFFSET = "a number or a label, -32768 to 65535, and a scalar register in parentheses"
+EXPLAINED = {
+    "lqv $v1[0], 0x460($0)": ("13 OutOfRange", 2, "-1024 to 1008, a multiple of 16"),
+    "j nowhere": ("15 LabelMissing", 1, "the label of a line, or 0 to 4092, a multiple of 4"),
+    "lw $1, $2": ("12 BadOperand", 2, OFFSET),
+    "vrcp $v1, $v2[0]": ("12 BadOperand", 1, "a vector register, with a lane"),
+    "nop $1": ("12 BadOperand", 1, "nothing"),
+}
 
 
-@pytest.mark.parametrize("line, fault, number, allowed", EXPLAINED)
-def test_refused_line(line: str, fault: str, number: int, allowed: str) -> None:
+@pytest.mark.parametrize("line", EXPLAINED)
+def test_refused_line(line: str) -> None:
+    fault, number, allowed = EXPLAINED[line]
     with pytest.raises(rsp.AssemblyError) as caught:
         rsp.assemble(f"nop\n{line}\n")
     told = f"operand {number} may be {allowed}"

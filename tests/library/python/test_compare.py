@@ -3,7 +3,7 @@
 They fail if the fault isn't found at its very step, whatever the length of a stretch.
 """
 
-from typing import Any, Callable, List, Optional, Tuple, Type
+from typing import Any, Callable, Dict, List, Optional, Tuple, Type
 
 import pytest
 
@@ -74,22 +74,22 @@ def parts_of(found: Optional[rsp.FirstDifference]) -> List[Tuple[Any, ...]]:
     return [tuple(it) for it in found.parts] if found else []
 
 
-TURN_AT_FAULT = 17
-FAULTS: Tuple[Tuple[str, int, Callable[[Faulty], None], str, str], ...] = (
-    ("a lane", 0, Faulty.lane, "$v2 lane 5", "vadd $v2, $v2, $v1"),
-    ("a lane, in a delay slot", 3, Faulty.lane, "$v2 lane 5", "sqv $v2[0], 32($0)"),
-    ("a byte of DMEM", 1, byte(rsp.DMEM, 0x3F7), "DMEM 3f0", "addiu $2, $2, -1"),
-    ("a byte of IMEM", 2, byte(rsp.IMEM, 0x804), "IMEM 800", "bne $2, $0, 0x024"),
-)
+# Faults of each kind: the instruction of the loop after which they are, what differs, and its text.
+FAULTS: Dict[str, Tuple[int, Callable[[Faulty], None], str, str]] = {
+    "a lane": (0, Faulty.lane, "$v2 lane 5", "vadd $v2, $v2, $v1"),
+    "a lane, in a delay slot": (3, Faulty.lane, "$v2 lane 5", "sqv $v2[0], 32($0)"),
+    "a byte of DMEM": (1, byte(rsp.DMEM, 0x3F7), "DMEM 3f0", "addiu $2, $2, -1"),
+    "a byte of IMEM": (2, byte(rsp.IMEM, 0x804), "IMEM 800", "bne $2, $0, 0x024"),
+}
 
 
 @pytest.mark.parametrize("every", (1, 2, 7, 64, 10000))
-@pytest.mark.parametrize("at, spoil, name, text", [it[1:] for it in FAULTS], ids=[it[0] for it in FAULTS])
-def test_fault(at: int, spoil: Callable[[Faulty], None], name: str, text: str, every: int) -> None:
-    """A fault of each kind, for stretches of any length."""
-    step = HEAD + TURN * (TURNS - TURN_AT_FAULT) + 1 + at  # the first is that of VADD of that turn
-    place = 4 * (HEAD + at)
-    machine, emulator = machines(PROGRAM, place, TURN_AT_FAULT - (at > 1), spoil)
+@pytest.mark.parametrize("fault", FAULTS)
+def test_fault(fault: str, every: int) -> None:
+    """It is in turn 17 of the loop, for stretches of any length."""
+    at, spoil, name, text = FAULTS[fault]
+    step, place = HEAD + TURN * (TURNS - 17) + 1 + at, 4 * (HEAD + at)
+    machine, emulator = machines(PROGRAM, place, 17 - (at > 1), spoil)
     found = rsp.first_difference(machine, emulator, every)
     assert found and (found.step, found.place, found.text) == (step, place, text)
     assert [it[0] for it in parts_of(found)] == [name]
@@ -109,27 +109,21 @@ def test_transfer(every: int) -> None:
     assert parts_of(found) == [quadword]
 
 
-def test_no_difference_up_to_the_halt() -> None:
+def test_no_difference_up_to_a_halt() -> None:
     machine, emulator = machines()
     assert rsp.first_difference(machine, emulator) is None
     assert machine.step() is rsp.Status.HALTED
     assert machine.get() == emulator.get() == alone(HEAD + TURN * TURNS + 1)
+    assert rsp.first_difference(*machines(".word 0xffffffff")) is None, "a reserved word"
 
 
-@pytest.mark.parametrize("limit", (0, 20, 21))
-def test_no_difference_in_the_limit(limit: int) -> None:
-    machine, emulator = machines()
-    assert rsp.first_difference(machine, emulator, 8, limit) is None
-    assert machine.get() == alone(limit)
-
-
-def test_fault_after_the_limit() -> None:
+def test_no_difference_in_the_limit() -> None:
+    for limit in (0, 20, 21):
+        machine, emulator = machines()
+        assert rsp.first_difference(machine, emulator, 8, limit) is None
+        assert machine.get() == alone(limit)
     machine, emulator = machines(PROGRAM, 4 * HEAD, TURNS, Faulty.lane)
-    assert rsp.first_difference(machine, emulator, limit=HEAD) is None
-
-
-def test_reserved_word() -> None:
-    assert rsp.first_difference(*machines(".word 0xffffffff")) is None
+    assert rsp.first_difference(machine, emulator, limit=HEAD) is None, "a fault after it"
 
 
 class Forgetful(rsp.Rsp):

@@ -1,4 +1,4 @@
-"""States in Python: checked fields, `==`, differences, shown forms, messages, and buffers.
+"""States in Python: checked fields, `==`, differences, shown forms, messages, buffers and numpy's arrays.
 
 They fail if a shown form differs from the replies of examples/ and of docs/SCRIPT.md, a wrong value is taken,
 or a message doesn't say what was wrong.
@@ -6,10 +6,12 @@ or a message doesn't say what was wrong.
 
 import array
 import copy
+import ctypes
 import gc
 import itertools
 import operator
 import pickle
+import random
 import re
 from typing import Any, Callable, Dict, Iterator, List, Tuple
 from unittest import mock
@@ -17,6 +19,7 @@ from unittest import mock
 import pytest
 
 import rsp
+from lib.library import LOCKSTEP, shapes
 from lib.library.module import raised
 from lib.pages import page, transcripts
 from rsp import RspError, State
@@ -81,16 +84,16 @@ MESSAGES: Tuple[Refusal, ...] = (
 )
 
 
-@pytest.mark.parametrize("kind, text, call", FIELDS, ids=[text for _, text, _ in FIELDS])
-def test_refused_field(kind: type, text: str, call: Callable[[Any], object]) -> None:
+@pytest.mark.parametrize("case", FIELDS, ids=lambda it: it[1])
+def test_refused_field(case: Refusal) -> None:
     state = State()
-    raised(kind, text, call, state)
+    raised(*case, state)
     assert state == State(), "a refused field changes nothing"
 
 
-@pytest.mark.parametrize("kind, text, call", MESSAGES, ids=[text for _, text, _ in MESSAGES])
-def test_message(kind: type, text: str, call: Callable[[Any], object]) -> None:
-    raised(kind, text, call, rsp.Rsp())
+@pytest.mark.parametrize("case", MESSAGES, ids=lambda it: it[1])
+def test_message(case: Refusal) -> None:
+    raised(*case, rsp.Rsp())
 
 
 def test_fields() -> None:
@@ -132,13 +135,12 @@ def test_equality() -> None:
         assert changed != one and len(one.diff(changed)) == 1, f"byte {n} counts"
 
 
-@pytest.mark.parametrize("copied", (copy.copy, copy.deepcopy, lambda it: pickle.loads(pickle.dumps(it))))
-def test_copy(copied: Callable[[State], State]) -> None:
+def test_copies() -> None:
     one = State()
-    made = copied(one)
-    assert made == one and isinstance(made.words, type(one.words))
-    made.pc = 16
-    assert one.pc == 0 and made != one
+    for made in (copy.copy(one), copy.deepcopy(one), pickle.loads(pickle.dumps(one))):
+        assert made == one and isinstance(made.words, type(one.words))
+        made.pc = 16
+        assert one.pc == 0 and made != one
 
 
 def test_differences() -> None:
@@ -152,7 +154,7 @@ def test_differences() -> None:
     values = (found[1].value, found[1].other, found[3].value, found[4].value)
     assert values == (0xFFFFFFF0, 0x3FFFFFF0, 2 << 32, 0x8000)
     told = found.told("on the machine", "in the emulator").splitlines()
-    assert told[1] == page("examples/c/lockstep.expected").splitlines()[1].strip()
+    assert told[1] == LOCKSTEP.splitlines()[1].strip()
     row = "<th>$3</th><td><code>fffffff0</code></td><td><code>3ffffff0</code></td>"
     assert row in found._repr_html_()
     none = one.diff(copy.copy(one))
@@ -226,19 +228,12 @@ def test_copied_and_closed_machine() -> None:
     raised(RspError, "the machine is closed", machine.step)
 
 
-@pytest.mark.parametrize(
-    "fault",
-    (
-        RspError(rsp.Status.NO_BREAK, "words"),
-        rsp.AssemblyError(2, 11, "foo"),
-        rsp.AssemblyError(2, 12, "jr", "operand 1 may be .."),
-    ),
-    ids=str,
-)
-def test_pickled_error(fault: RspError) -> None:
-    again = pickle.loads(pickle.dumps(fault))
-    assert (type(again), str(again)) == (type(fault), str(fault))
-    assert again.status is fault.status
+def test_pickled_errors() -> None:
+    told = rsp.AssemblyError(2, 12, "jr", "operand 1 may be ..")
+    for fault in (RspError(rsp.Status.NO_BREAK, "words"), rsp.AssemblyError(2, 11, "foo"), told):
+        again = pickle.loads(pickle.dumps(fault))
+        assert (type(again), str(again)) == (type(fault), str(fault))
+        assert again.status is fault.status
 
 
 def test_failed_starts() -> None:
@@ -262,3 +257,53 @@ def test_buffers() -> None:
         assert machine.memory(rsp.DMEM, 0, 12) == words.tobytes() + bytes(4), type(data)
     image: Any = array.array("Q", range(16))
     assert rsp.Rsp(image).memory(rsp.RDRAM, 0, 128) == image.tobytes()
+
+
+@mock.patch.dict("sys.modules", numpy=None)
+def test_without_numpy() -> None:
+    assert not hasattr(rsp, "STATE")
+    raised(ImportError, "memory_array needs numpy", rsp.Rsp().memory_array, rsp.DMEM, 0, 8)
+
+
+def numbers_of(it: Any) -> List[int]:
+    """The numbers of a structure of ctypes, or of an array of numpy, in order."""
+    if hasattr(it, "_fields_"):
+        it = [getattr(it, name) for name, *_ in it._fields_]
+    return [number for part in it for number in numbers_of(part)] if hasattr(it, "__len__") else [int(it)]
+
+
+@pytest.mark.needs("python:numpy")
+def test_states_as_arrays() -> None:
+    import numpy
+
+    held: Any = shapes.structs()["RspState"]
+    raw = random.Random(1).randbytes(ctypes.sizeof(held))
+    assert rsp.STATE.itemsize == len(raw)
+    assert numbers_of(numpy.frombuffer(raw, rsp.STATE)[0]) == numbers_of(held.from_buffer_copy(raw))
+    assert list(rsp.STATE.names) == [name for name, *_ in held._fields_]
+    state: Any = State(pc=8)
+    state.vectors[3][2] = 77
+    row = numpy.frombuffer(state, rsp.STATE)[0]
+    vectors = row["vectors"]
+    assert (row["pc"], vectors[3][2], vectors.shape) == (8, 77, (32, 8))
+    assert State.from_buffer_copy(row.tobytes()) == state
+    state.words = numpy.arange(32, dtype=numpy.uint32)
+    state.vectors[1] = numpy.full(8, 5, numpy.uint16)
+    assert (state.words[31], list(state.vectors[1])) == (31, [5] * 8)
+
+
+@pytest.mark.needs("python:numpy")
+def test_memories_as_arrays() -> None:
+    import numpy
+
+    machine: Any = rsp.Rsp()
+    machine.load_words(rsp.DMEM, 0, numpy.array([0x01020304, 0x05060708], numpy.uint32))
+    words = machine.memory_array(rsp.DMEM, 0, 8, ">u4")
+    assert words.tolist() == [0x01020304, 0x05060708]
+    words[0] = 9
+    assert machine.memory(rsp.DMEM, 0, 4) == bytes((1, 2, 3, 4)), "an array is a copy"
+    machine.load(rsp.DMEM, 0, words)
+    assert machine.memory(rsp.DMEM, 0, 8) == bytes((0, 0, 0, 9, 5, 6, 7, 8))
+    assert machine.memory_array(rsp.DMEM, 4, 4).tolist() == [5, 6, 7, 8]
+    assert machine.run(numpy.int64(3)).steps == 3
+    raised(ValueError, "length is 6", machine.memory_array, rsp.DMEM, 0, 6, ">u4")
