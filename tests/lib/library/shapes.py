@@ -19,6 +19,17 @@ C_NUMBERS = {"u8": "uint8_t", "u32": "uint32_t", "usize": "size_t"}
 HANDLES = {"Handle": "rsp", "BenchHandle": "rsp_bench"}
 AS_C = {"u32": "uint32_t", "usize": "size_t", "Global": "", "": "void"}
 AS_C.update({f"&mut {name}": f"{in_c} *" for name, in_c in HANDLES.items()})
+# The structs that are classes in Python and JavaScript, by their names there.
+CLASSES = {
+    "RspState": "State",
+    "RspScalars": "Scalars",
+    "RspAccumulators": "Accumulators",
+    "RspFlagBits": "Flags",
+    "RspDivideState": "Divider",
+    "RspSpWords": "SpWords",
+    "RspTraced": "Traced",
+    "RspChanges": "Changes",
+}
 Call = Tuple[str, str, str]  # its name, its result, and its parameters as C has them, between bars
 Struct = Type[ctypes.Structure]
 Layout = Tuple[int, List[Tuple[str, int, int]]]  # its size, and name, offset and size of each field

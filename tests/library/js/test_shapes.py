@@ -19,17 +19,6 @@ from lib.processes import succeeds
 
 FOLDER = TOP / "library/js"
 TYPES = page("library/js/rsp.d.ts")
-# What a struct is called in JavaScript, if it is a class there.
-CLASSES = {
-    "RspState": "State",
-    "RspScalars": "Scalars",
-    "RspAccumulators": "Accumulators",
-    "RspFlagBits": "Flags",
-    "RspDivideState": "Divider",
-    "RspSpWords": "SpWords",
-    "RspTraced": "Traced",
-    "RspChanges": "Changes",
-}
 # A field that has another name there.
 RENAMED = {"bytes": "stored_bytes"}
 # What one of the classes of Python and JavaScript has alone: a call of numpy, and how a machine is freed.
@@ -114,10 +103,10 @@ def methods_of(name: str) -> Set[str]:
     return {*re.findall(r"(?m)^  (?:readonly )?(\w+)[(:]", body(f"class {name}"))} - {"constructor"}
 
 
-@pytest.mark.parametrize("struct", CLASSES)
+@pytest.mark.parametrize("struct", shapes.CLASSES)
 def test_declared_fields(struct: str) -> None:
     wanted = [RENAMED.get(field, field) for field, *_ in shapes.structs()[struct]._fields_ if field != "zero"]
-    assert re.findall(r"(?m)^  (?:readonly )?(\w+): ", body(f"class {CLASSES[struct]}")) == wanted
+    assert re.findall(r"(?m)^  (?:readonly )?(\w+): ", body(f"class {shapes.CLASSES[struct]}")) == wanted
 
 
 def test_declared_numbers() -> None:

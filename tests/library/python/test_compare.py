@@ -126,20 +126,10 @@ def test_no_difference_in_the_limit() -> None:
     assert rsp.first_difference(machine, emulator, limit=HEAD) is None, "a fault after it"
 
 
-class Forgetful(rsp.Rsp):
-    """One whose `set` leaves something out."""
-
-    def set(self, state: rsp.State) -> None:
-        super().set(rsp.State(pc=state.pc, npc=state.npc))
-
-
-class Whole(Faulty):
-    """One that differs only in a longer run."""
-
-    def run(self, steps: int) -> Any:
-        super().run(steps)
-        if steps > 1:
-            self.lane()
+def emulator_with(base: type = rsp.Rsp, **methods: Any) -> rsp.Rsp:
+    """An emulator that has these methods."""
+    made: rsp.Rsp = type("Other", (base,), methods)(IMAGE)
+    return made
 
 
 def test_different_from_the_beginning() -> None:
@@ -147,7 +137,8 @@ def test_different_from_the_beginning() -> None:
     state = machine.get()
     state.words[3] = 5
     machine.set(state)
-    found = rsp.first_difference(machine, Forgetful(IMAGE))
+    forgetful = emulator_with(set=lambda it, state: rsp.Rsp.set(it, rsp.State(pc=state.pc, npc=state.npc)))
+    found = rsp.first_difference(machine, forgetful)
     head = "step 0, 000: ori $1, $0, 0x0007"
     assert str(found) == f"{head}\n  $3 is 00000005 on the machine and 00000000 in the emulator"
     assert repr(found) == f"<rsp.FirstDifference: {head}>"
@@ -156,42 +147,30 @@ def test_different_from_the_beginning() -> None:
 
 def test_stretch_that_single_steps_do_not_show() -> None:
     machine, _ = machines()
-    found = rsp.first_difference(machine, Whole(IMAGE), 3)
+    whole = emulator_with(Faulty, run=lambda it, steps: (Faulty.run(it, steps), steps == 1 or it.lane()))
+    found = rsp.first_difference(machine, whole, 3)
     assert found and (found.step, found.steps, found.place, found.before) == (3, 3, 0, alone(0))
     text = "steps 1 to 3, from 000 on: no step alone differs, so get and set leave something out\n  "
     assert str(found).startswith(text)
     assert str(machine.listing(0, 1)[0]) == "000 34010007 ori $1, $0, 0x0007"
 
 
-class Short(rsp.Rsp):
-    """One whose memories are too short."""
-
-    def memory(self, bank: int, address: int, length: int) -> bytes:
-        return super().memory(bank, address, length)[:8]
-
-
-class Odd(rsp.Rsp):
-    """One without a state."""
-
-    def get(self) -> Any:
-        return None
+SHORT = {"memory": lambda it, *place: rsp.Rsp.memory(it, *place)[:8]}
+WRONG: Dict[str, Tuple[Dict[str, Any], List[Any], Type[Exception]]] = {
+    "first_difference: every is 0, not 1 to 1000000": ({}, [0], ValueError),
+    "first_difference: every is 1000001, not 1 to 1000000": ({}, [1000001], ValueError),
+    "first_difference: limit is -1, not 0 to 4294967295": ({}, [64, -1], ValueError),
+    "first_difference: every is of type str, not an integer": ({}, ["64"], TypeError),
+    "first_difference: the emulator's memory(0, 0, 4096) has 8 bytes": (SHORT, [], ValueError),
+    "diff: other is of type NoneType, not rsp.State": ({"get": lambda it: None}, [], TypeError),
+}
 
 
-@pytest.mark.parametrize(
-    "emulator, words, kind, told",
-    (
-        (Faulty, [0], ValueError, "first_difference: every is 0, not 1 to 1000000"),
-        (Faulty, [1000001], ValueError, "first_difference: every is 1000001, not 1 to 1000000"),
-        (Faulty, [64, -1], ValueError, "first_difference: limit is -1, not 0 to 4294967295"),
-        (Faulty, ["64"], TypeError, "first_difference: every is of type str, not an integer"),
-        (Short, [], ValueError, "first_difference: the emulator's memory(0, 0, 4096) has 8 bytes"),
-        (Odd, [], TypeError, "diff: other is of type NoneType, not rsp.State"),
-    ),
-)
-def test_typed_wrongly(emulator: Type[rsp.Rsp], words: List[Any], kind: Type[Exception], told: str) -> None:
+@pytest.mark.parametrize("told", WRONG)
+def test_typed_wrongly(told: str) -> None:
     """It is answered by a sentence, and nothing has changed."""
-    machine, _ = machines()
+    (machine, _), (methods, words, kind) = machines(), WRONG[told]
     with pytest.raises(kind) as caught:
-        rsp.first_difference(machine, emulator(IMAGE), *words)
+        rsp.first_difference(machine, emulator_with(Faulty, **methods), *words)
     assert (caught.type, str(caught.value)) == (kind, told)
     assert machine.get() == alone(0)

@@ -5,19 +5,12 @@ from lib.library import shapes
 from rsp._explain import Operand
 
 STRUCTS = {
-    "RspState": rsp.State,
-    "RspScalars": rsp.Scalars,
-    "RspAccumulators": rsp.Accumulators,
-    "RspFlagBits": rsp.Flags,
-    "RspDivideState": rsp.Divider,
+    **{struct: getattr(rsp, name) for struct, name in shapes.CLASSES.items()},
     "RspStop": rsp._Stop,
     "RspLine": rsp._Line,
     "RspAssembled": rsp._Assembled,
     "RspLanes": rsp._Lanes,
-    "RspSpWords": rsp.SpWords,
     "RspMove": rsp._Move,
-    "RspTraced": rsp.Traced,
-    "RspChanges": rsp.Changes,
     "RspOperand": Operand,
 }
 
