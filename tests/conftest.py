@@ -14,7 +14,7 @@ import pytest
 
 pytest.register_assert_rewrite("lib")  # before its first import
 
-from lib import TOP  # noqa: E402
+from lib import TOP, outside  # noqa: E402
 from lib.packages import need  # noqa: E402
 from lib.program import Ran, ran  # noqa: E402
 from rsp_tools.build import Build  # noqa: E402
@@ -25,6 +25,8 @@ WANTED = "nothing to test: "
 
 def pytest_addoption(parser: pytest.Parser) -> None:
     parser.addoption("--program", type=os.path.abspath, help="the program under test (the built one)")
+    archives = "an archive of ./release to test (tests/install makes one); it can be given more than once"
+    parser.addoption("--archive", action="append", type=os.path.abspath, default=[], help=archives)
 
 
 def pytest_configure(config: pytest.Config) -> None:
@@ -35,6 +37,7 @@ def pytest_configure(config: pytest.Config) -> None:
         "needs(tool, ..): skipped where a program, a file or `python:MODULE` isn't, with its Debian package"
     )
     config.addinivalue_line("markers", needs)
+    config.pluginmanager.register(outside, "outside")
 
 
 @pytest.hookimpl(optionalhook=True)
