@@ -1,0 +1,307 @@
+"""./rsp and library/c/build in a repository of tiny crates, by a real `rt` and by kits that fail or wait.
+
+It fails if they prove too much or too little: when they are stopped in each phase and started again, have
+nothing to do, are where they can't build, or find sources, what was built or its mark changed, with times
+that are older than the mark's.
+"""
+
+import os
+import re
+import signal
+import tempfile
+from pathlib import Path
+from typing import Iterator, NamedTuple, Optional
+
+import pytest
+
+from lib.install.tiny import C, RSP, Data, Ran, Tiny, as_nobody
+
+pytestmark = [pytest.mark.needs("rt"), pytest.mark.timeout(900)]
+# Those of one group are run by one process, which proves the tiny crates once.
+of_program, of_library = pytest.mark.xdist_group("tiny-program"), pytest.mark.xdist_group("tiny-library")
+BOTH = [pytest.param("program", RSP, marks=of_program), pytest.param("library", C, marks=of_library)]
+MARK = "crates/rsp_main/out/built"
+MIDDLE, MAIN, SIDE, OF_C = (
+    f"crates/rsp_{it}" for it in ("middle/src/lib.rt", "main/src/main.rt", "side/src/lib.rt", "c/src/lib.rt")
+)
+NOTHING = Ran(0, "", [])
+
+
+class Phase(NamedTuple):
+    """A run that ends while it is about a crate, after it has proved others: by a kit, or by a signal."""
+
+    kit: str
+    crate: str
+    before: set[str]
+    sent: Optional[signal.Signals] = None
+
+
+TERM, CTRL_C = signal.SIGTERM, signal.SIGINT
+# Each goes on where the one before it has ended.
+PHASES = {
+    "fails in the table": Phase("no lib", "rsp_decode", set()),
+    "stopped in the table": Phase("waits in rsp_decode", "rsp_decode", set(), TERM),
+    "fails side by side": Phase("no all", "rsp_laws", {"rsp_decode"}),
+    "stopped side by side": Phase("waits in rsp_above", "rsp_above", set(), CTRL_C),
+    "stopped one by one": Phase("waits in rsp_middle", "rsp_middle", {"rsp_above"}, TERM),
+    "fails in the program": Phase("no run", "rsp_main", {"rsp_middle"}),
+    "stopped in the program": Phase("waits in rsp_main", "rsp_main", set(), CTRL_C),
+}
+
+
+@pytest.fixture(scope="session")
+def history() -> Iterator[tuple[Tiny, dict[str, Ran]]]:
+    """The repository with its program built, and the runs that have led there."""
+    with tempfile.TemporaryDirectory() as folder:
+        tree, runs = Tiny(Path(folder)), {}
+        for name, phase in PHASES.items():
+            if phase.sent:
+                send, sent = os.killpg if phase.sent == CTRL_C else os.kill, phase.sent
+                runs[name] = tree.during(f"{phase.crate} begins", lambda it: send(it, sent), phase.kit)
+            else:
+                runs[name] = tree.run(RSP, phase.kit)
+        for name, kit in ("by another logic", "other"), ("by it again", "other"), ("by the right one", ""):
+            runs[name] = tree.run(RSP, kit)
+        yield tree, runs
+
+
+@pytest.fixture
+def program_tree(history: tuple[Tiny, dict[str, Ran]]) -> Tiny:
+    return history[0]
+
+
+@pytest.fixture(scope="session")
+def library_history() -> Iterator[tuple[Tiny, Ran]]:
+    with tempfile.TemporaryDirectory() as folder:
+        tree = Tiny(Path(folder))
+        yield tree, tree.run(C)
+
+
+@pytest.fixture
+def library_tree(library_history: tuple[Tiny, Ran]) -> Tiny:
+    return library_history[0]
+
+
+@pytest.fixture
+def tree(request: pytest.FixtureRequest, what: str) -> Tiny:
+    """The built repository of what the test is of: the program or the library."""
+    built: Tiny = request.getfixturevalue(f"{what}_tree")
+    return built
+
+
+def has_something_to_do(tree: Tiny, command: str) -> None:
+    ran = tree.run(command, "broken")
+    assert ran.status == 1 and "isn't proved" in ran.said
+
+
+@pytest.mark.parametrize("command", [RSP, C])
+def test_without_a_kit(folder: Path, command: str) -> None:
+    speaker = command.split()[0].replace("./", "")
+    ran = Tiny(folder).run(command, "none")
+    assert ran.status == 1 and re.match(rf"{speaker}: [^\0]*`rt`", ran.said)
+
+
+@pytest.mark.parametrize("command", [RSP, C])
+def test_in_a_read_only_checkout(folder: Path, command: str) -> None:
+    tree = Tiny(folder)
+    for it in tree.at / "crates", *(tree.at / "crates").iterdir():
+        it.chmod(0o555)
+    ran = tree.run([*as_nobody(), *command.split()])
+    assert ran.status == 1 and re.fullmatch(r".*Permission denied.*\n", ran.said)
+
+
+@pytest.mark.parametrize("word, status", [("--nonsense", 2), ("--help", 0)])
+def test_words_of_the_library(folder: Path, word: str, status: int) -> None:
+    ran = Tiny(folder).run([C, word])
+    assert ran.status == status and f"{C} [--proved FILE]" in ran.said
+
+
+@of_program
+@pytest.mark.parametrize("name", PHASES)
+def test_ended_in_a_phase(history: tuple[Tiny, dict[str, Ran]], name: str) -> None:
+    """What is left is proved up to the crate, and nothing that an earlier run has proved.
+
+    A stopped run may have proved more of the crates that are proved side by side.
+    """
+    phase, ran = PHASES[name], history[1][name]
+    assert phase.crate not in ran.proved
+    if phase.sent:
+        assert ran.status == 128 + phase.sent and ran.last.startswith("rsp: stopped")
+        assert phase.before <= ran.proved and not ran.left
+    else:
+        assert ran.status == 1 and "out of luck" in ran.said and f"{phase.crate} isn't proved" in ran.last
+        assert ran.begun - {phase.crate} == ran.proved == phase.before
+
+
+@of_program
+def test_kit_of_another_logic(history: tuple[Tiny, dict[str, Ran]]) -> None:
+    """It builds, and says that it may not; one of the right logic builds again, which is the last run."""
+    first, again, last = (history[1][it] for it in ("by another logic", "by it again", "by the right one"))
+    assert first.status == 0 and first.proved == {"rsp_main"} and "`rattle-kit-0 logic 0`" in first.said
+    assert again == NOTHING
+    assert last.status == 0 and last.proved == {"rsp_main"}
+
+
+@of_library
+def test_builds_the_library(library_history: tuple[Tiny, Ran]) -> None:
+    tree, ran = library_history
+    assert ran.status == 0 and ran.proved == {"rsp_decode", "rsp_c"}
+    assert (tree.at / "library/c/librsp.so").is_file()
+
+
+@pytest.mark.parametrize("what, command", BOTH)
+def test_has_nothing_to_do(tree: Tiny, command: str) -> None:
+    assert tree.run(command, "broken") == NOTHING
+
+
+def edited(text: bytes) -> bytes:
+    return text + b"\n// a comment\n"
+
+
+@pytest.mark.parametrize("what, command", BOTH)
+def test_edit_in_a_crate_that_it_does_not_use(tree: Tiny, command: str) -> None:
+    more = b"rsp_other: rsp_decode rsp_side"
+    with tree.changed("crates/rsp_other/src/lib.rt", edited):
+        with tree.changed("crates.txt", lambda it: it.replace(b"rsp_other: rsp_decode", more)):
+            assert tree.run(command, "broken") == NOTHING
+
+
+def of_another_line(text: bytes) -> bytes:
+    return text.replace(b"rsp_middle: rsp_above", b"rsp_middle: rsp_above rsp_side")
+
+
+def older_mark(mark: bytes) -> bytes:
+    """The mark as it was once: what proved the program, and the lines of crates.txt, without a sum."""
+    return b"".join(it for it in mark.splitlines(True) if b"  " not in it)
+
+
+CHANGES: dict[str, tuple[str, str, Data]] = {
+    "an edit": ("program", MIDDLE, edited),
+    "a new file": ("program", "crates/rsp_middle/src/new.rt", b""),
+    "a file less": ("program", SIDE, None),
+    "another line of crates.txt": ("program", "crates.txt", of_another_line),
+    "another program": ("program", "crates/rsp_main/out/rsp_main", b"#!/bin/sh\n"),
+    "a mark of the older form": ("program", MARK, older_mark),
+    "an empty mark": ("program", MARK, b""),
+    "an edit for the library": ("library", "crates/rsp_decode/src/lib.rt", edited),
+    "the library's mark of the older form": ("library", "crates/rsp_c/out/built", older_mark),
+}
+
+
+@pytest.mark.parametrize(
+    "what, name, data",
+    [
+        pytest.param(*row, id=text, marks=of_program if row[0] == "program" else of_library)
+        for text, row in CHANGES.items()
+    ],
+)
+def test_change(tree: Tiny, what: str, name: str, data: Data) -> None:
+    """Each thing that a mark holds is changed: the next run proves again, but not once it is as it was."""
+    command = RSP if what == "program" else C
+    with tree.changed(name, data):
+        has_something_to_do(tree, command)
+        if what == "program":
+            ran = tree.run("./rsp --version", "broken")
+            assert ran.status == 0 and ran.said.endswith("\nnot built yet\n")
+    assert tree.run(command, "broken") == NOTHING
+
+
+@of_program
+def test_mark_of_another_logic(program_tree: Tiny) -> None:
+    """A kit of the logic that the mark names has nothing to do; another one builds again."""
+    with program_tree.changed(MARK, lambda mark: b"rattle-kit-0 logic 0\n" + mark.partition(b"\n")[2]):
+        assert program_tree.run(RSP, "other") == NOTHING
+        ran = program_tree.run("./rsp --version")
+        assert ran.status == 0 and ran.said.endswith("\nproved and built by rattle-kit-0 logic 0\n")
+        has_something_to_do(program_tree, RSP)
+
+
+@of_program
+def test_edit_on_a_full_disk(program_tree: Tiny, folder: Path) -> None:
+    """It fails there, and goes on where there is room."""
+    tree = program_tree.copied(folder)
+    tree.edit(MIDDLE, "rsp_above::answer()", "rsp_above::answer() & 3")
+    mount = "mount -t tmpfs -o size=16k none crates/rsp_middle/out && ./rsp run"
+    full = tree.run(["unshare", "--mount", "--map-root-user", "sh", "-c", mount])
+    ran = tree.run(RSP)
+    assert ran.status == 0 and ran.proved == {"rsp_middle", "rsp_main"}
+    if "begins" not in full.said:
+        pytest.skip(f"no full disk can be mounted here ({full.said.strip()})")
+    assert full.status == 1 and "rsp_middle isn't proved" in full.last
+
+
+@of_program
+def test_edits_while_it_proves(program_tree: Tiny, folder: Path) -> None:
+    """One source is edited, and an edit of another is taken back."""
+    tree = program_tree.copied(folder)
+    tree.edit(MIDDLE, "rsp_above::answer()", "rsp_above::answer() & 1")
+
+    def edit(_: int) -> None:
+        tree.put(MAIN, edited((tree.at / MAIN).read_bytes()))
+        with tree.changed(SIDE, edited):
+            pass
+
+    ran = tree.during("rsp_middle begins", edit)
+    is_told = "rsp_side, rsp_main: edited in the meantime" in ran.said
+    assert ran.status in (0, 1) and is_told == (ran.status == 0)
+    has_something_to_do(tree, RSP)
+    assert tree.run(RSP).status == 0
+    assert tree.run(RSP, "broken") == NOTHING
+
+
+@of_library
+@pytest.mark.parametrize("kit, far", [("slow", "3 of 8"), ("silent", "2")])
+def test_says_how_far_it_is(library_tree: Tiny, kit: str, far: str) -> None:
+    often = ("tools/rsp_tools/build.py", lambda it: it.replace(b"SILENCE = 30 ", b"SILENCE = 1 "))
+    with library_tree.changed(*often), library_tree.changed(OF_C, edited):
+        ran = library_tree.run(C, kit)
+    assert ran.status == 1
+    assert re.search(rf"(?m)^{C}: proving rsp_c, \d+ s: {far} functions$", ran.said)
+    assert library_tree.run(C, "broken") == NOTHING
+
+
+# In place of /proc/stat: each processor is idle for a share of the time.
+STAT = """class STAT:
+    def read_text():
+        ticks = int(time.monotonic() * {share} * os.sysconf("SC_CLK_TCK"))
+        return "".join(f"cpu{{it}} 7 7 7 {{ticks}} 0 7 7 7 7 7\\n" for it in os.sched_getaffinity(0))
+"""
+BUSY, SLOW = "the processors have other work", "more would end no sooner"
+
+
+@of_library
+@pytest.mark.parametrize(
+    "share, gains, why",
+    [(0.1, 1, BUSY), (0.4, 1, BUSY), (0.6, 1, ""), (0.9, 1, ""), (0, 1, ""), (0.9, 1024, SLOW)],
+)
+def test_jobs(library_tree: Tiny, share: float, gains: int, why: str) -> None:
+    """A crate is proved by one job for each processor if most are idle and that ends sooner, else by one.
+
+    A share of 0 is a system that doesn't tell. `gains` is from how many processors on it ends sooner.
+    """
+    stat = STAT.format(share=share) if share else 'STAT = Path("/no/stat")'
+
+    def of_a_system(source: bytes) -> bytes:
+        text = source.decode().replace('STAT = Path("/proc/stat")', stat)
+        return text.replace("GAINS_FROM = {", f'GAINS_FROM = {{"rsp_c": {gains}, ').encode()
+
+    with library_tree.changed("tools/rsp_tools/build.py", of_a_system), library_tree.changed(OF_C, edited):
+        ran = library_tree.run(C, "words")
+    wanted = 1 if why else len(os.sched_getaffinity(0))
+    assert ran.status == 1 and f"asked for lib --jobs {wanted}\n" in ran.said
+    assert not why or f"one job proves rsp_c, as {why}" in ran.said
+    assert library_tree.run(C, "broken") == NOTHING
+
+
+@of_library
+@pytest.mark.parametrize("name", ["rsp.h", "librsp.a"])
+def test_links_again(library_tree: Tiny, name: str) -> None:
+    """What the library is linked from is changed, or what is made of it."""
+    static, shared = (library_tree.at / f"library/c/librsp.{it}" for it in ("a", "so"))
+    was = shared.stat().st_mtime_ns
+    library_tree.put(
+        f"library/c/{name}",
+        b"" if name == "librsp.a" else (library_tree.at / "library/c/rsp.h").read_bytes() + b"/* more */\n",
+    )
+    assert library_tree.run(C) == NOTHING
+    assert static.stat().st_size > 0 and shared.stat().st_mtime_ns > was

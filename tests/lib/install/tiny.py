@@ -1,0 +1,238 @@
+"""A repository of tiny crates with ./rsp, library/c/build and tools/ as here, and kits in place of `rt`."""
+
+import copy
+import os
+import re
+import shutil
+import signal
+import subprocess
+import sys
+import time
+from contextlib import contextmanager
+from pathlib import Path
+from typing import Callable, Iterator, NamedTuple, Optional, Union
+
+from lib import TOP
+
+CRATES = """# tiny crates
+rsp_decode:
+rsp_above: rsp_decode
+rsp_side:
+rsp_beside:
+rsp_laws: rsp_above rsp_side rsp_beside
+rsp_middle: rsp_above
+rsp_main: rsp_middle rsp_side rsp_beside
+rsp_other: rsp_decode
+rsp_c staticlib: rsp_decode
+"""
+LIBRARY = "#![tactic(auto)]\n\npub fn answer() -> u8 {\n    %s\n}\n"
+SOURCES = {
+    "rsp_decode/src/lib.rt": LIBRARY % "0",
+    "rsp_laws/src/lib.rt": "#![tactic(auto)]\n",
+    "rsp_side/src/lib.rt": LIBRARY % "0",
+    "rsp_beside/src/lib.rt": LIBRARY % "0",
+    "rsp_other/src/lib.rt": LIBRARY % "rsp_decode::answer()",
+    "rsp_above/src/lib.rt": LIBRARY % "rsp_decode::answer()",
+    "rsp_middle/src/lib.rt": LIBRARY % "rsp_above::answer()",
+    "rsp_main/src/main.rt": """#![tactic(auto)]
+
+use std::process::ExitCode;
+
+fn main(_rt: HostRuntime) -> ExitCode {
+    let _ = (rsp_side::answer(), rsp_beside::answer());
+    ExitCode::from(rsp_middle::answer())
+}
+""",
+    "rsp_c/src/lib.rt": """#![tactic(auto)]
+
+#[unsafe(no_mangle)]
+pub extern "C" fn rsp_answer() -> u32 {
+    u32::from(rsp_decode::answer())
+}
+""",
+}
+HEADER = "#define RSP_VERSION 1\nuint32_t rsp_answer(void);\n"
+COPIED = "rsp library/c/build library/c/rsp.map library/python/pyproject.toml tools"
+TOOLS = "sh env cat dirname readlink grep sed find head tr sort sha256sum"
+FAILS = '[ "$1" != {word} ] || {{ echo "rt: out of luck"; exit 2; }}\nexec "{rt}" "$@"'
+# A kit that keeps what it has checked of two functions, and says nothing.
+SILENT = """[ "$1" = lib ] && mkdir out/incremental/new && cd out/incremental/new &&
+    touch Rattle-rsp_c-proofs.one.Lts.oantt Rattle-rsp_c-proofs.two.Lts.oantt && sleep 4 &&
+    rm -r "$PWD" && exit 2
+exec {rt} "$@"
+"""
+# A kit that begins a crate by a command for another one or for itself, and then takes a minute.
+WAITS = """[ "$1" = {word} ] && [ "${{PWD##*/}}" = {of} ] && mkdir -p ../{crate}/out/rlib && exec sleep 60
+exec "{rt}" "$@"
+"""
+STOPPED = {
+    "rsp_decode": ("lib", "rsp_decode"),
+    "rsp_above": ("all", "rsp_laws"),
+    "rsp_middle": ("lib", "rsp_middle"),
+    "rsp_main": ("run", "rsp_main"),
+}
+# In place of `rt`: of another logic; failing in a phase (table, side by side, the program); waiting; slow;
+# telling its words; broken.
+RT = {
+    "other": '[ "$1" != version ] || exec echo "rattle-kit-0 logic 0"\nexec "{rt}" "$@"',
+    **{f"no {word}": FAILS.replace("{word}", word) for word in ("lib", "all", "run")},
+    **{
+        f"waits in {crate}": WAITS.replace("{word}", word).replace("{of}", of).replace("{crate}", crate)
+        for crate, (word, of) in STOPPED.items()
+    },
+    "slow": '[ "$1" = lib ] && echo so far: 3 of 8 functions checked && sleep 4 && exit 2\nexec {rt} "$@"',
+    "silent": SILENT,
+    "words": '[ "$1" = lib ] && echo asked for "$@" && exit 2\nexec {rt} "$@"',
+    "broken": "exit 2",
+}
+RSP, C = "./rsp run", "library/c/build"
+LONGEST = 600  # seconds that a run may take on a busy machine
+Data = Union[None, bytes, Callable[[bytes], Optional[bytes]]]
+
+
+class Ran(NamedTuple):
+    """How a run ended, what it said, and the processes that it left."""
+
+    status: int
+    said: str
+    left: list[int]
+
+    @property
+    def begun(self) -> set[str]:
+        return {*re.findall(r"(\w+) begins$", self.said, re.M)}
+
+    @property
+    def proved(self) -> set[str]:
+        return {*re.findall(r"(\w+) is proved after \d+ s$", self.said, re.M)}
+
+    @property
+    def last(self) -> str:
+        return self.said.splitlines()[-1] if self.said else ""
+
+
+class Tiny:
+    """The repository below a folder, and the kits by their names, each a PATH."""
+
+    def __init__(self, folder: Path) -> None:
+        self.at = folder / "repository"
+        for name in COPIED.split():
+            (self.at / name).parent.mkdir(parents=True, exist_ok=True)
+            if (TOP / name).is_dir():
+                shutil.copytree(TOP / name, self.at / name)
+            else:
+                shutil.copy(TOP / name, self.at / name)
+        texts = {"crates.txt": CRATES, "library/c/rsp.h": HEADER}
+        for name, text in {**texts, **{f"crates/{it}": text for it, text in SOURCES.items()}}.items():
+            (self.at / name).parent.mkdir(parents=True, exist_ok=True)
+            (self.at / name).write_text(text)
+        self.kits = {"": os.environ["PATH"], "none": str(folder / "none")}
+        for name, text in RT.items():
+            kit = folder / name / "rt"
+            kit.parent.mkdir()
+            kit.write_text(f"#!/bin/sh\n{text.format(rt=shutil.which('rt'))}\n")
+            kit.chmod(0o755)
+            self.kits[name] = f"{kit.parent}:{os.environ['PATH']}"
+        (folder / "none").mkdir()
+        (folder / "none/python3").symlink_to(os.path.realpath(sys.executable))
+        for name in TOOLS.split():
+            (folder / "none" / name).symlink_to(str(shutil.which(name)))
+
+    def copied(self, folder: Path) -> "Tiny":
+        """The same in another folder, as proved and built as here."""
+        other = copy.copy(self)
+        other.at = folder / "repository"
+        shutil.copytree(self.at, other.at, symlinks=True)
+        for form in "*/out/rlib/stamp", "*/out/built":  # each is newer than what it is of
+            time.sleep(0.05)
+            for it in (other.at / "crates").glob(form):
+                it.chmod(it.stat().st_mode)
+        return other
+
+    @contextmanager
+    def started(self, words: list[str], kit: str) -> "Iterator[subprocess.Popen[str]]":
+        """A run, which is ended with all that it has begun if what is done in it fails."""
+        ran = subprocess.Popen(
+            words,
+            cwd=self.at,
+            env={**os.environ, "PATH": self.kits[kit]},
+            stdin=subprocess.DEVNULL,
+            stdout=subprocess.PIPE,
+            stderr=subprocess.STDOUT,
+            text=True,
+            start_new_session=True,
+        )
+        try:
+            yield ran
+        except BaseException:
+            os.killpg(ran.pid, signal.SIGKILL)
+            raise
+        finally:
+            ran.wait()
+
+    def run(self, command: Union[str, list[str]], kit: str = "") -> Ran:
+        words = command.split() if isinstance(command, str) else command
+        with self.started(words, kit) as ran:
+            said = ran.communicate(timeout=LONGEST)[0]
+        return Ran(ran.returncode, said, [])
+
+    def during(self, line: str, act: Callable[[int], object], kit: str = "") -> Ran:
+        """A run of ./rsp, in which something is done once it says the line."""
+        with self.started(RSP.split(), kit) as ran:
+            assert ran.stdout
+            said = ""
+            for got in ran.stdout:
+                said += got
+                if line in got:
+                    break
+            act(ran.pid)
+            said += ran.stdout.read()
+        return Ran(ran.returncode, said, self.processes())
+
+    def processes(self) -> list[int]:
+        """The processes that are still at work in the repository after ten seconds."""
+        until = time.monotonic() + 10
+        while processes_in(self.at) and time.monotonic() < until:
+            time.sleep(0.2)
+        return processes_in(self.at)
+
+    def edit(self, name: str, old: str, new: str) -> None:
+        path = self.at / name
+        path.write_text(path.read_text().replace(old, new))
+
+    def put(self, name: str, data: Optional[bytes]) -> None:
+        """Gives a file these bytes, or removes it. It and its folder get an old time."""
+        path = self.at / name
+        path.unlink(missing_ok=True)
+        if data is not None:
+            path.write_bytes(data)
+            path.chmod(0o755)
+            os.utime(path, (0, 0))
+        os.utime(path.parent, (0, 0))
+
+    @contextmanager
+    def changed(self, name: str, data: Data) -> Iterator[None]:
+        """Gives a file other bytes, and then those that it had."""
+        path = self.at / name
+        was = path.read_bytes() if path.exists() else None
+        self.put(name, data(was or b"") if callable(data) else data)
+        try:
+            yield
+        finally:
+            self.put(name, was)
+
+
+def processes_in(folder: Path) -> list[int]:
+    """The processes that are at work in a folder or below it."""
+    found = []
+    for it in Path("/proc").glob("[0-9]*/cwd"):
+        try:
+            if folder in (Path(os.readlink(it)) / "_").parents:
+                found.append(int(it.parent.name))
+        except OSError:
+            pass
+    return found
+
+
+def as_nobody() -> list[str]:
+    """The words before a command by which it obeys the rights of files. Root's commands don't."""
+    return [] if os.geteuid() else ["setpriv", "--reuid=65534", "--regid=65534", "--clear-groups"]
