@@ -2,17 +2,16 @@
 
 import re
 from pathlib import Path
-from typing import List, Tuple
 
-from lib.processes import run
+from lib.processes import succeeds
 
 OLDEST = (2, 17)  # glibc's version of 2012, and that of the wheel's tag, manylinux2014
 
 
-def needs(file: Path) -> Tuple[List[str], Tuple[int, ...]]:
-    """The other libraries that a file needs, and the newest version of glibc's symbols, which it prints."""
-    libraries = re.findall(r"NEEDED +(\S+)", run("objdump", "-p", file).stdout)
-    versions = re.findall(r"\bGLIBC_([\d.]+)", run("objdump", "-T", file).stdout)
+def check_needs(file: Path) -> None:
+    """It needs the C library alone, and of glibc no symbol that is newer than the wheel's tag says."""
+    libraries = re.findall(r"NEEDED +(\S+)", succeeds("objdump", "-p", file))
+    versions = re.findall(r"\bGLIBC_([\d.]+)", succeeds("objdump", "-T", file))
     newest = max((tuple(map(int, it.split("."))) for it in versions), default=())
-    print(f"{file.name} needs glibc {'.'.join(map(str, newest))} or newer")
-    return libraries, newest
+    assert libraries == ["libc.so.6"]
+    assert newest and newest <= OLDEST

@@ -1,0 +1,275 @@
+"""The library, installed and used as other libraries are.
+
+It fails if a user of the installed files gets another program or library, or a failed install changes
+something.
+"""
+
+import os
+import re
+import shutil
+from pathlib import Path
+
+import pytest
+
+from lib import TESTS, TOP
+from lib.cmake import LOCKSTEP, SAID, check_cmake
+from lib.packages import need
+from lib.pages import page
+from lib.processes import compiled, run, succeeds
+from lib.symbols import check_needs
+
+pytestmark = [pytest.mark.needs("cc", "nm", "objdump", "objcopy"), pytest.mark.xdist_group("installed")]
+INSTALL, CRATE = TOP / "library/c/install", TOP / "library/rust"
+HERE = TESTS / "install/installation"
+HEADER = page("library/c/rsp.h")
+CALLS = sorted(re.findall(r"^(?:uint32_t|void) (rsp_\w+)\(", HEADER, re.M))
+SONAME = "librsp.so." + re.findall(r"^#define RSP_VERSION (\d+)$", HEADER, re.M)[0]
+VERSION = re.findall(r'^version = "(.*)"$', page("library/rust/Cargo.toml"), re.M)[0]
+FILES = {
+    *("lib/pkgconfig/rsp.pc", "share/man/man1/rsp.1", "include/rsp.h", "include/rsp_compare.h"),
+    *("lib/cmake/rsp/rspConfig.cmake", "lib/cmake/rsp/rspConfigVersion.cmake"),
+    *("lib/librsp.a", "lib/librsp.so", f"lib/{SONAME}"),
+}
+FULL_DISK = """
+mount -t tmpfs -o size=64k none "$1" || exit 9
+"$0" "$1"; ended=$?; find "$1" -type f; exit $ended
+"""
+
+
+@pytest.fixture(scope="module")
+def prefix(request: pytest.FixtureRequest, library: Path, tmp_path_factory: pytest.TempPathFactory) -> Path:
+    """A folder with what is installed, which tests leave as it is: `first`, or one of PREFIXES."""
+    to = tmp_path_factory.mktemp("installed") / str(getattr(request, "param", "first"))
+    succeeds(INSTALL, to)
+    return to
+
+
+@pytest.fixture
+def own(prefix: Path, folder: Path) -> Path:
+    """A copy of such a folder."""
+    return Path(shutil.copytree(prefix, folder / "own", symlinks=True))
+
+
+PREFIXES = pytest.mark.parametrize("prefix", ["first", "a name"], indirect=True)
+
+
+def found_in(prefix: Path) -> dict[str, str]:
+    """The environment of one who has told pkg-config about a prefix."""
+    return {**os.environ, "PKG_CONFIG_PATH": str(prefix / "lib/pkgconfig")}
+
+
+def files_below(prefix: Path) -> set[str]:
+    return {str(it.relative_to(prefix)) for it in prefix.rglob("*") if not it.is_dir()}
+
+
+def refuses(why: str, *words: object) -> None:
+    """An install fails for a reason, which its only line says."""
+    got = run(INSTALL, *words)
+    assert got.returncode == 1
+    assert re.fullmatch(f"library/c/install: {why}\n", got.stdout), got.stdout
+
+
+def test_static_library_shows_the_calls_alone(library: Path) -> None:
+    symbols = succeeds("nm", "--extern-only", "--defined-only", library / "librsp.a").splitlines()
+    assert sorted(it.split()[-1] for it in symbols if len(it.split()) == 3) == CALLS
+    assert len(CALLS) > 20
+
+
+def test_shared_library(library: Path) -> None:
+    shared = library / "librsp.so"
+    assert re.findall(r"SONAME +(\S+)", succeeds("objdump", "-p", shared)) == [SONAME]
+    check_needs(shared)
+
+
+def test_what_is_installed(prefix: Path) -> None:
+    assert files_below(prefix) - {"bin/rsp"} == FILES
+    assert os.readlink(prefix / "lib/librsp.so") == SONAME
+
+
+def test_second_install(own: Path) -> None:
+    """It replaces the files, adds none, and leaves a library in use as it is."""
+    found, header = files_below(own), own / "include/rsp.h"
+    with (own / "lib" / SONAME).open("rb") as old:
+        header.write_text("old\n")
+        (own / "lib/mine").write_text("mine\n")
+        succeeds(INSTALL, own)
+        assert files_below(own) == found | {"lib/mine"}
+        assert header.read_text() == HEADER
+        assert os.fstat(old.fileno()).st_ino != (own / "lib" / SONAME).stat().st_ino
+
+
+def test_folder_in_the_place_of_a_file(own: Path) -> None:
+    """It changes nothing until the folder is gone."""
+    header, page_of_man = own / "include/rsp.h", own / "share/man/man1/rsp.1"
+    header.write_text("old\n")
+    page_of_man.unlink()
+    page_of_man.mkdir()
+    refuses(f"{re.escape(str(page_of_man))} is a folder", own)
+    assert header.read_text() == "old\n" and not any(".new" in it for it in files_below(own))
+    page_of_man.rmdir()
+    succeeds(INSTALL, own)
+    assert header.read_text() == HEADER
+
+
+def test_no_place_for_files(library: Path, folder: Path) -> None:
+    (folder / "file").write_text("mine\n")
+    refuses("cannot write .*: Not a directory", folder / "file")
+    refuses("cannot write /proc/self/rsp.*", "/proc/self/rsp")
+
+
+@pytest.mark.parametrize("words", [(), ("",), ("--prefix",), ("a", "b")], ids=str)
+def test_words(library: Path, words: tuple[str, ...]) -> None:
+    assert run(INSTALL, *words).returncode == 2
+
+
+@pytest.mark.parametrize("name", ["a$b", "a(b", "a\nb"])
+def test_name_that_a_shell_would_read(library: Path, folder: Path, name: str) -> None:
+    refuses("PREFIX has the character .*", folder / name)
+    assert not (folder / name).exists()
+
+
+def test_full_disk(library: Path, folder: Path) -> None:
+    """A disk that has room for the header, and not for the libraries: no file is left."""
+    got = run("unshare", "--mount", "--map-root-user", "sh", "-c", FULL_DISK, INSTALL, folder)
+    if got.returncode == 9 or got.stdout.startswith("unshare:"):
+        pytest.skip(f"no full disk can be mounted here ({got.stdout.strip()})")
+    why = f"library/c/install: cannot write {folder}/lib/librsp.a: No space left on device\n"
+    assert (got.returncode, got.stdout) == (1, why)
+
+
+@pytest.mark.needs("pkg-config")
+@pytest.mark.parametrize(
+    "command, flags",
+    [
+        ("cc my.c", ""),
+        ("cc -static my.c", "--static"),
+        ("cc my.c", "--static"),
+        ("c++ -x c++ my.c -x none", ""),
+    ],
+)
+@PREFIXES
+def test_pkg_config(prefix: Path, folder: Path, command: str, flags: str) -> None:
+    """As a user types it, in a folder of his own: the words that pkg-config gives pass a shell."""
+    need(command.split()[0])
+    shutil.copy(LOCKSTEP, folder / "my.c")
+    line = f"{command} $(pkg-config {flags} --cflags --libs rsp)"
+    line = f'eval "{line}"' if " " in str(prefix) else line
+    succeeds("sh", "-c", line, cwd=folder, env=found_in(prefix))
+    assert succeeds(folder / "a.out", cwd="/") == SAID
+    assert ("NEEDED" in succeeds("objdump", "-p", folder / "a.out")) != ("-static" in command)
+
+
+@pytest.mark.needs("pkg-config")
+@PREFIXES
+def test_version_of_pkg_config(prefix: Path) -> None:
+    assert succeeds("pkg-config", "--modversion", "rsp", env=found_in(prefix)) == f"{VERSION}\n"
+
+
+@pytest.mark.needs("cmake", "make")
+@PREFIXES
+def test_cmake(prefix: Path, folder: Path) -> None:
+    check_cmake(prefix, folder / "mine")
+
+
+def test_dlopen(prefix: Path, folder: Path) -> None:
+    succeeds(compiled(folder / "dlopen", HERE / "dlopen.c", "-ldl"), prefix / "lib/librsp.so")
+
+
+@pytest.mark.needs("rt")
+def test_two_libraries_in_one_program(library: Path, folder: Path) -> None:
+    """librsp.a beside its code as `rt lib` leaves it, like any library of the kit, with calls other_*."""
+    heap = Path(succeeds("rt", "doc").strip()).parent / "c/liblibc_c.a"
+    names = [f"--redefine-sym={it}=other{it[3:]}" for it in CALLS]
+    succeeds("objcopy", *names, TOP / "crates/rsp_c/out/librsp_c.a", folder / "other.a")
+    libraries = (library / "librsp.a", folder / "other.a", heap)
+    whole = ("-Wl,--whole-archive", *libraries, "-Wl,--no-whole-archive")
+    succeeds(compiled(folder / "two", f"-I{library}", HERE / "two.c", *whole))
+
+
+def test_man_page_has_all_words(prefix: Path) -> None:
+    """Each command of SCRIPT.md and each option of the texts of --help."""
+    text = (prefix / "share/man/man1/rsp.1").read_text()
+    table = page("docs/SCRIPT.md").partition("| Command |")[2].partition("\n\n")[0]
+    commands = re.findall(r"^\| `([a-z]+)", table, re.M)
+    helps = "".join(it.read_text() for it in (TOP / "docs/help").glob("*.txt"))
+    options = {*re.findall(r"--[a-z]+", helps)} - {"--version"}
+    assert (len(commands), len(options)) == (21, 8)
+    assert not [it for it in commands if f"\n\\fB{it}" not in text]
+    assert not [it for it in options if it.replace("-", "\\-") not in text]
+
+
+@pytest.mark.needs("man")
+def test_man_shows_the_page(prefix: Path) -> None:
+    where = {**os.environ, "MANPAGER": "cat", "MANWIDTH": "100", "LC_ALL": "C.UTF-8"}
+    told = succeeds("man", "--warnings", "-l", prefix / "share/man/man1/rsp.1", env=where)
+    assert "warning" not in told and "rsp run [OPTIONS] < SCRIPT" in told
+
+
+# Rust: as a path the crate finds what library/c/build has made, as a package it has its library in lib/, and
+# as a checkout without a library it finds what is installed.
+DEPENDS = """
+[package]
+name = "uses"
+version = "0.1.0"
+edition = "2021"
+
+[dependencies]
+rsp = { %s }
+"""
+USES = """
+fn main() {
+    assert_eq!(rsp::version(), 1);
+    println!("{}", rsp::text(0, 0).unwrap());
+}
+"""
+COMMIT = "git init -q && git add -A && git -c user.name=a -c user.email=a@example.org commit -qm a"
+
+
+def copied_crate(to: Path) -> Path:
+    shutil.copytree(CRATE, to, ignore=shutil.ignore_patterns("target", "Cargo.lock"))
+    return to
+
+
+def by_cargo(folder: Path, **more: str) -> dict[str, str]:
+    """An environment in which the crate finds no library by a variable."""
+    where = {it: text for it, text in os.environ.items() if it not in ("RSP_LIB_DIR", "PKG_CONFIG_PATH")}
+    return {**where, "CARGO_TARGET_DIR": str(folder / "target"), **more}
+
+
+def used(folder: Path, how: str, **more: str) -> str:
+    """What a program says that depends on the crate so."""
+    (folder / "uses/src").mkdir(parents=True)
+    (folder / "uses/Cargo.toml").write_text(DEPENDS % how)
+    (folder / "uses/src/main.rs").write_text(USES)
+    return succeeds("cargo", "run", "-q", cwd=folder / "uses", env=by_cargo(folder, **more))
+
+
+@pytest.mark.needs("cargo")
+def test_layout_of_the_crate() -> None:
+    got = run("cargo", "fmt", "--check", cwd=CRATE)
+    if re.search("no such (sub)?command", got.stdout):
+        pytest.skip("there is no `cargo fmt` (Debian's package rustfmt)")
+    assert got.returncode == 0, got.stdout
+
+
+@pytest.mark.needs("cargo")
+def test_crate_as_a_package(library: Path, folder: Path) -> None:
+    pack = copied_crate(folder / "rust")
+    (pack / "lib").mkdir()
+    shutil.copy(library / "librsp.a", pack / "lib")
+    words = ("cargo", "package", "--offline", "--allow-dirty")
+    succeeds(*words, cwd=pack, env=by_cargo(folder, PKG_CONFIG="false"))
+    assert (folder / f"target/package/rsp-{VERSION}.crate").is_file()
+
+
+@pytest.mark.needs("cargo")
+def test_crate_as_a_path(library: Path, folder: Path) -> None:
+    assert used(folder, f'path = "{CRATE}"', PKG_CONFIG="false") == "nop\n"
+
+
+@pytest.mark.needs("cargo", "git", "pkg-config")
+def test_crate_as_a_git_dependency(prefix: Path, folder: Path) -> None:
+    copied_crate(folder / "git/rust")
+    succeeds("sh", "-c", COMMIT, cwd=folder / "git")
+    where = {"PKG_CONFIG_PATH": str(prefix / "lib/pkgconfig")}
+    assert used(folder, f'git = "file://{folder}/git"', **where) == "nop\n"
