@@ -1,5 +1,6 @@
 """The tools and files that tests need, with the Debian packages that have them."""
 
+import glob
 import importlib.util
 import os
 import re
@@ -29,6 +30,11 @@ PACKAGES = {
     "Xvfb": "xvfb",
     "node": "nodejs",
     "tsc": "node-typescript",
+    "/usr/bin/cc": "gcc",
+    "/usr/bin/man": "man-db",
+    "/usr/include/stdio.h": "libc6-dev",
+    "/usr/lib/python3*/ensurepip": "python3-venv",
+    "/usr/lib/python3/dist-packages/numpy": "python3-numpy",
     "/usr/include/mupen64plus": "libmupen64plus-dev",
     "/usr/lib/x86_64-linux-gnu/libmupen64plus.so.2": "libmupen64plus2",
     "/usr/games/mupen64plus": "mupen64plus-ui-console",
@@ -43,13 +49,14 @@ OTHERS = {
 
 
 def is_here(tool: str) -> bool:
-    """Whether a program, a file (with a slash) or a module of this Python (`python:NAME`) is here."""
+    """Whether a program, a file or folder (with a slash, perhaps with stars), or a module of this Python
+    (`python:NAME`) is here."""
     if tool == "clean-tree":
         words = ["git", "-C", str(TOP), "status", "--porcelain"]
         return not subprocess.run(words, stdout=subprocess.PIPE).stdout
     if tool.startswith("python:"):
         return importlib.util.find_spec(tool[7:]) is not None
-    return os.path.exists(tool) if "/" in tool else shutil.which(tool) is not None
+    return bool(glob.glob(tool)) if "/" in tool else shutil.which(tool) is not None
 
 
 def without(tool: str) -> str:
@@ -57,7 +64,8 @@ def without(tool: str) -> str:
     module = re.sub("^python:", "", tool)
     if module != tool:
         return f"{sys.executable} has no {module} (Debian's package python3-{module})"
-    return OTHERS.get(tool, f"there is no {tool} (Debian's package {PACKAGES.get(tool, tool)})")
+    package = PACKAGES.get(tool, os.path.basename(tool))
+    return OTHERS.get(tool, f"there is no {tool} (Debian's package {package})")
 
 
 def need(*tools: str) -> None:

@@ -8,6 +8,7 @@ from typing import Tuple
 from lib.processes import Ended, run
 
 NOBODY = 65534
+LONGEST = 3600  # seconds that a script may take
 
 
 class User:
@@ -15,7 +16,7 @@ class User:
 
     def __init__(self, at: Path, home: Path, *owned: Path, path: str = "/usr/bin:/bin") -> None:
         self.at = at
-        self.prefix: Tuple[str, ...] = ("timeout", "3600")
+        self.prefix: Tuple[str, ...] = ("timeout", str(LONGEST))
         self.env = {"HOME": str(home), "PATH": path, "LC_ALL": "C.UTF-8", "MANPAGER": "cat"}
         home.mkdir(exist_ok=True)
         if os.getuid() == 0:
@@ -26,4 +27,4 @@ class User:
     def types(self, script: str) -> "Ended[str]":
         """Runs a script of the shell, up to a command that fails."""
         words = (*self.prefix, "bash", "-e", "-u", "-c", script)
-        return run(*words, cwd=self.at, env=self.env, stderr=subprocess.PIPE)
+        return run(*words, cwd=self.at, env=self.env, stderr=subprocess.PIPE, timeout=LONGEST + 60)

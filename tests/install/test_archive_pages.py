@@ -1,0 +1,84 @@
+"""Each command that a page of the archive shows, as a user who isn't root types it, and the installation."""
+
+import os
+import re
+import shutil
+import tempfile
+from pathlib import Path
+from typing import Iterator, NamedTuple
+
+import pytest
+
+from lib.cmake import SAID as LOCKSTEP
+from lib.install.commands import Block, blocks_in, check, in_table, is_command, lines_of, pages_in, with_ways
+from lib.install.unpacked import BARE
+from lib.install.ways import WAYS, Way
+from lib.processes import run, succeeds
+from lib.user import User
+
+# The pages' commands are typed in one folder, one after the other.
+pytestmark = pytest.mark.xdist_group("archive-pages")
+# /etc and /usr/local are copies, which end with the shell.
+AS_ROOT = """
+cp -a /etc "$0"/etc 2>/dev/null || true
+mount --bind "$0"/etc /etc
+mount -t tmpfs -o mode=755 none /usr/local
+set -e
+%s
+cc -o "$0"/lockstep examples/c/lockstep.c -lrsp
+"$0"/lockstep
+/usr/local/bin/rsp dis /dev/null
+find /usr/local ! -user root
+"""
+
+
+class Desk(NamedTuple):
+    """The user with a copy of the archive, the blocks of its pages, and the line by which he finds `rsp`."""
+
+    user: User
+    blocks: list[tuple[Block, Way]]
+    path: str
+
+
+def in_pages(at: Path) -> Iterator[Block]:
+    """The blocks of all pages, and the README's table of commands."""
+    for page, text in pages_in(at).items():
+        yield from blocks_in(page, text)
+        yield from in_table(page, text) if page == "README.md" else ()
+
+
+@pytest.fixture(scope="session")
+def desk(archive: Path) -> Iterator[Desk]:
+    with tempfile.TemporaryDirectory() as folder:
+        os.chmod(folder, 0o755)
+        mine = Path(shutil.copytree(archive, f"{folder}/{archive.name}", symlinks=True))
+        blocks = [*with_ways(in_pages(mine), WAYS)]
+        (path,) = (it.lines for it, _ in blocks if it.lines.startswith("export PATH="))
+        yield Desk(User(mine, Path(folder, "home")), blocks, path)
+
+
+@pytest.mark.parametrize("way", WAYS, ids=lambda it: f"{it.page}: {it.begins.splitlines()[0]}")
+def test_command(desk: Desk, way: Way) -> None:
+    blocks = [it for it, found in desk.blocks if found is way]
+    assert blocks, "no page has this block"
+    check(desk.user, blocks[0], way, "" if way.page == "README.md" else desk.path)
+
+
+def test_no_other_command(desk: Desk) -> None:
+    """Each other block is left out for a reason."""
+    left = {str(block): lines_of(block, way) for block, way in desk.blocks if way not in WAYS}
+    unknown = [it for it, (lines, _) in left.items() if lines]
+    assert not unknown, "lib/install/ways.py doesn't say how these are typed"
+    pytest.skip("; ".join(f"{it}: {why}" for it, (_, why) in left.items()))
+
+
+@pytest.mark.needs("cc")
+def test_installed_by_root(desk: Desk, folder: Path) -> None:
+    """README's line. The files belong to another user before, and the program in C names no folder."""
+    enter = ("unshare", "--mount", *["--map-root-user"] * (os.getuid() != 0))
+    if run(*enter, "true").returncode:
+        pytest.skip("there is no mount namespace here")
+    (line,) = re.findall(r"(?m)^\| install it.*", (desk.user.at / "README.md").read_text())
+    typed = "\n".join(filter(is_command, re.findall("`([^`]*)`", line)))
+    where = {**BARE, "PATH": f"/usr/sbin:/sbin:{BARE['PATH']}"}
+    assert succeeds(*enter, "sh", "-c", AS_ROOT % typed, folder, cwd=desk.user.at, env=where) == LOCKSTEP

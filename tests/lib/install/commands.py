@@ -1,0 +1,112 @@
+"""Types the commands that pages show, as a user who isn't root, with an empty HOME: in a clone, and in an
+unpacked archive.
+
+WAYS says how a block of commands is typed and what it prints. A block without a way must end with status 0 if
+it is typed as it is; in an archive each block has a way.
+"""
+
+import os
+import re
+from pathlib import Path
+from typing import Iterable, Iterator, NamedTuple
+
+import pytest
+
+from lib import TOP
+from lib.install.ways import LEFT, NEEDS, Way
+from lib.packages import need
+from lib.pages import blocks_of, cells_of, matches
+from lib.user import User
+
+# Programs that a line of commands begins with. A file of the repository that can be run is one, too.
+PROGRAMS = frozenset(
+    "apt-get awk bash c++ cargo cat cc cd cmake cp cpp curl dask echo eval export g++ gcc git ldconfig make "
+    "man mkdir mupen64plus mv npm od pip pkg-config printf python python3 rm rsp rt rustc sed sh sha256sum "
+    "sudo tar wget".split()
+)
+
+
+class Block(NamedTuple):
+    """Lines of a page that are typed, what the page shows below them, and its next block."""
+
+    page: str
+    lines: str
+    below: str = ""
+    after: str = ""
+
+    def __str__(self) -> str:
+        return f"{self.page}, `{self.lines}`"
+
+
+def is_command(line: str) -> bool:
+    word = re.split(r"\s", line.lstrip("("))[0]
+    if "/" in word:
+        return word.startswith(("./", "~/", "/usr/games/")) or os.access(TOP / word, os.X_OK)
+    return word in PROGRAMS and not re.match(r"rsp( \w+)? = ", line)  # a variable of C, a line of Cargo.toml
+
+
+def blocks_in(page: str, text: str) -> Iterator[Block]:
+    """The blocks that begin with a command, each up to an empty line."""
+    blocks = [*(it.strip("\n") for it in blocks_of(text)), ""]
+    for block, after in zip(blocks, blocks[1:]):
+        lines, _, below = block.partition("\n\n")
+        if is_command(lines):
+            yield Block(page, lines, below, after)
+
+
+def in_table(page: str, text: str) -> Iterator[Block]:
+    """The commands of each line of a page's tables, in its second column."""
+    for line in re.findall(r"(?m)^\|.*\|$", text):
+        commands = [*filter(is_command, re.findall("`([^`]*)`", cells_of(line)[1]))]
+        if commands:
+            yield Block(page, "\n".join(commands))
+
+
+def in_text(page: str, text: str) -> Iterator[Block]:
+    """The commands in a page's text that have words after their name."""
+    for span in re.findall(r"`([^`\n]+)`", re.sub(r"(?m)^ {4}.*\n", "", text)):
+        if is_command(span) and " " in span.strip():
+            yield Block(page, span)
+
+
+def with_ways(blocks: Iterable[Block], ways: Iterable[Way]) -> Iterator[tuple[Block, Way]]:
+    """Each block with its way, of which each is for one block; or with one that says nothing."""
+    left = [*ways]
+    for block in blocks:
+        found = [it for it in left if it.page == block.page and block.lines.startswith(it.begins)]
+        yield block, found[0] if found else Way(block.page)
+        left = [it for it in left if it is not [*found, None][0]]
+
+
+def reason_to_leave(line: str) -> str:
+    """Why a line isn't typed. Nothing if it is."""
+    return next((why for form, why in LEFT if re.search(form, line)), "")
+
+
+def lines_of(block: Block, way: Way) -> tuple[list[str], str]:
+    """The lines that are typed, with their words put in, and why others aren't."""
+    text = re.sub(r"\\\n\s*", "", block.lines)
+    for words, typed in way.instead:
+        text = text.replace(words, typed)
+    lines = [(it, way.left_out or reason_to_leave(it.split("  #")[0].strip())) for it in text.splitlines()]
+    return [it for it, why in lines if not why], "; ".join(dict.fromkeys(why for _, why in lines if why))
+
+
+def check(user: User, block: Block, way: Way, before: str) -> None:
+    """Types a block, which has to end well and to print what its way says."""
+    lines, reasons = lines_of(block, way)
+    if not lines:
+        pytest.skip(f"{block}: {reasons}")
+    need(*(tool for form, *tools in NEEDS for tool in tools if re.search(form, "\n".join(lines))))
+    got = user.types("\n".join((before, way.first, *lines, way.then)))
+    assert got.returncode == 0, f"{block}: status {got.returncode}: {got.stdout[-1500:]}{got.stderr[-1500:]}"
+    shown = {"below": block.below, "below..": f"{block.below}\n..", "after": block.after}
+    texts = got.stdout, shown.get(way.prints, way.prints)
+    told, wanted = (re.sub(r"\d+ seconds", "seconds", it).strip("\n").splitlines() for it in texts)
+    assert matches(told, wanted), f"{block} prints {got.stdout}, and {wanted} is wanted"
+
+
+def pages_in(at: Path) -> dict[str, str]:
+    """The pages below a folder, by their names."""
+    found = sorted(str(it.relative_to(at)) for it in at.rglob("*.md"))
+    return {it: (at / it).read_text() for it in found}
