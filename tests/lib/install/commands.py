@@ -83,13 +83,16 @@ def reason_to_leave(line: str) -> str:
     return next((why for form, why in LEFT if re.search(form, line)), "")
 
 
-def lines_of(block: Block, way: Way) -> tuple[list[str], str]:
+def lines_of(block: Block, way: Way) -> tuple[str, str]:
     """The lines that are typed, with their words put in, and why others aren't."""
     text = re.sub(r"\\\n\s*", "", block.lines)
     for words, typed in way.instead:
         text = text.replace(words, typed)
-    lines = [(it, way.left_out or reason_to_leave(it.split("  #")[0].strip())) for it in text.splitlines()]
-    return [it for it, why in lines if not why], "; ".join(dict.fromkeys(why for _, why in lines if why))
+    if way.begins:
+        return ("", way.left_out) if way.left_out else (text, "")
+    lines = [(it, reason_to_leave(it.split("  #")[0].strip())) for it in text.splitlines()]
+    left = dict.fromkeys(why for _, why in lines if why)
+    return "\n".join(it for it, why in lines if not why), "; ".join(left)
 
 
 def check(user: User, block: Block, way: Way, before: str) -> None:
@@ -97,8 +100,8 @@ def check(user: User, block: Block, way: Way, before: str) -> None:
     lines, reasons = lines_of(block, way)
     if not lines:
         pytest.skip(f"{block}: {reasons}")
-    need(*(tool for form, *tools in NEEDS for tool in tools if re.search(form, "\n".join(lines))))
-    got = user.types("\n".join((before, way.first, *lines, way.then)))
+    need(*(tool for form, *tools in NEEDS for tool in tools if re.search(form, lines)))
+    got = user.types("\n".join((before, way.first, lines, way.then)))
     assert got.returncode == 0, f"{block}: status {got.returncode}: {got.stdout[-1500:]}{got.stderr[-1500:]}"
     shown = {"below": block.below, "below..": f"{block.below}\n..", "after": block.after}
     texts = got.stdout, shown.get(way.prints, way.prints)

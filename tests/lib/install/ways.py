@@ -20,14 +20,17 @@ class Way(NamedTuple):
 
 # Commands that aren't typed, each with the reason. The first that fits counts.
 LEFT = (
-    (r"^apt-get|^cp .* /usr/l", "it changes the system"),
+    (r"^apt-get|^cp .* /usr/l|^ldconfig", "it changes the system"),
     (
         r"\[--|(?<![$/])\b(NAME|SCRIPT|WORD|F|PATH|FILE|ROM|OTHER|PART|PROGRAM)\b(?!=)",
         "a word in capitals is the reader's own",
     ),
     (r"^cd /tmp/hunt|all\.z64|rsp-task", "mupen64plus doesn't end by itself; tests/plugin plays these ROMs"),
     (r"^dask|ADDRESS|--dask", "it needs a cluster"),
-    (r"^rt (check|lemma|plant|must-fail|fmt|tidy)\b", "it is for the crate that the reader works on"),
+    (
+        r"^rt (check|lemma|plant|must-fail|fmt|tidy)\b|^cd crates/\w+$",
+        "it is for the crate that the reader works on",
+    ),
     (r"^rt ci|--crates", "it is the gate's"),
     (r"^tests/|^conformance/(check|library|differences)\b", "tests/all is run in the clone"),
     (r"add\.rsp", "tests/docs runs that script"),

@@ -1,0 +1,238 @@
+"""The archive for Linux on x86-64, used as one who has nothing else uses it, in an empty environment.
+
+It fails if something in it does otherwise than its pages say, or needs more than the C library.
+"""
+
+import os
+import re
+import shutil
+import sys
+import tempfile
+import zipfile
+from pathlib import Path
+
+import pytest
+
+from lib import TESTS, TOP
+from lib.cmake import SAID as LOCKSTEP
+from lib.cmake import check_cmake
+from lib.install.unpacked import BARE, check_sums, unpacked
+from lib.links import broken
+from lib.packages import need
+from lib.pages import page
+from lib.processes import run, succeeds
+from lib.symbols import check_needs
+
+PLUGIN = "plugin/mupen64plus-rsp-proved.so"
+PLUGIN_CALLS = "DoRspCycles InitiateRSP PluginGetVersion PluginShutdown PluginStartup RomClosed".split()
+LOOP, LOOP_WORDS = (
+    "loop: addiu $1, $1, -1\nbne $1, $0, loop\nnop\nbreak\n",
+    "2421ffff1420fffe000000000000000d",
+)
+VERSION = r"rsp [\d.]+ \([\d-]+\), commit [0-9a-f]{40}\nproved and built by \S+"
+
+
+def test_sums_of_dist(released: Path) -> None:
+    (path,) = (released / "first").glob("*.tar.gz")
+    told = succeeds("sha256sum", "--strict", "-c", "SHA256SUMS", cwd=released / "first")
+    assert told == f"{path.name}: OK\n"
+
+
+def test_two_runs_give_the_same_bytes(released: Path) -> None:
+    first, second = (
+        {it.name: it.read_bytes() for it in (released / name).iterdir()} for name in ("first", "second")
+    )
+    assert {*first} == {*second}
+    assert [it for it in first if first[it] != second[it]] == []
+
+
+def test_sums(packed: Path, folder: Path) -> None:
+    check_sums(unpacked(packed, folder))
+
+
+def test_links(archive: Path) -> None:
+    assert broken(archive, 21) == []
+
+
+def test_man_page(archive: Path) -> None:
+    text = (archive / "share/man/man1/rsp.1").read_text()
+    assert text.startswith(".TH RSP 1 ") and ".SH SCRIPTS\n" in text
+
+
+def test_first_script(archive: Path) -> None:
+    told = succeeds("./rsp", "run", input=page("examples/first.rsp"), cwd=archive, env=BARE)
+    assert told == page("examples/first.out")
+
+
+def test_assembles_and_disassembles(archive: Path, folder: Path) -> None:
+    (folder / "loop.s").write_text(LOOP)
+    where = {"cwd": folder, "env": BARE}
+    assert succeeds(archive / "rsp", "asm", "loop.s", "loop.bin", **where) == "ok 4 words\n"
+    assert (folder / "loop.bin").read_bytes().hex() == LOOP_WORDS
+    told = succeeds(archive / "rsp", "dis", "loop.bin", **where)
+    assert told == "addiu $1, $1, -1\nbne $1, $0, 0x000\nnop\nbreak\n"
+
+
+def test_version(archive: Path) -> None:
+    told = succeeds("./rsp", "--version", cwd=archive, env=BARE)
+    own = succeeds("bin/rsp", "--version", cwd=archive, env=BARE).strip()
+    assert re.match(VERSION, told)
+    assert own and told.startswith(own)
+
+
+def passes(*words: object) -> None:
+    """Tests of files of tests/, of something of the archive, pass."""
+    told = succeeds(sys.executable, "-B", "-m", "pytest", "-q", *words)
+    assert re.search(r"(?m)^[1-9]\d* passed", told), told[-600:]
+
+
+@pytest.mark.parametrize("name", ["scripts", "cookbook", "failing_allocations", "bad_input"])
+def test_passes_the_tests_of_the_program(archive: Path, name: str) -> None:
+    """As the program that rt links does."""
+    (path,) = TESTS.glob(f"*/test_{name}.py")
+    passes("--program", archive / "bin/rsp", path)
+
+
+def test_passes_the_check_of_vectors(archive: Path) -> None:
+    told = succeeds("conformance/check", archive / "bin/rsp", env=BARE)
+    assert re.fullmatch(r"[1-9]\d* passed, 0 failed", told.splitlines()[-1])
+
+
+@pytest.mark.needs("cc", "objcopy")
+def test_start_asks_the_processor(folder: Path) -> None:
+    """What start.c says of the processor, beside what glibc says."""
+    for path in TOP / "tools/packaging/start.c", TESTS / "install/archive/features.c":
+        shutil.copy(path, folder)
+    where = {"cwd": folder, "env": BARE}
+    if run("cc", "-fsyntax-only", "features.c", **where).returncode:
+        pytest.skip("there is no sys/platform/x86.h (Debian's package libc6-dev)")
+    for command in (
+        "cc -O2 -D__x86_get_cpuid_feature_leaf=own -c start.c",
+        "objcopy --localize-symbol=_start start.o",
+        "cc -o features features.c start.o",
+        "./features",
+    ):
+        succeeds(*command.split(), **where)
+
+
+@pytest.mark.needs("cc")
+@pytest.mark.parametrize("way", ["static", "shared", "pkg-config"])
+def test_c(archive: Path, folder: Path, way: str) -> None:
+    words = {
+        "static": ["-Iinclude", "lib/librsp.a"],
+        "shared": ["-Iinclude", "-Llib", "-lrsp", f"-Wl,-rpath,{archive}/lib"],
+    }.get(way)
+    if words is None:
+        need("pkg-config")
+        where = {**BARE, "PKG_CONFIG_PATH": f"{archive}/lib/pkgconfig"}
+        words = succeeds("pkg-config", "--cflags", "--libs", "rsp", env=where).split()
+    compiler = ("cc", "-O2", "-Wall", "-Werror", "-o", folder / "lockstep", "examples/c/lockstep.c")
+    succeeds(*compiler, *words, cwd=archive, env=BARE)
+    assert succeeds(folder / "lockstep", env=BARE) == LOCKSTEP
+
+
+@pytest.mark.needs("cc", "objdump")
+@pytest.mark.parametrize("is_own", [False, True], ids=["the archive's", "of its sources"])
+def test_plugin(archive: Path, folder: Path, is_own: bool) -> None:
+    """The plugin, and what this machine's compiler makes of its sources, have the interface's calls, and do
+    the same."""
+    file = folder / "plugin.so" if is_own else archive / PLUGIN
+    if is_own:
+        succeeds("plugin/build", file, cwd=archive, env=BARE)
+    shown = re.findall(r" g +DF \.text\s.* (\w+)$", succeeds("objdump", "-T", file), re.M)
+    assert sorted(shown) == PLUGIN_CALLS
+    passes("--plugin", file, "--program", archive / "bin/rsp", "tests/plugin/test_interface.py")
+
+
+@pytest.mark.needs("cmake", "make", "cc", "objdump")
+def test_cmake(archive: Path, folder: Path) -> None:
+    """From another folder, with a copy of what the archive installs."""
+    for name in "bin", "include", "lib", "share":
+        shutil.copytree(archive / name, folder / "prefix" / name, symlinks=True)
+    check_cmake(folder / "prefix", folder / "mine")
+
+
+@pytest.mark.needs("python:ensurepip")
+def test_wheel(archive: Path, folder: Path) -> None:
+    where = {"cwd": folder, "env": BARE}
+    succeeds(sys.executable, "-m", "venv", "own", **where)
+    pip = ("own/bin/pip", "install", "--no-index", "--disable-pip-version-check")
+    succeeds(*pip, *(archive / "python").glob("*.whl"), **where)
+    assert succeeds("own/bin/python", archive / "examples/python/lockstep.py", **where) == LOCKSTEP
+
+
+@pytest.mark.needs("objdump")
+@pytest.mark.parametrize("name", ["bin/rsp", "lib/librsp.so", PLUGIN])
+def test_needs_of_the_system(archive: Path, name: str) -> None:
+    """By the rules of auditwheel for the tag manylinux_2_17. The wheel has the same library."""
+    check_needs(archive / name)
+
+
+def test_library_of_the_wheel(archive: Path) -> None:
+    (wheel,) = (archive / "python").glob("*.whl")
+    assert wheel.name.endswith("-py3-none-manylinux_2_17_x86_64.manylinux2014_x86_64.whl")
+    with zipfile.ZipFile(wheel) as it:
+        is_same = it.read("rsp/librsp.so") == (archive / "lib/librsp.so").read_bytes()
+    assert is_same
+
+
+@pytest.mark.parametrize(
+    "words", [("conformance/run", "--program", "./rsp"), ("conformance/library",)], ids=str
+)
+def test_vectors(archive: Path, words: tuple[str, ...]) -> None:
+    told = succeeds(*words, "conformance/vectors", "VADD", cwd=archive, env=BARE)
+    assert re.search(r"(?m)^[1-9]\d* passed, 0 failed$", told)
+
+
+# Rust, by each rustc of this machine: the crate in a copy of its folder, and from another crate beside the
+# archive, with the lines and the code that EMBEDDING.md has. This is the head of that crate.
+CRATE = '[package]\nname = "mine"\nversion = "1.0.0"\nedition = "2021"\n\n'
+SHOW = 'println!("{:?} {:x}", stop.reason, machine.reg(2)?);\n    Ok(())'
+
+
+def cargos() -> list[str]:
+    paths = (shutil.which("cargo"), shutil.which("cargo", path=BARE["PATH"]))
+    return [*{os.path.realpath(it): it for it in paths if it}.values()]
+
+
+def by_rust(cargo: str) -> dict[str, str]:
+    """The environment in which this cargo finds its rustc, and no library by pkg-config."""
+    path = f"{Path(cargo).parent}:{BARE['PATH']}"
+    return {**BARE, "PATH": path, "HOME": os.environ.get("HOME", "/"), "PKG_CONFIG": "false"}
+
+
+def write_crate(archive: Path, mine: Path) -> None:
+    text = (archive / "docs/EMBEDDING.md").read_text()
+    lines, code = re.findall(r"(?ms)^    (\[dependencies\]\n.*?)\n\n(.*?)\n\n(?! )", text)[0]
+    (mine / "src").mkdir(parents=True)
+    (mine / "Cargo.toml").write_text(CRATE + re.sub("(?m)^    ", "", lines))
+    (mine / "src/main.rs").write_text(f"fn main() -> Result<(), rsp::Refused> {{\n{code}\n    {SHOW}\n}}\n")
+
+
+@pytest.mark.needs("cargo")
+@pytest.mark.parametrize("cargo", cargos())
+def test_crate(archive: Path, folder: Path, cargo: str) -> None:
+    words = ("--quiet", "--offline")
+    crate = shutil.copytree(archive / "rust", folder / "copy", symlinks=True)
+    where = {"cwd": crate, "env": by_rust(cargo)}
+    assert succeeds(cargo, "run", "--example", "lockstep", *words, **where) == LOCKSTEP
+    assert succeeds(cargo, "package", "--allow-dirty", *words, **where) == ""
+    assert [*crate.glob("target/package/*.crate")]
+
+
+@pytest.mark.needs("cargo")
+@pytest.mark.parametrize("cargo", cargos())
+def test_crate_beside_the_archive(archive: Path, cargo: str) -> None:
+    with tempfile.TemporaryDirectory(dir=archive.parent) as folder:
+        mine = Path(folder)
+        write_crate(archive, mine)
+        assert succeeds(cargo, "run", "--quiet", "--offline", cwd=mine, env=by_rust(cargo)) == "Halt 1234\n"
+
+
+@pytest.mark.needs("cargo")
+def test_least_rustc(archive: Path) -> None:
+    """That which the crate names builds it too, where it is here."""
+    (least,) = re.findall(r'(?m)^rust-version = "(.*)"$', (archive / "rust/Cargo.toml").read_text())
+    versions = [succeeds("rustc", "--version", env=by_rust(it)) for it in cargos()]
+    if not any(it.startswith(f"rustc {least}.") for it in versions):
+        pytest.skip(f"there is no rustc {least}")
