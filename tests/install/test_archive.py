@@ -90,7 +90,7 @@ def passes(*words: object) -> None:
 def test_passes_the_tests_of_the_program(archive: Path, name: str) -> None:
     """As the program that rt links does."""
     (path,) = TESTS.glob(f"*/test_{name}.py")
-    passes("--program", archive / "bin/rsp", path)
+    passes(f"--program={archive}/bin/rsp", path)
 
 
 def test_passes_the_check_of_vectors(archive: Path) -> None:
@@ -141,7 +141,7 @@ def test_plugin(archive: Path, folder: Path, is_own: bool) -> None:
         succeeds("plugin/build", file, cwd=archive, env=BARE)
     shown = re.findall(r" g +DF \.text\s.* (\w+)$", succeeds("objdump", "-T", file), re.M)
     assert sorted(shown) == PLUGIN_CALLS
-    passes("--plugin", file, "--program", archive / "bin/rsp", "tests/plugin/test_interface.py")
+    passes(f"--plugin={file}", f"--program={archive}/bin/rsp", "tests/plugin/test_interface.py")
 
 
 @pytest.mark.needs("cmake", "make", "cc", "objdump")

@@ -35,7 +35,7 @@ class Block(NamedTuple):
     after: str = ""
 
     def __str__(self) -> str:
-        return f"{self.page}, `{self.lines}`"
+        return f"{self.page}: {self.lines.splitlines()[0]}"
 
 
 def is_command(line: str) -> bool:

@@ -32,7 +32,7 @@ LEFT = (
         "it is for the crate that the reader works on",
     ),
     (r"^rt ci|--crates", "it is the gate's"),
-    (r"^tests/|^conformance/(check|library|differences)\b", "tests/all is run in the clone"),
+    (r"^tests/|^conformance/(check|library|differences)\b", "it is a test of tests/all, or all of them"),
     (r"add\.rsp", "tests/docs runs that script"),
     (
         r"^(rsp asm|pip install|tools/python [^-]\S*)$|--listing$",

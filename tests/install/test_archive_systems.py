@@ -1,0 +1,439 @@
+"""The archives for other systems than Linux on x86-64: what each has, and what of it can be run here.
+
+Stand-ins are packed always: of folders as tools/systems makes them, whose files have nothing but their names.
+The archives themselves are those of --archive; `./release --systems` makes them.
+"""
+
+import json
+import os
+import re
+import shutil
+from pathlib import Path
+from typing import Iterator
+
+import pytest
+
+from lib import TOP
+from lib.cmake import PROJECT
+from lib.cmake import SAID as LOCKSTEP
+from lib.install.unpacked import BARE, check_sums, unpacked
+from lib.library.typescript import OPTIONS, USE
+from lib.links import broken
+from lib.packages import need
+from lib.pages import page
+from lib.processes import Ended, bytes_of, run, succeeds
+from lib.systems import browser, chromium, files, macos, node, runners, rust, windows
+from rsp_tools.packaging import installed, systems
+from rsp_tools.systems import packages
+from rsp_tools.systems.toolchain import llvm
+
+# What an archive for C, Python and Rust has on each system.
+COMMON = """
+README.md CHANGELOG.md SHA256SUMS include/rsp.h include/rsp_compare.h lib/cmake/rsp/rspConfig.cmake
+lib/cmake/rsp/rspConfigVersion.cmake python/rsp/__init__.py rust/Cargo.toml rust/build.rs rust/src/lib.rs
+docs/README.md docs/SYSTEMS.md examples/first.rsp examples/c/lockstep.c microcode/README.md microcode/copy.s
+conformance/README.md conformance/run conformance/runner.c conformance/vectors/steps/VADD.jsonl
+conformance/vectors/programs/VADD.json tools/python
+"""
+# What more each archive has. The first are those that tools/systems makes.
+MADE = {
+    "linux-aarch64": "lib/librsp.a lib/librsp.so lib/librsp.so.1 lib/pkgconfig/rsp.pc bin/rsp",
+    "macos": "lib/librsp.a lib/librsp.dylib lib/pkgconfig/rsp.pc",
+    "windows-x86_64": "lib/librsp.a lib/librsp.dll.a lib/rsp.lib lib/rsp_static.lib bin/rsp.dll bin/rsp.exe",
+    "wasm64": "package.json rsp.js rsp.d.ts rsp.wasm",
+    "page": "index.html rsp/rsp.js rsp/rsp.wasm",
+}
+MORE = {
+    "linux-aarch64": f"{COMMON} rsp share/man/man1/rsp.1 rust/lib/aarch64-unknown-linux-gnu/librsp.a",
+    "macos": f"{COMMON} rust/lib/aarch64-apple-darwin/librsp.a rust/lib/x86_64-apple-darwin/librsp.a",
+    "windows-x86_64": f"{COMMON} rust/lib/x86_64-pc-windows-gnu/librsp.a "
+    "rust/lib/x86_64-pc-windows-msvc/rsp_static.lib",
+    "wasm64": "README.md CHANGELOG.md SHA256SUMS docs/EMBEDDING.md examples/js/lockstep.js microcode/copy.s",
+    "page": "README.md SHA256SUMS",
+}
+# What none of them has, since it was never run there.
+ABSENT = """
+plugin docs/PLUGIN.md docs/CAMPAIGN.md conformance/campaign conformance/rsp_conformance/campaign
+""".split()
+LINES = "rsp 1.0.0 (2000-01-01), commit 0123", "proved and built by no logic"
+outside = pytest.mark.outside("it tests archives of other systems: `--archive dist/rsp-*`")
+
+
+def named_there(top: Path, name: str) -> bool:
+    """Whether there is a file of this name, or a program for Windows."""
+    return bool([*top.glob(name)] or (top / f"{name}.exe").exists())
+
+
+def check_files(top: Path, system: str) -> None:
+    """The files that it has and hasn't, those that its README names, and the links of its pages."""
+    check_sums(top)
+    assert broken(top, 0 if system == "page" else 21) == []
+    assert [it for it in f"{MADE[system]} {MORE[system]}".split() if not (top / it).exists()] == []
+    assert [it for it in ABSENT if (top / it).exists()] == []
+    text = (top / "README.md").read_text()
+    assert text.startswith(f"# rsp {installed.version()[0]} for ")
+    folders = "bin|lib|include|share|python|rust|examples|conformance"
+    named = re.findall(rf"(?<![\w/\\~-])(?:{folders})[/\\][\w./\\*-]+", text)
+    assert [it for it in named if not named_there(top, it.replace("\\", "/"))] == []
+
+
+def stand_in(system: str, folder: Path) -> None:
+    """A folder as tools/systems makes it: each file has its name in it."""
+    for name in MADE[system].split():
+        path = folder / name
+        path.parent.mkdir(parents=True, exist_ok=True)
+        path.write_text(name)
+    if system in rust.TARGETS:
+        packages.header(folder)
+        packages.cmake(folder, "unix", "", "", LIBRARY="", SONAME="")
+        packages.wheel(folder, folder / MADE[system].split()[0], "library", files.PLATFORMS[system])
+
+
+@pytest.mark.parametrize("system", MADE)
+def test_stand_in(folder: Path, library: Path, system: str) -> None:
+    """Its files, links and sums, and that two archives are alike."""
+    stand_in(system, folder / "made")
+    first, second = (
+        systems.archive(system, folder / "made", LINES, lambda library, processor: processor.encode())
+        for _ in range(2)
+    )
+    is_alike = first == second
+    assert is_alike
+    packed = folder / systems.name_of(system, "1.0.0")
+    packed.write_bytes(first)
+    (folder / "into").mkdir()
+    check_files(unpacked(packed, folder / "into"), system)
+
+
+def held() -> dict[str, int]:
+    """The files of dist, with their times."""
+    return {str(it): it.stat().st_mtime_ns for it in (TOP / "dist").glob("**/*")}
+
+
+def refused(*words: str, path: str) -> str:
+    """What ./release says that fails with these words and this PATH, and writes nothing."""
+    before = held()
+    ended = run("./release", "--untested", *words, env={"PATH": path})
+    assert ended.returncode == 1 and held() == before
+    return ended.stdout
+
+
+def test_unknown_system() -> None:
+    said = refused("--systems", "macos", "linux-arm", path="/usr/bin:/bin")
+    assert (
+        said.startswith("release: there is no system linux-arm: the systems are ") and said.count("\n") == 1
+    )
+
+
+def test_missing_package(folder: Path) -> None:
+    for name in ("sh", "dirname", "readlink", "python3"):
+        (folder / name).symlink_to(f"/usr/bin/{name}")
+    said = refused("--systems", "windows-x86_64", path=str(folder))
+    assert said == "release: windows-x86_64 needs packages of Debian: apt-get install gcc-mingw-w64-x86-64\n"
+
+
+@pytest.fixture
+def system(request: pytest.FixtureRequest) -> str:
+    return str(request.param)
+
+
+@pytest.fixture
+def packed_for(request: pytest.FixtureRequest, system: str) -> Path:
+    """The archive for a system."""
+    found = [Path(it) for it in request.config.getoption("--archive") if f"-{system}." in it]
+    if not found:
+        pytest.skip(f"--archive names none for {system}: `./release --systems {system}` makes one")
+    return found[0]
+
+
+@pytest.fixture
+def top(packed_for: Path, folder: Path) -> Path:
+    """The unpacked archive, to which a test may add files."""
+    (folder / "into").mkdir()
+    return unpacked(packed_for, folder / "into")
+
+
+@pytest.fixture
+def at(folder: Path) -> Path:
+    """A folder for files on the way."""
+    (folder / "at").mkdir()
+    return folder / "at"
+
+
+def of(*names: str) -> pytest.MarkDecorator:
+    return pytest.mark.parametrize("system", names, indirect=True)
+
+
+@outside
+@of(*MADE)
+def test_files(top: Path, system: str) -> None:
+    # npm wants another name.
+    assert top.name == "package" if system == "wasm64" else top.name.endswith(f"-{system}")
+    check_files(top, system)
+
+
+@outside
+@of(*rust.TARGETS)
+def test_wheel(top: Path, system: str) -> None:
+    files.check_wheel(system, top)
+
+
+@outside
+@pytest.mark.needs("rustc", "cargo")
+@of(*rust.TARGETS)
+def test_crate(top: Path, at: Path, system: str) -> None:
+    """Its build script finds the library of each target, and cargo packs it."""
+    crate = top / "rust"
+    own = {**BARE, "PATH": os.environ["PATH"], "HOME": os.environ.get("HOME", "/")}
+    where = {**own, "CARGO_MANIFEST_DIR": str(crate), "CARGO_PKG_VERSION": installed.version()[0]}
+    succeeds("rustc", "--edition", "2021", "-o", at / "script", crate / "build.rs", cwd=top, env=where)
+    listed = succeeds("cargo", "package", "--list", "--allow-dirty", "--offline", cwd=crate, env=own)
+    for target, (name, _) in rust.TARGETS[system].items():
+        status, said = rust.said(at / "script", target)
+        assert status == 0 and f"cargo:rustc-link-search=native={crate}/lib/{target}\n" in said
+        assert f"lib/{target}/{name}" in listed.splitlines()
+
+
+# Programs are compiled by Debian's cross compilers, and run under qemu and wine: how, what CMake is told,
+# and the shared library and the program of the archive.
+CROSS = {
+    "linux-aarch64": (
+        runners.Arm,
+        (
+            "-DCMAKE_SYSTEM_NAME=Linux",
+            "-DCMAKE_SYSTEM_PROCESSOR=aarch64",
+            f"-DCMAKE_C_COMPILER={runners.Arm.compiler}",
+        ),
+        "lib/librsp.so.1",
+        "bin/rsp",
+    ),
+    "windows-x86_64": (runners.Windows, windows.CROSS, "bin/rsp.dll", "bin/rsp.exe"),
+}
+EXAMPLE = "examples/c/lockstep.c"
+LOOP, LOOP_WORDS = "loop: addiu $1, $1, -1\nbne $1, $0, loop\n", "2421ffff1420fffe"
+
+
+@pytest.fixture
+def runner(top: Path, at: Path, system: str) -> Iterator[runners.Runner]:
+    kind = CROSS[system][0]
+    need(*kind.programs)
+    made = kind(top, at)
+    yield made
+    made.stop()
+
+
+def check_lockstep(runner: runners.Runner, made: Path, shared: str, is_shared: bool) -> None:
+    """A program over the library says what the example says."""
+    assert (Path(shared).name.encode() in made.read_bytes()) == is_shared
+    assert runner.run(made).stdout.replace("\r\n", "\n") == LOCKSTEP
+
+
+@outside
+@of(*CROSS)
+def test_c(top: Path, runner: runners.Runner, system: str) -> None:
+    """The example by the files, static and shared."""
+    for how, library in runner.libraries().items():
+        made = runner.compile(top / EXAMPLE, name=f"lockstep {how}", library=library)
+        check_lockstep(runner, made, CROSS[system][2], how != "static")
+
+
+@outside
+@pytest.mark.needs("pkg-config")
+@of("linux-aarch64")
+def test_pkg_config(top: Path, runner: runners.Runner, system: str) -> None:
+    where = {**BARE, "PKG_CONFIG_PATH": f"{top}/lib/pkgconfig"}
+    found = succeeds("pkg-config", "--cflags", "--libs", "rsp", env=where).split()
+    assert f"-I{top}/lib/pkgconfig/../../include" in found
+    check_lockstep(runner, runner.compile(top / EXAMPLE, library=found), CROSS[system][2], True)
+
+
+@outside
+@pytest.mark.needs("cmake", "make")
+@of(*CROSS)
+def test_cmake(top: Path, runner: runners.Runner, system: str) -> None:
+    """Shared and static. On another system it isn't found."""
+    _, told, shared, _ = CROSS[system]
+    folder = runner.at / "cmake"
+    folder.mkdir()
+    for it in (PROJECT, top / EXAMPLE):
+        shutil.copy(it, folder)
+    words = ("cmake", "-S", folder, f"-DCMAKE_PREFIX_PATH={top}")
+    succeeds(*words, *told, "-B", folder / "out", env=BARE)
+    succeeds("cmake", "--build", folder / "out", env=BARE)
+    if runner.ending:
+        shutil.copy(top / shared, folder / "out")
+    for name in ("shared", "static"):
+        check_lockstep(runner, folder / "out" / f"{name}{runner.ending}", shared, name == "shared")
+    assert run(*words, "-B", folder / "here", env=BARE).returncode
+
+
+@outside
+@of(*rust.TESTED)
+def test_example_of_the_crate(top: Path, runner: runners.Runner, system: str) -> None:
+    """Where Debian has Rust's own library for the system."""
+    target, package = rust.TESTED[system]
+    folder = rust.rust_for(target)
+    if not folder:
+        pytest.skip(f"there is no Rust for it (Debian's packages cargo and {package})")
+    named = f"CARGO_TARGET_{target.upper().replace('-', '_')}"
+    where = {
+        **runner.env,
+        "PATH": f"{folder}{os.pathsep}{os.environ['PATH']}",
+        f"{named}_LINKER": runner.compiler,
+        f"{named}_RUNNER": " ".join(runner.start),
+    }
+    words = ("cargo", "run", "--offline", "--quiet", "--example", "lockstep", "--target", target)
+    assert succeeds(*words, cwd=shutil.copytree(top / "rust", runner.at / "rust"), env=where) == LOCKSTEP
+
+
+def of_archive(runner: runners.Runner, *words: str, given: bytes = b"") -> "Ended[bytes]":
+    """A run of a program of the archive, in its folder."""
+    command = [*runner.start, *words]
+    return bytes_of(command[0], command[1:], given, cwd=runner.folder, env=runner.env)
+
+
+@outside
+@of(*CROSS)
+def test_program(top: Path, runner: runners.Runner, system: str) -> None:
+    """The first script, an assembly and a disassembly, and a file that isn't there."""
+    program = CROSS[system][3]
+    first = of_archive(runner, program, "run", given=page("examples/first.rsp").encode())
+    assert first.stdout == page("examples/first.out").encode()
+    (top / "loop.s").write_text(LOOP)
+    assert of_archive(runner, program, "asm", "loop.s", "loop.bin").stdout == b"ok 2 words\n"
+    assert (top / "loop.bin").read_bytes().hex() == LOOP_WORDS
+    said = of_archive(runner, program, "dis", "loop.bin").stdout
+    assert said == b"addiu $1, $1, -1\nbne $1, $0, 0x000\n"
+    lost = of_archive(runner, program, "run", "--rdram", "no-such-file")
+    assert lost.returncode == 1 and not lost.stdout
+
+
+@outside
+@of(*CROSS)
+@pytest.mark.parametrize("name", ["VADD", "MTC0"])
+def test_vectors(top: Path, runner: runners.Runner, system: str, name: str) -> None:
+    """The archive's runner, by this machine's Python, which starts the program by a script of the shell."""
+    script = top / "program"
+    script.write_text(f'#!/bin/sh\nexec {" ".join(runner.start)} {CROSS[system][3]} "$@"\n')
+    script.chmod(0o755)
+    where = {**BARE, **runner.env, "PYTHONPATH": f"conformance{os.pathsep}python"}
+    words = ("-B", "-m", "rsp_conformance.run", "--program", script, "conformance/vectors", name)
+    told = succeeds("python3", *words, cwd=top, env=where)
+    assert re.fullmatch(r"[1-9]\d* passed, 0 failed", told.splitlines()[-1])
+
+
+@outside
+@of("windows-x86_64")
+def test_first_line_of_windows(top: Path, runner: runners.Runner) -> None:
+    """The README's, by the command interpreter."""
+    line = r"bin\rsp run < examples\first.rsp"
+    assert f"`{line}`" in (top / "README.md").read_text()
+    assert of_archive(runner, "cmd", "/c", line).stdout == page("examples/first.out").encode()
+
+
+@outside
+@pytest.mark.needs("rt")
+@of("macos")
+def test_macos(top: Path, at: Path) -> None:
+    """The files are only read."""
+    macos.check(top, at)
+    for target, processor in systems.THIN.items():
+        held = llvm("llvm-lipo", "-archs", top / "rust/lib" / target / "librsp.a").split()
+        assert held == [processor], target
+
+
+@outside
+@of("wasm64")
+def test_package(packed_for: Path, top: Path) -> None:
+    described = json.loads((top / "package.json").read_text())
+    named = [described["types"], described["exports"]["."]["default"], described["exports"]["./rsp.wasm"]]
+    assert [it for it in named if not (top / it).is_file()] == []
+    assert f"-{described['version']}-" in packed_for.name
+    assert (top / "rsp.d.ts").read_text() == page("library/js/rsp.d.ts")
+
+
+@pytest.fixture
+def project(packed_for: Path, at: Path) -> Path:
+    """A folder in which npm has installed the package, without a network."""
+    need("npm", "node")
+    where = {**BARE, "npm_config_cache": str(at / "npm"), "npm_config_offline": "true", "HOME": str(at)}
+    (at / "project").mkdir()
+    succeeds("npm", "install", "--no-audit", "--no-fund", packed_for, cwd=at / "project", env=where)
+    return at / "project"
+
+
+def names_in(folder: Path) -> set[str]:
+    """The names of all below a folder."""
+    return {str(it.relative_to(folder)) for it in folder.rglob("*")}
+
+
+@outside
+@of("wasm64")
+def test_npm(top: Path, project: Path) -> None:
+    """What it installs, and that Node runs it, or says what it lacks."""
+    assert names_in(project / "node_modules/rsp") == names_in(top)
+    left = node.check_use(project)
+    if left:
+        pytest.skip(left)
+
+
+@outside
+@pytest.mark.needs("tsc")
+@of("wasm64")
+def test_declarations(project: Path) -> None:
+    """tsc takes a program that uses them, and refuses what isn't declared."""
+    options = {name: it for name, it in OPTIONS.items() if name != "paths"}
+    (project / "tsconfig.json").write_text(json.dumps({"compilerOptions": options, "files": ["use.ts"]}))
+    (project / "use.ts").write_text(USE)
+    assert succeeds("tsc", "-p", ".", cwd=project, env=BARE) == ""
+    (project / "use.ts").write_text(f'{USE}machine.run("3");\n')
+    assert run("tsc", "-p", ".", cwd=project, env=BARE).stdout.count("error TS") == 1
+
+
+@outside
+@pytest.mark.needs(*chromium.PROGRAMS)
+@of("wasm64")
+def test_example_in_chromium(top: Path, at: Path) -> None:
+    runner = browser.Chromium(top, at)
+    try:
+        text = (top / "examples/js/lockstep.js").read_text()
+        (at / "lockstep.js").write_text(text.replace('from "rsp"', 'from "/library/rsp.js"'))
+        assert runner.test("code.js", "/at/lockstep.js").decode() == LOCKSTEP
+    finally:
+        runner.stop()
+
+
+# What a page loads, in HTML, in modules and in what they start; and the addresses that it names.
+LOADED = (
+    r'(?:src|href)="([^"#]+)"|(?:\bfrom |\bimport |\bimport\()"([^"]+)"'
+    r'|\bURL\("([^"]+)", import\.meta\.url\)'
+)
+ADDRESS = r"\b(?:https?|wss?)://[^\s\"'<>)]+"
+# The name of SVG, which is no file, and this machine.
+NEAR = ("http://www.w3.org/", "http://127.0.0.1:", "http://localhost:")
+
+
+def loaded(path: Path) -> Iterator[Path]:
+    """What a file of the page loads."""
+    if path.suffix in (".html", ".js"):
+        found = ["".join(it) for it in re.findall(LOADED, path.read_text())]
+        yield from ((path.parent / it).resolve() for it in found if not re.match(r"\w+:", it))
+
+
+@outside
+@of("page")
+def test_page(top: Path) -> None:
+    """It loads files that are there, from index.html on, and all of them; no address leads elsewhere."""
+    top, seen = top.resolve(), set[Path]()
+    waiting = [top / "index.html"]
+    while waiting:
+        path = waiting.pop()
+        assert path.is_file()
+        seen.add(path)
+        waiting += {*loaded(path)} - seen - {*waiting}
+    assert len(seen) > 3 and {top / "rsp/rsp.js", top / "rsp/rsp.wasm"} <= seen
+    there = {it for it in top.rglob("*") if it.is_file() and it.name not in ("README.md", "SHA256SUMS")}
+    assert there <= seen
+    texts = [it.read_text() for it in there - {top / "rsp/rsp.wasm"}]
+    addresses = {it for text in texts for it in re.findall(ADDRESS, text)}
+    assert {it for it in addresses if not it.startswith(NEAR)} == set()

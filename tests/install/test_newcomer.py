@@ -1,0 +1,78 @@
+"""What a stranger does first, in a clone of HEAD in a folder `a b/rsp`: the tests, and the commands of pages.
+
+It fails if one doesn't end well there, or leaves the work tree of the clone changed. What is built here for
+HEAD is copied into the clone. All runs there with an empty HOME, and with the system's programs and the kit
+on its PATH; if root starts it, as the user nobody.
+"""
+
+import shutil
+import tempfile
+from pathlib import Path
+from typing import Iterator
+
+import pytest
+
+from lib import TOP
+from lib.install.clone import cloned
+from lib.install.commands import Block, blocks_in, check, in_text, with_ways
+from lib.install.ways import IN_A_CLONE, WAYS, Way
+from lib.pages import page
+from lib.user import User
+
+pytestmark = [
+    pytest.mark.outside("it takes a quarter of an hour; ./release runs it"),
+    pytest.mark.xdist_group("newcomer"),
+    pytest.mark.timeout(3700),
+]
+PAGES = """
+README.md docs/TUTORIAL.md docs/EMBEDDING.md docs/CAMPAIGN.md docs/PLUGIN.md
+conformance/README.md microcode/README.md CONTRIBUTING.md
+""".split()
+# These tests read neither names nor paths nor git.
+OF_NO_PLACE = """
+tests/mathematics tests/program/test_vectors.py tests/program/test_bad_input.py
+tests/program/test_failing_allocations.py tests/library/c/test_valgrind.py tests/docs/test_drawings.py
+tests/install/test_building.py
+""".split()
+# This would prove all crates in the clone if its program isn't built here.
+OTHER_COMPILER = "tests/program/test_second_compiler.py", "crates/rsp_main/out/rsp_main.by-rattle"
+LEFT_BEHIND = "my.c a.out mine.c mine.so mine.s renamed.s"
+
+
+def shown() -> list[tuple[Block, Way]]:
+    """Each command of the pages, once."""
+    found: dict[str, Block] = {}
+    for name in PAGES:
+        for block in (*blocks_in(name, page(name)), *in_text(name, page(name))):
+            found.setdefault(block.lines, block)
+    return [*with_ways(found.values(), (*WAYS, *IN_A_CLONE))]
+
+
+@pytest.fixture(scope="session")
+def stranger() -> Iterator[User]:
+    with tempfile.TemporaryDirectory(prefix="rsp-newcomer-") as name:
+        base = Path(name)
+        base.chmod(0o755)
+        kit = shutil.which("rt")
+        path = "/usr/bin:/bin" + (f":{Path(kit).resolve().parent}" if kit else "")
+        yield User(cloned(base / "a b/rsp"), base / "home", base, path=path)
+
+
+def test_suite(stranger: User) -> None:
+    """The tests outside the crates, except those that would do the same anywhere."""
+    left = OF_NO_PLACE + [OTHER_COMPILER[0]] * (not (stranger.at / OTHER_COMPILER[1]).exists())
+    assert [it for it in left if not (TOP / it).exists()] == []
+    got = stranger.types(f"tests/all {' '.join(f'--ignore={it}' for it in left)}")
+    assert got.returncode == 0, f"{got.stdout[-5000:]}{got.stderr[-1000:]}"
+
+
+@pytest.mark.parametrize(
+    "block, way", shown(), ids=lambda it: str(it).splitlines()[0] if isinstance(it, Block) else ""
+)
+def test_command(stranger: User, block: Block, way: Way) -> None:
+    check(stranger, block, way, f'rsp() {{ "{stranger.at}/rsp" "$@"; }}')
+
+
+def test_work_tree_is_clean_afterwards(stranger: User) -> None:
+    got = stranger.types(f"rm -f {LEFT_BEHIND}\ngit status --porcelain")
+    assert (got.returncode, got.stdout) == (0, "")

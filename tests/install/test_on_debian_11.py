@@ -1,0 +1,49 @@
+"""The archive inside a Debian 11 of 2021, whose glibc is 2.31 and whose Python is 3.9.
+
+It fails as the tests of the archive do. DEBIAN_11 in the environment names the folder of the system, which is
+made if it isn't there; without it the system is made in a temporary folder.
+"""
+
+import os
+import shutil
+from pathlib import Path
+
+import pytest
+
+from lib.processes import run, succeeds
+
+pytestmark = [
+    pytest.mark.outside("it needs root, debootstrap and a mirror of Debian"),
+    pytest.mark.needs("debootstrap"),
+    pytest.mark.timeout(3600),
+]
+MIRROR = "http://deb.debian.org/debian"
+PACKAGES = "python3,python3-venv,gcc,libc6-dev,make,pkg-config,cmake,binutils"
+# The test makes a mount namespace, for which the root has to be a mount.
+ENTER = """
+mount --bind "$0" "$0" && mount -t proc proc "$0/proc" &&
+exec chroot "$0" /srv/rsp/tests/all "--archive=$1" "$2/test_archive.py" "$2/test_archive_pages.py"
+"""
+
+
+def made(root: Path) -> Path:
+    """A Debian 11 with what the tests use."""
+    if not (root / "usr/bin/cmake").exists():
+        words = ("--variant=minbase", f"--include={PACKAGES}", "bullseye", root, MIRROR)
+        succeeds("debootstrap", *words, timeout=1800)
+    return root
+
+
+def test_archive_on_debian_11(packed: Path, folder: Path) -> None:
+    if os.getuid():
+        pytest.skip("only root can do it")
+    root = made(Path(os.environ.get("DEBIAN_11") or folder / "root").resolve())
+    inside = root / "srv/rsp"
+    shutil.rmtree(inside, ignore_errors=True)
+    inside.mkdir(parents=True)
+    succeeds("sh", "-c", 'git archive HEAD | tar x -C "$0"', inside)
+    shutil.copy(packed, inside)
+    where = {"PATH": "/usr/sbin:/usr/bin:/sbin:/bin", "HOME": "/root"}
+    words = ("unshare", "--mount", "sh", "-c", ENTER, root, f"/srv/rsp/{packed.name}", "tests/install")
+    got = run(*words, env=where, timeout=1800)
+    assert got.returncode == 0, got.stdout[-5000:]
