@@ -25,6 +25,7 @@ WANTED = "nothing to test: "
 
 def pytest_addoption(parser: pytest.Parser) -> None:
     parser.addoption("--program", type=os.path.abspath, help="the program under test (the built one)")
+    parser.addoption("--plugin", type=os.path.abspath, help="the plugin under test (one that is built)")
     archives = "an archive of ./release to test (tests/install makes one); it can be given more than once"
     parser.addoption("--archive", action="append", type=os.path.abspath, default=[], help=archives)
 

@@ -1,5 +1,5 @@
 /* A second core of the RSP, written from docs/INSTRUCTIONS.md and docs/MACHINE.md. Without PLANTED it has no known fault; -DPLANTED=N plants fault N
- * of bugs.tsv, which says what it does. tests/part campaigns-planted builds it once for each of them. It is an emulator for conformance/campaign, and
+ * of bugs.tsv, which says what it does. tests/campaigns/test_planted.py builds it once for each of them. It is an emulator for conformance/campaign, and
  * core_step and core_until_halt run the vectors. */
 #include "cases.h"
 

@@ -8,8 +8,6 @@ import shutil
 import subprocess
 import sys
 
-import pytest
-
 from lib import TOP
 
 # Debian's package of a tool, if it has another name, or of a file or a module of Python.
@@ -70,6 +68,8 @@ def without(tool: str) -> str:
 
 def need(*tools: str) -> None:
     """Skips a test without one of these. With CI=true it fails, unless no package of Debian has the tool."""
+    import pytest  # here, because what measures uses this module without pytest
+
     missing = [it for it in tools if not is_here(it)]
     if os.environ.get("CI") == "true" and {*missing} - {*OTHERS}:
         pytest.fail("; ".join(map(without, missing)), pytrace=False)

@@ -1,7 +1,7 @@
 """Runs a program on z64, the low-level RSP of mupen64plus: a library (Debian's mupen64plus-rsp-z64).
 
-As a program of its own it takes IMEM and DMEM from its standard input, 8192 bytes, and writes DMEM after
-BREAK to its standard output.
+As a program of its own, [PLUGIN], it takes IMEM and DMEM from its standard input, 8192 bytes, and writes DMEM
+after BREAK to its standard output.
 """
 
 import ctypes
@@ -58,4 +58,4 @@ def run(plugin: str, imem: bytes, dmem: bytes) -> bytes:
 
 if __name__ == "__main__":
     images = sys.stdin.buffer.read(8192)
-    sys.stdout.buffer.write(run(PLUGIN, images[:4096], images[4096:]))
+    sys.stdout.buffer.write(run([*sys.argv, PLUGIN][1], images[:4096], images[4096:]))

@@ -1,4 +1,4 @@
-/* alone N WORD..: runs microcode on a machine with all RDRAM inside, as tests/part plugin-speed runs it by the plugin: DMEM ff0 holds N, words are hexadecimal. */
+/* alone N WORD..: runs microcode on a machine with all RDRAM inside, as `tools/python measure.plugin_speed` runs it by the plugin: DMEM ff0 holds N, words are hexadecimal. */
 #include "rsp.h"
 #include <stdlib.h>
 

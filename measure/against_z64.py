@@ -1,47 +1,32 @@
-"""tests/part against-z64 [--folder FOLDER] [--plugin FILE] [ROW..]: the programs of the vectors on z64.
+"""Prints what z64 does otherwise in the programs of the vectors, and fails if z64 isn't there.
 
-It fails if the emulator isn't there, and prints what it does otherwise: it is no part of the gate. z64 is the
-low-level RSP of mupen64plus, a library (Debian's package mupen64plus-rsp-z64). No console and no game is
+z64 is the low-level RSP of mupen64plus, a library (Debian's mupen64plus-rsp-z64). No console and no game is
 needed: each program's images go to its memories, it runs until BREAK, and DMEM is compared with the vectors'.
 A few differences of each instruction are printed, and at the end a line for each instruction.
 """
 
 import json
-import multiprocessing
+import os
+import subprocess
 import sys
-from multiprocessing.connection import Connection
 from pathlib import Path
 from typing import Any, Dict, List, Optional
 
+from lib import TOP, z64
+from measure import need, reader
 from rsp_conformance import play
-from lib import TOP
-from lib import z64
-from rsp_tests.common.arguments import reader
 
 SHOWN = 3
 
 
-def run_on_z64(plugin: str, imem: bytes, dmem: bytes, pipe: Connection) -> None:
-    """Runs a program in a process of its own, and sends DMEM at its end."""
-    pipe.send(z64.run(plugin, imem, dmem))
-    pipe.close()
-
-
 def result(plugin: str, imem: bytes, dmem: bytes) -> Optional[bytes]:
     """DMEM after a program, or None if the library crashed or didn't come back within ten seconds."""
-    ours, theirs = multiprocessing.Pipe(False)
-    process = multiprocessing.Process(target=run_on_z64, args=(plugin, imem, dmem, theirs))
-    process.start()
-    theirs.close()
-    found: Optional[bytes] = None
+    words = [sys.executable, z64.__file__, plugin]
     try:
-        if ours.poll(10):
-            found = ours.recv()
-    except EOFError:
-        pass
-    process.kill()
-    process.join()
-    return found
+        ran = subprocess.run(words, input=imem + dmem, stdout=subprocess.PIPE, timeout=10)
+    except subprocess.TimeoutExpired:
+        return None
+    return ran.stdout if ran.returncode == 0 else None
 
 
 def differences(manifest: Dict[str, Any], folder: Path, plugin: str) -> Dict[str, str]:
@@ -59,13 +44,12 @@ def differences(manifest: Dict[str, Any], folder: Path, plugin: str) -> Dict[str
 
 
 def main() -> None:
-    words = reader("tests/part against-z64", __doc__)
+    words = reader(__doc__)
     words.add_argument("--folder", type=Path, default=TOP / "conformance/vectors")
     words.add_argument("--plugin", default=z64.PLUGIN)
     words.add_argument("rows", nargs="*", metavar="ROW", type=str.upper)
     given = words.parse_args()
-    if not Path(given.plugin).exists():
-        sys.exit(f"tests/part against-z64: there is no {given.plugin} (Debian's package mupen64plus-rsp-z64)")
+    need(os.path.abspath(given.plugin))
     table: List[List[Any]] = []
     for path in sorted((given.folder / "programs").glob("*.json")):
         manifest = json.loads(path.read_text())

@@ -1,9 +1,8 @@
-"""tests/part against-qemu [--blocks N] [--seed S] [PROGRAM]: scalar instructions against QEMU's MIPS.
+"""Scalar instructions against QEMU's MIPS, by random blocks: registers and data must be the same at the end.
 
-It fails if a random block of instructions leaves other registers or data there than here; 2 says that a
-program is missing. It makes N blocks (300) of the scalar instructions that a plain big-endian MIPS has too,
-runs each by `qemu-mips` (Debian's package qemu-user) and by `rsp run`, and compares the 32 scalar registers
-and the 4096 bytes of DMEM at the end. The same seed gives the same blocks. No part of the gate.
+Each block of the scalar instructions that a plain big-endian MIPS has too is run by `qemu-mips` and by `rsp
+run`; the 32 scalar registers and the 4096 bytes of DMEM are compared. `BLOCKS=3000 tests/all
+tests/program/test_against_qemu.py` makes another number of blocks than 300, the same ones first.
 
 How a block runs on both: its words are in IMEM from 0 on, and in the ELF file that QEMU runs at 4000 hex, a
 multiple of 4096, so that the processor, which takes addresses modulo 4096, reads the same J and JR as QEMU.
@@ -20,21 +19,21 @@ Left out, since the two differ there on purpose or a plain MIPS lacks it:
   - BREAK, MFC0 and MTC0, moves and all else of the vector unit
 """
 
-import argparse
-import collections
+import os
 import random
 import re
 import struct
-import subprocess
-import sys
-import tempfile
 from pathlib import Path
-from typing import Counter, List, Sequence, Set, Tuple, Union
+from typing import List, Sequence, Set, Tuple
 
+import pytest
+
+from lib.processes import bytes_of, run
 from rsp_conformance.table import ROWS, destination, word_of
-from rsp_tests.common.arguments import add_program, reader
-from lib.processes import lacking
 
+pytestmark = [pytest.mark.outside("it compares with another program, QEMU"), pytest.mark.needs("qemu-mips")]
+
+BLOCKS, PART = int(os.environ.get("BLOCKS", 300)), 25  # how many blocks, and how many a test has
 CODE = 0x4000  # QEMU's address of the block: a multiple of 4096
 SAVED = 0x1000  # where QEMU's end of a block puts the registers, after the data
 SYSCALL = 12
@@ -47,8 +46,7 @@ BRANCHES = ("bltz", "bgez", "blez", "bgtz", "beq", "beq", "bne", "bne")
 INSTEAD = {"add": "addu", "sub": "subu", "addi": "addiu", "lwu": "lw"}
 SMALL = [0, 1, 2, 31, 32, 0x7F, 0x80, 0xFF, 0x7FFF, 0x8000, 0xFFFF]
 NUMBERS = [*SMALL, 0x7FFFFFFF, 0x80000000, 0x80000001, 0xFFFF8000, 0xFFFFFFFF]
-# The registers and the data after a block, or what went wrong.
-Outcome = Union[str, Tuple[Sequence[int], bytes]]
+Outcome = Tuple[Sequence[int], bytes]  # the registers and the data after a block
 
 
 def word(name: str, **fields: int) -> int:
@@ -66,8 +64,8 @@ def for_qemu(given: int) -> int:
 class Block:
     """A random block: its words, the data before it, and the most steps that it can take."""
 
-    def __init__(self, seed: str, used: Counter[str]) -> None:
-        self.random, self.used = random.Random(seed), used
+    def __init__(self, seed: str) -> None:
+        self.seed, self.random = seed, random.Random(seed)
         self.words: List[int] = []
         self.steps, self.loops = 0, 1
         self.kept: Set[int] = set()  # registers that no instruction may write
@@ -91,7 +89,6 @@ class Block:
     def put(self, name: str, **fields: int) -> int:
         """Adds an instruction, and returns its place."""
         self.words.append(word(name, **fields) if fields else ROWS[name].value)
-        self.used[name] += 1
         self.steps += self.loops
         return len(self.words) - 1
 
@@ -185,80 +182,39 @@ def script_of(block: Block) -> str:
     return "".join(line + "\n" for line in lines)
 
 
-def run_qemu(block: Block) -> Outcome:
-    with tempfile.TemporaryDirectory() as folder:
-        file = Path(folder, "block")
-        file.write_bytes(elf_of(block))
-        file.chmod(0o700)
-        ran = subprocess.run(["qemu-mips", str(file)], capture_output=True, timeout=60)
-    if ran.returncode or len(ran.stdout) != SAVED + 128:
-        return f"qemu: status {ran.returncode}, {len(ran.stdout)} bytes, {ran.stderr!r}"
+def run_qemu(block: Block, folder: Path) -> Outcome:
+    file = folder / "block"
+    file.write_bytes(elf_of(block))
+    file.chmod(0o700)
+    ran = bytes_of("qemu-mips", [file])
+    assert (ran.returncode, len(ran.stdout)) == (0, SAVED + 128), (block.seed, ran.stderr)
     return struct.unpack(">32I", ran.stdout[SAVED:]), ran.stdout[:4096]
 
 
-def run_rsp(program: str, block: Block) -> Outcome:
-    given = script_of(block)
-    ran = subprocess.run([program, "run"], input=given, capture_output=True, text=True, timeout=600)
+def run_rsp(program: Path, block: Block) -> Outcome:
+    ran = run(program, "run", input=script_of(block))
     faults = re.findall(r"(?m)^(?:fault|step Reserved).*", ran.stdout)
-    if ran.returncode or faults:
-        return f"rsp: status {ran.returncode} {faults[:1]} {ran.stderr.strip()}"
-    if not re.search("(?m)^step Halted", ran.stdout):
-        return "rsp: the block didn't come to its end"
+    assert (ran.returncode, faults) == (0, []), block.seed
+    assert re.search("(?m)^step Halted", ran.stdout), f"block {block.seed} doesn't come to its end"
     lines = re.findall(r"(?m)^r.*", ran.stdout)
     registers = [int(word, 16) for line in lines for word in line.split()[1:]]
     data = bytes.fromhex("".join(re.findall(r"(?m)^.{6}: (.*)", ran.stdout)))
-    if len(registers) != 32 or len(data) != 4096:
-        return f"rsp: {len(registers)} registers and {len(data)} bytes"
+    assert (len(registers), len(data)) == (32, 4096), block.seed
     return registers, data
 
 
-def differences(program: str, block: Block) -> List[str]:
-    """What differs in a block, as lines with QEMU's number first; none if all is the same."""
-    rsp, qemu = run_rsp(program, block), run_qemu(block)
-    if isinstance(rsp, str) or isinstance(qemu, str):
-        return [it for it in (rsp, qemu) if isinstance(it, str)]
-    found = [f"${n}: {a:08x} and {b:08x}" for n, (a, b) in enumerate(zip(qemu[0], rsp[0])) if a != b]
-    bytes_of = enumerate(zip(qemu[1], rsp[1]))
-    return found + [f"dmem {n:03x}: {a:02x} and {b:02x}" for n, (a, b) in bytes_of if a != b]
-
-
-def keep(folder: Path, name: str, block: Block) -> None:
-    folder.mkdir(parents=True, exist_ok=True)
-    (folder / f"{name}.elf").write_bytes(elf_of(block))
-    (folder / f"{name}.rsp").write_text(script_of(block))
-
-
-def arguments() -> argparse.Namespace:
-    words = reader("tests/part against-qemu", __doc__)
-    add_program(words)
-    words.add_argument("--blocks", type=int, default=300)
-    words.add_argument("--seed", type=int, default=1)
-    words.add_argument(
-        "--keep", type=Path, metavar="FOLDER", help="leave the files of blocks that differ there"
-    )
-    return words.parse_args()
-
-
-def main() -> int:
-    given = arguments()
-    if lacking("qemu-mips"):
-        print(f"tests/part against-qemu: {lacking('qemu-mips')}", file=sys.stderr)
-        return 2
-    used: Counter[str] = collections.Counter()
-    words = wrong = 0
-    for number in range(given.blocks):
-        name = f"{given.seed}.{number}"
-        block = Block(name, used)
-        words += len(block.words)
-        found = differences(given.program, block)
+@pytest.mark.parametrize("first", range(0, BLOCKS, PART))
+def test_blocks(first: int, program: Path, tmp_path: Path) -> None:
+    """A block that differs leaves its script and its ELF file there; QEMU's number is the first."""
+    complaints: List[str] = []
+    for number in range(first, min(first + PART, BLOCKS)):
+        block = Block(f"1.{number}")
+        rsp, qemu = run_rsp(program, block), run_qemu(block, tmp_path)
+        found = [f"${n}: {a:08x} and {b:08x}" for n, (a, b) in enumerate(zip(qemu[0], rsp[0])) if a != b]
+        bytes_of_both = enumerate(zip(qemu[1], rsp[1]))
+        found += [f"dmem {n:03x}: {a:02x} and {b:02x}" for n, (a, b) in bytes_of_both if a != b]
         if found:
-            wrong += 1
-            print(f"block {name}: {'; '.join(found[:8])}")
-            if given.keep:
-                keep(given.keep, name, block)
-    print(f"{given.blocks} blocks, {words} words, {len(used)} instructions, {wrong} blocks differ")
-    return int(wrong > 0)
-
-
-if __name__ == "__main__":
-    sys.exit(main())
+            (tmp_path / f"{number}.rsp").write_text(script_of(block))
+            (tmp_path / "block").rename(tmp_path / f"{number}.elf")
+            complaints.append(f"{tmp_path}/{number}: {'; '.join(found[:8])}")
+    assert not complaints

@@ -1,12 +1,13 @@
-"""tests/part campaigns-rates [--instructions NAME,..] [--workers]: what a case of a campaign costs, as ratios
-of processor time in one run. It fails if a campaign does; no test checks these figures.
+"""Prints what a case of a campaign costs, as ratios of processor time in one run.
 
 A case, generator and comparison included, against a second library through the shared object, over set, word,
 step and get for it in C; and its parts. With --workers also how many times as fast two workers are as one: by
-processor time, and by the clock.
+processor time, and by the clock. It needs library/c/build, numpy, and with --workers Dask.
+It fails if a campaign does.
 """
 
 import ctypes
+import importlib.util
 import os
 import resource
 import sys
@@ -14,13 +15,17 @@ import tempfile
 import time
 from typing import Any, Callable, List
 
-import numpy as np
-from rsp_conformance.campaign.build import built
-from rsp_conformance.campaign.child import BATCH, check_cases
-from rsp_conformance.campaign.emulators import Object
-from rsp_conformance.campaign.generator import END, INSTRUCTIONS, cases_of, memories_of
 from lib import TESTS
-from rsp_tests.common.arguments import need_library, reader
+from measure import need, need_library, reader
+from rsp_conformance.campaign.shared import BATCH
+from rsp_conformance.table import ROWS
+
+if importlib.util.find_spec("numpy"):  # --help does without
+    import numpy as np
+    from rsp_conformance.campaign.build import built
+    from rsp_conformance.campaign.child import check_cases
+    from rsp_conformance.campaign.emulators import Object
+    from rsp_conformance.campaign.generator import END, cases_of, memories_of
 
 COUNT = 16 * BATCH
 EIGHT = "vadd,vmadh,lqv,sqv,beq,vrcp,mtc2,add"
@@ -93,11 +98,12 @@ def tell_workers() -> None:
 
 
 def main() -> None:
-    words = reader("tests/part campaigns-rates", __doc__)
-    words.add_argument("--instructions", default=",".join(INSTRUCTIONS))
+    words = reader(__doc__)
+    words.add_argument("--instructions", default=",".join(ROWS))
     words.add_argument("--workers", action="store_true")
     args = words.parse_args()
-    need_library("tests/part campaigns-rates")
+    need_library()
+    need("cc", "python:numpy", *["python:distributed"] * args.workers)
     calls = ctypes.CDLL(built("rates", source=TESTS / "campaigns/rates.c")).seconds_of
     calls.restype = ctypes.c_double
     names, sums = args.instructions.split(","), np.zeros(4)

@@ -1,21 +1,20 @@
-"""tests/part plugin-speed [--rom] [PROGRAM]: what the plugin takes, beside Debian's z64. No part of the gate.
+"""Prints what the plugin takes, beside Debian's z64.
 
-It prints host instructions, as valgrind's callgrind counts them: of each emulated instruction of the three
-loops of tests/part speed; of a loop with one stop of the run, also on a machine alone that has all RDRAM
+These are host instructions, as valgrind's callgrind counts them: of each emulated instruction of the three
+loops of measure.speed; of a loop with one stop of the run, also on a machine alone that has all RDRAM
 inside and doesn't stop; and of a task, also in check mode. A figure is the difference between a long and a
-short run, divided by that of their counts. It fails only if a tool is missing.
+short run, divided by that of their counts. It fails only if a tool is missing: it needs library/c/build,
+valgrind and z64, and with --rom mupen64plus and a compiler for MIPS.
 """
 
 import re
-import sys
 import tempfile
 from pathlib import Path
 from typing import Dict, List, Optional, Sequence, Tuple
 
-from rsp_tests import speed as loops
-from rsp_tests.common.arguments import LIBRARY, add_program, need_library, reader
-from rsp_tests.common.report import Report, is_left_out
-from rsp_tests.plugin.bench import CORE, FLAGS, HEADERS, HERE, Z64, Bench, begun, speed_task
+from lib.plugin import CORE, FLAGS, HEADERS, HERE, Z64, Bench, begun, speed_task
+from lib.processes import compiled, run
+from measure import LIBRARY, add_program, need, need_library, reader, speed
 
 # Signals of check mode need exact registers under valgrind.
 VALGRIND = (
@@ -35,9 +34,9 @@ mtc0 $5, $c1
 """
 
 
-def instructions(bench: Bench, *words: object, lines: Sequence[str] = ()) -> int:
+def instructions(*words: object, lines: Sequence[str] = ()) -> int:
     """Host instructions of a command with these lines as its input."""
-    got = bench.run(*VALGRIND, *words, input="".join(f"{it}\n" for it in lines))
+    got = run(*VALGRIND, *words, input="".join(f"{it}\n" for it in lines), timeout=3600)
     return int(re.findall(r"Collected : (\d+)", got.stdout)[0])
 
 
@@ -54,15 +53,15 @@ def figure(
     for count in counts:
         rounds = [f"put dmem ff0 {count if tasks else 3:x} 128000", f"tasks {tasks or count}"]
         script = [*begun("WaitReads 2000000000", *options), *lines, *rounds]
-        found.append(instructions(bench, bench.driver, other, lines=script))
+        found.append(instructions(bench.driver, other, lines=script))
     return (found[1] - found[0]) / (counts[1] - counts[0])
 
 
 def loop_of(name: str) -> Tuple[List[str], int]:
-    """A loop of tests/part speed that makes as many turns as ff0 says, and the instructions of a turn."""
-    words = loops.LOOPS[name].split()
-    code = f"put imem 0 8c020ff0 {loops.PROLOGUE} {' '.join(words)} 0000000d"
-    return [code, f"put dmem 0 {loops.DATA[:0xF00].hex(' ', 4)}"], len(words)
+    """A loop of measure.speed that makes as many turns as ff0 says, and the instructions of a turn."""
+    words = speed.LOOPS[name].split()
+    code = f"put imem 0 8c020ff0 {speed.PROLOGUE} {' '.join(words)} 0000000d"
+    return [code, f"put dmem 0 {speed.DATA[:0xF00].hex(' ', 4)}"], len(words)
 
 
 def head(title: str, names: Sequence[str]) -> None:
@@ -75,17 +74,17 @@ def row(title: str, figures: Sequence[float]) -> None:
 
 
 def steps(bench: Bench) -> None:
-    head("Host instructions a step", [*loops.LOOPS])
+    head("Host instructions a step", [*speed.LOOPS])
     for title, other in (("the plugin", bench.plugin), ("z64", Z64)):
         figures = []
-        for lines, length in map(loop_of, loops.LOOPS):
+        for lines, length in map(loop_of, speed.LOOPS):
             figures.append(figure(bench, other, lines, (2000, 8000)) / length)
         row(title, figures)
 
 
 def stops(bench: Bench) -> None:
     """Turns of a loop: four instructions and a DMA, or a read of a register."""
-    alone = bench.built("alone", *FLAGS, HERE / "alone.c", LIBRARY)
+    alone = compiled(bench.folder / "alone", *FLAGS, HERE / "alone.c", LIBRARY)
     codes = {
         f"{length} bytes {way}": SETTING % (length - 1) + f"mtc0 $3, $c{register}\n{TURN}"
         for length in (8, 256)
@@ -99,7 +98,7 @@ def stops(bench: Bench) -> None:
         row(title, [figure(bench, other, [f"put imem 0 {words}"], counts) for words in turns])
     figures = []
     for words in turns:
-        short, long = (instructions(bench, alone, count, *words.split()) for count in counts)
+        short, long = (instructions(alone, count, *words.split()) for count in counts)
         figures.append((long - short) / (counts[1] - counts[0]))
     row("the machine alone", figures)
 
@@ -119,7 +118,6 @@ def tasks(bench: Bench) -> None:
 def seconds(bench: Bench) -> None:
     """The least of three each, in turns of both plugins."""
     rom = bench.rom("speed", "-DWAITS=0", "-DBLOCKS=300", "-DTASKS=1000")
-    bench.front()
     least: Dict[str, float] = {}
     for _ in range(3):
         for title, other in (("the plugin", bench.plugin), ("z64", Z64)):
@@ -132,21 +130,17 @@ def seconds(bench: Bench) -> None:
 
 
 def main() -> None:
-    words = reader("tests/part plugin-speed", __doc__)
+    words = reader(__doc__)
     rom = "print the seconds from the emulator's start to the ROM's end, 1,000 tasks of 67,000 instructions"
     words.add_argument("--rom", action="store_true", help=rom)
     add_program(words)
     given = words.parse_args()
-    need_library("tests/part plugin-speed")
-    emulator = (HEADERS, CORE, "mips-linux-gnu-gcc") if given.rom else ()
-    if is_left_out("the speed of the plugin", "valgrind", Z64, *emulator):
-        sys.exit(1)
-    report = Report()
+    need_library()
+    need("valgrind", Z64, *((HEADERS, CORE, "mips-linux-gnu-gcc") if given.rom else ()))
     with tempfile.TemporaryDirectory() as folder:
-        bench = Bench(report, Path(folder), Path(given.program).resolve())
+        bench = Bench(Path(folder), given.program)
         for part in [seconds] if given.rom else [steps, stops, tasks]:
             part(bench)
-    sys.exit(report.failed > 0)
 
 
 if __name__ == "__main__":

@@ -1,21 +1,22 @@
-"""tests/part speed [--lines|--z64|--time] [PROGRAM]: host instructions for emulated ones and script lines.
+"""Prints host instructions for emulated ones and script lines; what is much is for the reader to judge.
 
-It fails if the program or z64 gives another answer than it should; what is much is for the reader to judge.
+It fails if the program or z64 gives another answer than it should.
 
 valgrind's callgrind counts. Three loops: scalar instructions, vector computing instructions, and both mixed
 with loads and stores. For each
   steps      one call of Machine::steps, in a driver that is built from the proved libraries
   step       a loop over Machine::step, in the same driver
   recorded   a loop over Debugger::step with a history of 256 states, there too; each step is a call
-  run        the command `run` of PROGRAM (./rsp if none is named), which records its steps too, with nothing
-             to stop at, with a breakpoint that is never reached, with a watch of bytes that never change
+  run        the command `run` of PROGRAM, which records its steps too, with nothing to stop at, with a
+             breakpoint that is never reached, with a watch of bytes that never change
 Then a table of script lines: what PROGRAM takes to read one, to carry it out and to write its reply.
 On z64, another emulator (Debian's mupen64plus-rsp-z64), a loop ends after a number of rounds; then it stores
 all registers, and DMEM must be the one that PROGRAM has after the same words. With --time z64 and `run` take
 turns, and the least counts, so that other work disturbs little: the ratio is what may be compared.
 
 A figure is the difference between a long and a short run, divided by the difference of their steps or lines.
-The driver's libraries are proved first, which takes minutes. No part of the gate.
+The driver's libraries are proved first, which takes minutes. It needs valgrind (not for --time), `rt` (for
+the loops) and z64 (for --z64 and --time).
 """
 
 import os
@@ -28,10 +29,9 @@ import tempfile
 from pathlib import Path
 from typing import Callable, Dict, Iterable, List, Sequence, Tuple
 
-from lib import TESTS, TOP
-from lib import z64
-from rsp_tests.common.arguments import PROGRAM, add_program, reader
-from lib.processes import need, run
+from lib import TOP, z64
+from lib.processes import run
+from measure import add_program, need, reader
 
 SHORT, LONG = 100_000, 500_000
 ROUNDS = (6_000, 30_000)  # on z64
@@ -186,7 +186,9 @@ def driver(folder: Path) -> Path:
         f"const {name.upper()}: [u8; {len(code(name))}] = [{', '.join(map(str, code(name)))}];"
         for name in LOOPS
     )
-    (crate / "src/main.rt").write_text((TESTS / "speed/driver.rt.in").read_text().replace("@TABLES@", tables))
+    (crate / "src/main.rt").write_text(
+        Path(__file__).with_name("driver.rt.in").read_text().replace("@TABLES@", tables)
+    )
     crates = re.sub(r"(?m)^rsp_(main|tests_machine)\b.*\n", "", (TOP / "crates.txt").read_text())
     used = "rsp_driver: rsp_acc rsp_memory rsp_machine rsp_debug\n"
     (folder / "crates.txt").write_text(crates.rstrip("\n") + "\n" + used)
@@ -258,7 +260,7 @@ NEEDED = {
 
 
 def main() -> None:
-    words = reader("tests/part speed", __doc__)
+    words = reader(__doc__)
     add_program(words)
     kinds = words.add_mutually_exclusive_group()
     for name, it, said in (
@@ -268,8 +270,8 @@ def main() -> None:
     ):
         kinds.add_argument(name, dest="tell", action="store_const", const=it, default=tell_loops, help=said)
     given = words.parse_args()
-    need("tests/part speed", *NEEDED[given.tell])
-    given.tell(PROGRAM if given.program == str(TOP / "rsp") else Path(given.program))
+    need(*NEEDED[given.tell])
+    given.tell(given.program)
 
 
 if __name__ == "__main__":

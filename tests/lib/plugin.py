@@ -1,4 +1,8 @@
-"""What tests of the plugin share: a folder with the plugin, its driver, microcode and an emulator's ROM."""
+"""The plugin of mupen64plus under test: its driver, microcode, an emulator's ROM, and plugins with a fault.
+
+`tools/python lib.plugin FOLDER [PROGRAM]` makes what the hunt of docs/PLUGIN.md needs: the plugin, one with a
+fault, and the ROM, whole and without the tasks that wait for the CPU.
+"""
 
 import os
 import re
@@ -7,15 +11,12 @@ import sys
 from pathlib import Path
 from typing import Iterator, List, Optional, Sequence, Tuple
 
-from lib import TESTS, TOP
-from lib import z64
-from rsp_tests.common.arguments import LIBRARY
-from lib.processes import run
-from rsp_tests.common.report import Report
-from rsp_tests.common.workshop import STRICT, Workshop
+from lib import TESTS, TOP, z64
+from lib.processes import STRICT, compiled, run, succeeds
 
 HERE = TESTS / "plugin"
 ROM = HERE / "rom"
+LIBRARY = TOP / "library/c/librsp.a"
 HEADERS = Path("/usr/include/mupen64plus")
 CORE = Path("/usr/lib/x86_64-linux-gnu/libmupen64plus.so.2")
 FRONT_END = Path("/usr/games/mupen64plus")
@@ -41,37 +42,28 @@ def halves(numbers: Sequence[int]) -> str:
     return " ".join(f"{a & 0xFFFF:04x}{b & 0xFFFF:04x}" for a, b in zip(numbers[::2], numbers[1::2]))
 
 
-def shown(**values: int) -> List[str]:
-    """What the driver's `registers` prints, if all others are 0."""
-    return [f"{name} {values.get(name, 0):08x}" for name in z64.REGISTERS]
+class Bench:
+    """The plugin under test in a folder of its own, and the program that assembles microcode."""
 
-
-class Bench(Workshop):
-    """The plugin that is tested, and the program that assembles microcode."""
-
-    def __init__(self, report: Report, folder: Path, program: Path, plugin: Optional[Path] = None) -> None:
-        super().__init__(report, folder)
-        self.program, self.driver = program, folder / "driver"
+    def __init__(self, folder: Path, program: Path, plugin: Optional[Path] = None) -> None:
+        self.folder, self.program = folder, program
         self.plugin = plugin or folder / "rsp-proved.so"
         if not plugin:
-            environment = {**os.environ, "CFLAGS": "-Werror"}
-            self.succeeds("plugin/build", TOP / "plugin/build", self.plugin, env=environment)
-        self.built("driver", *FLAGS, "-rdynamic", HERE / "driver.c", "-ldl", "-lpthread")
+            succeeds(TOP / "plugin/build", self.plugin, env={**os.environ, "CFLAGS": "-Werror"})
+        parts = ("-rdynamic", HERE / "driver.c", "-ldl", "-lpthread")
+        self.driver = compiled(folder / "driver", *FLAGS, *parts)
 
-    def drive(
-        self, lines: Sequence[str], plugin: Optional[Path] = None, under: Sequence[str] = ()
-    ) -> List[str]:
+    def drive(self, lines: Sequence[str], under: Sequence[str] = ()) -> List[str]:
         """What the driver prints, line by line; at its end its status, if that isn't 0."""
-        words = (*under, self.driver, plugin or self.plugin)
-        got = self.run(*words, input="".join(f"{it}\n" for it in lines))
+        given = "".join(f"{it}\n" for it in lines)
+        got = run(*under, self.driver, self.plugin, input=given, cwd=self.folder)
         return got.stdout.splitlines() + [f"status {got.returncode}"] * (got.returncode != 0)
 
-    def words(self, text: str, at: int = 0) -> str:
+    def words(self, text: str) -> str:
         """The words of an assembly text, in hexadecimal."""
-        source, out = self.put("text.s", text), self.folder / "text.bin"
-        got = run(self.program, "asm", source, out, "--at", hex(at))
-        if got.returncode:
-            sys.exit(f"tests/part plugin: {got.stdout}")
+        source, out = self.folder / "text.s", self.folder / "text.bin"
+        source.write_text(text)
+        succeeds(self.program, "asm", source, out)
         return " ".join(f"{it:08x}" for (it,) in struct.iter_unpack(">I", out.read_bytes()))
 
     def microcode(self, name: str) -> str:
@@ -80,43 +72,38 @@ class Bench(Workshop):
 
     def faulty(self, fault: int) -> Path:
         """A plugin with a planted fault."""
+        made = self.folder / f"faulty-{fault}.so"
         wraps = "-Wl,--wrap=rsp_step,--wrap=rsp_run_until_move,--wrap=rows_out"
         flags = (*FLAGS, f"-DFAULT={fault}", "-fPIC", "-fvisibility=hidden", "-shared", wraps)
         parts = (HERE / "faulty.c", *sorted((TOP / "plugin").glob("*.c")), LIBRARY, "-ldl")
-        self.built(f"faulty-{fault}.so", *flags, *parts)
-        return self.folder / f"faulty-{fault}.so"
+        return made if made.exists() else compiled(made, *flags, *parts)
 
     def rom(self, name: str, *defines: str) -> Path:
         """The ROM as a file: a header, the boot code, and the program from 1000 on."""
-        at = self.folder / "rom"
+        at, out = self.folder / "rom", self.folder / f"{name}.z64"
         at.mkdir(exist_ok=True)
         for source in sorted(ROM.glob("*.s")):
             place = PLACES.get(source.stem, "0")
-            binary = at / f"{source.stem}.bin"
-            self.succeeds(f"asm {source.name}", self.program, "asm", source, binary, "--at", place)
+            succeeds(self.program, "asm", source, at / f"{source.stem}.bin", "--at", place)
         for file in "boot.S", "cpu.c":
-            flags = (*MIPS, *defines, f"-Wa,-I{at}", "-c")
-            self.built(f"rom/{file}.o", *flags, ROM / file, compiler="mips-linux-gnu-gcc")
+            flags = (*MIPS, *defines, f"-Wa,-I{at}", "-c", ROM / file)
+            compiled(at / f"{file}.o", *flags, compiler="mips-linux-gnu-gcc")
         script = ("-EB", "-T", ROM / "rom.ld", "--defsym=_gp=0")
-        self.built("rom/rom.elf", *script, at / "boot.S.o", at / "cpu.c.o", compiler="mips-linux-gnu-ld")
+        compiled(at / "rom.elf", *script, at / "boot.S.o", at / "cpu.c.o", compiler="mips-linux-gnu-ld")
         for section in "boot", "text":
             copy = ("mips-linux-gnu-objcopy", "-O", "binary", "-j", f".{section}")
-            self.succeeds(f"section {section}", *copy, at / "rom.elf", at / section)
+            succeeds(*copy, at / "rom.elf", at / section)
         image = (HEADER + (at / "boot").read_bytes()).ljust(0x1000, b"\0") + (at / "text").read_bytes()
-        out = self.folder / f"{name}.z64"
         out.write_bytes(image.ljust(0x101000, b"\0"))
         return out
 
-    def front(self) -> Path:
-        """The front end that plays a ROM to its end."""
-        self.built("front", *FLAGS, f"-I{HEADERS}", HERE / "front.c", "-ldl", "-lpthread")
-        return self.folder / "front"
-
     def played(self, rom: Path, plugin: Path, mode: int, *options: str) -> Tuple[str, bytes]:
-        """What the front end prints, and the RDRAM at the end."""
-        out = self.folder / "rdram"
+        """What a front end prints that plays a ROM to its end (front.c), and the RDRAM then."""
+        front, out = self.folder / "front", self.folder / "rdram"
+        if not front.exists():
+            compiled(front, *FLAGS, f"-I{HEADERS}", HERE / "front.c", "-ldl", "-lpthread")
         out.unlink(missing_ok=True)
-        got = self.run(self.folder / "front", CORE, rom, plugin, out, mode, 60, *options)
+        got = run(front, CORE, rom, plugin, out, mode, 60, *options, cwd=self.folder)
         return got.stdout, out.read_bytes() if out.exists() else b""
 
 
@@ -166,12 +153,32 @@ def checked(bench: Bench, other: object, tasks: Sequence[Sequence[str]], *option
     return [it.split("check: ")[1] for it in said if "check: " in it]
 
 
-def see_played(bench: Bench, task: int) -> None:
+def assert_plays(bench: Bench, task: int) -> None:
     """The script of a difference has our registers before and after it, and our DMEM, as its last replies."""
     text = (bench.folder / f"rsp-task-{task}.txt").read_text()
     script = (bench.folder / f"rsp-task-{task}.script").read_text()
     got = run(bench.program, "run", input=script).stdout
     expected = re.findall(r"\nOur [^\n]*:\n(.*?)(?=\n\n|\Z)", text.rstrip("\n"), re.S)
+    assert len(expected) in (2, 3), text
     replies = f"{expected[0]}\nstep Done pc {expected[1][3:6]}\n" + "\n".join(expected[1:]) + "\n"
-    is_right = got.endswith(replies) and "fault" not in got and len(expected) in (2, 3)
-    bench.see(f"the script of task {task}, played", is_right, got[-6000:])
+    assert "fault" not in got and got[-len(replies) :] == replies
+
+
+def make_hunt(bench: Bench) -> None:
+    """The plugins and ROMs of the hunt."""
+    for fault in 0, 1:
+        bench.faulty(fault)
+    bench.rom("short", "-DWAITS=0")  # z64 doesn't come back from the tasks that wait for the CPU
+    bench.rom("all")
+
+
+def main() -> None:
+    if len(sys.argv) not in (2, 3) or sys.argv[1].startswith("-"):
+        sys.exit(__doc__)
+    folder = Path(os.path.abspath(sys.argv[1]))
+    folder.mkdir(parents=True, exist_ok=True)
+    make_hunt(Bench(folder, Path(os.path.abspath(sys.argv[2])) if sys.argv[2:] else TOP / "rsp"))
+
+
+if __name__ == "__main__":
+    main()

@@ -1,0 +1,149 @@
+"""The cases of campaigns: numbered, with PCG64's random words, at edges, and with all pairs that matter."""
+
+import hashlib
+from typing import Any, Callable, Iterator, Tuple
+
+import pytest
+
+from lib import TOP
+from lib.campaigns import ENV
+from lib.processes import succeeds
+from rsp_conformance.cases import signed
+from rsp_conformance.table import ROWS
+
+pytestmark = pytest.mark.needs("cc", "python:numpy")
+
+MULTIPLIER = 0x2360ED051FC65DA44385DF649FCCF645
+
+
+@pytest.mark.parametrize("name", ROWS)
+def test_numbered_cases(name: str, library: object) -> None:
+    """A case alone is that of any range, and a machine can be in its state."""
+    import numpy as np
+    from rsp_conformance.campaign.build import built
+    from rsp_conformance.campaign.emulators import Object
+    from rsp_conformance.campaign.generator import END, cases_of, memories_of
+
+    whole, part = cases_of(name, "t", 0, 1500)[0], cases_of(name, "t", 900, 300)[0]
+    assert part.tobytes() == whole[900:1200].tobytes()
+    for number in 0, 901, 1024, 1499:
+        assert cases_of(name, "t", number, 1)[0][0].tobytes() == whole[number].tobytes(), number
+    ends = np.zeros(1500, END)
+    Object(built("library"), memories_of("add", "t")).fill(whole, ends)  # it refuses a state of no machine
+    assert not ends["status"].any()
+
+
+def raw_words(what: str, seed: str, start: int, count: int) -> Iterator[int]:
+    """Words of PCG64 as its paper has it (XSL-RR 128/64), each by a jump of its own."""
+    key = int.from_bytes(hashlib.sha256(f"2/{what}/{seed}".encode()).digest(), "little")
+    state, increment = key >> 128, key % 2**128 | 1
+    for number in range(start + 1, start + count + 1):
+        factor, term, a, c = 1, 0, MULTIPLIER, increment  # state after `number` steps: factor * state + term
+        while number:
+            if number % 2:
+                factor, term = factor * a % 2**128, (term * a + c) % 2**128
+            a, c, number = a * a % 2**128, (a + 1) * c % 2**128, number // 2
+        value = (factor * state + term) % 2**128
+        turn, folded = value >> 122, (value >> 64 ^ value) % 2**64
+        yield (folded >> turn | folded << (-turn % 64)) % 2**64
+
+
+def test_random_words() -> None:
+    from rsp_conformance.campaign.generator import WORDS, Draw, cases_of
+
+    far = 10**12
+    raw = Draw("vadd", "7", far, 2).raw.reshape(-1).tolist()
+    assert raw == [*raw_words("vadd", "7", far * WORDS, 2 * WORDS)]
+    one, two = (cases_of("vadd", seed, 0, 9)[0].tobytes() for seed in "12")
+    assert one != two
+
+
+def selected(e: int, lane: int) -> int:
+    """The lane of vt that an element selects for a lane, as the instruction table has it."""
+    return lane if e < 2 else lane & ~1 | e & 1 if e < 4 else lane & ~3 | e & 3 if e < 8 else e & 7
+
+
+def operands_of(name: str, count: int) -> Tuple[Any, Any, Any, Any]:
+    """The elements of cases, their operands a and b by lanes, and accumulators; all from words and states."""
+    import numpy as np
+    from rsp_conformance.campaign.generator import cases_of
+
+    cases, each = cases_of(name, "t", 0, count)[0], np.arange(count)
+    word, vectors = cases["word"].astype(np.int64), cases["state"]["vectors"].astype(np.int64)
+    e, lanes = word >> 21 & 15, np.array([[selected(e, lane) for lane in range(8)] for e in range(16)])
+    a, b = vectors[each, word >> 11 & 31], vectors[each[:, None], (word >> 16 & 31)[:, None], lanes[e]]
+    parts = cases["state"]["accumulators"]
+    high, middle, low = (parts[part].astype(np.int64) for part in ("high", "middle", "low"))
+    return e, a, b, signed(high, 16) << 32 | middle << 16 | low
+
+
+def test_addresses() -> None:
+    """SQV meets each address of DMEM and each element, and one case of 20 passes the end of DMEM."""
+    import numpy as np
+    from rsp_conformance.campaign.generator import cases_of
+
+    cases = cases_of("sqv", "t", 0, 1 << 16)[0]
+    word, words = cases["word"].astype(np.int64), cases["state"]["words"].astype(np.int64)
+    address = words[np.arange(1 << 16), word >> 21 & 31] + 16 * signed(word & 127, 7) & 0xFFF
+    assert (len(np.unique(address)), len(np.unique(word >> 7 & 15))) == (4096, 16)
+    assert (address + 16 > 4096).mean() > 0.05
+
+
+def test_lanes_next_to_one_another() -> None:
+    """VADD meets each element, and a lane of five is next to the other operand's."""
+    import numpy as np
+
+    e, a, b, _accumulators = operands_of("vadd", 1 << 16)
+    assert len(np.unique(e)) == 16
+    assert (np.isin(a - b, (0, 1, -1)) | np.isin(a + b, (0xFFFF, 0x10000))).mean() > 0.2
+
+
+def test_limits_of_clamps() -> None:
+    """A lane of 100 of VMACF comes to a limit of the clamp."""
+    import numpy as np
+
+    _e, a, b, accumulators = operands_of("vmacf", 1 << 16)
+    sums = accumulators + 2 * signed(a, 16) * signed(b, 16)
+    assert np.isin(sums, [limit + by for limit in (-1 << 31, 1 << 31) for by in (-1, 0, 1)]).mean() > 0.01
+
+
+@pytest.mark.parametrize("name", ROWS)
+def test_pairs(name: str) -> None:
+    """Over 65,536 cases each pair that matters is as frequent as in independent draws."""
+    from rsp_conformance.campaign import pairs
+    from rsp_conformance.campaign.generator import cases_of
+
+    assert pairs.short(ROWS[name], cases_of(name, "1", 0, pairs.COUNT)[0]) == []
+
+
+def test_command_of_pairs() -> None:
+    said = succeeds(TOP / "tools/python", "rsp_conformance.campaign.pairs", "lqv", "VMOV", env=ENV)
+    assert said == "LQV has all\nVMOV has all\n"
+
+
+def no_zero(word: Any, number: Any) -> Any:
+    import numpy as np
+
+    return np.maximum(word >> 21 & 31, 1)
+
+
+@pytest.mark.parametrize(
+    "name, low, field, value",
+    [
+        ("lqv", 21, 31, no_zero),
+        ("vmov", 11, 7, lambda word, number: (word >> 21) + 1 & 7),
+        ("vadd", 21, 15, lambda word, number: word >> 21 & 14 | word >> 16 & 1),
+        ("vrcpl", 21, 15, lambda word, number: number % 16 & 14),
+    ],
+    ids=["a base that is never $0", "a lane by the element", "an element by a register", "one by the number"],
+)
+def test_missing_pairs(name: str, low: int, field: int, value: Callable[[Any, Any], Any]) -> None:
+    """A lacking pair is found."""
+    import numpy as np
+    from rsp_conformance.campaign import pairs
+    from rsp_conformance.campaign.generator import cases_of
+
+    cases = cases_of(name, "1", 0, pairs.COUNT)[0]
+    word = cases["word"].astype(np.int64)
+    cases["word"] = word & ~(field << low) | value(word, np.arange(pairs.COUNT)) << low
+    assert pairs.short(ROWS[name], cases)

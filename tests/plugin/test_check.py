@@ -1,0 +1,146 @@
+"""Check mode beside plugins with a planted fault (faulty.c), and beside Debian's z64, which differs."""
+
+import re
+import shutil
+from typing import List
+
+import pytest
+
+from lib import TOP
+from lib.plugin import Z64, Bench, assert_plays, begun, checked, tasks_of_rom
+
+pytestmark = [pytest.mark.needs("cc"), pytest.mark.xdist_group("plugin")]
+
+# Three turns of a loop: 4000 times 0008 by 65536 is 2 in each lane. The product is stored in the delay slot
+# of the branch, at 01c.
+PRODUCTS = """addiu $2, $0, 3
+loop: lqv $v1[0], 0($0)
+lqv $v2[0], 16($0)
+vmudm $v3, $v1, $v2
+addiu $2, $2, -1
+vmudm $v3, $v1, $v2
+bne $2, $0, loop
+sqv $v3[0], 32($0)
+break
+"""
+TRANSFER = """lw $1, 0xf00($0)
+mtc0 $1, $c0
+lw $2, 0xf04($0)
+mtc0 $2, $c1
+lw $3, 0xf08($0)
+mtc0 $3, $c3
+break
+"""
+# What z64 does otherwise, by conformance/Z64.md: the word, and what is named. $v1 is 8000 in all lanes, $v2
+# other numbers in each, $2 -1.
+Z64_DIFFERS = {
+    "lwu $4, 0($0)": "$4 is",
+    "vrsq $v4[0], $v2[0]": "$v4 is",
+    "vmulu $v4, $v1, $v1": "$v4 is",
+    "vmov $v4[1], $v2[2]": "accumulator",
+    "ldv $v4[9], 16($0)": "$v5 is",
+    "sdv $v2[9], 64($0)": "DMEM",
+    "bltzal $2, 0x100": "pc is|$31 is",
+    "mtc0 $2, $c0": "SP_MEM_ADDR is",
+    "mfc0 $4, $c7": "SP_SEMAPHORE is",
+    "vabs $v4, $v2, $v1": "accumulator",
+}
+SETTING = "addiu $2, $0, -1\nlqv $v1[0], 0($0)\nlqv $v2[0], 16($0)\n"
+SHOWING = """
+vsar $v6, $v6, $v6[2]
+sqv $v4[0], 128($0)
+sqv $v5[0], 144($0)
+sqv $v6[0], 160($0)
+sw $4, 176($0)
+sw $31, 180($0)
+break
+"""
+
+
+def products(bench: Bench) -> List[str]:
+    return [f"put imem 0 {bench.words(PRODUCTS)}", f"put dmem 0 {'40004000 ' * 4} {'00080008 ' * 4}"]
+
+
+def test_no_fault(bench: Bench) -> None:
+    tasks = tasks_of_rom(bench)
+    assert checked(bench, bench.faulty(0), tasks)[1:] == [f"{len(tasks)} tasks, 0 differ"]
+
+
+@pytest.mark.parametrize(
+    "name, said",
+    [
+        ("none.so", "none.so: cannot open shared object file"),
+        ("librsp.so", "librsp.so isn't an RSP plugin"),
+    ],
+)
+def test_no_plugin(name: str, said: str, bench: Bench) -> None:
+    """The words of the checked program end at whitespace, which the repository's path may have."""
+    shutil.copy(TOP / "library/c/librsp.so", bench.folder)
+    other = bench.folder / name if name == "librsp.so" else name
+    (told,) = checked(bench, other, tasks_of_rom(bench)[:1])
+    assert said in told
+
+
+def test_options_of_the_next_rom(bench: Bench) -> None:
+    """From ROM to ROM the user chooses a right plugin, a wrong one, none, and the wrong one again."""
+    right, wrong = (f"CheckAgainst {bench.faulty(it)}" for it in (0, 1))
+    lines = begun(f"CheckFolder {bench.folder}")[:-1]
+    for chosen in (right, wrong, "CheckAgainst", wrong):
+        lines += [f"option {chosen}", "initiate", "set SP_PC 0", "set SP_STATUS 0", *products(bench)]
+        lines += ["cycles 100000000", "close"]
+    ends = [it.partition(" ")[2][2:] for it in bench.drive(lines) if re.search(r"\d tasks", it)]
+    agree, differ = (["1 tasks", f"check: 1 tasks, {it} differ"] for it in (0, 1))
+    assert ends == [*agree, *differ, "1 tasks", *differ]
+
+
+def test_folder_that_cannot_be_written(bench: Bench) -> None:
+    said = checked(bench, bench.faulty(1), [products(bench)], "CheckFolder /proc/none")
+    lost = [f"cannot write /proc/none/rsp-task-1.{it}" for it in ("txt", "script")]
+    assert said[-3:] == [*lost, "1 tasks, 1 differ"]
+
+
+def test_wrong_lane(bench: Bench) -> None:
+    """VMUDM sets the lowest bit of lane 5.
+
+    It shows in the word of lanes 4 and 5 when it is stored: in the eighth step, after a task that is right.
+    """
+    said = checked(bench, bench.faulty(1), [["put imem 0 0000000d"], products(bench)])
+    difference = "DMEM 000028 is 00020002 here and 00020003 there"
+    step = f"task 2, step 8, 01c: {bench.words('sqv $v3[0], 32($0)')} sqv $v3[0], 32($0): {difference}"
+    files = [f"{bench.folder}/rsp-task-2.{it}" for it in ("txt", "script")]
+    assert said[1:] == [f"task 2: {difference}", step, *files, "2 tasks, 1 differ"]
+    assert_plays(bench, 2)
+    text = (bench.folder / "rsp-task-2.txt").read_text()
+    assert text.endswith("The other's DMEM after it:\n000020: 00020002000200020002000300020002\n")
+
+
+@pytest.mark.parametrize(
+    "fault, difference",
+    [
+        (2, "RDRAM 003000 is 00000003 here and 00000000 there"),
+        (3, "RDRAM 002ff8 is 00000005 here and 00000001 there"),
+    ],
+    ids=["eight bytes more", "nothing"],
+)
+def test_wrong_transfer(fault: int, difference: str, bench: Bench) -> None:
+    """A DMA to RDRAM that writes too much or nothing.
+
+    No register shows it, and no byte that the plugin should have used.
+    """
+    setting = ["put dmem f00 00000100 00002ff8 00000007", "put rdram 2ff8 1 2 3 4", "put dmem 100 5 6"]
+    said = checked(bench, bench.faulty(fault), [[f"put imem 0 {bench.words(TRANSFER)}", *setting]])
+    step = f"task 1, step 6, 014: {bench.words('mtc0 $3, $c3')} mtc0 $3, $c3: {difference}"
+    assert said[1:3] == [f"task 1: {difference}", step]
+    assert said[-1] == "1 tasks, 1 differ"
+    assert_plays(bench, 1)
+
+
+@pytest.mark.needs(str(Z64))
+@pytest.mark.parametrize("text", Z64_DIFFERS)
+def test_z64(text: str, bench: Bench) -> None:
+    """Each known difference is found at the fourth step of its task, and what differs is named."""
+    memory = f"put dmem 0 {'80008000 ' * 4} 87654321 c001d00d 00077e57 12348abc"
+    said = checked(bench, Z64, [[f"put imem 0 {bench.words(SETTING + text + SHOWING)}", memory]])
+    (step,) = [it for it in said if it.startswith("task 1, step 4, 00c: ")]
+    assert f" {text}: " in step and any(it in step for it in Z64_DIFFERS[text].split("|")), said
+    assert_plays(bench, 1)

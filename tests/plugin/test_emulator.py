@@ -1,0 +1,158 @@
+"""The ROM (rom/) in mupen64plus, in its three CPU modes and by Debian's front end."""
+
+import contextlib
+import os
+import re
+import subprocess
+from pathlib import Path
+from typing import Any, Dict, Iterator, List, Tuple
+
+import pytest
+
+from lib.packages import need
+from lib.pages import page
+from lib.plugin import CORE, FRONT_END, GRAPHICS, HEADERS, Z64, Bench, make_hunt, results
+from lib.processes import run
+
+pytestmark = [pytest.mark.needs("cc"), pytest.mark.xdist_group("plugin-rom")]
+
+LAST = "task-12.script"  # the last line of check mode about the ROM
+MODES = {"interpreter": 0, "cached interpreter": 1, "recompiler": 2}
+RESULTS = 79  # calls of `see` in rom/cpu.c, with those in loops
+# The semaphore, what the DMA registers hold after a DMA, and a DMA round the end of DMEM:
+# conformance/Z64.md, at MFC0 and MTC0.
+Z64_WRONG = {0x602, 0x604, 0x605, 0x606, 0x609, 0x60A, 0x60B, 0x610, 0x611}
+HUNT = page("docs/PLUGIN.md").split("## Check a plugin of your own")[1]
+TOLD = re.findall(r"^    (RSP\D*: check: .*)", HUNT, re.M)  # what check mode says, by the page
+PLAYS = r"(?ms)^    (\S*mupen64plus --.*?[^\\])$"  # a command of the page
+
+
+@pytest.fixture(scope="session")
+def hunt(bench: Bench) -> Bench:
+    """The bench with the plugins and ROMs of the page's hunt in its folder."""
+    need("mips-linux-gnu-gcc")
+    make_hunt(bench)
+    return bench
+
+
+@pytest.fixture(scope="session")
+def played(hunt: Bench) -> Dict[str, Tuple[str, bytes]]:
+    """What the ROM's plays in each CPU mode say, with the RDRAM at their ends."""
+    need(str(HEADERS), str(CORE))
+    return {name: hunt.played(hunt.folder / "all.z64", hunt.plugin, mode) for name, mode in MODES.items()}
+
+
+@pytest.mark.parametrize("mode", MODES)
+def test_results(mode: str, played: Dict[str, Tuple[str, bytes]]) -> None:
+    """Each result of the ROM is right, and all are there."""
+    said, rdram = played[mode]
+    assert "front done" in said and rdram, said
+    found = [*results(rdram)]
+    wrong = [f"{n:03x}: {got:08x}, expected {it:08x}" for n, is_right, got, it in found if not is_right]
+    assert (wrong, len(found)) == ([], RESULTS)
+    assert rdram[0x3FFFF0:0x3FFFF8] == b"DONE\0\0\0\0"
+
+
+def test_all_modes_leave_the_same_rdram(played: Dict[str, Tuple[str, bytes]]) -> None:
+    assert len({rdram for _said, rdram in played.values()}) == 1
+
+
+@pytest.mark.needs(str(HEADERS), str(CORE), str(Z64))
+def test_rom_on_z64(hunt: Bench) -> None:
+    """The ROM finds z64's differences by the CPU, and nothing else."""
+    said, rdram = hunt.played(hunt.folder / "short.z64", Z64, 2)
+    found = [*results(rdram)]
+    assert {number for number, is_right, *_ in found if not is_right} == Z64_WRONG, said
+    assert len(found) == RESULTS - 9
+
+
+@pytest.mark.needs(str(HEADERS), str(CORE))
+def test_hunt_of_page(hunt: Bench) -> None:
+    """The hunt of docs/PLUGIN.md, by the same plugins on the same ROM, and the script of its difference."""
+    said, _ = hunt.played(hunt.folder / "all.z64", hunt.plugin, 2, "CheckAgainst=./faulty-1.so")
+    found = re.findall(r"^rsp \d check: (.*)", said, re.M)
+    assert len(TOLD) == 5
+    assert found[1:] == [*(it.partition("check: ")[2] for it in TOLD), "12 tasks, 1 differ"]
+    script = (hunt.folder / "rsp-task-12.script").read_text()
+    more = re.findall(r"printf '(.*?)'", HUNT)[0].replace("\\n", "\n")
+    script = script[: script.index("\nregs\n") + 1] + more
+    replies = run(hunt.program, "run", input=script).stdout.splitlines()[-37:]
+    shown = re.findall(r"^    (.*)", HUNT.split("| rsp run\n")[1], re.M)
+    assert len(shown) == 8
+    assert [it for it in replies if it in shown] == shown
+
+
+@pytest.mark.needs(str(HEADERS), str(CORE))
+def test_hunt_without_fault(hunt: Bench) -> None:
+    said, _ = hunt.played(hunt.folder / "all.z64", hunt.plugin, 2, "CheckAgainst=./faulty-0.so")
+    assert "check: 12 tasks, 0 differ" in said
+
+
+def typed(hunt: Bench, home: Path, command: str, last: str, **environment: str) -> List[str]:
+    """What the front end says if a command of PLUGIN.md is typed, up to a line that ends like this.
+
+    The ROM doesn't end by itself.
+    """
+    home.mkdir(exist_ok=True)
+    where = {"HOME": str(home), "PATH": "/usr/bin:/bin", "LC_ALL": "C.UTF-8", **environment}
+    how: Dict[str, Any] = {"cwd": hunt.folder, "env": where, "text": True, "errors": "replace"}
+    # With a screen it takes no signal while the ROM is in its last loop.
+    words = ["timeout", "--kill-after=1", "90", "stdbuf", "-oL", "sh", "-c", f"exec {command}"]
+    found: List[str] = []
+    with subprocess.Popen(words, stdout=subprocess.PIPE, stderr=subprocess.STDOUT, **how) as front:
+        for line in front.stdout or ():
+            found.append(line.rstrip())
+            if found[-1].endswith(last):
+                break
+        front.terminate()
+        front.communicate()
+    return found
+
+
+def of_check_mode(said: List[str]) -> List[str]:
+    return [it for it in said if "check: " in it]
+
+
+@pytest.mark.needs(str(FRONT_END))
+@pytest.mark.parametrize("is_kept", [False, True], ids=["lost", "kept"])
+def test_hunt_as_typed(is_kept: bool, hunt: Bench, folder: Path) -> None:
+    """Debian's front end sets what its command line says after PluginStartup.
+
+    It counts in that run, and stays in mupen64plus.cfg if it may.
+    """
+    command = re.findall(PLAYS, HUNT)[0].replace("\\\n", "")
+    words = command.replace("--nosaveoptions ", "") if is_kept else command
+    assert of_check_mode(typed(hunt, folder, words, LAST))[1:] == TOLD
+    options = (folder / ".config/mupen64plus/mupen64plus.cfg").read_text().partition("[Rsp-Proved]")[2]
+    held = re.findall(r'^CheckAgainst = "(.*)"$', options, re.M)
+    assert held[:1] == ["./faulty-1.so" if is_kept else ""], options[:900]
+
+
+@contextlib.contextmanager
+def screen() -> Iterator[Dict[str, str]]:
+    """The environment of a program that draws on a screen in memory, and plays to nobody."""
+    told, write = os.pipe()
+    words = ["Xvfb", "-displayfd", str(write), "-screen", "0", "800x600x24", "-nolisten", "tcp"]
+    with subprocess.Popen(words, pass_fds=[write], stderr=subprocess.DEVNULL) as server:
+        os.close(write)
+        try:
+            with os.fdopen(told) as display:
+                yield {"DISPLAY": f":{display.readline().strip()}", "SDL_AUDIODRIVER": "dummy"}
+        finally:
+            server.terminate()
+
+
+@pytest.mark.needs(str(FRONT_END), str(GRAPHICS), "Xvfb")
+def test_on_a_screen(hunt: Bench, folder: Path) -> None:
+    """The ROM as PLUGIN.md plays it, with a graphics plugin that draws; and in check mode, which keeps it."""
+    commands = re.findall(PLAYS, page("docs/PLUGIN.md"))[:2]
+    play, checked = (it.replace("OTHER.so", "./faulty-1.so").replace(" ROM", " all.z64") for it in commands)
+    (hunt.folder / "plugin").mkdir()
+    (hunt.folder / "plugin/mupen64plus-rsp-proved.so").symlink_to(hunt.plugin)
+    with screen() as environment:
+        said = typed(hunt, folder, play, "Starting R4300 emulator: Dynamic Recompiler", **environment)
+        assert "Starting R4300" in said[-1]
+        assert "using RSP plugin: 'Proved RSP'" in str(said) and "using Video plugin: 'Z64gl'" in str(said)
+        said = typed(hunt, folder, checked, LAST, **environment)
+        assert "using Video plugin: 'Z64gl'" in str(said)
+        assert of_check_mode(said)[1:] == TOLD
