@@ -1,8 +1,8 @@
-"""Emulators for tests/part campaigns, all of them the module `rsp`; python:emulator:CLASS in this folder.
+"""Emulators for campaigns, all of them the module `rsp`: python:emulator:CLASS in this folder.
 
-As a command, [HOW WORD]: it answers lines of JSON, but at a case of this word (hexadecimal) it hangs, dies,
-answers garbage, a number out of its range, or a byte of no memory. "after" is a fault of two cases: it dies
-at whatever comes after the word.
+As a command, `tools/python campaigns.emulator [HOW WORD]`, it answers lines of JSON, but at a case of this
+word (hexadecimal) it hangs, dies, answers garbage, a number out of its range, or a byte of no memory. "after"
+is a fault of two cases: it dies at whatever comes after the word.
 """
 
 import json

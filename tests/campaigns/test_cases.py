@@ -6,7 +6,6 @@ from typing import Any, Callable, Iterator, Tuple
 import pytest
 
 from lib import TOP
-from lib.campaigns import ENV
 from lib.processes import succeeds
 from rsp_conformance.cases import signed
 from rsp_conformance.table import ROWS
@@ -117,7 +116,7 @@ def test_pairs(name: str) -> None:
 
 
 def test_command_of_pairs() -> None:
-    said = succeeds(TOP / "tools/python", "rsp_conformance.campaign.pairs", "lqv", "VMOV", env=ENV)
+    said = succeeds(TOP / "tools/python", "rsp_conformance.campaign.pairs", "lqv", "VMOV")
     assert said == "LQV has all\nVMOV has all\n"
 
 

@@ -1,5 +1,6 @@
 """Wrong words of conformance/generate, run and campaign: each is answered by one sentence."""
 
+import os
 import shutil
 from pathlib import Path
 from typing import List
@@ -7,7 +8,7 @@ from typing import List
 import pytest
 
 from lib import TOP
-from lib.campaigns import ENV, campaign
+from lib.campaigns import campaign
 from lib.packages import is_here
 from lib.processes import run
 from rsp_conformance.campaign.shared import PROGRAM, name_of
@@ -108,6 +109,8 @@ def test_campaign(words: str, told: str, files: Path, library: Path) -> None:
     named = {"ITSELF": "python:emulator:Machine", "OUT": f"{files}/new", "FOLDER": str(files)}
     for name, it in named.items():
         words = words.replace(name, it)
-    ended = campaign(*words.split(), *more, env={**ENV, "DASK_DISTRIBUTED__COMM__TIMEOUTS__CONNECT": "1s"})
+    ended = campaign(
+        *words.split(), *more, env={**os.environ, "DASK_DISTRIBUTED__COMM__TIMEOUTS__CONNECT": "1s"}
+    )
     assert ended.returncode in (1, 2) and "Traceback" not in ended.stderr, ended.stderr
     assert told in ended.stderr.strip().split("\n")[-1]

@@ -1,10 +1,8 @@
 """Small campaigns (conformance/campaign) with what they leave, and emulators with faults that they check."""
 
 import json
-import os
 import shlex
 import subprocess
-import sys
 from pathlib import Path
 from typing import Any, Dict, List, Tuple
 
@@ -14,15 +12,13 @@ from lib.processes import Ended, run
 CAMPAIGN, SOURCES = TOP / "conformance/campaign", TESTS / "campaigns"
 # The repository's path may have whitespace.
 EMULATOR = shlex.join([str(TOP / "tools/python"), "campaigns.emulator"])
-# The commands are run by this Python, which may be the only one with numpy.
-ENV = {**os.environ, "PATH": f"{Path(sys.executable).parent}:{os.environ['PATH']}"}
 FEW = "lw,sqv,vadd,vmadh,vrcpl,beq,mtc0,ltv"
 Counts = Dict[str, Tuple[int, int, int]]
 
 
 def campaign(*words: object, **how: Any) -> "Ended[str]":
     """A campaign that has ended."""
-    return run(CAMPAIGN, *words, **{"cwd": SOURCES, "stderr": subprocess.PIPE, "env": ENV, **how})
+    return run(CAMPAIGN, *words, **{"cwd": SOURCES, "stderr": subprocess.PIPE, **how})
 
 
 def said_of(out: Path, *words: object) -> str:

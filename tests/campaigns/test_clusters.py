@@ -1,0 +1,114 @@
+"""Campaigns on clusters of Dask give the results of one process, also where a part of the cluster is lost."""
+
+import contextlib
+import signal
+import subprocess
+import sys
+import tempfile
+import time
+from pathlib import Path
+from typing import Any, Dict, Iterator, List, Tuple
+
+import pytest
+
+from lib.campaigns import CAMPAIGN, FEW, SOURCES, campaign, faulty, results_of, said_of
+
+pytestmark = [
+    pytest.mark.needs("cc", "python:numpy", "python:distributed"),
+    pytest.mark.usefixtures("library"),
+    pytest.mark.xdist_group("clusters"),
+    pytest.mark.timeout(900),
+]
+LOST = pytest.mark.outside("it starts clusters and kills their parts, for minutes")
+PROGRAMS = ("--programs", 20, "--programs-size", 10)
+TASKS = 3 * len(FEW.split(",")) + 2
+
+
+def test_local_cluster(folder: Path) -> None:
+    """A local cluster of two workers gives the results of one process."""
+    words = ("--instructions", "vadd,lqv,vxor", "--cases", 3000, "--size", 2000, *PROGRAMS)
+    said_of(folder / "here", faulty(2), *words)
+    ended = campaign(faulty(2), *words, "--workers", 2, folder / "cluster")
+    assert ended.returncode == 0, ended.stderr
+    assert len(results_of(folder / "here")) == 9
+    assert results_of(folder / "cluster") == results_of(folder / "here")
+
+
+def words_of_campaign() -> Tuple[object, ...]:
+    return (faulty(1), "--instructions", FEW, "--cases", 60000, "--size", 20000, *PROGRAMS)
+
+
+@pytest.fixture(scope="module")
+def quiet() -> Dict[str, Any]:
+    """The results of an undisturbed campaign."""
+    with tempfile.TemporaryDirectory() as folder:
+        said_of(Path(folder), *words_of_campaign())
+        found = results_of(Path(folder))
+    assert len(found) == TASKS + 1
+    return found
+
+
+@contextlib.contextmanager
+def cluster() -> Iterator[Tuple[str, List[Any]]]:
+    """A scheduler and two workers, as processes of their own, elsewhere than the campaign."""
+    from distributed.utils import open_port
+
+    address, dask = f"tcp://127.0.0.1:{(port := open_port())}", [sys.executable, "-m"]
+    scheduler = ["distributed.cli.dask_scheduler", "--port", str(port), "--no-dashboard"]
+    worker = ["distributed.cli.dask_worker", address, "--nthreads", "1", "--no-dashboard", "--no-nanny"]
+    how: Dict[str, Any] = {"stderr": subprocess.DEVNULL, "cwd": tempfile.gettempdir()}
+    begun = [subprocess.Popen([*dask, *words], **how) for words in (scheduler, worker, worker)]
+    try:
+        yield address, begun
+    finally:
+        for process in begun:
+            process.kill()
+            process.wait()
+
+
+def started(address: str, out: Path, results: int) -> "subprocess.Popen[str]":
+    """A campaign on a cluster that has some results."""
+    pipes: Dict[str, Any] = {"stdout": subprocess.PIPE, "stderr": subprocess.PIPE}
+    words = [str(it) for it in (CAMPAIGN, *words_of_campaign(), "--scheduler", address, out)]
+    client = subprocess.Popen(words, text=True, cwd=SOURCES, **pipes)
+    until = time.time() + 120
+    while time.time() < until and len(list(out.glob("*-*.json"))) < results:
+        time.sleep(0.05)
+    return client
+
+
+@LOST
+def test_lost_worker(quiet: Dict[str, Any], folder: Path) -> None:
+    with cluster() as (address, begun):
+        client = started(address, folder / "out", 3)
+        begun[1].kill()
+        told = client.communicate(timeout=300)
+    assert client.returncode == 0, told
+    assert results_of(folder / "out") == quiet
+
+
+@LOST
+def test_lost_client(quiet: Dict[str, Any], folder: Path) -> None:
+    """It is killed twice, and goes on."""
+    with cluster() as (address, _begun):
+        for count in (4, 12):
+            client = started(address, folder / "out", count)
+            client.send_signal(signal.SIGKILL)
+            client.communicate(timeout=60)
+            assert len(results_of(folder / "out")) < TASKS
+        ended = campaign(*words_of_campaign(), "--scheduler", address, folder / "out")
+    assert ended.returncode == 0, ended.stderr
+    assert results_of(folder / "out") == quiet
+
+
+@LOST
+def test_lost_scheduler(quiet: Dict[str, Any], folder: Path) -> None:
+    """A sentence says so, and a local cluster goes on."""
+    with cluster() as (address, begun):
+        client = started(address, folder / "out", 3)
+        begun[0].kill()
+        lost = client.communicate(timeout=300)[1]
+    assert client.returncode == 1 and "the scheduler is gone" in lost and "start it again" in lost
+    ended = campaign(*words_of_campaign(), "--workers", 2, folder / "out")
+    assert ended.returncode == 0, ended.stderr
+    assert results_of(folder / "out") == quiet

@@ -1,0 +1,72 @@
+"""Emulators that hang, die and answer garbage: each fault is named by its case, and the rest is done."""
+
+import re
+from pathlib import Path
+
+import pytest
+
+from lib.campaigns import EMULATOR, campaign, counts_of, faulty, said_of
+from rsp_conformance.campaign.shared import name_of
+
+pytestmark = [pytest.mark.needs("cc", "python:numpy"), pytest.mark.usefixtures("library")]
+
+CASE_17, CASE_18, CASE_39 = (name_of("vadd", "1", number) for number in (17, 18, 39))
+WRONG = {
+    "hang": "no answer within 1 seconds",
+    "die": "the command ended with status 3",
+    "garbage": "the command answered b'no JSON",
+}
+
+
+def word_17() -> str:
+    """The word of CASE_17."""
+    from rsp_conformance.campaign.generator import cases_of
+
+    return f"{int(cases_of('vadd', '1', 17, 1)[0]['word'][0]):08x}"
+
+
+def forty(emulator: str, out: Path, *more: object) -> str:
+    """What 40 cases say, one of them with a fault and all others done."""
+    said = said_of(out, emulator, "--instructions", "vadd", "--cases", 40, *more)
+    assert counts_of(out) == {"vadd": (40, 1, 1)}, said
+    return said
+
+
+@pytest.mark.parametrize("how", WRONG)
+def test_command(how: str, folder: Path) -> None:
+    said = forty(f"{EMULATOR} {how} {word_17()}", folder, "--limit", 1)
+    assert f"{CASE_17}: " in said and WRONG[how] in said
+
+
+@pytest.mark.parametrize(
+    "how, told", [("byte", "no byte of a memory"), ("range", "pc is 65536, not 0 to 65535")], ids=str
+)
+def test_answer_that_is_none(how: str, told: str) -> None:
+    """A number out of its range, and a byte of no memory."""
+    from rsp_conformance.campaign import CampaignFault
+    from rsp_conformance.campaign.emulators import Command
+    from rsp_conformance.campaign.generator import cases_of, memories_of
+
+    command = Command(f"{EMULATOR} {how} {word_17()}", memories_of("vadd", "1"))
+    with pytest.raises(CampaignFault, match=told):
+        command.step(cases_of("vadd", "1", 17, 1)[0][0])
+    command.process.communicate(timeout=60)
+
+
+@pytest.mark.parametrize("is_late", [False, True], ids=["of two cases", "after the batch"])
+def test_fault_that_a_case_does_not_show(is_late: bool, folder: Path) -> None:
+    """Its cause is named."""
+    emulator = faulty(3, f"-DWORD=0x{word_17()}") if is_late else f"{EMULATOR} after {word_17()}"
+    what = f"{CASE_39}: ended by SIGABRT" if is_late else f"{CASE_18}: the command ended with status 3"
+    said = forty(emulator, folder)
+    assert f"{what}; the shortest run that shows it begins with {CASE_17}" in said
+
+
+def test_lost_register(folder: Path) -> None:
+    said = campaign("python:emulator:Forgets", "--cases", 0, "--programs", 1, "--here", folder).stdout
+    assert re.search(r"(?m)PROGRAM-g2-1-000000: step 0, .*: \$5: expected [0-9a-f]+, got 0$", said), said
+
+
+def test_too_few_answers(folder: Path) -> None:
+    said = campaign("python:emulator:Few", "--instructions", "vadd", "--cases", 3, "--here", folder).stdout
+    assert f"{name_of('vadd', '1', 0)}: ValueError: could not broadcast" in said

@@ -1,0 +1,76 @@
+"""Faults planted in the library (faulty.c) are found by cases and programs, named, and shown again."""
+
+import re
+from pathlib import Path
+from typing import Any, Dict
+
+import pytest
+
+from lib.campaigns import agreed, campaign, counts_of, faulty, programs_in, said_of
+from lib.processes import run, succeeds
+from rsp_conformance.campaign.shared import name_of
+
+pytestmark = [pytest.mark.needs("cc", "python:numpy"), pytest.mark.usefixtures("library")]
+
+
+def test_lane_at_one_edge(folder: Path) -> None:
+    """A lane of VADD is found by cases, named, and shown again by the case's name."""
+    said = said_of(folder / "out", faulty(1), "--instructions", "vadd,vsub", "--cases", 20000)
+    counts = counts_of(folder / "out")
+    assert counts["vsub"] == (20000, 0, 0) and counts["vadd"][1] > 3
+    shown = r"(VADD-g2-1-\d{6}) \(vadd .*\): \$v\d+ lane 5: expected [0-9a-f]+, got [0-9a-f]+"
+    first = re.search(shown, said)
+    assert first, said
+    again = campaign(faulty(1), "--case", first[1]).stdout
+    assert again.startswith(first[1]) and "lane 5: expected" in again
+
+
+def test_state_before() -> None:
+    """A difference is shown with what the instruction read: in the table that of the lane, by --case all."""
+    said = campaign(faulty(1), "--case", f"{name_of('vadd', '1', 0)}..020000").stdout
+    told = re.search(r"(VADD-\S+) \(.* at \w+; a 7fff, b 7fff, carry 1\): \$v\d+ lane 5: ", said)
+    assert told, said
+    whole = campaign(faulty(1), "--case", told[1]).stdout
+    for line in (r"before: a( \w{4}){5} 7fff", r"before: b( \w{4}){5} 7fff", r"before: carry( \d){5} 1"):
+        assert re.search(line, whole), whole
+
+
+def test_sequence_is_not_in_cases(folder: Path) -> None:
+    said_of(folder, faulty(2), "--instructions", "lqv,vxor", "--cases", 5000)
+    assert counts_of(folder) == agreed("lqv,vxor", 5000)
+
+
+def test_sequence_in_programs(program: Path, folder: Path) -> None:
+    """A sequence of two instructions is found by programs. Each is named, cut down, and can be replayed."""
+    said = said_of(folder, faulty(2), "--cases", 0, "--programs", 300)
+    assert counts_of(folder)["program"][1] > 3, said
+    found = programs_in(folder)
+    assert found
+    for it in found:
+        assert re.match(r"PROGRAM-g2-1-\d{6}: step \d+, vxor ", it["shown"])
+        assert ([line.split()[1] for line in it["listing"]], it["steps"]) == (["lqv", "vxor"], 2)
+        assert_replays(program, folder, it)
+
+
+def assert_replays(program: Path, folder: Path, it: Dict[str, Any]) -> None:
+    """The text of a program that was cut down makes its words, and its script ends as the library does."""
+    source, script = (folder / "programs" / f"{it['name']}.{kind}" for kind in ("s", "script"))
+    found = re.match(r"# rsp asm --at (\d+)", source.read_text())
+    at = ("--at", found[1] if found else "0")
+    succeeds(program, "asm", *at, source, folder / "made")
+    told = succeeds(program, "dis", *at, folder / "made")
+    texts = [line.split(": ", 1)[1] for line in it["listing"]]
+    assert texts and all(text in told for text in texts), told
+    ended = run(program, "run", input=script.read_text())
+    assert ended.returncode == 0 and "fault" not in ended.stdout
+    expected = re.match(r"\$v(\d+) lane 0: expected ([0-9a-f]+)", it["differs"][0])
+    assert expected
+    last = [line for line in ended.stdout.splitlines() if line.startswith(f"v{int(expected[1]):02d}")][-1]
+    assert last.split()[1] == f"{int(expected[2], 16):04x}"
+
+
+def test_hidden_state(folder: Path) -> None:
+    """A CTC2 that spoils a VLT, unless registers are read between them, is named, and not where it shows."""
+    said = said_of(folder, faulty(4), "--cases", 0, "--programs", 60)
+    lines = [line for line in said.splitlines() if line.startswith("PROGRAM")]
+    assert re.search(r", ctc2 \$.*, which shows at vlt ", "".join(lines)), said

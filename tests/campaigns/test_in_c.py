@@ -1,0 +1,94 @@
+"""Campaigns in C and C++: the headers, a wrapper in C++, rsp_compare.h, and the runner of flat vectors."""
+
+import re
+from pathlib import Path
+from typing import Any, List
+
+import pytest
+
+from lib import TOP
+from lib.campaigns import SOURCES, agreed, counts_of, faulty, said_of
+from lib.packages import need
+from lib.processes import bytes_of, compiled, run, succeeds
+
+pytestmark = [pytest.mark.needs("cc"), pytest.mark.usefixtures("library")]
+
+LIBRARY = TOP / "library/c/librsp.a"
+STRICT = (
+    "-O2",
+    "-Wall",
+    "-Wextra",
+    "-Wconversion",
+    "-Werror",
+    f"-I{TOP}/library/c",
+    f"-I{TOP}/conformance/campaigns",
+)
+COMPILERS = {"cc": "-std=c11", "clang": "-std=c11", "c++": "-std=c++17", "clang++": "-std=c++17"}
+
+
+@pytest.mark.parametrize("compiler", COMPILERS)
+@pytest.mark.parametrize("source", ["conformance/campaigns/library.c", "tests/campaigns/compare.c"])
+def test_headers(compiler: str, source: str, folder: Path) -> None:
+    """They compile as C11 and as C++17 without a warning."""
+    need(compiler)
+    language = ("-x", "c++") if "++" in compiler else ()
+    flags = (COMPILERS[compiler], *STRICT, *language, "-c", TOP / source)
+    compiled(folder / "object", *flags, compiler=compiler)
+
+
+@pytest.mark.needs("c++", "python:numpy")
+def test_wrapper_in_cpp(folder: Path) -> None:
+    """It is an emulator that agrees."""
+    words = ("-std=c++17", *STRICT, "-shared", "-fPIC", SOURCES / "wrapper.cpp", LIBRARY)
+    wrapper, names = compiled(folder / "wrapper.so", *words, compiler="c++"), "vadd,sqv,mtc0"
+    said = said_of(folder / "out", wrapper, "--instructions", names, "--cases", 300, "--programs", 2)
+    assert counts_of(folder / "out") == agreed(names, 300, program=(2, 0, 0)), said
+
+
+def first_in_words(found: Any) -> List[str]:
+    """What compare.c prints of a first difference; nothing if there is none."""
+    if not found:
+        return []
+    what = f"{found.step} {found.steps} {found.place:03x} {found.word:08x} {found.text}"
+    parts = (f"{it.name} {it.value:x} {it.other:x} {it.digits}" for it in found.parts)
+    return [f"{what} pc {found.before.pc:03x}", *parts]
+
+
+@pytest.mark.needs("python:numpy")
+@pytest.mark.parametrize("fault, every, limit", [(2, 64, 1000), (4, 100, 1000), (3, 16, 500)])
+def test_first_difference(fault: int, every: int, limit: int, folder: Path) -> None:
+    """rsp_compare.h finds in planted faults what rsp.first_difference finds."""
+    from rsp_conformance.campaign.generator import MEMORIES
+    from rsp_conformance.campaign.programs import program_of
+    from rsp_conformance.campaign.sides import Sides
+
+    flags = ("-std=c11", *STRICT, "-w", f"-DFAULT={fault}", SOURCES / "compare.c", SOURCES / "faulty.c")
+    compare, sides = compiled(folder / "compare", *flags, LIBRARY), Sides(faulty(fault), bytes(MEMORIES))
+    differ = 0
+    for number in range(6):
+        program = program_of(["vadd", "vxor", "lqv", "ctc2", "vlt", "mtc0", "sqv"], "1", number)
+        given = b"".join(it.to_bytes(4, "little") for it in (every, limit)) + bytes(program.raw)
+        wanted = first_in_words(sides.first_difference(program, limit, every))
+        told = bytes_of(compare, [], given).stdout.decode().splitlines()
+        told[1:] = [re.sub(r" 0*(?=[0-9a-f]+ )", " ", line) for line in told[1:]]
+        assert told == wanted, number
+        differ += bool(wanted)
+    assert differ > 3 or fault == 3  # which no program meets without its word
+
+
+def test_runner_of_flat_vectors(program: Path, folder: Path) -> None:
+    """The runner in C passes the flat vectors, names each case that is spoilt, and has at most 60 lines."""
+    source, names = TOP / "conformance/runner.c", ["VADD", "SQV", "MTC0", "BEQ", "VRCPL", "LTV"]
+    assert source.read_text().count("\n") <= 60
+    runner = compiled(folder / "runner", "-std=c11", *STRICT, source, LIBRARY)
+    words = ("--flat", "--program", program, "--cases", 12, folder / "out")
+    succeeds(TOP / "conformance/generate", *words, *names)
+    files = [folder / f"out/flat/{name}.bin" for name in names]
+    assert succeeds(runner, *files) == f"{12 * len(names)} passed, 0 failed\n"
+    spoilt = bytearray(files[0].read_bytes())
+    spoilt[16 + 32 + 772 + 128] ^= 1  # a lane of the first case's state after
+    files[0].write_bytes(spoilt)
+    ended = run(runner, files[0])
+    assert ended.returncode == 1 and ended.stdout.startswith("VADD-000 (word ")
+    assert "11 passed, 1 failed" in ended.stdout
+    assert "has no flat vectors" in run(runner, source).stdout
