@@ -269,9 +269,14 @@ def main() -> None:
         ("--time", tell_times, "the nanoseconds of a processor that a step takes, ours and z64's"),
     ):
         kinds.add_argument(name, dest="tell", action="store_const", const=it, default=tell_loops, help=said)
+    kinds.add_argument("--line", metavar="LINE", help="the figure of this script line alone")
     given = words.parse_args()
-    need(*NEEDED[given.tell])
-    given.tell(given.program)
+    if given.line is None:
+        need(*NEEDED[given.tell])
+        given.tell(given.program)
+    else:
+        need("valgrind")
+        print(f"{figure_of_line(given.program, given.line):,.0f}")
 
 
 if __name__ == "__main__":

@@ -3,11 +3,14 @@
 import os
 import sys
 from pathlib import Path
+from typing import Iterator
 
 import pytest
 
 
-@pytest.fixture(autouse=True)
-def path(monkeypatch: pytest.MonkeyPatch) -> None:
+@pytest.fixture(scope="module", autouse=True)
+def path() -> Iterator[None]:
     """tools/python takes the `python3` of PATH."""
-    monkeypatch.setenv("PATH", f"{Path(sys.executable).parent}:{os.environ['PATH']}")
+    with pytest.MonkeyPatch.context() as changed:
+        changed.setenv("PATH", f"{Path(sys.executable).parent}:{os.environ['PATH']}")
+        yield

@@ -1,34 +1,79 @@
-"""What measures (measure/) answers --help, and runs that are small say what they should."""
+"""What measures (measure/) answers --help and prints figures: small runs, and long ones outside the gate."""
 
+import os
 import re
+import sys
+from pathlib import Path
 
 import pytest
 
 from lib import TOP
-from lib.processes import run, succeeds
+from lib.packages import need
+from lib.plugin import CORE, HEADERS
+from lib.processes import Ended, run
+from lib.z64 import PLUGIN as Z64
 
 NAMES = sorted(it.stem for it in (TOP / "measure").glob("*.py") if it.stem != "__init__")
+FIGURES = r"\| .*\d\.\d \|\n"
+# Words, what they need, and what they print.
+SMALL = {
+    "speed --line step": (["valgrind"], r"\d,\d{3}\n"),
+    "against_z64 ADD VMULU": ([Z64], r"(?s).*\n1 instructions without a difference, 1 with some\n"),
+    "rates --instructions vadd": (["cc", "python:numpy"], r"(?s).*\nVADD( +\d+\.\d+){5}\nmean of all: .*\n"),
+}
+LONG = {
+    "speed": (["valgrind", "rt"], rf"(?s).*(?:{FIGURES}){{6}}.*"),
+    "speed --lines": (["valgrind"], r"(?s).*(?:\| .* \| [\d,]+ \|\n){15}"),
+    "speed --z64": (["valgrind", Z64], rf"(?s).*{FIGURES}"),
+    "speed --time": ([Z64], rf"(?s).*(?:{FIGURES}){{3}}"),
+    "plugin_speed": (["cc", "valgrind", Z64], r"(?s)(?:.*\|---.*\|.*\d \|\n){3}"),
+    "plugin_speed --rom": (
+        ["cc", "valgrind", Z64, str(HEADERS), str(CORE), "mips-linux-gnu-gcc"],
+        r"the plugin \d+\.\d\d s, z64 \d+\.\d\d s: z64 takes \d+\.\d\d times as long\n",
+    ),
+    "rates --instructions vadd --workers": (
+        ["cc", "python:numpy", "python:distributed"],
+        r"(?s).*\ntwo workers are .* by the clock\n",
+    ),
+}
 
 
-def measured(name: str, *words: object) -> str:
-    """What a command of measure/ says, which has to end with status 0."""
-    return succeeds(TOP / "tools/python", f"measure.{name}", *words)
+def measured(words: str) -> "Ended[str]":
+    """A command of measure/ that has ended, with this Python."""
+    path = f"{Path(sys.executable).parent}:{os.environ['PATH']}"
+    env = {**os.environ, "PATH": path}
+    return run(TOP / "tools/python", *f"measure.{words}".split(), env=env, timeout=3000)
 
 
 @pytest.mark.parametrize("name", NAMES)
 def test_help(name: str) -> None:
     """It shows the module's text, and needs nothing."""
-    said = measured(name, "--help")
-    assert said.startswith(f"usage: tools/python measure.{name} [-h]")
-    assert "\n\n" in said.partition("options:")[0]
+    ran = measured(f"{name} --help")
+    assert (ran.returncode, ran.stdout[: 33 + len(name)]) == (0, f"usage: tools/python measure.{name} [-h]")
+    assert len(ran.stdout.partition("\n\n")[2].split("\n")[0]) > 30
 
 
 @pytest.mark.parametrize("name", NAMES)
 def test_unknown_word(name: str) -> None:
-    ran = run(TOP / "tools/python", f"measure.{name}", "--nothing-of-this-name")
+    ran = measured(f"{name} --nothing")
     assert ran.returncode == 2 and "Traceback" not in ran.stdout
 
 
-@pytest.mark.needs("valgrind")
-def test_speed_of_lines(program: object) -> None:
-    pass
+@pytest.mark.usefixtures("program", "library")
+@pytest.mark.parametrize("words", SMALL)
+def test_small_run(words: str) -> None:
+    needed, told = SMALL[words]
+    need(*needed)
+    ran = measured(words)
+    assert ran.returncode == 0 and re.fullmatch(told, ran.stdout), ran.stdout
+
+
+@pytest.mark.outside("it measures for minutes")
+@pytest.mark.timeout(3600)
+@pytest.mark.usefixtures("program", "library")
+@pytest.mark.parametrize("words", LONG)
+def test_long_run(words: str) -> None:
+    needed, told = LONG[words]
+    need(*needed)
+    ran = measured(words)
+    assert ran.returncode == 0 and re.fullmatch(told, ran.stdout), ran.stdout
