@@ -144,19 +144,19 @@ def speed_task(bench: Bench) -> List[str]:
     ]
 
 
-def checked(bench: Bench, other: object, tasks: Sequence[Sequence[str]], *options: str) -> List[str]:
+def checked(bench: Bench, folder: Path, other: object, tasks: Sequence[Sequence[str]]) -> List[str]:
     """What check mode says of tasks, each the lines that set it up. SP_PC and SP_STATUS are 0 before it."""
-    lines = begun(f"CheckAgainst {other}", f"CheckFolder {bench.folder}", *options)
+    lines = begun(f"CheckAgainst {other}", f"CheckFolder {folder}")
     for task in tasks:
         lines += ["set SP_PC 0", "set SP_STATUS 0", *task, "cycles 100000000"]
     said = bench.drive([*lines, "close"])
     return [it.split("check: ")[1] for it in said if "check: " in it]
 
 
-def assert_plays(bench: Bench, task: int) -> None:
+def assert_plays(bench: Bench, folder: Path, task: int) -> None:
     """The script of a difference has our registers before and after it, and our DMEM, as its last replies."""
-    text = (bench.folder / f"rsp-task-{task}.txt").read_text()
-    script = (bench.folder / f"rsp-task-{task}.script").read_text()
+    text = (folder / f"rsp-task-{task}.txt").read_text()
+    script = (folder / f"rsp-task-{task}.script").read_text()
     got = run(bench.program, "run", input=script).stdout
     expected = re.findall(r"\nOur [^\n]*:\n(.*?)(?=\n\n|\Z)", text.rstrip("\n"), re.S)
     assert len(expected) in (2, 3), text

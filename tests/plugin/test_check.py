@@ -2,6 +2,7 @@
 
 import re
 import shutil
+from pathlib import Path
 from typing import List
 
 import pytest
@@ -61,9 +62,9 @@ def products(bench: Bench) -> List[str]:
     return [f"put imem 0 {bench.words(PRODUCTS)}", f"put dmem 0 {'40004000 ' * 4} {'00080008 ' * 4}"]
 
 
-def test_no_fault(bench: Bench) -> None:
+def test_no_fault(bench: Bench, folder: Path) -> None:
     tasks = tasks_of_rom(bench)
-    assert checked(bench, bench.faulty(0), tasks)[1:] == [f"{len(tasks)} tasks, 0 differ"]
+    assert checked(bench, folder, bench.faulty(0), tasks)[1:] == [f"{len(tasks)} tasks, 0 differ"]
 
 
 @pytest.mark.parametrize(
@@ -73,18 +74,18 @@ def test_no_fault(bench: Bench) -> None:
         ("librsp.so", "librsp.so isn't an RSP plugin"),
     ],
 )
-def test_no_plugin(name: str, said: str, bench: Bench) -> None:
+def test_no_plugin(name: str, said: str, bench: Bench, folder: Path) -> None:
     """The words of the checked program end at whitespace, which the repository's path may have."""
-    shutil.copy(TOP / "library/c/librsp.so", bench.folder)
-    other = bench.folder / name if name == "librsp.so" else name
-    (told,) = checked(bench, other, tasks_of_rom(bench)[:1])
+    shutil.copy(TOP / "library/c/librsp.so", folder)
+    other = folder / name if name == "librsp.so" else name
+    (told,) = checked(bench, folder, other, tasks_of_rom(bench)[:1])
     assert said in told
 
 
-def test_options_of_the_next_rom(bench: Bench) -> None:
+def test_options_of_the_next_rom(bench: Bench, folder: Path) -> None:
     """From ROM to ROM the user chooses a right plugin, a wrong one, none, and the wrong one again."""
     right, wrong = (f"CheckAgainst {bench.faulty(it)}" for it in (0, 1))
-    lines = begun(f"CheckFolder {bench.folder}")[:-1]
+    lines = begun(f"CheckFolder {folder}")[:-1]
     for chosen in (right, wrong, "CheckAgainst", wrong):
         lines += [f"option {chosen}", "initiate", "set SP_PC 0", "set SP_STATUS 0", *products(bench)]
         lines += ["cycles 100000000", "close"]
@@ -94,23 +95,23 @@ def test_options_of_the_next_rom(bench: Bench) -> None:
 
 
 def test_folder_that_cannot_be_written(bench: Bench) -> None:
-    said = checked(bench, bench.faulty(1), [products(bench)], "CheckFolder /proc/none")
+    said = checked(bench, Path("/proc/none"), bench.faulty(1), [products(bench)])
     lost = [f"cannot write /proc/none/rsp-task-1.{it}" for it in ("txt", "script")]
     assert said[-3:] == [*lost, "1 tasks, 1 differ"]
 
 
-def test_wrong_lane(bench: Bench) -> None:
+def test_wrong_lane(bench: Bench, folder: Path) -> None:
     """VMUDM sets the lowest bit of lane 5.
 
     It shows in the word of lanes 4 and 5 when it is stored: in the eighth step, after a task that is right.
     """
-    said = checked(bench, bench.faulty(1), [["put imem 0 0000000d"], products(bench)])
+    said = checked(bench, folder, bench.faulty(1), [["put imem 0 0000000d"], products(bench)])
     difference = "DMEM 000028 is 00020002 here and 00020003 there"
     step = f"task 2, step 8, 01c: {bench.words('sqv $v3[0], 32($0)')} sqv $v3[0], 32($0): {difference}"
-    files = [f"{bench.folder}/rsp-task-2.{it}" for it in ("txt", "script")]
+    files = [f"{folder}/rsp-task-2.{it}" for it in ("txt", "script")]
     assert said[1:] == [f"task 2: {difference}", step, *files, "2 tasks, 1 differ"]
-    assert_plays(bench, 2)
-    text = (bench.folder / "rsp-task-2.txt").read_text()
+    assert_plays(bench, folder, 2)
+    text = (folder / "rsp-task-2.txt").read_text()
     assert text.endswith("The other's DMEM after it:\n000020: 00020002000200020002000300020002\n")
 
 
@@ -122,25 +123,25 @@ def test_wrong_lane(bench: Bench) -> None:
     ],
     ids=["eight bytes more", "nothing"],
 )
-def test_wrong_transfer(fault: int, difference: str, bench: Bench) -> None:
+def test_wrong_transfer(fault: int, difference: str, bench: Bench, folder: Path) -> None:
     """A DMA to RDRAM that writes too much or nothing.
 
     No register shows it, and no byte that the plugin should have used.
     """
     setting = ["put dmem f00 00000100 00002ff8 00000007", "put rdram 2ff8 1 2 3 4", "put dmem 100 5 6"]
-    said = checked(bench, bench.faulty(fault), [[f"put imem 0 {bench.words(TRANSFER)}", *setting]])
+    said = checked(bench, folder, bench.faulty(fault), [[f"put imem 0 {bench.words(TRANSFER)}", *setting]])
     step = f"task 1, step 6, 014: {bench.words('mtc0 $3, $c3')} mtc0 $3, $c3: {difference}"
     assert said[1:3] == [f"task 1: {difference}", step]
     assert said[-1] == "1 tasks, 1 differ"
-    assert_plays(bench, 1)
+    assert_plays(bench, folder, 1)
 
 
 @pytest.mark.needs(str(Z64))
 @pytest.mark.parametrize("text", Z64_DIFFERS)
-def test_z64(text: str, bench: Bench) -> None:
+def test_z64(text: str, bench: Bench, folder: Path) -> None:
     """Each known difference is found at the fourth step of its task, and what differs is named."""
     memory = f"put dmem 0 {'80008000 ' * 4} 87654321 c001d00d 00077e57 12348abc"
-    said = checked(bench, Z64, [[f"put imem 0 {bench.words(SETTING + text + SHOWING)}", memory]])
+    said = checked(bench, folder, Z64, [[f"put imem 0 {bench.words(SETTING + text + SHOWING)}", memory]])
     (step,) = [it for it in said if it.startswith("task 1, step 4, 00c: ")]
     assert f" {text}: " in step and any(it in step for it in Z64_DIFFERS[text].split("|")), said
-    assert_plays(bench, 1)
+    assert_plays(bench, folder, 1)

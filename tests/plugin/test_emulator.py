@@ -69,6 +69,7 @@ def test_rom_on_z64(hunt: Bench) -> None:
 @pytest.mark.needs(str(HEADERS), str(CORE))
 def test_hunt_of_page(hunt: Bench) -> None:
     """The hunt of docs/PLUGIN.md, by the same plugins on the same ROM, and the script of its difference."""
+    (hunt.folder / "rsp-task-12.script").unlink(missing_ok=True)
     said, _ = hunt.played(hunt.folder / "all.z64", hunt.plugin, 2, "CheckAgainst=./faulty-1.so")
     found = re.findall(r"^rsp \d check: (.*)", said, re.M)
     assert len(TOLD) == 5
