@@ -1,5 +1,5 @@
-// Calls that allocate. `tests/part failing-allocations` runs these tests many times, and each time another allocation fails: a test then prints the
-// answer on standard output, and calls again.
+// Calls that allocate. `tests/program/test_failing_allocations.py` runs these tests many times, and each time another allocation fails: a test then
+// prints the answer on standard output, and calls again.
 
 use rsp_acc::PlaneAcc;
 use rsp_debug::Debugger;

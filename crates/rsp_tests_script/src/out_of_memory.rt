@@ -1,5 +1,5 @@
-// Calls that allocate. `tests/part failing-allocations` runs these tests many times, and each time another allocation fails: a test then prints the
-// answer on standard output, and calls again. When memory is there, the answers must be the usual ones.
+// Calls that allocate. `tests/program/test_failing_allocations.py` runs these tests many times, and each time another allocation fails: a test then
+// prints the answer on standard output, and calls again. When memory is there, the answers must be the usual ones.
 
 ghost use Rattle.std.specs.Prelude.{◌≡◌, IfOk};
 
