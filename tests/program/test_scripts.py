@@ -57,7 +57,9 @@ def test_stored(script: Stored, rsp: Any, folder: Path) -> None:
 
 
 def test_example(program: Path) -> None:
-    said = run(sys.executable, TOP / "examples/check_row.py", program, stderr=subprocess.DEVNULL).stdout
+    """A program that answers late hangs it."""
+    words = (sys.executable, TOP / "examples/check_row.py", program)
+    said = run(*words, stderr=subprocess.DEVNULL, timeout=50).stdout
     assert said == "VMULF: 1600 lanes agree with the model\n"
 
 
