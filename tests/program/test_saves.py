@@ -13,6 +13,7 @@ import stat
 import subprocess
 import tempfile
 import threading
+from contextlib import suppress
 from pathlib import Path
 from typing import Any, Callable, Iterator, List, NamedTuple, Optional, Tuple
 
@@ -53,10 +54,9 @@ def writer(request: pytest.FixtureRequest, binary: Path, folder: Path) -> Writer
     image.write_bytes(bytes(SIZE))
     source.write_text(".word 1\n" * (SIZE // 4))
     if request.param == "asm":
-        words = bytes.fromhex("00000001") * (SIZE // 4)
-        return Writer((binary, "asm", source), b"", b"ok 1024 words\n", words, b"")
-    run = (binary, "run", "--rdram", image, "--save")
-    return Writer(run, b"load rdram 1 0102\n", b"ok\n", b"\0\1\2" + bytes(SIZE - 3), b"ok\n")
+        return Writer((binary, "asm", source), b"", b"ok 1024 words\n", b"\0\0\0\1" * (SIZE // 4), b"")
+    words = (binary, "run", "--rdram", image, "--save")
+    return Writer(words, b"load rdram 1 0102\n", b"ok\n", b"\0\1\2" + bytes(SIZE - 3), b"ok\n")
 
 
 class Trial:
@@ -367,24 +367,23 @@ def test_calls_of_the_system_fail(is_lasting: bool, new: New, folder: Path) -> N
 # Runs that are killed while they write eight megabytes.
 
 
-def state(folder: Path) -> List[Tuple[str, int]]:
-    return sorted((entry.name, entry.stat().st_size) for entry in os.scandir(folder))
-
-
 def kill_once(words: List[object], folder: Path, sent: signal.Signals) -> int:
     """Starts a run that saves, and sends the signal once something in the folder changes. Its status."""
-    before = state(folder)
+
+    def state() -> List[Tuple[str, int]]:
+        with suppress(FileNotFoundError):
+            return sorted((entry.name, entry.stat().st_size) for entry in os.scandir(folder))
+        return before
+
+    before = state()
     run = subprocess.Popen([*map(str, words)], stdin=subprocess.PIPE, stdout=subprocess.DEVNULL)
     assert run.stdin
     run.stdin.write(b"load rdram 0 ff\n")
     run.stdin.close()
     while run.poll() is None:
-        try:
-            if state(folder) != before:
-                run.send_signal(sent)
-                break
-        except FileNotFoundError:
-            pass
+        if state() != before:
+            run.send_signal(sent)
+            break
     return run.wait(60)
 
 

@@ -210,7 +210,9 @@ REFUSED: List[str] = ["", *NO_COMMANDS.strip().replace("\n", "|").split("|")]
 REFUSED += [f"{verb} --at={it}" for it in NO_ADDRESSES for verb in ("asm a b", "dis a")]
 
 
-@pytest.mark.parametrize("line", [*map(str.encode, REFUSED), b"run --save \xff"], ids=str)
+@pytest.mark.parametrize(
+    "line", [*map(str.encode, REFUSED), b"run --save \xff"], ids=lambda it: it.decode(errors="replace")
+)
 def test_refused(line: bytes, rsp: Any) -> None:
     ran = rsp(*line.split(), script=STEP)
     assert (ran.status, ran.output) == (2, b"") and ran.errors

@@ -268,11 +268,9 @@ def test_refused(line: str, rsp: Any) -> None:
 
 
 def test_labels_of_page(files: Files) -> None:
-    lines = (
-        block_with("docs/ASSEMBLY.md", "rsp dis ucode.bin --at 0x080 --labels").split("\n\n")[1].splitlines()
-    )
+    block, at = block_with("docs/ASSEMBLY.md", "rsp dis ucode.bin --at 0x080 --labels"), ("--at", "0x080")
+    lines = block.split("\n\n")[1].splitlines()
     assert len(lines) == 5
-    at = ("--at", "0x080")
     assert files.text_of(files.words_of(lines, *at), *at, "--labels") == lines
 
 
