@@ -1,7 +1,7 @@
 """The pictures of elements and flags, and the table of flags."""
 
 from random import Random
-from typing import Dict, List, Optional, Sequence, Tuple
+from typing import Dict, List, Sequence, Tuple
 
 from drawings import svg
 from drawings.looks import (
@@ -74,10 +74,8 @@ def flag_bits(program: str) -> Dict[Tuple[str, int], int]:
 
 def flags(program: str) -> str:
     """VCO, VCC and VCE bit by bit, and what the reply to `flags` shows of a VADDC."""
-    at = {
-        key: (152 + 42 * (15 - bit % 16), 108 + 62 * (2 - bit // 16))
-        for key, bit in flag_bits(program).items()
-    }
+    bits = flag_bits(program).items()
+    at = {key: (152 + 42 * (15 - bit % 16), 108 + 62 * (2 - bit // 16)) for key, bit in bits}
     parts = [svg.text(173 + 42 * i, 100, 15 - i, "small") for i in range(16)]
     parts += [svg.text(142, 100, "bit", "right small")]
     parts += [svg.text(142, 127 + 62 * i, f"${name}", "right bold") for i, name in enumerate(CLEAR)]
@@ -95,10 +93,8 @@ def flags(program: str) -> str:
 def example_of_flags(program: str, y: int) -> List[str]:
     """A VADDC that carries in lanes 1, 4 and 5, as the reply shows it."""
     (look,) = after(program, [case("vaddc", [65535 * (i in (1, 4, 5)) for i in range(8)], [1] * 8)])
-    parts = [
-        svg.text(20, y, "For example carries in lanes 1, 4 and 5:", "left"),
-        svg.text(142, y + 35, "$vco", "right bold"),
-    ]
+    parts = [svg.text(20, y, "For example carries in lanes 1, 4 and 5:", "left")]
+    parts.append(svg.text(142, y + 35, "$vco", "right bold"))
     for i, bit in enumerate(f"{int(look['vco'], 16):016b}"):
         fill, kind = (svg.colour(15 - i), "on") if bit == "1" else (svg.PAPER, "")
         parts += [svg.box(152 + 42 * i, y + 16, 42, 28, fill), svg.text(173 + 42 * i, y + 35, bit, kind)]
@@ -108,11 +104,12 @@ def example_of_flags(program: str, y: int) -> List[str]:
 
 
 def flag_uses(program: str) -> Dict[str, Uses]:
-    """For each computing instruction and flag the words reads, writes, clears that fit it; () where it keeps
-    the flag and doesn't look at it."""
+    """For each computing instruction and flag the words reads, writes, clears that fit it; () for unused."""
     chance = Random(1)
     states = [random_state(chance) for _ in range(12)]
-    variants = [(a, b, flipped(it, flag)) for a, b, it in states for flag in (None, *FLAGS)]
+    variants = [
+        (a, b, it) for a, b, flags in states for it in (flags, *(flipped(flags, flag) for flag in FLAGS))
+    ]
     cases = {name: [case(name, a, b, flags=it) for a, b, it in variants] for name in NAMES}
     return {
         name: {flag: uses(flag, [*zip(cases[name], looks)]) for flag in FLAGS}
@@ -120,10 +117,8 @@ def flag_uses(program: str) -> Dict[str, Uses]:
     }
 
 
-def flipped(registers: Flags, flag: Optional[str]) -> Flags:
-    """The flags with one of them turned over in all lanes, or as they are."""
-    if flag is None:
-        return registers
+def flipped(registers: Flags, flag: str) -> Flags:
+    """The flags with one of them turned over in all lanes."""
     register, shift = FLAGS[flag]
     value = int(registers[register], 16) ^ 255 << shift
     return {**registers, register: f"{value:0{len(registers[register])}x}"}
@@ -139,10 +134,8 @@ def uses(flag: str, ran: Sequence[Tuple[Case, Look]]) -> Tuple[str, ...]:
     """What an instruction does with a flag, by the looks after it: those of each state as it is, and then of
     the state with each flag turned over."""
     many, turned = 1 + len(FLAGS), 1 + [*FLAGS].index(flag)
-    others = [
-        [it["v3"], accumulators_of(it), *(value_of(it, name) for name in FLAGS if name != flag)]
-        for _, it in ran
-    ]
+    names = [name for name in FLAGS if name != flag]
+    others = [[it["v3"], accumulators_of(it), *(value_of(it, name) for name in names)] for _, it in ran]
     is_read = any(others[i] != others[i + turned] for i in range(0, len(ran), many))
     left = [value_of(look, flag) for _, look in ran]
     if left == [value_of(state, flag) for (_, _, state), _ in ran]:
