@@ -5,10 +5,12 @@ be listed then, and the first that runs says what to type.
 """
 
 from pathlib import Path
+from typing import List
 from unittest import mock
 
 import pytest
 
+HERE = Path(__file__).parent
 FAULT = ""
 try:
     import rsp
@@ -22,3 +24,10 @@ except (AttributeError, ImportError, OSError) as fault:
 @pytest.fixture(scope="session", autouse=True)
 def module(library: Path) -> None:
     assert not FAULT, f"`import rsp` fails: {FAULT}"
+
+
+def pytest_collection_modifyitems(items: List[pytest.Item]) -> None:
+    """A call of the library that doesn't return ends by a thread: no signal gets through to it."""
+    for item in items:
+        if HERE in item.path.parents:
+            item.add_marker(pytest.mark.timeout(300, method="thread"))

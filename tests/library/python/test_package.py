@@ -27,6 +27,7 @@ OURS, EXAMPLES, HERE = TOP / "library/python", TOP / "examples/python", TESTS / 
 PIP = ("-m", "pip", "--disable-pip-version-check", "install", "-q", "--no-index")
 MODULES = sorted((OURS / "rsp").glob("*.py*"))
 SOURCES = [*MODULES, OURS / "wheels.py", *sorted(EXAMPLES.glob("*.py"))]
+ASKED = "import rsp; print(rsp.__file__, rsp.Rsp().run(3).steps, getattr(rsp, 'ADDED', 0))"
 in_site = pytest.mark.xdist_group("installed package")
 
 
@@ -51,17 +52,12 @@ def files_in(folder: Path) -> Dict[str, bytes]:
 
 @in_site
 def test_installed_files(site: Path, library: Path) -> None:
-    """They are the tree's, byte by byte, with the library."""
+    """They are the tree's, byte by byte, with the library, and the module runs there."""
     got, wanted = files_in(site / "rsp"), files_in(OURS / "rsp")
     wanted["librsp.so"] = (library / "librsp.so").read_bytes()
     assert sorted(got) == sorted(wanted)
     assert [name for name in got if got[name] != wanted[name]] == []
-
-
-@in_site
-def test_installed_module(site: Path) -> None:
-    asked = "import rsp; print(rsp.__file__, rsp.Rsp().run(3).steps)"
-    assert by_python("-c", asked, path=site) == f"{site}/rsp/__init__.py 3\n"
+    assert by_python("-c", ASKED, path=site) == f"{site}/rsp/__init__.py 3 0\n"
 
 
 # Examples with their words, and what they print: two beside another emulator, two on a loop of three turns.
@@ -105,10 +101,9 @@ def test_editable_install(folder: Path) -> None:
     package, python = copy_of_package(folder), folder / "own/bin/python"
     succeeds(python, *PIP, "-e", package)
     module = package / "rsp/__init__.py"
-    asked = "import rsp; print(rsp.__file__, rsp.Rsp().run(3).steps, getattr(rsp, 'ADDED', 0))"
-    assert succeeds(python, "-c", asked, cwd=folder) == f"{module} 3 0\n"
+    assert succeeds(python, "-c", ASKED, cwd=folder) == f"{module} 3 0\n"
     module.write_text(module.read_text() + "ADDED = 5\n")
-    assert succeeds(python, "-c", asked, cwd=folder) == f"{module} 3 5\n"
+    assert succeeds(python, "-c", ASKED, cwd=folder) == f"{module} 3 5\n"
 
 
 @pytest.mark.parametrize("path", SOURCES, ids=lambda it: it.name)
@@ -122,21 +117,15 @@ def test_source(path: Path) -> None:
         assert [it.name for it in public if not ast.get_docstring(it)] == []
 
 
-def of_module(it: Any) -> bool:
-    return getattr(it, "__module__", "").startswith("rsp")
-
-
-def test_names() -> None:
-    public = {name for name, it in vars(rsp).items() if of_module(it) and not name.startswith("_")}
+def test_names_and_version() -> None:
+    ours = {name for name, it in vars(rsp).items() if getattr(it, "__module__", "").startswith("rsp")}
+    public = {name for name in ours if not name.startswith("_")}
     assert set(rsp.__all__) <= set(dir(rsp))
     assert len(set(rsp.__all__)) == len(rsp.__all__)
     assert public - {*rsp.__all__, "unset"} == set()
     named = [(name, getattr(rsp, name)) for name in rsp.__all__] + [*vars(rsp.Rsp).items()]
     called = [(name, it) for name, it in named if callable(it) or isinstance(it, property)]
     assert [name for name, it in called if not name.startswith("_") and not it.__doc__] == []
-
-
-def test_version() -> None:
     assert f'\nversion = "{rsp.__version__}"\n' in page("library/python/pyproject.toml")
     assert f"#define RSP_VERSION {rsp.VERSION}\n" in page("library/c/rsp.h")
 

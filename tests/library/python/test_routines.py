@@ -5,7 +5,7 @@ or a run is told otherwise.
 """
 
 import re
-from typing import Any, Dict, List, Tuple
+from typing import Dict, List, Tuple
 
 import pytest
 
@@ -96,7 +96,6 @@ def premises_of(name: str, source: str, known: Definitions) -> List[str]:
     return found
 
 
-KNOWN = definitions()
 TEXTS = {path.stem: path.read_text() for path in (TOP / "microcode").glob("*.s")}
 
 
@@ -107,7 +106,7 @@ def test_routines() -> None:
 @pytest.mark.parametrize("name", sorted(TEXTS))
 def test_table(name: str) -> None:
     assert routines.WORDS[name] == tuple(rsp.assemble(TEXTS[name]))
-    assert set(routines.PREMISES[name]) == set(premises_of(name, TEXTS[name], KNOWN))
+    assert set(routines.PREMISES[name]) == set(premises_of(name, TEXTS[name], definitions()))
 
 
 def machine_at(name: str, place: int, scalars: Dict[int, int], before: str = "") -> rsp.Rsp:
@@ -122,48 +121,31 @@ def machine_at(name: str, place: int, scalars: Dict[int, int], before: str = "")
     return machine
 
 
-def entries(machine: rsp.Rsp, *limit: int) -> List[Any]:
-    return list(routines.entries(machine, *limit))
-
-
-def test_target_that_is_no_multiple_of_16() -> None:
+def test_premises() -> None:
     machine = machine_at("copy", 8, {1: 0x100, 3: 0x538, 4: 0x28}, "nop\nnop")
     assert routines.name_at_pc(machine) is None
-    assert entries(machine) == [("copy", 8, ("$3 % 16 == 0: $3 is 0x538",))]
+    assert [*routines.entries(machine)] == [("copy", 8, ("$3 % 16 == 0: $3 is 0x538",))]
     assert machine.peek(4) & 3 == 3, "the machine ran"
-
-
-def test_all_premises_hold() -> None:
-    assert entries(machine_at("copy", 0, {1: 0x100, 3: 0x100, 4: 0x20})) == [("copy", 0, ())]
-
-
-def test_target_inside_the_source() -> None:
+    machine = machine_at("copy", 0, {1: 0x100, 3: 0x100, 4: 0x20})
+    assert [*routines.entries(machine)] == [("copy", 0, ())]
     machine = machine_at("copy", 0, {1: 0x100, 3: 0x110, 4: 0x20})
     told = "($3 <= $1) or ($1 + $4 <= $3): $3 is 0x110, $1 is 0x100, $4 is 0x20"
     assert routines.broken(machine, "copy") == (told,)
-
-
-def test_ones_that_are_not_there() -> None:
     machine = machine_at("dot", 0, {})
     told = "$v31 == [1] * 8: $v31 is [0, 0, 0, 0, 0, 0, 0, 0]"
     assert routines.broken(machine, "dot") == (told,)
     raised(ValueError, "broken: there is no routine clap", routines.broken, machine, "clap")
 
 
-def test_routine_over_the_end_of_imem() -> None:
+def test_places() -> None:
     machine = rsp.Rsp()
     machine.load_words(rsp.IMEM, 4088, routines.WORDS["clip"][:2])
     machine.load_words(rsp.IMEM, 0, routines.WORDS["clip"][2:])
     machine.set_pc(4088)
-    assert routines.name_at_pc(machine) == "clip"
-
-
-def test_delay_slot() -> None:
+    assert routines.name_at_pc(machine) == "clip", "over the end of IMEM"
     machine = machine_at("clip", 8, {}, "j 64\nnop\n")
     machine.load_words(rsp.IMEM, 4, routines.WORDS["clip"])
     told = "npc == (pc + 4) % 4096: npc is 0x40, pc is 0x4"
-    assert [it.broken for it in entries(machine, 2)] == [(told,)]
-
-
-def test_at_most_so_many_steps() -> None:
-    assert entries(machine_at("clip", 8, {}, "nop\nnop"), 2) == []
+    assert [it.broken for it in routines.entries(machine, 2)] == [(told,)], "in a delay slot"
+    machine = machine_at("clip", 8, {}, "nop\nnop")
+    assert [*routines.entries(machine, 2)] == [], "at most so many steps"
