@@ -33,6 +33,7 @@ PACKAGES = {
     "/usr/include/stdio.h": "libc6-dev",
     "/usr/lib/python3*/ensurepip": "python3-venv",
     "/usr/lib/python3/dist-packages/numpy": "python3-numpy",
+    "python:ensurepip": "python3-venv",
     "/usr/include/mupen64plus": "libmupen64plus-dev",
     "/usr/lib/x86_64-linux-gnu/libmupen64plus.so.2": "libmupen64plus2",
     "/usr/games/mupen64plus": "mupen64plus-ui-console",
@@ -61,7 +62,8 @@ def without(tool: str) -> str:
     """That a tool isn't here, and which package has it."""
     module = re.sub("^python:", "", tool)
     if module != tool:
-        return f"{sys.executable} has no {module} (Debian's package python3-{module})"
+        package = PACKAGES.get(tool, f"python3-{module}")
+        return f"{sys.executable} has no {module} (Debian's package {package})"
     package = PACKAGES.get(tool, os.path.basename(tool))
     return OTHERS.get(tool, f"there is no {tool} (Debian's package {package})")
 

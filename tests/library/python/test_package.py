@@ -93,12 +93,11 @@ def test_no_library(folder: Path) -> None:
     assert said.startswith(wanted)
 
 
-@pytest.mark.timeout(120)
+@pytest.mark.needs("python:ensurepip")
 def test_editable_install(folder: Path) -> None:
     """An editable install in a venv of its own, without a network."""
-    if run(sys.executable, "-m", "venv", folder / "own").returncode:
-        pytest.skip("there is no venv (Debian's package python3-venv)")
     package, python = copy_of_package(folder), folder / "own/bin/python"
+    succeeds(sys.executable, "-m", "venv", folder / "own")
     succeeds(python, *PIP, "-e", package)
     module = package / "rsp/__init__.py"
     assert succeeds(python, "-c", ASKED, cwd=folder) == f"{module} 3 0\n"
