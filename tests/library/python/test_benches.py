@@ -21,8 +21,6 @@ from rsp import RspError, Status
 COUNT, PARTS = 1000, 2  # random scripts, and the tests that share them
 LONGEST = 1048576
 Chance = random.Random
-
-
 TEXTS = """\
 nop;break;addiu $1, $1, 1;ori $2, $0, 0x1000;sw $1, 4($0);sw $2, 0x40($1);lqv $v1[0], 0($0);sqv $v1[0], 16($0)
 vaddc $v2, $v1, $v1;vmulf $v3, $v1, $v2[1];vrcp $v4[0], $v1[3];mtc0 $2, $c2;mfc0 $3, $c7;mtc0 $1, $c4
@@ -99,10 +97,6 @@ def see_equal(what: str, got: Tuple[bytes, bytes], wanted: Tuple[bytes, bytes]) 
     assert got[0] == wanted[0], what
     is_equal = got[1] == wanted[1]
     assert is_equal, f"{what}: the image is another"
-
-
-def test_there_are_scripts() -> None:
-    assert len(stored()) > 100
 
 
 @pytest.mark.parametrize("script", stored(), ids=str)

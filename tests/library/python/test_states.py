@@ -105,9 +105,6 @@ def test_fields() -> None:
     assert (state.vectors[3][2:4], state.vectors[5]) == ([3, 4], [5] * 8)
     assert repr(state.vectors[3]) == "[1, 2, 3, 4, 5, 6, 7, 8]"
     assert repr(rsp.Divider(output=7)) == "Divider(input=0, output=7, loaded=0)"
-
-
-def test_built_state() -> None:
     built = State(pc=8, words=[0, 5] + [0] * 30, flags=rsp.Flags(clip=3))
     parts = (built.pc, built.npc, built.words[1], built.flags.clip, built.sp[2])
     assert parts == (8, 12, 5, 3, 0xFF8)
@@ -195,15 +192,13 @@ def test_shown_as_in_examples(name: str) -> None:
         wanted = wanted[wanted.find(text) + len(text) :]
 
 
-def test_shown_as_on_a_page() -> None:
+def test_shown_state() -> None:
+    """As on a page, and in full."""
     known = transcripts("docs/SCRIPT.md", "## My microcode is wrong")
     script, said = next(it for it in known if it[0].endswith("\nvregs\nflags\n"))
     vregs, flags = replies(script)
     wanted = said.split("\n")
     assert (vregs.splitlines()[1], flags) == (wanted[3], wanted[-1])
-
-
-def test_shown_state() -> None:
     state = State(pc=12)
     lines, table = str(state).splitlines(), state._repr_html_()
     assert len(lines) == 9 + 32 + 1
