@@ -5,7 +5,7 @@ same files have the same bytes. An editable install names this folder alone, so 
 library is there at the next import. It fails if library/c/build hasn't made the library.
 
 The wheel has the tags of glibc 2.17, manylinux2014: the library needs libc.so.6 alone, and no newer symbol,
-which tests/install/test_installation.py sees.
+which tests/install sees.
 """
 
 import base64

@@ -30,6 +30,7 @@ PACKAGES = {
     "tsc": "node-typescript",
     "/usr/bin/cc": "gcc",
     "/usr/bin/man": "man-db",
+    "/usr/bin/mips-linux-gnu-gcc": "gcc-mips-linux-gnu",
     "/usr/include/stdio.h": "libc6-dev",
     "/usr/lib/python3*/ensurepip": "python3-venv",
     "/usr/lib/python3/dist-packages/numpy": "python3-numpy",

@@ -13,7 +13,7 @@ With --systems it also makes the archives for other systems, after tools/systems
   page             .zip, a folder for a web server: the machine in a browser. Its library is that of wasm64
 
 dist/SHA256SUMS has the sums of the archives that this run made. Two runs from one commit give the same
-bytes. It fails if the work tree isn't clean, a version differs, tests/part newcomer fails, or a system isn't
+bytes. It fails if the work tree isn't clean, a version differs, the newcomer's tests fail, or a system isn't
 made. Then it leaves what was in dist.
 """
 
@@ -41,6 +41,7 @@ OBJECT = TOP / "crates/rsp_main/out/rsp_main.o"
 PACKED = (
     "library/python/rsp library/rust docs examples microcode conformance plugin tools/python CHANGELOG.md"
 ).split()
+NEWCOMER = "tests/install/test_newcomer.py"
 # Where the packages of other languages and the list of changes name the version.
 VERSIONS = {
     "CHANGELOG.md": r"^## ([\d.]+)",
@@ -138,7 +139,7 @@ def words() -> argparse.ArgumentParser:
     form = argparse.RawDescriptionHelpFormatter
     reader = argparse.ArgumentParser(prog="./release", description=__doc__, formatter_class=form)
     reader.add_argument("--object", type=Path, default=OBJECT, help="another object file of the program")
-    reader.add_argument("--untested", action="store_true", help="leave out tests/part newcomer")
+    reader.add_argument("--untested", action="store_true", help=f"leave out tests/all {NEWCOMER}")
     more = "also the archives of these systems, or of all if none is named"
     reader.add_argument("--systems", nargs="*", metavar="NAME", help=more)
     return reader
@@ -156,7 +157,7 @@ def main() -> None:
     if said("git", "status", "--porcelain"):
         fail("the work tree differs from its commit")
     if not asked.untested:
-        succeed("tests/part newcomer failed, so nothing is made", "tests/part", "newcomer")
+        succeed(f"tests/all {NEWCOMER} failed, so nothing is made", "tests/all", NEWCOMER)
     (version, day), commit = installed.version(), said("git", "rev-parse", "HEAD")
     check_versions(version)
     about = f"rsp {version} ({day}), commit {commit}", f"proved and built by {said('rt', 'version')}"

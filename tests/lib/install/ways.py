@@ -53,6 +53,7 @@ NEEDS = (
     (r"(?m)^man\b", "/usr/bin/man"),
     (r"venv", "/usr/lib/python3*/ensurepip"),
     (r"conformance/campaign", "/usr/lib/python3/dist-packages/numpy"),
+    (r"lib\.plugin", "/usr/include/mupen64plus", "/usr/games/mupen64plus", "/usr/bin/mips-linux-gnu-gcc"),
     (r"rsp-z64", "/usr/lib/x86_64-linux-gnu/mupen64plus/mupen64plus-rsp-z64.so"),
 )
 
@@ -212,6 +213,10 @@ WAYS = (
 )
 # Those of a clone, besides.
 IN_A_CLONE = (
+    # mupen64plus doesn't end by itself; tests/plugin plays what is made here.
+    Way(
+        "docs/PLUGIN.md", "tools/python lib.plugin", instead=(("/tmp/", "~/"), ("/usr/games", ": /usr/games"))
+    ),
     Way(EMBEDDING, "library/c/build", instead=(("PREFIX", "~/prefix"),)),
     Way("docs/PLUGIN.md", "library/c/build", then="test -s plugin/mupen64plus-rsp-proved.so"),
 )
