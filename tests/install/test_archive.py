@@ -16,7 +16,7 @@ import pytest
 from lib import TESTS, TOP
 from lib.cmake import SAID as LOCKSTEP
 from lib.cmake import check_cmake
-from lib.install.unpacked import BARE, check_sums, unpacked
+from lib.install.unpacked import BARE, check_pack, check_sums, unpacked
 from lib.links import broken
 from lib.packages import need
 from lib.pages import page
@@ -44,6 +44,10 @@ def test_two_runs_give_the_same_bytes(released: Path) -> None:
     )
     assert {*first} == {*second}
     assert [it for it in first if first[it] != second[it]] == []
+
+
+def test_names_and_times(packed: Path) -> None:
+    check_pack(packed)
 
 
 def test_sums(packed: Path, folder: Path) -> None:

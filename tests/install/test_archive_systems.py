@@ -16,7 +16,7 @@ import pytest
 from lib import TOP
 from lib.cmake import PROJECT
 from lib.cmake import SAID as LOCKSTEP
-from lib.install.unpacked import BARE, check_sums, unpacked
+from lib.install.unpacked import BARE, check_pack, check_sums, unpacked
 from lib.library.typescript import OPTIONS, USE
 from lib.links import broken
 from lib.packages import need
@@ -101,6 +101,7 @@ def test_stand_in(folder: Path, library: Path, system: str) -> None:
     assert is_alike
     packed = folder / systems.name_of(system, "1.0.0")
     packed.write_bytes(first)
+    check_pack(packed)
     (folder / "into").mkdir()
     check_files(unpacked(packed, folder / "into"), system)
 
@@ -166,9 +167,10 @@ def of(*names: str) -> pytest.MarkDecorator:
 
 @outside
 @of(*MADE)
-def test_files(top: Path, system: str) -> None:
+def test_files(packed_for: Path, top: Path, system: str) -> None:
     # npm wants another name.
     assert top.name == "package" if system == "wasm64" else top.name.endswith(f"-{system}")
+    check_pack(packed_for)
     check_files(top, system)
 
 

@@ -1,6 +1,7 @@
-"""Archives of ./release, unpacked into empty folders, and what is true of each: names, times and sums."""
+"""Archives of ./release, unpacked into empty folders, and what is true of each: names, times, sums."""
 
 import hashlib
+import shutil
 import stat
 import tarfile
 import zipfile
@@ -9,27 +10,24 @@ from pathlib import Path
 BARE = {"PATH": "/usr/bin:/bin", "LC_ALL": "C"}  # the environment of one who has nothing else
 
 
-def take_tar(archive: Path, into: Path) -> None:
-    with tarfile.open(archive) as pack:
-        assert pack.getnames() == sorted(pack.getnames())
-        members = {(it.mtime, it.uid, it.gid, it.uname, it.gname) for it in pack.getmembers()}
-        assert len(members) == 1, "times or owners differ"
-        pack.extractall(into)
-
-
-def take_zip(archive: Path, into: Path) -> None:
-    with zipfile.ZipFile(archive) as pack:
-        assert pack.namelist() == sorted(pack.namelist())
-        members = {(it.date_time, it.create_system, it.extra, it.comment) for it in pack.infolist()}
-        assert len(members) == 1, "times differ"
-        kinds = {stat.S_IFMT(it.external_attr >> 16) for it in pack.infolist()}
-        assert kinds == {stat.S_IFREG}, "it has more than files"
-        pack.extractall(into)
+def check_pack(archive: Path) -> None:
+    """The names are sorted, and nothing tells when and by whom it was made. A zip file has no links."""
+    if archive.suffix == ".zip":
+        with zipfile.ZipFile(archive) as pack:
+            names, entries = pack.namelist(), pack.infolist()
+            about = {str((it.date_time, it.create_system, it.extra, it.comment)) for it in entries}
+            assert {stat.S_IFMT(it.external_attr >> 16) for it in entries} == {stat.S_IFREG}
+    else:
+        with tarfile.open(archive) as tar:
+            names = tar.getnames()
+            about = {str((it.mtime, it.uid, it.gid, it.uname, it.gname)) for it in tar.getmembers()}
+    assert names == sorted(names)
+    assert len(about) == 1
 
 
 def unpacked(archive: Path, into: Path) -> Path:
     """Unpacks an archive into an empty folder, and returns the only folder that it has."""
-    (take_zip if archive.suffix == ".zip" else take_tar)(archive, into)
+    shutil.unpack_archive(archive, into, "zip" if archive.suffix == ".zip" else "gztar")
     (top,) = into.iterdir()
     return top
 
