@@ -31,8 +31,7 @@ conformance/README.md microcode/README.md CONTRIBUTING.md
 # These tests read neither names nor paths nor git.
 OF_NO_PLACE = """
 tests/mathematics tests/program/test_vectors.py tests/program/test_bad_input.py
-tests/program/test_failing_allocations.py tests/library/c/test_valgrind.py tests/docs/test_drawings.py
-tests/install/test_building.py
+tests/program/test_failing_allocations.py tests/docs/test_drawings.py tests/install/test_building.py
 """.split()
 # This would prove all crates in the clone if its program isn't built here.
 OTHER_COMPILER = "tests/program/test_second_compiler.py", "crates/rsp_main/out/rsp_main.by-rattle"
@@ -62,13 +61,11 @@ def test_suite(stranger: User) -> None:
     """The tests outside the crates, except those that would do the same anywhere."""
     left = OF_NO_PLACE + [OTHER_COMPILER[0]] * (not (stranger.at / OTHER_COMPILER[1]).exists())
     assert [it for it in left if not (TOP / it).exists()] == []
-    got = stranger.types(f"tests/all {' '.join(f'--ignore={it}' for it in left)}")
+    got = stranger.types(f"tests/all -k 'not valgrind' {' '.join(f'--ignore={it}' for it in left)}")
     assert got.returncode == 0, f"{got.stdout[-5000:]}{got.stderr[-1000:]}"
 
 
-@pytest.mark.parametrize(
-    "block, way", shown(), ids=lambda it: str(it).splitlines()[0] if isinstance(it, Block) else ""
-)
+@pytest.mark.parametrize("block, way", [pytest.param(*it, id=str(it[0])) for it in shown()])
 def test_command(stranger: User, block: Block, way: Way) -> None:
     check(stranger, block, way, f'rsp() {{ "{stranger.at}/rsp" "$@"; }}')
 
