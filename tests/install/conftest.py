@@ -9,6 +9,7 @@ from typing import Iterator
 
 import pytest
 
+from lib import TOP
 from lib.install.clone import cloned
 from lib.install.unpacked import unpacked
 from lib.packages import need
@@ -19,6 +20,8 @@ RELEASES = ("first", "second")
 
 def release(into: Path) -> None:
     """The folder dist of two runs of ./release."""
+    if not (TOP / "crates/rsp_main/out/rsp_main.o").is_file():  # `rt ci` keeps none
+        succeeds("rt", "run", "--", "--version", cwd=TOP / "crates/rsp_main")
     with tempfile.TemporaryDirectory() as folder:
         clone = cloned(Path(folder, "rsp"))
         for name in RELEASES:
