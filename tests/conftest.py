@@ -1,8 +1,8 @@
 """What all tests share: the program and the library under test, a folder, and what a machine may lack.
 
 `tests/all` runs all of them on all processors, `tests/all tests/docs` or `tests/all -k saves` a few: its
-words are pytest's. `pytest tests/program/test_saves.py -k mode` does without tests/all, and `--program PATH` tests
-another program. `pytest --markers` and `pytest --fixtures` say more.
+words are pytest's. `pytest tests/program/test_saves.py -k mode` does without tests/all, and `--program PATH`
+tests another program. `pytest --markers` and `pytest --fixtures` say more.
 """
 
 import os
@@ -26,7 +26,7 @@ WANTED = "nothing to test: "
 def pytest_addoption(parser: pytest.Parser) -> None:
     parser.addoption("--program", type=os.path.abspath, help="the program under test (the built one)")
     parser.addoption("--plugin", type=os.path.abspath, help="the plugin under test (one that is built)")
-    archives = "an archive of ./release to test (tests/install makes one); it can be given more than once"
+    archives = "an archive of ./release to test, or a folder of them (tests/install makes one)"
     parser.addoption("--archive", action="append", type=os.path.abspath, default=[], help=archives)
 
 

@@ -11,7 +11,7 @@ import pytest
 
 from lib import TOP
 from lib.install.clone import cloned
-from lib.install.unpacked import unpacked
+from lib.install.unpacked import given, unpacked
 from lib.packages import need
 from lib.processes import succeeds
 
@@ -52,13 +52,11 @@ def released(request: pytest.FixtureRequest, tmp_path_factory: pytest.TempPathFa
 @pytest.fixture(scope="session")
 def packed(request: pytest.FixtureRequest) -> Path:
     """The archive."""
-    given = request.config.getoption("--archive")
-    found = [Path(it) for it in given if "-linux-x86_64." in it]
-    if given and not found:
+    found = given(request.config, "linux-x86_64")
+    if request.config.getoption("--archive") and not found:
         pytest.skip("--archive names none for Linux on x86-64")
-    if not given:
-        (path,) = (request.getfixturevalue("released") / "first").glob("*.tar.gz")
-        found = [path]
+    if not found:
+        found = [*(request.getfixturevalue("released") / "first").glob("*.tar.gz")]
     return found[0]
 
 

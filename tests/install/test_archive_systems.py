@@ -16,7 +16,7 @@ import pytest
 from lib import TOP
 from lib.cmake import PROJECT
 from lib.cmake import SAID as LOCKSTEP
-from lib.install.unpacked import BARE, check_pack, check_sums, unpacked
+from lib.install.unpacked import BARE, check_pack, check_sums, given, unpacked
 from lib.library.typescript import OPTIONS, USE
 from lib.links import broken
 from lib.packages import need
@@ -56,7 +56,7 @@ ABSENT = """
 plugin docs/PLUGIN.md docs/CAMPAIGN.md conformance/campaign conformance/rsp_conformance/campaign
 """.split()
 LINES = "rsp 1.0.0 (2000-01-01), commit 0123", "proved and built by no logic"
-outside = pytest.mark.outside("it tests archives of other systems: `--archive dist/rsp-*`")
+outside = pytest.mark.outside("it tests archives of other systems: `--archive dist`")
 
 
 def named_there(top: Path, name: str) -> bool:
@@ -141,7 +141,7 @@ def system(request: pytest.FixtureRequest) -> str:
 @pytest.fixture
 def packed_for(request: pytest.FixtureRequest, system: str) -> Path:
     """The archive for a system."""
-    found = [Path(it) for it in request.config.getoption("--archive") if f"-{system}." in it]
+    found = given(request.config, system)
     if not found:
         pytest.skip(f"--archive names none for {system}: `./release --systems {system}` makes one")
     return found[0]

@@ -7,7 +7,16 @@ import tarfile
 import zipfile
 from pathlib import Path
 
+import pytest
+
 BARE = {"PATH": "/usr/bin:/bin", "LC_ALL": "C"}  # the environment of one who has nothing else
+
+
+def given(config: pytest.Config, system: str) -> list[Path]:
+    """The archives for a system that --archive names, itself or by their folder."""
+    paths = [Path(it) for it in config.getoption("--archive")]
+    found = [it for path in paths for it in (sorted(path.glob("rsp-*")) if path.is_dir() else [path])]
+    return [it for it in found if f"-{system}." in it.name]
 
 
 def check_pack(archive: Path) -> None:
