@@ -10,7 +10,7 @@ from typing import Iterator, NamedTuple
 import pytest
 
 from lib.cmake import SAID as LOCKSTEP
-from lib.install.commands import Block, blocks_in, check, in_table, is_command, lines_of, pages_in, with_ways
+from lib.install.commands import Block, blocks_in, check, in_table, is_command, lines_of, with_ways
 from lib.install.unpacked import BARE
 from lib.install.ways import WAYS, Way
 from lib.processes import run, succeeds
@@ -42,7 +42,8 @@ class Desk(NamedTuple):
 
 def in_pages(at: Path) -> Iterator[Block]:
     """The blocks of all pages, and the README's table of commands."""
-    for page, text in pages_in(at).items():
+    for path in sorted(at.rglob("*.md")):
+        page, text = str(path.relative_to(at)), path.read_text()
         yield from blocks_in(page, text)
         yield from in_table(page, text) if page == "README.md" else ()
 

@@ -134,11 +134,6 @@ def test_missing_package(folder: Path) -> None:
 
 
 @pytest.fixture
-def system(request: pytest.FixtureRequest) -> str:
-    return str(request.param)
-
-
-@pytest.fixture
 def packed_for(request: pytest.FixtureRequest, system: str) -> Path:
     """The archive for a system."""
     found = given(request.config, system)
@@ -154,15 +149,8 @@ def top(packed_for: Path, folder: Path) -> Path:
     return unpacked(packed_for, folder / "into")
 
 
-@pytest.fixture
-def at(folder: Path) -> Path:
-    """A folder for files on the way."""
-    (folder / "at").mkdir()
-    return folder / "at"
-
-
 def of(*names: str) -> pytest.MarkDecorator:
-    return pytest.mark.parametrize("system", names, indirect=True)
+    return pytest.mark.parametrize("system", names)
 
 
 @outside
@@ -183,15 +171,15 @@ def test_wheel(top: Path, system: str) -> None:
 @outside
 @pytest.mark.needs("rustc", "cargo")
 @of(*rust.TARGETS)
-def test_crate(top: Path, at: Path, system: str) -> None:
+def test_crate(top: Path, folder: Path, system: str) -> None:
     """Its build script finds the library of each target, and cargo packs it."""
     crate = top / "rust"
     own = {**BARE, "PATH": os.environ["PATH"], "HOME": os.environ.get("HOME", "/")}
     where = {**own, "CARGO_MANIFEST_DIR": str(crate), "CARGO_PKG_VERSION": installed.version()[0]}
-    succeeds("rustc", "--edition", "2021", "-o", at / "script", crate / "build.rs", cwd=top, env=where)
+    succeeds("rustc", "--edition", "2021", "-o", folder / "script", crate / "build.rs", cwd=top, env=where)
     listed = succeeds("cargo", "package", "--list", "--allow-dirty", "--offline", cwd=crate, env=own)
     for target, (name, _) in rust.TARGETS[system].items():
-        status, said = rust.said(at / "script", target)
+        status, said = rust.said(folder / "script", target)
         assert status == 0 and f"cargo:rustc-link-search=native={crate}/lib/{target}\n" in said
         assert f"lib/{target}/{name}" in listed.splitlines()
 
@@ -216,10 +204,10 @@ LOOP, LOOP_WORDS = "loop: addiu $1, $1, -1\nbne $1, $0, loop\n", "2421ffff1420ff
 
 
 @pytest.fixture
-def runner(top: Path, at: Path, system: str) -> Iterator[runners.Runner]:
+def runner(top: Path, folder: Path, system: str) -> Iterator[runners.Runner]:
     kind = CROSS[system][0]
     need(*kind.programs)
-    made = kind(top, at)
+    made = kind(top, folder)
     yield made
     made.stop()
 
@@ -255,7 +243,7 @@ def test_pkg_config(top: Path, runner: runners.Runner, system: str) -> None:
 def test_cmake(top: Path, runner: runners.Runner, system: str) -> None:
     """Shared and static. On another system it isn't found."""
     _, told, shared, _ = CROSS[system]
-    folder = runner.at / "cmake"
+    folder = runner.folder / "cmake"
     folder.mkdir()
     for it in (PROJECT, top / EXAMPLE):
         shutil.copy(it, folder)
@@ -285,7 +273,7 @@ def test_example_of_the_crate(top: Path, runner: runners.Runner, system: str) ->
         f"{named}_RUNNER": " ".join(runner.start),
     }
     words = ("cargo", "run", "--offline", "--quiet", "--example", "lockstep", "--target", target)
-    assert succeeds(*words, cwd=shutil.copytree(top / "rust", runner.at / "rust"), env=where) == LOCKSTEP
+    assert succeeds(*words, cwd=shutil.copytree(top / "rust", runner.folder / "rust"), env=where) == LOCKSTEP
 
 
 def of_archive(runner: runners.Runner, *words: str, given: bytes = b"") -> "Ended[bytes]":
@@ -336,9 +324,9 @@ def test_first_line_of_windows(top: Path, runner: runners.Runner) -> None:
 @outside
 @pytest.mark.needs("rt")
 @of("macos")
-def test_macos(top: Path, at: Path) -> None:
+def test_macos(top: Path, folder: Path) -> None:
     """The files are only read."""
-    macos.check(top, at)
+    macos.check(top, folder)
     for target, processor in systems.THIN.items():
         held = llvm("llvm-lipo", "-archs", top / "rust/lib" / target / "librsp.a").split()
         assert held == [processor], target
@@ -355,25 +343,28 @@ def test_package(packed_for: Path, top: Path) -> None:
 
 
 @pytest.fixture
-def project(packed_for: Path, at: Path) -> Path:
+def project(packed_for: Path, folder: Path) -> Path:
     """A folder in which npm has installed the package, without a network."""
     need("npm", "node")
-    where = {**BARE, "npm_config_cache": str(at / "npm"), "npm_config_offline": "true", "HOME": str(at)}
-    (at / "project").mkdir()
-    succeeds("npm", "install", "--no-audit", "--no-fund", packed_for, cwd=at / "project", env=where)
-    return at / "project"
-
-
-def names_in(folder: Path) -> set[str]:
-    """The names of all below a folder."""
-    return {str(it.relative_to(folder)) for it in folder.rglob("*")}
+    where = {
+        **BARE,
+        "npm_config_cache": str(folder / "npm"),
+        "npm_config_offline": "true",
+        "HOME": str(folder),
+    }
+    (folder / "project").mkdir()
+    succeeds("npm", "install", "--no-audit", "--no-fund", packed_for, cwd=folder / "project", env=where)
+    return folder / "project"
 
 
 @outside
 @of("wasm64")
 def test_npm(top: Path, project: Path) -> None:
     """What it installs, and that Node runs it, or says what it lacks."""
-    assert names_in(project / "node_modules/rsp") == names_in(top)
+    held, wanted = (
+        {str(it.relative_to(at)) for it in at.rglob("*")} for at in (project / "node_modules/rsp", top)
+    )
+    assert held == wanted
     left = node.check_use(project)
     if left:
         pytest.skip(left)
@@ -395,11 +386,11 @@ def test_declarations(project: Path) -> None:
 @outside
 @pytest.mark.needs(*chromium.PROGRAMS)
 @of("wasm64")
-def test_example_in_chromium(top: Path, at: Path) -> None:
-    runner = browser.Chromium(top, at)
+def test_example_in_chromium(top: Path, folder: Path) -> None:
+    runner = browser.Chromium(top, folder)
     try:
         text = (top / "examples/js/lockstep.js").read_text()
-        (at / "lockstep.js").write_text(text.replace('from "rsp"', 'from "/library/rsp.js"'))
+        (folder / "lockstep.js").write_text(text.replace('from "rsp"', 'from "/library/rsp.js"'))
         assert runner.test("code.js", "/at/lockstep.js").decode() == LOCKSTEP
     finally:
         runner.stop()

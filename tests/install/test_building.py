@@ -10,7 +10,7 @@ import re
 import signal
 import tempfile
 from pathlib import Path
-from typing import Iterator, NamedTuple, Optional
+from typing import Iterator, NamedTuple
 
 import pytest
 
@@ -33,7 +33,7 @@ class Phase(NamedTuple):
     kit: str
     crate: str
     before: set[str]
-    sent: Optional[signal.Signals] = None
+    sent: int = 0
 
 
 TERM, CTRL_C = signal.SIGTERM, signal.SIGINT
@@ -50,41 +50,31 @@ PHASES = {
 
 
 @pytest.fixture(scope="session")
-def history() -> Iterator[tuple[Tiny, dict[str, Ran]]]:
+def program_tree() -> Iterator[Tiny]:
     """The repository with its program built, and the runs that have led there."""
     with tempfile.TemporaryDirectory() as folder:
-        tree, runs = Tiny(Path(folder)), {}
+        tree = Tiny(Path(folder))
         for name, phase in PHASES.items():
-            if phase.sent:
-                send, sent = os.killpg if phase.sent == CTRL_C else os.kill, phase.sent
-                runs[name] = tree.during(f"{phase.crate} begins", lambda it: send(it, sent), phase.kit)
-            else:
-                runs[name] = tree.run(RSP, phase.kit)
+            sent, send = phase.sent, os.killpg if phase.sent == CTRL_C else os.kill
+            if sent:
+                run = tree.during(f"{phase.crate} begins", lambda it: send(it, sent), phase.kit)
+            tree.runs[name] = run if sent else tree.run(RSP, phase.kit)
         for name, kit in ("by another logic", "other"), ("by it again", "other"), ("by the right one", ""):
-            runs[name] = tree.run(RSP, kit)
-        yield tree, runs
-
-
-@pytest.fixture
-def program_tree(history: tuple[Tiny, dict[str, Ran]]) -> Tiny:
-    return history[0]
+            tree.runs[name] = tree.run(RSP, kit)
+        yield tree
 
 
 @pytest.fixture(scope="session")
-def library_history() -> Iterator[tuple[Tiny, Ran]]:
+def library_tree() -> Iterator[Tiny]:
     with tempfile.TemporaryDirectory() as folder:
         tree = Tiny(Path(folder))
-        yield tree, tree.run(C)
-
-
-@pytest.fixture
-def library_tree(library_history: tuple[Tiny, Ran]) -> Tiny:
-    return library_history[0]
+        tree.runs["first"] = tree.run(C)
+        yield tree
 
 
 @pytest.fixture
 def tree(request: pytest.FixtureRequest, what: str) -> Tiny:
-    """The built repository of what the test is of: the program or the library."""
+    """That of the program or of the library."""
     built: Tiny = request.getfixturevalue(f"{what}_tree")
     return built
 
@@ -118,12 +108,12 @@ def test_words_of_the_library(folder: Path, word: str, status: int) -> None:
 
 @of_program
 @pytest.mark.parametrize("name", PHASES)
-def test_ended_in_a_phase(history: tuple[Tiny, dict[str, Ran]], name: str) -> None:
+def test_ended_in_a_phase(program_tree: Tiny, name: str) -> None:
     """What is left is proved up to the crate, and nothing that an earlier run has proved.
 
     A stopped run may have proved more of the crates that are proved side by side.
     """
-    phase, ran = PHASES[name], history[1][name]
+    phase, ran = PHASES[name], program_tree.runs[name]
     assert phase.crate not in ran.proved
     if phase.sent:
         assert ran.status == 128 + phase.sent and ran.last.startswith("rsp: stopped")
@@ -134,19 +124,21 @@ def test_ended_in_a_phase(history: tuple[Tiny, dict[str, Ran]], name: str) -> No
 
 
 @of_program
-def test_kit_of_another_logic(history: tuple[Tiny, dict[str, Ran]]) -> None:
+def test_kit_of_another_logic(program_tree: Tiny) -> None:
     """It builds, and says that it may not; one of the right logic builds again, which is the last run."""
-    first, again, last = (history[1][it] for it in ("by another logic", "by it again", "by the right one"))
+    first, again, last = (
+        program_tree.runs[it] for it in ("by another logic", "by it again", "by the right one")
+    )
     assert first.status == 0 and first.proved == {"rsp_main"} and "`rattle-kit-0 logic 0`" in first.said
     assert again == NOTHING
     assert last.status == 0 and last.proved == {"rsp_main"}
 
 
 @of_library
-def test_builds_the_library(library_history: tuple[Tiny, Ran]) -> None:
-    tree, ran = library_history
+def test_builds_the_library(library_tree: Tiny) -> None:
+    ran = library_tree.runs["first"]
     assert ran.status == 0 and ran.proved == {"rsp_decode", "rsp_c"}
-    assert (tree.at / "library/c/librsp.so").is_file()
+    assert (library_tree.at / "library/c/librsp.so").is_file()
 
 
 @pytest.mark.parametrize("what, command", BOTH)

@@ -7,7 +7,6 @@ it is typed as it is; in an archive each block has a way.
 
 import os
 import re
-from pathlib import Path
 from typing import Iterable, Iterator, NamedTuple
 
 import pytest
@@ -107,9 +106,3 @@ def check(user: User, block: Block, way: Way, before: str) -> None:
     texts = got.stdout, shown.get(way.prints, way.prints)
     told, wanted = (re.sub(r"\d+ seconds", "seconds", it).strip("\n").splitlines() for it in texts)
     assert matches(told, wanted), f"{block} prints {got.stdout}, and {wanted} is wanted"
-
-
-def pages_in(at: Path) -> dict[str, str]:
-    """The pages below a folder, by their names."""
-    found = sorted(str(it.relative_to(at)) for it in at.rglob("*.md"))
-    return {it: (at / it).read_text() for it in found}

@@ -111,10 +111,10 @@ class Ran(NamedTuple):
 
 
 class Tiny:
-    """The repository below a folder, and the kits by their names, each a PATH."""
+    """The repository below a folder, the kits by their names, each a PATH, and runs that a test keeps."""
 
     def __init__(self, folder: Path) -> None:
-        self.at = folder / "repository"
+        self.at, self.runs = folder / "repository", dict[str, Ran]()
         for name in COPIED.split():
             (self.at / name).parent.mkdir(parents=True, exist_ok=True)
             if (TOP / name).is_dir():
