@@ -13,17 +13,12 @@ from pathlib import Path
 from typing import Dict, List, Optional, Sequence, Tuple
 
 from lib.plugin import CORE, FLAGS, HEADERS, HERE, Z64, Bench, begun, speed_task
-from lib.processes import compiled, run
-from measure import LIBRARY, add_program, need, need_library, reader, speed
+from lib.processes import compiled
+from measure import LIBRARY, add_program, need, need_library, reader
+from measure.speed import DATA, LOOPS, PROLOGUE, heading, host_instructions, row
 
 # Signals of check mode need exact registers under valgrind.
-VALGRIND = (
-    "valgrind",
-    "--tool=callgrind",
-    "--callgrind-out-file=/dev/null",
-    "--px-default=allregs-at-mem-access",
-    "--px-file-backed=allregs-at-mem-access",
-)
+EXACT = ("--px-default=allregs-at-mem-access", "--px-file-backed=allregs-at-mem-access")
 TURN = "addiu $2, $2, -1\nbne $2, $0, loop\nnop\nbreak\n"
 SETTING = """lw $2, 0xff0($0)
 ori $3, $0, %d
@@ -36,8 +31,7 @@ mtc0 $5, $c1
 
 def instructions(*words: object, lines: Sequence[str] = ()) -> int:
     """Host instructions of a command with these lines as its input."""
-    got = run(*VALGRIND, *words, input="".join(f"{it}\n" for it in lines), timeout=3600)
-    return int(re.findall(r"Collected : (\d+)", got.stdout)[0])
+    return host_instructions((words, "".join(f"{it}\n" for it in lines).encode()), more=EXACT)
 
 
 def figure(
@@ -59,25 +53,16 @@ def figure(
 
 def loop_of(name: str) -> Tuple[List[str], int]:
     """A loop of measure.speed that makes as many turns as ff0 says, and the instructions of a turn."""
-    words = speed.LOOPS[name].split()
-    code = f"put imem 0 8c020ff0 {speed.PROLOGUE} {' '.join(words)} 0000000d"
-    return [code, f"put dmem 0 {speed.DATA[:0xF00].hex(' ', 4)}"], len(words)
-
-
-def head(title: str, names: Sequence[str]) -> None:
-    print(f"\n| {title} | {' | '.join(names)} |\n|---|{'---|' * len(names)}", flush=True)
-
-
-def row(title: str, figures: Sequence[float]) -> None:
-    texts = [f"{it:,.1f}" if it < 1000 else f"{it:,.0f}" for it in figures]
-    print(f"| {title} | {' | '.join(texts)} |", flush=True)
+    words = LOOPS[name].split()
+    code = f"put imem 0 8c020ff0 {PROLOGUE} {' '.join(words)} 0000000d"
+    return [code, f"put dmem 0 {DATA[:0xF00].hex(' ', 4)}"], len(words)
 
 
 def steps(bench: Bench) -> None:
-    head("Host instructions a step", [*speed.LOOPS])
+    heading("Host instructions a step")
     for title, other in (("the plugin", bench.plugin), ("z64", Z64)):
         figures = []
-        for lines, length in map(loop_of, speed.LOOPS):
+        for lines, length in map(loop_of, LOOPS):
             figures.append(figure(bench, other, lines, (2000, 8000)) / length)
         row(title, figures)
 
@@ -93,7 +78,7 @@ def stops(bench: Bench) -> None:
     for name, register in (("SP_STATUS", 4), ("SP_DMA_BUSY", 6)):
         codes[f"a read of {name}"] = SETTING % 0 + f"mfc0 $4, $c{register}\n{TURN}"
     turns, counts = [bench.words(code) for code in codes.values()], (500, 1500)
-    head("Host instructions of six instructions, one of them", [*codes])
+    heading("Host instructions of six instructions, one of them", [*codes])
     for title, other in (("the plugin", bench.plugin), ("z64", Z64)):
         row(title, [figure(bench, other, [f"put imem 0 {words}"], counts) for words in turns])
     figures = []
@@ -104,7 +89,7 @@ def stops(bench: Bench) -> None:
 
 
 def tasks(bench: Bench) -> None:
-    head("Host instructions a task", ["an empty one", "680 instructions, 1.5 KB by DMA"])
+    heading("Host instructions a task", ["an empty one", "680 instructions, 1.5 KB by DMA"])
     codes = (["put imem 0 0000000d"], speed_task(bench))
     check = (f"CheckAgainst {Z64}", "CheckAddresses 0")
     for title, other, options in (
@@ -141,6 +126,7 @@ def main() -> None:
         bench = Bench(Path(folder), given.program)
         for part in [seconds] if given.rom else [steps, stops, tasks]:
             part(bench)
+            print()
 
 
 if __name__ == "__main__":

@@ -78,15 +78,14 @@ def code(name: str, rounds: int = 0x7FFFFFFF, ending: str = "") -> bytes:
     return bytes.fromhex(" ".join((counter, PROLOGUE, LOOPS[name], ending)))
 
 
-def host_instructions(command: Command, answer: bytes = b"") -> int:
+def host_instructions(command: Command, answer: bytes = b"", more: Sequence[str] = ()) -> int:
     """How many host instructions a command executes. Where an answer is given, the command must write it.
 
     Python's hashes are the same in each run, so that its start is too.
     """
-    with tempfile.TemporaryDirectory() as folder:
-        words = ["valgrind", "--tool=callgrind", f"--callgrind-out-file={folder}/out", *map(str, command[0])]
-        env = {**os.environ, "PYTHONHASHSEED": "0"}
-        ran = subprocess.run(words, input=command[1], capture_output=True, cwd=folder, env=env)
+    words = ["valgrind", "--tool=callgrind", "--callgrind-out-file=/dev/null", *more, *map(str, command[0])]
+    env = {**os.environ, "PYTHONHASHSEED": "0"}
+    ran = subprocess.run(words, input=command[1], capture_output=True, env=env)
     told = ran.stderr.decode(errors="replace")
     counted = re.search(r"Collected : (\d+)", told)
     if not counted:
@@ -200,11 +199,12 @@ def driver(folder: Path) -> Path:
 
 
 def row(title: str, figures: Iterable[float]) -> None:
-    print(f"| {title} | " + " | ".join(f"{it:.1f}" for it in figures) + " |", flush=True)
+    texts = (f"{it:,.1f}" if it < 1000 else f"{it:,.0f}" for it in figures)
+    print(f"| {title} | {' | '.join(texts)} |", flush=True)
 
 
-def heading(what: str) -> None:
-    print(f"| {what} | scalar | vector | mixed |\n|---|---|---|---|", flush=True)
+def heading(what: str, names: Iterable[str] = LOOPS) -> None:
+    print(f"| {what} | {' | '.join(names)} |\n|---|{'---|' * len([*names])}", flush=True)
 
 
 def tell_times(program: Path) -> None:

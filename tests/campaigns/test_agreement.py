@@ -5,6 +5,7 @@ from pathlib import Path
 import pytest
 
 from lib.campaigns import EMULATOR, FEW, agreed, campaign, counts_of, said_of
+from rsp_conformance.campaign.build import built
 
 pytestmark = [pytest.mark.needs("cc", "python:numpy"), pytest.mark.usefixtures("library")]
 
@@ -15,19 +16,11 @@ KINDS = {
 }
 
 
-@pytest.fixture(scope="session")
-def itself(library: Path) -> str:
-    """The library as a shared object."""
-    from rsp_conformance.campaign.build import built
-
-    return built("library")
-
-
 @pytest.mark.parametrize("kind", KINDS)
-def test_library_agrees_with_itself(kind: str, itself: str, folder: Path) -> None:
+def test_library_agrees_with_itself(kind: str, folder: Path) -> None:
     """A second run does nothing."""
     emulator, names, cases = KINDS[kind]
-    words = (emulator or itself, "--instructions", names, "--cases", cases, "--programs", 3)
+    words = (emulator or built("library"), "--instructions", names, "--cases", cases, "--programs", 3)
     said = said_of(folder / "out", *words)
     assert counts_of(folder / "out") == agreed(names, cases, program=(3, 0, 0)), said
     assert (folder / "out/table.txt").read_text() == said
@@ -37,16 +30,12 @@ def test_library_agrees_with_itself(kind: str, itself: str, folder: Path) -> Non
     assert {path: path.stat().st_mtime_ns for path in folder.glob("out/*-*.json")} == before
 
 
-def test_spoilt_result(itself: str, folder: Path) -> None:
-    words = (itself, "--instructions", "beq", "--cases", 40, "--here")
-    assert campaign(*words, folder / "out").returncode == 0
-    (folder / "out/beq-0-40.json").write_text("{")
-    ended = campaign(*words, folder / "out")
-    assert ended.returncode == 1 and "beq-0-40.json isn't a result" in ended.stderr
-
-
-def test_folder_of_another_campaign(itself: str, folder: Path) -> None:
-    words = (itself, "--instructions", "beq", "--cases", 40, "--here", folder / "out")
-    assert campaign(*words).returncode == 0
-    ended = campaign(*words, "--seed", "2")
+def test_folder_of_another_campaign(folder: Path) -> None:
+    """It is refused, and so is a result that is spoilt."""
+    words = (built("library"), "--instructions", "beq", "--cases", 40)
+    said_of(folder, *words)
+    ended = campaign(*words, "--seed", "2", "--here", folder)
     assert ended.returncode == 1 and "holds another campaign: its " in ended.stderr
+    (folder / "beq-0-40.json").write_text("{")
+    ended = campaign(*words, "--here", folder)
+    assert ended.returncode == 1 and "beq-0-40.json isn't a result" in ended.stderr

@@ -6,9 +6,17 @@ from typing import Any, Callable, Iterator, Tuple
 import pytest
 
 from lib import TOP
+from lib.packages import is_here
 from lib.processes import succeeds
 from rsp_conformance.cases import signed
 from rsp_conformance.table import ROWS
+
+if is_here("python:numpy"):
+    import numpy as np
+    from rsp_conformance.campaign import pairs
+    from rsp_conformance.campaign.build import built
+    from rsp_conformance.campaign.emulators import Object
+    from rsp_conformance.campaign.generator import END, WORDS, Draw, cases_of, memories_of
 
 pytestmark = pytest.mark.needs("cc", "python:numpy")
 
@@ -18,11 +26,6 @@ MULTIPLIER = 0x2360ED051FC65DA44385DF649FCCF645
 @pytest.mark.parametrize("name", ROWS)
 def test_numbered_cases(name: str, library: object) -> None:
     """A case alone is that of any range, and a machine can be in its state."""
-    import numpy as np
-    from rsp_conformance.campaign.build import built
-    from rsp_conformance.campaign.emulators import Object
-    from rsp_conformance.campaign.generator import END, cases_of, memories_of
-
     whole, part = cases_of(name, "t", 0, 1500)[0], cases_of(name, "t", 900, 300)[0]
     assert part.tobytes() == whole[900:1200].tobytes()
     for number in 0, 901, 1024, 1499:
@@ -48,8 +51,6 @@ def raw_words(what: str, seed: str, start: int, count: int) -> Iterator[int]:
 
 
 def test_random_words() -> None:
-    from rsp_conformance.campaign.generator import WORDS, Draw, cases_of
-
     far = 10**12
     raw = Draw("vadd", "7", far, 2).raw.reshape(-1).tolist()
     assert raw == [*raw_words("vadd", "7", far * WORDS, 2 * WORDS)]
@@ -64,9 +65,6 @@ def selected(e: int, lane: int) -> int:
 
 def operands_of(name: str, count: int) -> Tuple[Any, Any, Any, Any]:
     """The elements of cases, their operands a and b by lanes, and accumulators; all from words and states."""
-    import numpy as np
-    from rsp_conformance.campaign.generator import cases_of
-
     cases, each = cases_of(name, "t", 0, count)[0], np.arange(count)
     word, vectors = cases["word"].astype(np.int64), cases["state"]["vectors"].astype(np.int64)
     e, lanes = word >> 21 & 15, np.array([[selected(e, lane) for lane in range(8)] for e in range(16)])
@@ -78,9 +76,6 @@ def operands_of(name: str, count: int) -> Tuple[Any, Any, Any, Any]:
 
 def test_addresses() -> None:
     """SQV meets each address of DMEM and each element, and one case of 20 passes the end of DMEM."""
-    import numpy as np
-    from rsp_conformance.campaign.generator import cases_of
-
     cases = cases_of("sqv", "t", 0, 1 << 16)[0]
     word, words = cases["word"].astype(np.int64), cases["state"]["words"].astype(np.int64)
     address = words[np.arange(1 << 16), word >> 21 & 31] + 16 * signed(word & 127, 7) & 0xFFF
@@ -90,8 +85,6 @@ def test_addresses() -> None:
 
 def test_lanes_next_to_one_another() -> None:
     """VADD meets each element, and a lane of five is next to the other operand's."""
-    import numpy as np
-
     e, a, b, _accumulators = operands_of("vadd", 1 << 16)
     assert len(np.unique(e)) == 16
     assert (np.isin(a - b, (0, 1, -1)) | np.isin(a + b, (0xFFFF, 0x10000))).mean() > 0.2
@@ -99,8 +92,6 @@ def test_lanes_next_to_one_another() -> None:
 
 def test_limits_of_clamps() -> None:
     """A lane of 100 of VMACF comes to a limit of the clamp."""
-    import numpy as np
-
     _e, a, b, accumulators = operands_of("vmacf", 1 << 16)
     sums = accumulators + 2 * signed(a, 16) * signed(b, 16)
     assert np.isin(sums, [limit + by for limit in (-1 << 31, 1 << 31) for by in (-1, 0, 1)]).mean() > 0.01
@@ -109,9 +100,6 @@ def test_limits_of_clamps() -> None:
 @pytest.mark.parametrize("name", ROWS)
 def test_pairs(name: str) -> None:
     """Over 65,536 cases each pair that matters is as frequent as in independent draws."""
-    from rsp_conformance.campaign import pairs
-    from rsp_conformance.campaign.generator import cases_of
-
     assert pairs.short(ROWS[name], cases_of(name, "1", 0, pairs.COUNT)[0]) == []
 
 
@@ -120,16 +108,10 @@ def test_command_of_pairs() -> None:
     assert said == "LQV has all\nVMOV has all\n"
 
 
-def no_zero(word: Any, number: Any) -> Any:
-    import numpy as np
-
-    return np.maximum(word >> 21 & 31, 1)
-
-
 @pytest.mark.parametrize(
     "name, low, field, value",
     [
-        ("lqv", 21, 31, no_zero),
+        ("lqv", 21, 31, lambda word, number: np.maximum(word >> 21 & 31, 1)),
         ("vmov", 11, 7, lambda word, number: (word >> 21) + 1 & 7),
         ("vadd", 21, 15, lambda word, number: word >> 21 & 14 | word >> 16 & 1),
         ("vrcpl", 21, 15, lambda word, number: number % 16 & 14),
@@ -138,10 +120,6 @@ def no_zero(word: Any, number: Any) -> Any:
 )
 def test_missing_pairs(name: str, low: int, field: int, value: Callable[[Any, Any], Any]) -> None:
     """A lacking pair is found."""
-    import numpy as np
-    from rsp_conformance.campaign import pairs
-    from rsp_conformance.campaign.generator import cases_of
-
     cases = cases_of(name, "1", 0, pairs.COUNT)[0]
     word = cases["word"].astype(np.int64)
     cases["word"] = word & ~(field << low) | value(word, np.arange(pairs.COUNT)) << low

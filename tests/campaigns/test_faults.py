@@ -6,7 +6,13 @@ from pathlib import Path
 import pytest
 
 from lib.campaigns import EMULATOR, campaign, counts_of, faulty, said_of
+from lib.packages import is_here
+from rsp_conformance.campaign import CampaignFault
 from rsp_conformance.campaign.shared import name_of
+
+if is_here("python:numpy"):
+    from rsp_conformance.campaign.emulators import Command
+    from rsp_conformance.campaign.generator import cases_of, memories_of
 
 pytestmark = [pytest.mark.needs("cc", "python:numpy"), pytest.mark.usefixtures("library")]
 
@@ -20,8 +26,6 @@ WRONG = {
 
 def word_17() -> str:
     """The word of CASE_17."""
-    from rsp_conformance.campaign.generator import cases_of
-
     return f"{int(cases_of('vadd', '1', 17, 1)[0]['word'][0]):08x}"
 
 
@@ -43,10 +47,6 @@ def test_command(how: str, folder: Path) -> None:
 )
 def test_answer_that_is_none(how: str, told: str) -> None:
     """A number out of its range, and a byte of no memory."""
-    from rsp_conformance.campaign import CampaignFault
-    from rsp_conformance.campaign.emulators import Command
-    from rsp_conformance.campaign.generator import cases_of, memories_of
-
     command = Command(f"{EMULATOR} {how} {word_17()}", memories_of("vadd", "1"))
     with pytest.raises(CampaignFault, match=told):
         command.step(cases_of("vadd", "1", 17, 1)[0][0])

@@ -8,8 +8,13 @@ import pytest
 
 from lib import TOP
 from lib.campaigns import SOURCES, agreed, counts_of, faulty, said_of
-from lib.packages import need
+from lib.packages import is_here, need
 from lib.processes import bytes_of, compiled, run, succeeds
+
+if is_here("python:numpy"):
+    from rsp_conformance.campaign.generator import MEMORIES
+    from rsp_conformance.campaign.programs import program_of
+    from rsp_conformance.campaign.sides import Sides
 
 pytestmark = [pytest.mark.needs("cc"), pytest.mark.usefixtures("library")]
 
@@ -58,10 +63,6 @@ def first_in_words(found: Any) -> List[str]:
 @pytest.mark.parametrize("fault, every, limit", [(2, 64, 1000), (4, 100, 1000), (3, 16, 500)])
 def test_first_difference(fault: int, every: int, limit: int, folder: Path) -> None:
     """rsp_compare.h finds in planted faults what rsp.first_difference finds."""
-    from rsp_conformance.campaign.generator import MEMORIES
-    from rsp_conformance.campaign.programs import program_of
-    from rsp_conformance.campaign.sides import Sides
-
     flags = ("-std=c11", *STRICT, "-w", f"-DFAULT={fault}", SOURCES / "compare.c", SOURCES / "faulty.c")
     compare, sides = compiled(folder / "compare", *flags, LIBRARY), Sides(faulty(fault), bytes(MEMORIES))
     differ = 0

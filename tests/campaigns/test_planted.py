@@ -21,6 +21,7 @@ import rsp
 from lib import TESTS, TOP
 from lib.processes import compiled
 from rsp_conformance import HERE as CONFORMANCE, bench, library_states, states
+from rsp_conformance.campaign.task import check
 from rsp_conformance.steps import Entry
 from rsp_conformance.table import ROWS
 from rsp_conformance.vectors import VECTORS, entries_in
@@ -53,8 +54,6 @@ class Core(ctypes.Structure):
 
 def checked(core: Path, name: str, first: int, count: int) -> Dict[str, Any]:
     """What a campaign's task finds: cases of an instruction, or programs."""
-    from rsp_conformance.campaign.task import check
-
     result = check(str(core), name, "1", first, count, OPTIONS)
     assert "given up" not in result, result
     return result

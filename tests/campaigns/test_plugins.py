@@ -11,6 +11,7 @@ from lib.campaigns import SOURCES, agreed, campaign, counts_of, results_of, said
 from lib.pages import page
 from lib.processes import succeeds
 from lib.z64 import PLUGIN as Z64
+from rsp_conformance.campaign.build import built
 from rsp_conformance.campaign.shared import name_of
 
 pytestmark = [pytest.mark.needs("cc", "python:numpy"), pytest.mark.usefixtures("library")]
@@ -20,8 +21,6 @@ SHOWN, HIDDEN = "add,lw,sqv,vmadh,vch,vrcpl,cfc2,vsar", "beq,mtc0,vrcph"
 
 def other_plugin(fault: int) -> str:
     """A plugin that is the library, and whose registers nobody knows."""
-    from rsp_conformance.campaign.build import built
-
     return f"plugin:{built('other_plugin', [f'-DFAULT={fault}'], SOURCES / 'other_plugin.c')}"
 
 

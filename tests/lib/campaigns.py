@@ -8,6 +8,7 @@ from typing import Any, Dict, List, Tuple
 
 from lib import TESTS, TOP
 from lib.processes import Ended, run
+from rsp_conformance.campaign.build import built
 
 CAMPAIGN, SOURCES = TOP / "conformance/campaign", TESTS / "campaigns"
 # The repository's path may have whitespace.
@@ -30,8 +31,6 @@ def said_of(out: Path, *words: object) -> str:
 
 def faulty(fault: int, *flags: str) -> str:
     """The library with a planted fault."""
-    from rsp_conformance.campaign.build import built
-
     return built("faulty", [f"-DFAULT={fault}", *flags], SOURCES / "faulty.c")
 
 

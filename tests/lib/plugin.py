@@ -66,9 +66,10 @@ class Bench:
         succeeds(self.program, "asm", source, out)
         return " ".join(f"{it:08x}" for (it,) in struct.iter_unpack(">I", out.read_bytes()))
 
-    def microcode(self, name: str) -> str:
-        """The words of a task of the ROM."""
-        return self.words((ROM / f"{name}.s").read_text())
+    def words_of(self, name: str) -> str:
+        """The words of a task of the ROM, of a script's microcode, or of a text."""
+        files = [it for it in (ROM / f"{name}.s", HERE / f"calls/{name}.s") if it.exists()]
+        return self.words(files[0].read_text() if files else name)
 
     def faulty(self, fault: int) -> Path:
         """A plugin with a planted fault."""
@@ -121,14 +122,14 @@ def tasks_of_rom(bench: Bench) -> List[List[str]]:
     list_at, registers_at = "put dmem ff0 123000", "put dmem ff0 124000 124100"
     vectors = halves([i * 977 % 65536 for i in range(256)])
     return [
-        [f"put imem 0 {bench.microcode('scalar')}"],
+        [f"put imem 0 {bench.words_of('scalar')}"],
         speed_task(bench),
-        [f"put imem 0 {bench.microcode('many')}", "put dmem ff0 5 127000"],
-        [f"put imem 0 {bench.microcode('registers')}", registers_at, "set SP_SEMAPHORE 0"],
-        ["rdp", f"put imem 0 {bench.microcode('list')}", list_at],
+        [f"put imem 0 {bench.words_of('many')}", "put dmem ff0 5 127000"],
+        [f"put imem 0 {bench.words_of('registers')}", registers_at, "set SP_SEMAPHORE 0"],
+        ["rdp", f"put imem 0 {bench.words_of('list')}", list_at],
         ["put dmem ff0 124000"],
         [
-            f"put imem 0 {bench.microcode('vector')}",
+            f"put imem 0 {bench.words_of('vector')}",
             f"put rdram 120000 {vectors}",
             "put dmem ff0 120000 121000",
         ],
@@ -138,7 +139,7 @@ def tasks_of_rom(bench: Bench) -> List[List[str]]:
 def speed_task(bench: Bench) -> List[str]:
     """The lines of the task whose speed is measured."""
     return [
-        f"put imem 0 {bench.microcode('speed')}",
+        f"put imem 0 {bench.words_of('speed')}",
         f"put rdram 128000 {halves([(i * 2311 + 77) % 65536 for i in range(256)])}",
         "put dmem fe0 20003000 34587890 48a0c0e0 5ce90930 2 128000",
     ]

@@ -24,14 +24,6 @@ bne $2, $0, loop
 sqv $v3[0], 32($0)
 break
 """
-TRANSFER = """lw $1, 0xf00($0)
-mtc0 $1, $c0
-lw $2, 0xf04($0)
-mtc0 $2, $c1
-lw $3, 0xf08($0)
-mtc0 $3, $c3
-break
-"""
 # What z64 does otherwise, by conformance/Z64.md: the word, and what is named. $v1 is 8000 in all lanes, $v2
 # other numbers in each, $2 -1.
 Z64_DIFFERS = {
@@ -129,7 +121,9 @@ def test_wrong_transfer(fault: int, difference: str, bench: Bench, folder: Path)
     No register shows it, and no byte that the plugin should have used.
     """
     setting = ["put dmem f00 00000100 00002ff8 00000007", "put rdram 2ff8 1 2 3 4", "put dmem 100 5 6"]
-    said = checked(bench, folder, bench.faulty(fault), [[f"put imem 0 {bench.words(TRANSFER)}", *setting]])
+    said = checked(
+        bench, folder, bench.faulty(fault), [[f"put imem 0 {bench.words_of('dma_out')}", *setting]]
+    )
     step = f"task 1, step 6, 014: {bench.words('mtc0 $3, $c3')} mtc0 $3, $c3: {difference}"
     assert said[1:3] == [f"task 1: {difference}", step]
     assert said[-1] == "1 tasks, 1 differ"
