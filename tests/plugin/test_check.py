@@ -8,24 +8,11 @@ from typing import List
 import pytest
 
 from lib import TOP
-from lib.plugin import Z64, Bench, assert_plays, begun, checked, tasks_of_rom
+from lib.plugin import HERE, Z64, Bench, assert_plays, begun, checked, tasks_of_rom
 
 pytestmark = [pytest.mark.needs("cc"), pytest.mark.xdist_group("plugin")]
 
-# Three turns of a loop: 4000 times 0008 by 65536 is 2 in each lane. The product is stored in the delay slot
-# of the branch, at 01c.
-PRODUCTS = """addiu $2, $0, 3
-loop: lqv $v1[0], 0($0)
-lqv $v2[0], 16($0)
-vmudm $v3, $v1, $v2
-addiu $2, $2, -1
-vmudm $v3, $v1, $v2
-bne $2, $0, loop
-sqv $v3[0], 32($0)
-break
-"""
-# What z64 does otherwise, by conformance/Z64.md: the word, and what is named. $v1 is 8000 in all lanes, $v2
-# other numbers in each, $2 -1.
+# What z64 does otherwise, by conformance/Z64.md: the word in calls/showing.s, and what is named.
 Z64_DIFFERS = {
     "lwu $4, 0($0)": "$4 is",
     "vrsq $v4[0], $v2[0]": "$v4 is",
@@ -38,20 +25,10 @@ Z64_DIFFERS = {
     "mfc0 $4, $c7": "SP_SEMAPHORE is",
     "vabs $v4, $v2, $v1": "accumulator",
 }
-SETTING = "addiu $2, $0, -1\nlqv $v1[0], 0($0)\nlqv $v2[0], 16($0)\n"
-SHOWING = """
-vsar $v6, $v6, $v6[2]
-sqv $v4[0], 128($0)
-sqv $v5[0], 144($0)
-sqv $v6[0], 160($0)
-sw $4, 176($0)
-sw $31, 180($0)
-break
-"""
 
 
 def products(bench: Bench) -> List[str]:
-    return [f"put imem 0 {bench.words(PRODUCTS)}", f"put dmem 0 {'40004000 ' * 4} {'00080008 ' * 4}"]
+    return [f"put imem 0 {bench.words_of('products')}", f"put dmem 0 {'40004000 ' * 4} {'00080008 ' * 4}"]
 
 
 def test_no_fault(bench: Bench, folder: Path) -> None:
@@ -135,7 +112,12 @@ def test_wrong_transfer(fault: int, difference: str, bench: Bench, folder: Path)
 def test_z64(text: str, bench: Bench, folder: Path) -> None:
     """Each known difference is found at the fourth step of its task, and what differs is named."""
     memory = f"put dmem 0 {'80008000 ' * 4} 87654321 c001d00d 00077e57 12348abc"
-    said = checked(bench, folder, Z64, [[f"put imem 0 {bench.words(SETTING + text + SHOWING)}", memory]])
+    said = checked(
+        bench,
+        folder,
+        Z64,
+        [[f"put imem 0 {bench.words((HERE / 'calls/showing.s').read_text().replace('nop', text))}", memory]],
+    )
     (step,) = [it for it in said if it.startswith("task 1, step 4, 00c: ")]
     assert f" {text}: " in step and any(it in step for it in Z64_DIFFERS[text].split("|")), said
     assert_plays(bench, folder, 1)
