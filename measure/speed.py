@@ -192,7 +192,7 @@ def driver(folder: Path) -> Path:
     used = "rsp_driver: rsp_acc rsp_memory rsp_machine rsp_debug\n"
     (folder / "crates.txt").write_text(crates.rstrip("\n") + "\n" + used)
     run("git", "init", "-q", folder)
-    ran = run("rt", "run", cwd=crate)
+    ran = run("rt", "run", cwd=crate, timeout=7200)
     if not (crate / "out/rsp_driver").exists():
         sys.exit(f"the driver isn't built: {ran.stdout[-2000:]}")
     return crate / "out/rsp_driver"
@@ -250,12 +250,12 @@ def tell_loops(program: Path) -> None:
     tell_lines(program)
 
 
-# What each table is made by.
-NEEDED = {
-    tell_loops: ("valgrind", "rt"),
-    tell_lines: ("valgrind",),
-    tell_z64: ("valgrind", z64.PLUGIN),
-    tell_times: (z64.PLUGIN,),
+# The tables: what tells one, what it needs, and what --help says.
+KINDS = {
+    "--loops": (tell_loops, ("valgrind", "rt"), "the loops, and the script lines (unless another is named)"),
+    "--lines": (tell_lines, ("valgrind",), "the table of script lines alone, which needs no driver"),
+    "--z64": (tell_z64, ("valgrind", z64.PLUGIN), "the same loops on z64 alone"),
+    "--time": (tell_times, (z64.PLUGIN,), "the nanoseconds of a processor that a step takes, ours and z64's"),
 }
 
 
@@ -263,20 +263,16 @@ def main() -> None:
     words = reader(__doc__)
     add_program(words)
     kinds = words.add_mutually_exclusive_group()
-    for name, it, said in (
-        ("--lines", tell_lines, "the table of script lines alone, which needs no driver"),
-        ("--z64", tell_z64, "the same loops on z64 alone"),
-        ("--time", tell_times, "the nanoseconds of a processor that a step takes, ours and z64's"),
-    ):
-        kinds.add_argument(name, dest="tell", action="store_const", const=it, default=tell_loops, help=said)
+    for name, (_tell, _needed, said) in KINDS.items():
+        kinds.add_argument(name, dest="kind", action="store_const", const=name, default="--loops", help=said)
     kinds.add_argument("--line", metavar="LINE", help="the figure of this script line alone")
     given = words.parse_args()
-    if given.line is None:
-        need(*NEEDED[given.tell])
-        given.tell(given.program)
-    else:
-        need("valgrind")
-        print(f"{figure_of_line(given.program, given.line):,.0f}")
+    tell, needed, _said = KINDS["--lines" if given.line else given.kind]
+    need(*needed)
+    if given.line:
+        LINES.clear()
+        LINES[f"`{given.line}`"] = given.line
+    tell(given.program)
 
 
 if __name__ == "__main__":

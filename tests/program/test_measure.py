@@ -15,21 +15,23 @@ from lib.z64 import PLUGIN as Z64
 
 NAMES = sorted(it.stem for it in (TOP / "measure").glob("*.py") if it.stem != "__init__")
 FIGURES = r"\| .*\d\.\d \|\n"
+LONG = pytest.mark.outside("it measures for minutes")
+ROM = ("mips-linux-gnu-gcc", str(HEADERS), str(CORE))
 # Words, what they need, and what they print.
-SMALL = {
-    "speed --line step": (["valgrind"], r"\d,\d{3}\n"),
+RUNS = {
+    "speed --line step": (["valgrind"], r".*\n.*\n\| `step` \| \d,\d{3} \|\n"),
     "against_z64 ADD VMULU": ([Z64], r"(?s).*\n1 instructions without a difference, 1 with some\n"),
     "rates --instructions vadd": (["cc", "python:numpy"], r"(?s).*\nVADD( +\d+\.\d+){5}\nmean of all: .*\n"),
 }
-LONG = {
+LONG_RUNS = {
     "speed": (["valgrind", "rt"], rf"(?s).*(?:{FIGURES}){{6}}.*"),
     "speed --lines": (["valgrind"], r"(?s).*(?:\| .* \| [\d,]+ \|\n){15}"),
     "speed --z64": (["valgrind", Z64], rf"(?s).*{FIGURES}"),
     "speed --time": ([Z64], rf"(?s).*(?:{FIGURES}){{3}}"),
-    "plugin_speed": (["cc", "valgrind", Z64], r"(?s)(?:.*\|---.*\|.*\d \|\n){3}"),
+    "plugin_speed": (["cc", "valgrind", Z64], r"(?s)(?:.*\|---.*\|.*\d \|\n){3}\n"),
     "plugin_speed --rom": (
-        ["cc", "valgrind", Z64, str(HEADERS), str(CORE), "mips-linux-gnu-gcc"],
-        r"the plugin \d+\.\d\d s, z64 \d+\.\d\d s: z64 takes \d+\.\d\d times as long\n",
+        ["cc", "valgrind", Z64, *ROM],
+        r"the plugin .*: z64 takes \d+\.\d\d times as long\n\n",
     ),
     "rates --instructions vadd --workers": (
         ["cc", "python:numpy", "python:distributed"],
@@ -59,21 +61,11 @@ def test_unknown_word(name: str) -> None:
     assert ran.returncode == 2 and "Traceback" not in ran.stdout
 
 
-@pytest.mark.usefixtures("program", "library")
-@pytest.mark.parametrize("words", SMALL)
-def test_small_run(words: str) -> None:
-    needed, told = SMALL[words]
-    need(*needed)
-    ran = measured(words)
-    assert ran.returncode == 0 and re.fullmatch(told, ran.stdout), ran.stdout
-
-
-@pytest.mark.outside("it measures for minutes")
 @pytest.mark.timeout(3600)
 @pytest.mark.usefixtures("program", "library")
-@pytest.mark.parametrize("words", LONG)
-def test_long_run(words: str) -> None:
-    needed, told = LONG[words]
+@pytest.mark.parametrize("words", [*RUNS, *(pytest.param(it, marks=LONG) for it in LONG_RUNS)])
+def test_run(words: str) -> None:
+    needed, told = {**RUNS, **LONG_RUNS}[words]
     need(*needed)
     ran = measured(words)
     assert ran.returncode == 0 and re.fullmatch(told, ran.stdout), ran.stdout
