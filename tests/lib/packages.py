@@ -9,15 +9,16 @@ import subprocess
 import sys
 
 from lib import TOP
+from rsp_tools.systems import toolchain
 
 # Debian's package of a tool, if it has another name, or of a file or a module of Python.
 PACKAGES = {
+    **toolchain.PACKAGES,
     "c++": "g++",
     "cc": "gcc",
     "mips-linux-gnu-gcc": "gcc-mips-linux-gnu",
     "qemu-mips": "qemu-user",
     "qemu-x86_64": "qemu-user",
-    "x86_64-w64-mingw32-gcc": "gcc-mingw-w64-x86-64",
     "cargo-clippy": "rust-clippy",
     "ar": "binutils",
     "nm": "binutils",
@@ -26,7 +27,6 @@ PACKAGES = {
     "readelf": "binutils",
     "dot": "graphviz",
     "Xvfb": "xvfb",
-    "node": "nodejs",
     "tsc": "node-typescript",
     "/usr/bin/cc": "gcc",
     "/usr/bin/man": "man-db",
@@ -35,6 +35,7 @@ PACKAGES = {
     "/usr/lib/python3*/ensurepip": "python3-venv",
     "/usr/lib/python3/dist-packages/numpy": "python3-numpy",
     "python:ensurepip": "python3-venv",
+    "chromedriver": "chromium-driver",
     "/usr/include/mupen64plus": "libmupen64plus-dev",
     "/usr/lib/x86_64-linux-gnu/libmupen64plus.so.2": "libmupen64plus2",
     "/usr/games/mupen64plus": "mupen64plus-ui-console",

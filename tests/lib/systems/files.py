@@ -1,0 +1,71 @@
+"""What the files of a system show and need, and its wheel."""
+
+import base64
+import hashlib
+import re
+import sys
+import tempfile
+import zipfile
+from pathlib import Path
+from typing import Dict, List, Set
+
+from lib.processes import run
+from rsp_tools.systems import header, places
+from rsp_tools.systems.toolchain import llvm
+
+PLATFORMS: Dict[str, List[str]] = {
+    "linux-aarch64": ["manylinux_2_17_aarch64", "manylinux2014_aarch64"],
+    "windows-x86_64": ["win_amd64"],
+    "macos": ["macosx_11_0_universal2"],
+}
+LIBRARIES = {
+    "linux-aarch64": "lib/librsp.so",
+    "windows-x86_64": "bin/rsp.dll",
+    "macos": "lib/librsp.dylib",
+}
+# What Python calls each system, and a program that imports the module there, up to what it would load.
+PYTHONS = {"linux-aarch64": "linux", "windows-x86_64": "win32", "macos": "darwin"}
+IMPORTED = """import ctypes, sys
+def load(path):
+    sys.exit(f"loads {path}")
+ctypes.CDLL = load
+sys.platform = sys.argv[1]
+import rsp
+"""
+
+
+def shown(*words: object) -> Set[str]:
+    """The names that llvm-nm lists."""
+    lines = llvm("llvm-nm", *map(str, words)).splitlines()
+    return {it.split()[-1] for it in lines if it and not it.endswith(":")}
+
+
+def check_record(text: str, files: Dict[str, bytes]) -> None:
+    """A wheel's record has each file with its sum and length, only itself without."""
+    recorded = {
+        name: (digest, length) for name, digest, length in (it.split(",") for it in text.splitlines())
+    }
+    sums = {it: base64.urlsafe_b64encode(hashlib.sha256(data).digest()) for it, data in files.items()}
+    wanted = {it: (f"sha256={sums[it].decode().rstrip('=')}", str(len(data))) for it, data in files.items()}
+    assert recorded == {it: ("", "") if it.endswith("/RECORD") else wanted[it] for it in files}
+
+
+def check_wheel(system: str, folder: Path) -> None:
+    """The wheel's tags, its files, its record, and that its library is the one beside it."""
+    info = f"rsp-{header.version()}.dist-info"
+    (path,) = (folder / "python").glob("*.whl")
+    assert path.name == f"rsp-{header.version()}-py3-none-{'.'.join(PLATFORMS[system])}.whl"
+    library = f"rsp/{Path(LIBRARIES[system]).name}"
+    ours = (places.PYTHON / "rsp").iterdir()
+    modules = {f"rsp/{it.name}" for it in ours if it.suffix in (".py", ".pyi") or it.name == "py.typed"}
+    with tempfile.TemporaryDirectory() as at, zipfile.ZipFile(path) as wheel:
+        files = {it: wheel.read(it) for it in wheel.namelist()}
+        wheel.extractall(at)
+        said = run(sys.executable, "-c", IMPORTED, PYTHONS[system], cwd=at).stdout
+        assert said == f"loads {Path(at).resolve()}/{library}\n"
+    wanted = modules | {library} | {f"{info}/{it}" for it in ("METADATA", "WHEEL", "RECORD")}
+    assert {*files} == wanted
+    is_same = files[library] == (folder / LIBRARIES[system]).read_bytes()
+    assert is_same, "the wheel has another library"
+    assert re.findall(r"(?m)^Tag: py3-none-(.*)$", files[f"{info}/WHEEL"].decode()) == PLATFORMS[system]
+    check_record(files[f"{info}/RECORD"].decode(), files)

@@ -1,0 +1,28 @@
+"""The systems on which tests run, as parameters of tests."""
+
+from typing import Dict, Type
+
+import pytest
+
+from lib.systems.browser import Chromium
+from lib.systems.runners import Arm, MacArm, MacIntel, Runner, Windows
+
+SYSTEMS = ("linux-aarch64", "windows-x86_64", "macos", "wasm64")
+KINDS: Dict[str, Type[Runner]] = {
+    "linux-aarch64": Arm,
+    "windows-x86_64": Windows,
+    "macos-x86_64": MacIntel,
+    "macos-arm64": MacArm,
+    "wasm64": Chromium,
+}
+
+
+def on(*names: str, of: str = "runner") -> pytest.MarkDecorator:
+    """Runs a test with the fixture `runner` of all systems, or of these. Tests of one system share it."""
+    params = [pytest.param(it, marks=pytest.mark.xdist_group(it)) for it in names or KINDS]
+    return pytest.mark.parametrize(of, params, indirect=True)
+
+
+def made(*names: str) -> pytest.MarkDecorator:
+    """Runs a test with the fixture `folder_of` of these systems: what tools/systems has made."""
+    return on(*names, of="made")

@@ -1,0 +1,40 @@
+"""What the library for macOS is made of: its processors, its symbols, and what its load commands say."""
+
+import re
+from pathlib import Path
+
+from lib.systems.files import shown
+from rsp_tools.systems import header
+from rsp_tools.systems.toolchain import llvm
+
+# What the library takes of macOS for each processor.
+TAKEN = {"_bzero", "_free", "_malloc", "_memcpy", "_memmove", "_memset", "_realloc"}
+WANTED = {"x86_64": TAKEN - {"_bzero"} | {"___bzero"}, "arm64": TAKEN}
+
+
+def check_processor(folder: Path, at: Path, processor: str) -> None:
+    """One processor's part of each library."""
+    parts = [at / f"{processor}-{it}" for it in ("librsp.dylib", "librsp.a")]
+    for part, name in zip(parts, ("librsp.dylib", "librsp.a")):
+        llvm("llvm-lipo", folder / "lib" / name, "-thin", processor, "-output", part)
+        assert shown("-g", "--defined-only", part) == {f"_{it}" for it in header.calls()}, part
+        wants = shown("-u", part) - {"dyld_stub_binder"}
+        assert wants and wants <= WANTED[processor], part
+    read = llvm("llvm-objdump", "--macho", "--private-headers", parts[0])
+    named = re.findall(r"cmd LC_(?:ID|LOAD)_DYLIB\n.*\n +name (\S+) ", read)
+    assert named == ["@rpath/librsp.dylib", "/usr/lib/libSystem.B.dylib"], processor
+    versions = re.findall(r"\n +current version (\S+)\ncompatibility version (\S+)", read)[:1]
+    assert versions == [(header.version(), f"{header.interface()}.0.0")], processor
+    oldest = re.findall(r"cmd LC_BUILD_VERSION\n.*\n +platform (\S+)\n.*\n +minos (\S+)", read)
+    assert oldest == [("macos", "11.0")], processor
+    # macOS loads no code for ARM that isn't signed.
+    assert ("cmd LC_CODE_SIGNATURE" in read) == (processor == "arm64"), processor
+
+
+def check(folder: Path, at: Path) -> None:
+    """Both processors are in each file, and nothing else."""
+    for name in ("librsp.dylib", "librsp.a"):
+        found = llvm("llvm-lipo", "-archs", folder / "lib" / name).split()
+        assert sorted(found) == sorted(WANTED), name
+    for processor in WANTED:
+        check_processor(folder, at, processor)

@@ -1,0 +1,199 @@
+"""The page that answers scripts, in a tab of Chromium, as somebody uses it."""
+
+import base64
+import json
+import re
+import subprocess
+import sys
+import time
+from pathlib import Path
+from typing import Any, Callable, List
+
+LINKED = 24000  # bytes of a script that a link carries
+TYPED = 4000  # bytes that are typed: Chromium takes long for more
+LONGEST = 60  # seconds that the page may take
+TAB, ENTER, CONTROL, DOWN = "\ue004", "\ue007", "\ue009", "\ue015"  # what Selenium calls these keys
+ROWS = "document.querySelectorAll('#replies li').length"  # how many lines of a script are shown
+
+
+def the(name: str) -> str:
+    """An element of the page, as JavaScript."""
+    return f"document.getElementById('{name}')"
+
+
+def linked(script: bytes) -> str:
+    """The part of an address that carries a script."""
+    return f"#bytes={len(script)}&script={base64.urlsafe_b64encode(script).decode().rstrip('=')}"
+
+
+class Host:
+    """A folder, served by the command that the page names, at a port that is free."""
+
+    def __init__(self, folder: Path) -> None:
+        command = re.findall(r"<kbd>(.*?)</kbd>", (folder / "index.html").read_text())[0]
+        program, *words = command.split()
+        assert program == "python3", command
+        self.folder = folder
+        self.process = subprocess.Popen(
+            [sys.executable, "-u", *words, "0"],
+            cwd=folder,
+            stdout=subprocess.PIPE,
+            stderr=subprocess.DEVNULL,
+            text=True,
+        )
+        assert self.process.stdout
+        self.url = re.findall(r"http://\S+/", self.process.stdout.readline())[0]
+
+    def stop(self) -> None:
+        self.process.terminate()
+        self.process.wait(LONGEST)
+
+
+class Page:
+    """The page in a tab. Its downloads go to the folder `saved`."""
+
+    def __init__(self, driver: Any, saved: Path) -> None:
+        self.driver, self.folder = driver, saved
+
+    def call(self, method: str, **params: Any) -> Any:
+        """What a command of DevTools is answered."""
+        return self.driver.execute_cdp_cmd(method, params)
+
+    def value(self, expression: str) -> Any:
+        """The value of an expression in the page; None if it opens a dialog. That costs a third of Selenium's
+        execute_script."""
+        found = self.call("Runtime.evaluate", expression=expression, awaitPromise=True, returnByValue=True)
+        assert "exceptionDetails" not in (found or {}), f"{expression}: {found}"
+        return found["result"].get("value") if found else None
+
+    def until(self, expression: str) -> None:
+        """Waits until an expression is true."""
+        see = f"const see = () => {expression} ? done(true) : Date.now() > end ? done(false) : setTimeout(see, 5)"
+        end = f"const end = Date.now() + {1000 * LONGEST}"
+        is_true = self.value(f"new Promise((done) => {{ {end}; {see}; see(); }})")
+        assert is_true, f"{expression} doesn't become true"
+
+    def open(self, url: str) -> None:
+        """Opens an address in a new page, also one that differs only after its #, without a question."""
+        self.driver.execute_script("onbeforeunload = null")
+        self.driver.get("about:blank")
+        self.driver.get(url)
+
+    def text(self, name: str) -> str:
+        return str(self.value(f"{the(name)}.textContent"))
+
+    @property
+    def script(self) -> str:
+        """The text of the script."""
+        return str(self.value(f"{the('script')}.value"))
+
+    @property
+    def address(self) -> str:
+        return str(self.value("location.href"))
+
+    def click(self, name: str) -> None:
+        self.value(f"{the(name)}.click()")
+
+    def is_disabled(self, name: str) -> bool:
+        return bool(self.value(f"{the(name)}.disabled"))
+
+    def type(self, script: str) -> None:
+        """Types another script over the one that is there. A long one is put there at once."""
+        if len(script) <= TYPED:
+            self.value(f"({the('script')}.focus(), {the('script')}.select())")
+            self.call("Input.insertText", text=script)
+        else:
+            self.value(f"({the('script')}.value = {json.dumps(script)}, 0)")
+            self.value(f"{the('script')}.dispatchEvent(new Event('input'))")
+
+    def press(self, key: str, with_control: bool = False) -> None:
+        """Presses a key, and lets it go."""
+        from selenium.webdriver import ActionChains
+
+        keys = ActionChains(self.driver, duration=0)
+        if with_control:
+            keys = keys.key_down(CONTROL).send_keys(key).key_up(CONTROL)
+        else:
+            keys = keys.send_keys(key)
+        keys.perform()
+
+    def choose(self, number: int) -> None:
+        """Chooses an example."""
+        self.value(f"({the('example')}.value = {number}, 0)")
+        self.value(f"{the('example')}.dispatchEvent(new Event('change'))")
+
+    def answer(self, is_accepted: bool) -> str:
+        """Answers a dialog, and returns its text."""
+        dialog = self.driver.switch_to.alert
+        text = str(dialog.text)
+        dialog.accept() if is_accepted else dialog.dismiss()
+        return text
+
+    def told(self, does: Callable[[], object]) -> str:
+        """What the page says of what is done."""
+        self.value(f"({the('said')}.textContent = '')")
+        does()
+        self.until(f"{the('said')}.textContent")
+        return self.text("said")
+
+    def give_file(self, name: str, path: Path) -> None:
+        """Chooses a file for an input of the page."""
+        self.driver.find_element("id", name).send_keys(str(path))
+
+    def open_file(self, name: str, data: bytes, called: str = "given.rsp") -> str:
+        """Opens a file in an input, and returns what the page says of it."""
+        (self.folder / called).write_bytes(data)
+        return self.told(lambda: self.give_file(name, self.folder / called))
+
+    def open_link(self, fragment: str) -> str:
+        return self.told(lambda: self.value(f"(location.hash = '{fragment}')"))
+
+    def open_image(self, data: bytes) -> None:
+        """Opens an image that is taken."""
+        assert self.open_file("image-file", data, "given.bin") == "Runs begin with given.bin."
+
+    def give(self, script: bytes, way: int) -> None:
+        """Gives a script in one of three ways, as far as that carries its bytes."""
+        is_typed = script.isascii() and script and b"\r" not in script
+        if way == 0 and is_typed:
+            self.type(script.decode())
+        elif way == 1 and len(script) <= LINKED:
+            self.open_link(linked(script))
+        else:
+            self.open_file("script-file", script)
+
+    def run(self) -> str:
+        """Runs the script, and returns the replies that are shown."""
+        self.click("run")
+        return self.replies()
+
+    def replies(self) -> str:
+        """The replies that are shown when no run is under way."""
+        self.until(f"{the('run')}.getAttribute('aria-disabled') !== 'true'")
+        shown = "[...document.querySelectorAll('#replies samp')].map((it) => it.textContent).join('')"
+        return str(self.value(shown))
+
+    def saved(self, button: str, name: str) -> bytes:
+        """What a button saves, in a file of this name. Chromium drops all above ten a second."""
+        time.sleep(0.12)
+        self.click(button)
+        return self.download(name)
+
+    def download(self, name: str) -> bytes:
+        """A file that the page has saved. Chromium gives it its name when it is whole."""
+        path, end = self.folder / name, time.monotonic() + LONGEST
+        while not path.exists():
+            assert time.monotonic() < end, f"{name} isn't saved"
+            time.sleep(0.01)
+        data = path.read_bytes()
+        path.unlink()
+        return data
+
+    def events(self, method: str) -> List[Any]:
+        """What Chromium has logged of events of a kind since this was last asked."""
+        logged = [json.loads(it["message"])["message"] for it in self.driver.get_log("performance")]
+        return [it["params"] for it in logged if it["method"] == method]
+
+    def settle(self) -> None:
+        """Lets the page do what is under way."""
+        self.value("new Promise((done) => setTimeout(done, 100))")

@@ -1,0 +1,83 @@
+"""The program in C, library/c/program, beside the proved one.
+
+The proved program's tests have to pass on it, except what a system can't have (tests/program/conftest.py). It
+has to do with command lines what the proved program does.
+"""
+
+import os
+import random
+import runpy
+import shlex
+import sys
+from pathlib import Path
+from typing import Dict, Iterator, List, Optional, Tuple
+
+from lib import TESTS
+from lib.processes import run
+from lib.program import Ran, content, ran
+from lib.systems.runners import Runner
+
+FILES = ("scripts", "bad_input", "saves", "texts")
+# The words of command lines that are drawn.
+WORDS = """
+run asm dis help a b c -- - -h -V -x -hV -Vh -4 -\u00fc --help --help=x --version --version=x --foo --foo=bar
+--at --at= --at=4 --at=x --at=4096 0 4 --listing --listing=x --explain --places --labels --rdram --rdram=
+--rdram=a --save --save=c --save= \u00fc =
+""".split() + [
+    ""
+]
+LINES = 400
+GIVEN = {"a": b"x: j x\nnop\n", "b": bytes(64)}
+
+
+def started(runner: Runner, folder: Path) -> Path:
+    """A script of the shell that runs a system's program as if it were one of this system."""
+    lines = ["#!/bin/sh", *(f"unset {it}" for it in os.environ if it not in runner.env)]
+    changed = {it: value for it, value in runner.env.items() if os.environ.get(it) != value}
+    lines += [f"export {name}={shlex.quote(value)}" for name, value in changed.items()]
+    command = [*runner.start, f"{runner.folder}/bin/rsp{runner.ending}"]
+    to = folder / "rsp"
+    to.write_text("\n".join([*lines, f'exec {shlex.join(command)} "$@"', ""]))
+    to.chmod(0o755)
+    return to
+
+
+def see_tests(program: Path, system: str, seconds: int) -> None:
+    """The proved program's tests, on a program for a system. It must have ended after so many seconds."""
+    files = [TESTS / f"program/test_{it}.py" for it in FILES]
+    words = ("-q", f"--program={program}", f"--left-out={system}", f"--timeout={seconds}")
+    ended = run(sys.executable, "-B", "-m", "pytest", *words, *files, timeout=seconds)
+    assert ended.returncode == 0, ended.stdout[-8000:]
+
+
+def command_lines() -> Iterator[List[str]]:
+    """Those that the other tests have refused, and drawn ones."""
+    scripts, texts = (runpy.run_path(str(TESTS / f"program/test_{it}.py")) for it in ("scripts", "texts"))
+    yield from (it.split() for it in [*scripts["REFUSED"], *texts["MIXED_UP"].strip().split("\n")])
+    yield from ([it] for it in WORDS)
+    choose = random.Random(20261126)
+    for _ in range(LINES):
+        first = choose.choice(["run", "asm", "dis"])
+        yield [*[first] * (choose.random() < 0.8), *choose.choices(WORDS, k=choose.randrange(6))]
+
+
+def answered(program: Path, line: List[str], folder: Path) -> Tuple[Ran, Dict[str, Optional[bytes]]]:
+    """What a program says of a command line, and the files that it leaves. Of a refusal, and of the help of
+    `help`, only the first line of the errors."""
+    for path in folder.iterdir():
+        path.unlink()
+    for name, data in GIVEN.items():
+        (folder / name).write_bytes(data)
+    got = ran(program, line, b"step\n", cwd=folder)
+    if got.errors.startswith(b"error: ") or "help" in line[:2]:
+        got = got._replace(errors=got.errors.split(b"\n")[0])
+    return got, {it.name: content(it) for it in folder.iterdir()}
+
+
+def see_lines(program: Path, proved: Path, folder: Path) -> None:
+    """Command lines, of which both programs have to make the same."""
+    differ = []
+    for line in command_lines():
+        got, wanted = (answered(it, line, folder) for it in (program, proved))
+        differ += [(line, got, wanted)] if got != wanted else []
+    assert differ == []

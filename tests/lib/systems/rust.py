@@ -1,0 +1,38 @@
+"""The Rust crate for other systems."""
+
+import os
+import shutil
+from pathlib import Path
+from typing import Dict, Tuple
+
+from lib.processes import run
+
+# The library of a system's folder for each target, and what the crate calls it.
+TARGETS: Dict[str, Dict[str, Tuple[str, str]]] = {
+    "linux-aarch64": {"aarch64-unknown-linux-gnu": ("librsp.a", "librsp.a")},
+    "windows-x86_64": {
+        "x86_64-pc-windows-gnu": ("librsp.a", "librsp.a"),
+        "x86_64-pc-windows-msvc": ("rsp_static.lib", "rsp_static.lib"),
+    },
+    "macos": {it: ("librsp.a", "librsp.a") for it in ("aarch64-apple-darwin", "x86_64-apple-darwin")},
+}
+# The target for which the crate's tests are run, and Debian's package with Rust's own library for it.
+TESTED = {"windows-x86_64": ("x86_64-pc-windows-gnu", "libstd-rust-dev-windows")}
+
+
+def said(script: Path, target: str) -> Tuple[int, str]:
+    """The status of the crate's build script for a target, and what it says."""
+    env = {**os.environ, "TARGET": target, "HOST": "x86_64-unknown-linux-gnu"}
+    env.pop("RSP_LIB_DIR", None)
+    ended = run(script, env=env)
+    return ended.returncode, ended.stdout
+
+
+def rust_for(target: str) -> str:
+    """The first folder of PATH whose rustc has Rust's own library for a target. Empty if there is none."""
+    for folder in os.environ["PATH"].split(os.pathsep):
+        if shutil.which("rustc", path=folder) and shutil.which("cargo", path=folder):
+            ended = run(f"{folder}/rustc", "--print", "target-libdir", "--target", target)
+            if ended.returncode == 0 and Path(ended.stdout.strip()).is_dir():
+                return folder
+    return ""

@@ -1,0 +1,71 @@
+"""Lets the tests of the proved program run on another one, `--program PATH --left-out SYSTEM`: what that
+system can't have is marked as failing, and must fail."""
+
+from typing import Any, Dict, List
+
+import pytest
+
+THROUGH_LINKS = "on Linux, where it is only tested, it writes through links"
+LIMITED = "a limit of the size of files stops wine's own server"
+NO_TEXT = "wine makes UTF-16 of any bytes; half of a pair is tested by itself"
+FOREIGN_CALLS = "the calls that are made to fail are those of programs of Linux on x86-64"
+# The tests of each system that must fail, by the beginning of their names.
+LEFT_OUT: Dict[str, Dict[str, str]] = {
+    "native": {
+        "saves.py::test_link_no_room": THROUGH_LINKS,
+        "saves.py::test_calls_of_the_system_fail": THROUGH_LINKS,
+    },
+    "linux-aarch64": {},
+    "windows-x86_64": {
+        "scripts.py::test_refused[b'run --save ": NO_TEXT,
+        "saves.py::test_no_room[": LIMITED,
+        "saves.py::test_killed_by_the_limit": LIMITED,
+        "saves.py::test_link_no_room": LIMITED,
+        "saves.py::test_link_to_nothing": "wine shows no link that leads to nothing",
+        "saves.py::test_named_pipe": "Windows has no such files",
+        "saves.py::test_stdout_to_a_pipe": "Windows has no such files",
+    },
+}
+# Those that aren't begun there.
+NOT_BEGUN: Dict[str, Dict[str, str]] = {
+    "linux-aarch64": {"saves.py::test_calls_of_the_system_fail": FOREIGN_CALLS},
+    "windows-x86_64": {
+        "saves.py::test_calls_of_the_system_fail": FOREIGN_CALLS,
+        "saves.py::test_stdout_to_a_file": "Windows has no links to open files",
+        "saves.py::test_open_file": "Windows has no links to open files",
+        "saves.py::test_folder_without_rights": "wine runs for one user alone",
+        "saves.py::test_file_without_rights": "wine runs for one user alone",
+        "saves.py::test_file_of_another": "Windows has no owners and groups of this kind",
+        "saves.py::test_link_of_another": "Windows has no owners and groups of this kind",
+    },
+}
+
+
+def pytest_addoption(parser: pytest.Parser) -> None:
+    parser.addoption("--left-out", choices=[*LEFT_OUT], help="the system of --program, which can't have all")
+
+
+def mark(items: List[Any], name: str, how: pytest.MarkDecorator) -> None:
+    """Marks the tests whose names begin so, of which there has to be one if their file is run."""
+    file, _, test = name.partition("::")
+    there = [it for it in items if it.path.name == f"test_{file}"]
+    found = [it for it in there if it.name.startswith(test)]
+    if there and not found:
+        raise pytest.UsageError(f"no test is called {name}")
+    for it in found:
+        it.add_marker(how)
+
+
+@pytest.hookimpl(tryfirst=True)
+def pytest_collection_modifyitems(config: pytest.Config, items: List[Any]) -> None:
+    system = config.getoption("--left-out", None)
+    if not system:
+        return
+    for name, why in LEFT_OUT[system].items():
+        mark(items, name, pytest.mark.xfail(strict=True, reason=why))
+    for name, why in NOT_BEGUN.get(system, {}).items():
+        mark(items, name, pytest.mark.skip(why))
+    if system == "windows-x86_64":
+        # Windows has no permissions of this kind.
+        for module in {it.module for it in items if hasattr(it.module, "Trial")}:
+            module.Trial.mode = lambda trial, *_: trial

@@ -1,1 +1,0 @@
-"""Tests of the page that answers scripts in a browser."""

@@ -1,0 +1,101 @@
+"""What the tests of other systems share. They test what `tools/systems NAME` has made in library/systems."""
+
+import tempfile
+from contextlib import suppress
+from pathlib import Path
+from typing import Any, Iterator
+
+import pytest
+
+from lib.packages import need
+from lib.systems import chromium
+from lib.systems.kinds import KINDS
+from lib.systems.page import Host, Page
+from lib.systems.runners import Native, Runner
+from rsp_tools.systems import page as pages
+from rsp_tools.systems import places
+
+WHY = "what tools/systems makes takes minutes, and wants cross compilers and emulators"
+
+
+def pytest_addoption(parser: pytest.Parser) -> None:
+    parser.addoption("--steps", type=int, default=1000000, help="steps of each seed of random programs")
+
+
+def pytest_collection_modifyitems(items: Any) -> None:
+    for item in items:
+        if Path(__file__).parent in item.path.parents:
+            item.add_marker(pytest.mark.outside(WHY))
+
+
+def folder_of(system: str) -> Path:
+    """What tools/systems has made for a system."""
+    folder = places.MADE / system
+    if not folder.is_dir():
+        pytest.skip(f"there is no library/systems/{system}: type tools/systems {system}")
+    return folder
+
+
+@pytest.fixture(scope="session")
+def at() -> Iterator[Path]:
+    """A folder for what tests share, that other users may read."""
+    with tempfile.TemporaryDirectory() as name:
+        Path(name).chmod(0o755)
+        yield Path(name)
+
+
+@pytest.fixture
+def made(request: pytest.FixtureRequest) -> Path:
+    """The folder of a system's library."""
+    need("rt")
+    return folder_of(request.param)
+
+
+@pytest.fixture(scope="session")
+def runner(request: pytest.FixtureRequest, at: Path) -> Iterator[Runner]:
+    """What compiles and runs programs for a system."""
+    kind = KINDS[request.param]
+    need(*kind.programs)
+    folder = folder_of(kind.system)
+    (at / request.param).mkdir()
+    runner = kind(folder, at / request.param)
+    yield runner
+    runner.stop()
+
+
+@pytest.fixture(scope="session")
+def native(library: Path, at: Path) -> Native:
+    (at / "native").mkdir()
+    return Native(at / "native")
+
+
+@pytest.fixture(scope="session")
+def host(at: Path) -> Iterator[Host]:
+    """The page that answers scripts, on a server."""
+    folder_of("wasm64")
+    pages.make(at / "page")
+    host = Host(at / "page")
+    yield host
+    host.stop()
+
+
+@pytest.fixture(scope="session")
+def driver(at: Path) -> Iterator[Any]:
+    need(*chromium.PROGRAMS)
+    (at / "saved").mkdir()
+    driver = chromium.started(at / "saved")
+    driver.execute_cdp_cmd("Emulation.setFocusEmulationEnabled", {"enabled": True})
+    yield driver
+    driver.quit()
+
+
+@pytest.fixture
+def page(host: Host, driver: Any, at: Path) -> Iterator[Page]:
+    """The page, which has just been opened in a tab. No dialog is left open."""
+    from selenium.common.exceptions import NoAlertPresentException
+
+    page = Page(driver, at / "saved")
+    page.open(host.url)
+    yield page
+    with suppress(NoAlertPresentException):
+        page.answer(True)

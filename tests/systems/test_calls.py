@@ -1,0 +1,48 @@
+"""The library's calls on each system: each in its range and out of it, each allocation failing, the stack
+that a call uses, threads, and the lock step of examples."""
+
+from typing import Any
+
+import pytest
+
+from lib import TESTS, TOP
+from lib.systems.kinds import on
+
+SOURCES, EXAMPLE = TESTS / "library/c", TOP / "examples/c"
+WRAPPED = "-Wl,--wrap=malloc,--wrap=realloc,--wrap=free"
+
+
+@pytest.mark.timeout(1800)
+@on()
+@pytest.mark.parametrize("name", ("calls", "owner"))
+def test_calls(runner: Any, name: str) -> None:
+    for kind, library in runner.libraries().items():
+        made = runner.compile(SOURCES / f"{name}.c", name=f"{name}-{kind}", library=library)
+        runner.passes(made)
+
+
+@on()
+def test_lockstep(runner: Any) -> None:
+    for kind, library in runner.libraries().items():
+        made = runner.compile(EXAMPLE / "lockstep.c", name=f"lockstep-{kind}", library=library)
+        assert runner.run(made).stdout == (EXAMPLE / "lockstep.expected").read_text(), kind
+
+
+@pytest.mark.timeout(1800)
+@on("linux-aarch64", "windows-x86_64", "wasm64")
+def test_failing_allocations(runner: Any) -> None:
+    words = ("-Dmain=all_calls", "-DQUIET", "-c")
+    part = runner.compile(SOURCES / "calls.c", *words, name="all_calls.o", library=[])
+    runner.passes(runner.compile(SOURCES / "no_memory.c", WRAPPED, str(part)))
+
+
+@pytest.mark.timeout(1800)
+@on("linux-aarch64", "windows-x86_64")
+@pytest.mark.parametrize("name", ("stack", "threads"))
+def test_limits(runner: Any, name: str) -> None:
+    runner.passes(runner.compile(SOURCES / f"{name}.c", *runner.threads))
+
+
+@on("wasm64")
+def test_memory_is_given_back(runner: Any) -> None:
+    runner.passes(runner.compile(SOURCES / "balance.c", WRAPPED))

@@ -1,0 +1,185 @@
+"""What the library computes on each system: all test vectors, and ten million steps of random programs of all
+instructions, DMA, undo, traces and watches among them, in lock step with Linux on x86-64.
+
+A library with one constant of the module changed has to be found by both. `--steps` makes another number of
+steps for each of the ten seeds.
+"""
+
+import ctypes
+import re
+import struct
+from functools import lru_cache
+from itertools import zip_longest
+from pathlib import Path
+from typing import Any, Callable, Dict, Iterator, List, Tuple
+
+import pytest
+
+import rsp
+from lib import TESTS, TOP
+from lib.systems.browser import Chromium
+from lib.systems.kinds import on
+from lib.systems.runners import Native, Runner
+from rsp_conformance import bench, library_states, steps
+from rsp_conformance.draws import Random
+from rsp_conformance.spoil import spoilt_entries
+from rsp_conformance.states import numbers_of, texts_of
+from rsp_conformance.vectors import VECTORS, entries_in, names_in
+from rsp_tools.systems import modules
+from rsp_tools.systems.__main__ import SYSTEMS
+from rsp_tools.systems.toolchain import llvm
+
+pytestmark = pytest.mark.timeout(3600)
+DATA = TESTS / "systems"
+BANKS = {"dmem": 0, "imem": 1, "rdram": 2}
+LENGTH = bench.WINDOW + bench.WINDOW_LENGTH
+STATE = ctypes.sizeof(rsp.State)
+RESULT = 8 + STATE + 2 * 4096 + bench.WINDOW_LENGTH
+SEEDS = range(1, 11)
+FEW = 20000  # steps of each seed that have to find the planted constant
+# The lower bound of a clamp: for ARM selected beside the upper one, for x86-64 stored.
+FORMS = {
+    "aarch64": r"splat \(i16 -32768\)(?=, <8 x i16> splat \(i16 32767\))",
+    "x86_64": r"(?<=store <8 x i16> )splat \(i16 -32768\)",
+}
+Entry = Dict[str, Any]
+Lines = Callable[..., List[str]]
+
+
+# The cases of conformance/library, in one run of vectors.c or vectors.js.
+
+
+def written(entry: Entry) -> bytes:
+    """A case as vectors.c reads it."""
+    _, word, before = steps.observed_of(entry)
+    pieces = [
+        (BANKS[bank], int(at, 16), bytes.fromhex(text))
+        for bank in BANKS
+        for at, text in before.get(bank, {}).items()
+    ]
+    state = library_states.state_of(numbers_of(before))
+    head = bytes(state) + struct.pack("<3I", LENGTH, word, len(pieces))
+    return head + b"".join(struct.pack("<3I", bank, at, len(data)) + data for bank, at, data in pieces)
+
+
+def complaints(entry: Entry, result: bytes) -> List[str]:
+    """How what vectors.c wrote differs from what a case says."""
+    was_set, status = struct.unpack_from("<2I", result)
+    if not was_set:
+        return [f"{entry['name']}: the state that was set isn't the one that is there"]
+    if status != rsp.Status.OK:
+        return [f"{entry['name']} ({entry['text']}): {rsp.Status(status).name}"]
+    found: Entry = texts_of(library_states.numbers_of(rsp.State.from_buffer_copy(result, 8)))
+    at = 8 + STATE
+    for bank, length in (("dmem", 4096), ("imem", 4096), ("rdram", bench.WINDOW_LENGTH)):
+        found[bank] = [result[at : at + length].hex()]
+        at += length
+    return list(steps.complaints(entry, found))
+
+
+def all_entries() -> Iterator[Entry]:
+    for name in names_in(VECTORS, []):
+        yield from entries_in(VECTORS, name)
+
+
+def results(runner: Runner) -> List[Tuple[Entry, bytes]]:
+    """What a library makes of each case."""
+    entries = [*all_entries()]
+    (runner.at / "cases").write_bytes(b"".join(map(written, entries)))
+    if isinstance(runner, Chromium):
+        found = runner.test("vectors.js", "/at/cases")
+    else:
+        ended = runner.run(runner.compile(DATA / "vectors.c"), "cases", "results")
+        assert ended.returncode == 0, ended.stdout
+        found = (runner.at / "results").read_bytes()
+    assert len(found) == RESULT * len(entries)
+    return [(it, found[n * RESULT : (n + 1) * RESULT]) for n, it in enumerate(entries)]
+
+
+@on()
+def test_vectors(runner: Runner) -> None:
+    """Spoilt copies of one case of each instruction have to be noticed."""
+    found = results(runner)
+    wrong = [text for entry, result in found for text in complaints(entry, result)]
+    assert wrong == []
+    unnoticed = []
+    for name in names_in(VECTORS, []):
+        random = Random("spoilt", name)
+        entry = random.pick(entries_in(VECTORS, name))
+        result = next(result for it, result in found if it["name"] == entry["name"])
+        for false in spoilt_entries(entry, random):
+            said = complaints(false, result)
+            if not said or not all(it.startswith(f"{entry['name']} (") for it in said):
+                unnoticed.append((entry["name"], said))
+    assert unnoticed == []
+
+
+# Random programs, with a line for each thousand steps, and a last one of the instructions that were traced.
+
+
+def program_of(runner: Runner) -> Lines:
+    """The lines of a seed on a system."""
+    made = runner.compile(DATA / "digests.c")
+    return lru_cache(None)(lambda seed, steps: runner.run(made, seed, steps).stdout.splitlines())
+
+
+@pytest.fixture(scope="session")
+def wanted(native: Native) -> Lines:
+    return program_of(native)
+
+
+@pytest.fixture(scope="session")
+def got(runner: Runner) -> Lines:
+    return program_of(runner)
+
+
+@pytest.fixture
+def count(request: pytest.FixtureRequest) -> Any:
+    return request.config.getoption("--steps", 1000000)
+
+
+@on()
+@pytest.mark.parametrize("seed", SEEDS)
+def test_random_programs(seed: int, got: Lines, wanted: Lines, count: int) -> None:
+    differ = [it for it in zip_longest(got(seed, count), wanted(seed, count)) if it[0] != it[1]]
+    assert differ[:1] == []
+    assert len(wanted(seed, count)) == count // 1000 + 1
+
+
+@pytest.mark.xdist_group("linux-aarch64")
+def test_all_instructions_are_traced(wanted: Lines, count: int) -> None:
+    table = (TOP / "docs/data/instructions.tsv").read_text().splitlines()[1:]
+    traced = {name for seed in SEEDS for name in wanted(seed, count)[-1].split()}
+    assert {it.split("\t")[0].lower() for it in table} - traced == set()
+
+
+# A library with a wrong instruction: one constant of the module is another one.
+
+
+def changed(target: str, at: Path) -> modules.Module:
+    """The module of a processor in which a clamp has another bound, and the archive of it."""
+    made, text, archive = modules.module(target), at / f"planted-{target}.ll", at / f"planted-{target}.a"
+    planted, number = re.subn(FORMS[target], "splat (i16 -32767)", made.text.read_text())
+    assert number, "the module has the constant"
+    text.write_text(planted)
+    words = [f"--target={modules.TARGETS[target]}", "-x", "ir", "-c", *made.flags, "-fPIC"]
+    llvm("clang", *words, "-Wno-override-module", "-o", at / "planted.o", text)
+    llvm("llvm-ar", "rcsD", archive, at / "planted.o")
+    return modules.Module(text, archive, made.flags)
+
+
+@on()
+def test_planted_constant(runner: Runner, wanted: Lines) -> None:
+    """Vectors and random programs find it."""
+    at = runner.at / "planted"
+    (at / "way").mkdir(parents=True)
+    SYSTEMS[runner.system].make(at / "library", at / "way", lambda target: changed(target, at))
+    kind = type(runner)
+    more = [at / "way"] if kind is Chromium else []
+    planted = kind(at / "library", at, *more)
+    try:
+        assert any(complaints(*it) for it in results(planted))
+        got = program_of(planted)
+        assert any(got(seed, FEW)[:-1] != wanted(seed, FEW)[:-1] for seed in SEEDS)
+    finally:
+        planted.stop()

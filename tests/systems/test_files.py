@@ -1,0 +1,70 @@
+"""What tools/systems has made for each system: which symbols the files show, what they need, and the wheel.
+
+They fail as well if another make of the same sources gives other bytes.
+"""
+
+import gzip
+import re
+from pathlib import Path
+
+import pytest
+
+from lib.systems.files import PLATFORMS, check_wheel, shown
+from lib.systems.kinds import made as of
+from lib.systems import macos
+from rsp_tools.systems import header, wasm
+from rsp_tools.systems.__main__ import SYSTEMS
+from rsp_tools.systems.modules import module
+from rsp_tools.systems.toolchain import llvm
+
+OLDEST = (2, 17)  # the glibc of manylinux2014
+
+
+@pytest.mark.timeout(1800)
+@of(*SYSTEMS)
+def test_made_again(made: Path, folder: Path) -> None:
+    (folder / "way").mkdir()
+    SYSTEMS[made.name].make(folder / "again", folder / "way", module)
+    again, before = (
+        {str(it.relative_to(at)): it.read_bytes() for it in at.rglob("*") if it.is_file()}
+        for at in (folder / "again", made)
+    )
+    assert again and sorted(it for it in {*again, *before} if again.get(it) != before.get(it)) == []
+
+
+@of(*PLATFORMS)
+def test_wheel(made: Path) -> None:
+    check_wheel(made.name, made)
+
+
+@of("macos")
+def test_macos(made: Path, folder: Path) -> None:
+    macos.check(made, folder)
+
+
+@of("linux-aarch64")
+def test_linux(made: Path) -> None:
+    """The libraries show the calls of rsp.h alone."""
+    calls, library = {*header.calls()}, made / f"lib/librsp.so.{header.interface()}"
+    assert shown("-D", "--defined-only", library) == calls
+    assert shown("-g", "--defined-only", made / "lib/librsp.a") == calls
+    assert f"[{library.name}]" in llvm("llvm-readobj", "--dynamic-table", library)
+
+
+@of("linux-aarch64")
+@pytest.mark.parametrize("name", (f"lib/librsp.so.{header.interface()}", "bin/rsp"))
+def test_linux_needs(made: Path, name: str) -> None:
+    """A library or a program needs glibc alone, and no newer one than 2.17."""
+    wants = "\n".join(shown("-D", "--undefined-only", made / name))
+    versions = [tuple(map(int, it.split("."))) for it in re.findall(r"@GLIBC_([\d.]+)", wants)]
+    assert versions and max(versions) <= OLDEST
+    read = llvm("llvm-readobj", "--needed-libs", "--dynamic-table", made / name)
+    assert re.findall(r"NEEDED\s+Shared library: \[(.*)\]", read) == ["libc.so.6"]
+
+
+@of("wasm64")
+def test_wasm(made: Path) -> None:
+    assert {it.name for it in made.iterdir()} == {"rsp.wasm", *(it.name for it in wasm.SCRIPTS.iterdir())}
+    assert header.version() in (made / "package.json").read_text()
+    data = (made / "rsp.wasm").read_bytes()
+    print(f"rsp.wasm has {len(data)} bytes, by gzip {len(gzip.compress(data, 9))}")

@@ -1,0 +1,151 @@
+"""What the page that answers scripts answers, and saves; where a script comes from, and what becomes of it.
+
+They fail if the replies to a script of the repository aren't those that are stored for `rsp run`, or the
+image isn't the one that the library for Linux leaves; scripts are typed, opened as files, and come by links.
+"""
+
+import pytest
+
+import rsp
+from lib.stored import Stored, stored
+from lib.systems.page import ENTER, LINKED, ROWS, Page, linked, the
+from rsp_tools.systems import places
+
+pytestmark = pytest.mark.xdist_group("page")
+SHOWN = 20000  # lines that are shown
+ENDLESS = "asm 0\nj 0\nnop\nend\n" + 5000 * "run 1000000\n"
+ANSWERED = [it for it in stored() if not it.wanted[0]]
+
+
+def replies_to(script: bytes) -> str:
+    """The replies of the library for Linux."""
+    return bytes(rsp.run_script(script)[0]).decode()
+
+
+@pytest.mark.parametrize("number, script", enumerate(ANSWERED), ids=map(str, ANSWERED))
+def test_stored(number: int, script: Stored, page: Page) -> None:
+    image, wanted = script.image(), script.wanted[1]
+    page.give(script.script, number % 3)
+    if image is None:
+        page.click("zeros")
+    else:
+        page.open_image(image)
+    assert page.run() == wanted.decode()
+    assert page.saved("save-replies", "replies.txt") == wanted
+    left = rsp.run_script(script.script, bytes(1 << 22) if image is None else image)[1]
+    is_left = page.saved("save-image", "rdram.bin") == bytes(left)
+    assert is_left, "the page leaves another image"
+
+
+def test_there_are_scripts() -> None:
+    assert len(ANSWERED) > 100
+
+
+def test_examples(page: Page) -> None:
+    """Each example that can be chosen is a script of the repository, or assembles."""
+    options = "[...document.querySelectorAll('#example option')].slice(1).map((it) => it.textContent)"
+    held, found = {it.script for it in stored()}, []
+    for number, name in enumerate(page.value(options)):
+        page.choose(number)
+        script = page.saved("save-script", "script.rsp")
+        found.append(script)
+        if script not in held:
+            words = len(script.splitlines()) - len(["a comment", "asm", "end", "dis"])
+            first, *listed = page.run().splitlines()
+            assert (first, len(listed)) == (f"ok {words} words", words), name
+    files = [it.read_bytes() for at in ("examples", "microcode") for it in places.TOP.glob(f"{at}/*.rsp")]
+    assert [it for it in files if it not in found] == []
+    assert len(found) > len(files) + 15
+
+
+def test_many_replies(page: Page) -> None:
+    """Of many replies some are shown, and all are saved."""
+    script = "vregs\n" * 2000
+    page.type(script)
+    shown, wanted = page.run(), replies_to(script.encode())
+    is_first = wanted.startswith(shown)
+    assert is_first and shown.count("\n") < SHOWN
+    line = shown.count("\n") // 32 + 1
+    told = f"Line {line} and those after it aren't shown. Save replies saves all."
+    assert page.text("more") == told
+    is_whole = page.saved("save-replies", "replies.txt").decode() == wanted
+    assert is_whole, "not all replies are saved"
+
+
+def test_stop(page: Page) -> None:
+    """A run is stopped; the page is alive meanwhile, and the next run has a new bench."""
+    page.type(ENDLESS)
+    page.click("run")
+    page.until(f"{ROWS} > 6")
+    assert not page.is_disabled("stop")
+    page.type("step\n")
+    assert page.script == "step\n"
+    page.click("stop")
+    replies, count = page.replies(), page.value(ROWS)
+    told = f"Stopped after {count:,} lines. The bench of this run is gone: there is no RDRAM to save."
+    assert page.text("said") == told
+    assert 6 < count < 5004
+    assert page.is_disabled("save-image")
+    assert replies == "ok 2 words\n" + (count - 4) * "stop Limit steps 1000000 pc 000\n"
+    assert page.run() == "step Done pc 004\n"
+    is_new = page.saved("save-image", "rdram.bin") == bytes(1 << 22)
+    assert is_new, "the bench isn't new"
+
+
+@pytest.mark.parametrize("script", (b"step\n", b"step", bytes(range(256)), b"", b"#" * LINKED), ids=len)
+def test_link(script: bytes, page: Page) -> None:
+    """A link carries a script there and back. It is shown, and runs only when it is asked to."""
+    top = page.address
+    page.open_file("script-file", script)
+    carried = f"The page's address carries the script: {len(script):,} of at most 24,000 bytes."
+    assert page.told(lambda: page.click("link")).startswith(carried)
+    assert page.address == top + linked(script)
+    page.open(page.address)
+    assert page.text("said") == "This script came by a link. Read it before you run it."
+    assert page.value(ROWS) == 0
+    assert page.saved("save-script", "script.rsp") == script
+    assert page.run() == replies_to(script)
+    page.type("step\n")
+    assert page.address == top
+
+
+def test_bytes_are_kept(page: Page) -> None:
+    """A script from a file has its bytes until its text is changed."""
+    script = b"\xef\xbb\xbfstep\r\nstep\rregs \xff\x00\nstep\n"
+    page.open_file("script-file", script)
+    assert page.text("kept").startswith("This script has bytes that its text")
+    assert page.saved("save-script", "script.rsp") == script
+    page.value(f"({the('script')}.focus(), {the('script')}.setSelectionRange(0, 0))")
+    page.call("Input.insertText", text="# \u00e9\n")
+    assert page.text("kept") == ""
+    text = "# \u00e9\n" + script.replace(b"\r\n", b"\n").replace(b"\r", b"\n").decode(errors="replace")
+    assert page.saved("save-script", "script.rsp") == text.encode()
+    assert page.run() == replies_to(text.encode())
+
+
+@pytest.mark.parametrize("is_accepted", (False, True), ids=("refused", "accepted"))
+@pytest.mark.parametrize("way", ("an example", "a link", "a file"))
+def test_edited_script(way: str, is_accepted: bool, page: Page) -> None:
+    """A script that was changed isn't replaced without a question."""
+    page.type("step # mine\n")
+    if way == "an example":
+        page.choose(3)
+    elif way == "a link":
+        page.value(f"(location.hash = '{linked(b'regs')}')")
+    else:
+        other = page.folder / "other.rsp"
+        other.write_bytes(b"regs\n")
+        page.give_file("script-file", other)
+    assert page.answer(is_accepted) == "You have changed the script. Replace it?"
+    page.settle()
+    assert (page.script == "step # mine\n") is not is_accepted
+
+
+def test_edited_script_is_left(page: Page) -> None:
+    """A page whose script was changed isn't left without a question, which Chromium asks after a key."""
+    page.type("step # mine")
+    page.press(ENTER)
+    page.call("Page.reload")
+    assert page.answer(False) == ""
+    page.settle()
+    assert page.script == "step # mine\n"

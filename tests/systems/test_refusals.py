@@ -1,0 +1,71 @@
+"""What tools/systems refuses: it says why in a line, and leaves nothing half written."""
+
+import os
+import sys
+from pathlib import Path
+
+import pytest
+
+from lib import TOP
+from lib.processes import Ended, run
+from lib.systems.kinds import SYSTEMS
+from rsp_tools.systems import places, rewriting
+from rsp_tools.systems.toolchain import Refused, kit
+
+# The packages that are named where there are none.
+PACKAGES = {
+    "linux-aarch64": "gcc-aarch64-linux-gnu",
+    "windows-x86_64": "gcc-mingw-w64-x86-64",
+}
+# A call as a module has it, of an instruction that no processor has.
+FOREIGN = "%2 = call <16 x i8> @llvm.x86.rsp.add(<16 x i8> %1)\n"
+
+
+def said(*words: str, path: str = os.environ["PATH"]) -> "Ended[str]":
+    """What tools/systems says, which must leave library/systems as it was."""
+    before = sorted(places.MADE.glob("*"))
+    env = {**os.environ, "PATH": path, "PYTHONPATH": f"{TOP}/tools"}
+    ended = run(sys.executable, "-B", "-m", "rsp_tools.systems", *words, env=env)
+    assert sorted(places.MADE.glob("*")) == before
+    return ended
+
+
+def test_unknown_system() -> None:
+    ended = said("linux-arm")
+    wanted = f"there is no system linux-arm: the systems are {', '.join(SYSTEMS)}\n"
+    assert (ended.returncode, ended.stdout) == (1, f"tools/systems: {wanted}")
+
+
+def test_unknown_word() -> None:
+    assert said("--all").returncode == 2
+
+
+@pytest.mark.parametrize("system, package", PACKAGES.items())
+def test_missing_package(system: str, package: str, folder: Path) -> None:
+    ended = said(system, path=str(folder))
+    wanted = f"{system} isn't made: it needs packages of Debian: apt-get install {package}"
+    assert ended.returncode == 1 and wanted in ended.stdout
+
+
+@pytest.mark.needs("rt")
+def test_another_clang(folder: Path, monkeypatch: pytest.MonkeyPatch) -> None:
+    (folder / "kit/toolchain/bin").mkdir(parents=True)
+    for name, text in (
+        ("rt", f"echo {folder}/kit/START-HERE.md"),
+        ("kit/toolchain/bin/clang", "echo clang version 21.1.0"),
+    ):
+        (folder / name).write_text(f"#!/bin/sh\n{text}\n")
+        (folder / name).chmod(0o755)
+    monkeypatch.setenv("PATH", f"{folder}:{os.environ['PATH']}")
+    kit.cache_clear()
+    try:
+        with pytest.raises(Refused, match="the kit's clang is 21.1.0"):
+            kit()
+    finally:
+        kit.cache_clear()
+
+
+def test_another_intrinsic() -> None:
+    with pytest.raises(Refused) as refused:
+        rewriting.rewritten(FOREIGN, {"llvm.x86.ssse3.pshuf.b.128"})
+    assert str(refused.value) == "the module has the intrinsic llvm.x86.rsp.add, which no rule names"

@@ -1,0 +1,55 @@
+"""The Rust crate's build script finds the library of a target, and names the target if there is none. Its
+tests are run where Debian has Rust's own library for the system."""
+
+import os
+import shutil
+from pathlib import Path
+from typing import Any
+
+import pytest
+
+from lib.processes import succeeds
+from lib.systems.kinds import made as of
+from lib.systems.kinds import on
+from lib.systems.rust import TARGETS, TESTED, rust_for, said
+from rsp_tools.systems import header, places
+
+
+@pytest.mark.needs("rustc")
+@of(*TARGETS)
+def test_build_script(made: Path, folder: Path) -> None:
+    """Each target of a system, without its library and with it."""
+    script, crate = folder / "build-script", folder / "crate"
+    env = {**os.environ, "CARGO_MANIFEST_DIR": str(crate), "CARGO_PKG_VERSION": header.version()}
+    succeeds("rustc", "--edition", "2021", "-o", script, places.RUST / "build.rs", env=env)
+    for target, (name, called) in TARGETS[made.name].items():
+        status, text = said(script, target)
+        assert status != 0 and f"{called} for {target} isn't found" in text
+        (crate / "lib" / target).mkdir(parents=True)
+        shutil.copy(made / "lib" / name, crate / "lib" / target / called)
+        linked = "rsp_static" if target.endswith("-msvc") else "rsp"
+        wanted = f"native={crate}/lib/{target}\ncargo:rustc-link-lib=static={linked}\n"
+        status, text = said(script, target)
+        assert status == 0 and text.endswith(f"cargo:rustc-link-search={wanted}")
+
+
+@pytest.mark.timeout(1800)
+@on(*TESTED)
+def test_crate(runner: Any) -> None:
+    """The crate's tests over the static library, linked and run as the runner does it."""
+    target, package = TESTED[runner.system]
+    folder = rust_for(target)
+    if not folder:
+        pytest.skip(f"there is no Rust for {target} (Debian's packages cargo and {package})")
+    named = f"CARGO_TARGET_{target.upper().replace('-', '_')}"
+    shutil.copytree(places.RUST, runner.at / "rust", ignore=shutil.ignore_patterns("target", "Cargo.lock"))
+    env = {
+        **runner.env,
+        "PATH": f"{folder}{os.pathsep}{os.environ['PATH']}",
+        "RSP_LIB_DIR": str(runner.folder / "lib"),
+        f"{named}_LINKER": runner.compiler,
+        f"{named}_RUNNER": " ".join(runner.start),
+    }
+    words = ("cargo", "test", "--offline", "-q", "--tests", "--target", target)
+    text = succeeds(*words, cwd=runner.at / "rust", env=env, timeout=1700)
+    assert "test result: ok. " in text.replace("test result: ok. 0 passed", "")

@@ -1,0 +1,197 @@
+"""The library in WebAssembly, and the ES module over it, in Debian's Chromium; and what npm and Node make of
+its folder."""
+
+import base64
+import json
+import os
+import re
+import shutil
+from pathlib import Path
+from typing import Any, Dict, Iterable, List, Tuple
+
+import pytest
+
+from lib import TESTS, TOP
+from lib.pages import page
+from lib.processes import compiled, succeeds
+from lib.stored import Stored, stored
+from lib.systems import node
+from lib.systems.kinds import made as of
+from lib.systems.kinds import on
+from lib.systems.runners import see_passed
+from rsp_tools.systems import header, places, wasm
+from rsp_tools.systems.modules import Module
+from rsp_tools.systems.rewriting import PSHUFB, Change, rewritten
+from rsp_tools.systems.toolchain import Refused, llvm
+
+MOST = 8 << 20  # bytes of memory that the library without enough of it has
+# A function as the kit's modules have them, with PSHUFB.
+SMALL = f"""
+target datalayout = "e-m:e-p270:32:32-p271:32:32-p272:64:64-i64:64-i128:128-f80:128-n8:16:32:64-S128"
+target triple = "x86_64-unknown-linux-gnu"
+
+define <16 x i8> @shuffled(<16 x i8> %a, <16 x i8> %b) #0 {{
+  %c = call <16 x i8> @{PSHUFB}(<16 x i8> %a, <16 x i8> %b)
+  ret <16 x i8> %c
+}}
+
+declare <16 x i8> @{PSHUFB}(<16 x i8>, <16 x i8>)
+
+attributes #0 = {{ "probe-stack"="inline-asm" "target-cpu"="x86-64-v2" "target-features"="+ssse3,+sse4.2" }}
+"""
+FOREIGN = SMALL.replace(
+    "%c = call", "%d = call <4 x i32> @llvm.x86.rsp.add(<4 x i32> zeroinitializer)\n  %c = call"
+)
+
+
+# What is changed in a module, on a small one, and what is refused.
+
+
+def instructions(at: Path, changes: Iterable[Change]) -> str:
+    """The instructions of the small module after some changes."""
+    text, made = at / "small.ll", at / "small.s"
+    text.write_text(rewritten(SMALL, {PSHUFB}, changes))
+    # Clang keeps a report where it fails, in the folder of temporary files.
+    words = ["-gen-reproducer=off", *wasm.CLANG, "-O3", "-Wno-override-module"]
+    llvm("clang", *words, "-S", "-o", made, "-x", "ir", text)
+    return made.read_text()
+
+
+@pytest.mark.needs("rt")
+def test_changes(folder: Path) -> None:
+    said = instructions(folder, wasm.CHANGES)
+    assert said.count("i8x16.swizzle") == 1 and "v128.and" in said
+
+
+@pytest.mark.needs("rt")
+@pytest.mark.parametrize("left_out", wasm.CHANGES, ids=lambda it: it.reason[:40])
+def test_each_change_is_needed(left_out: Change, folder: Path) -> None:
+    with pytest.raises(Refused, match="clang failed"):
+        instructions(folder, [it for it in wasm.CHANGES if it is not left_out])
+
+
+@pytest.mark.needs("rt")
+def test_another_intrinsic(folder: Path) -> None:
+    given, out, way = folder / "foreign.ll", folder / "refused", folder / "way"
+    given.write_text(FOREIGN)
+    way.mkdir()
+    with pytest.raises(Refused) as refused:
+        wasm.make(out, way, lambda _: Module(given, given, ["-O3"]))
+    assert str(refused.value) == "the module has the intrinsic llvm.x86.rsp.add, which no rule names"
+    assert not out.exists() and not [*way.iterdir()]
+
+
+def test_another_version(folder: Path, monkeypatch: pytest.MonkeyPatch) -> None:
+    """An ES module of another version than the library is refused."""
+    shutil.copytree(TOP / "library/js", folder / "js")
+    (folder / "js/package.json").write_text('{ "version": "0.9.0" }')
+    monkeypatch.setattr(wasm, "SCRIPTS", folder / "js")
+    with pytest.raises(Refused, match="another version than"):
+        wasm.folder(folder / "refused", [])
+    assert not (folder / "refused").exists()
+
+
+# What the module exports and needs, and its declarations.
+
+
+@on("wasm64")
+def test_names(runner: Any) -> None:
+    shown = json.loads(runner.test("module.js"))
+    assert shown["imports"] == []
+    assert {*shown["exports"]} == {*header.calls(), "malloc", "free", "memory"}
+    text = re.sub(r"/\*.*?\*/", "", (wasm.SCRIPTS / "rsp.d.ts").read_text(), flags=re.S)
+    declared = re.findall(r"(?m)^export (?:enum|class|const|function) (\w+)", text)
+    assert {*shown["names"]} == {*declared}
+    body = re.findall(r"(?ms)^export class Rsp \{\n(.*?)^\}", text)[0]
+    methods = re.findall(r"(?m)^  (?:readonly )?(\w+)[(:]", body)
+    assert {*shown["methods"]} == {*methods, "constructor"}
+
+
+@pytest.mark.needs("npm", "node")
+@of("wasm64")
+@pytest.mark.parametrize("kind", ([], ["--install-links"]), ids=("a link", "a copy of what it packs"))
+def test_npm(made: Path, kind: List[str], folder: Path) -> None:
+    """npm takes the folder. A Node that is new enough runs it, and an older one says which are."""
+    project = folder / "project"
+    project.mkdir()
+    env = {**os.environ, "npm_config_cache": str(folder / "npm"), "npm_config_offline": "true"}
+    succeeds("npm", "install", "--no-audit", "--no-fund", *kind, made, cwd=project, env=env)
+    held = {it.name for it in (project / "node_modules/rsp").glob("*")}
+    assert held == {it.name for it in made.iterdir()}
+    why = node.check_use(project)
+    if why:
+        pytest.skip(why)
+
+
+# The ES module.
+
+
+def said(runner: Any, name: str, text: str) -> str:
+    """What code that imports the package says."""
+    (runner.at / name).write_text(text.replace('from "rsp"', 'from "/library/rsp.js"'))
+    return str(runner.test("code.js", f"/at/{name}").decode())
+
+
+@on("wasm64")
+def test_lockstep(runner: Any) -> None:
+    text = (TOP / "examples/js/lockstep.js").read_text()
+    assert said(runner, "lockstep.js", text) == (TOP / "examples/c/lockstep.expected").read_text()
+
+
+def page_code() -> List[Tuple[str, str]]:
+    """The code of EMBEDDING.md's section, each with what the page says that it prints."""
+    section = re.findall(r"(?ms)^## JavaScript\n(.*?)(?=^## |\Z)", page("docs/EMBEDDING.md"))[0]
+    found = re.findall(r"((?:^(?:    .*)?\n)+)It prints `([^`]*)`", section, re.M)
+    return [(re.sub(r"(?m)^    ", "", code), told) for code, told in found]
+
+
+@on("wasm64")
+@pytest.mark.parametrize("code, told", page_code(), ids=lambda it: it.strip()[:20])
+def test_code_of_page(runner: Any, code: str, told: str) -> None:
+    assert said(runner, "page.js", code) == f"{told}\n"
+
+
+def as_case(script: Stored) -> Dict[str, Any]:
+    """A script with its image, as scripts.js takes them."""
+    image, text = script.image() or bytes(1 << 22), base64.b64encode(script.script).decode()
+    about = {"length": len(image), "is_counting": any(image), "is_saved": script.is_saved}
+    return {"script": text, **about}
+
+
+@on("wasm64")
+def test_scripts(runner: Any) -> None:
+    """The replies to the scripts of the repository, and the images that must be left as they were."""
+    scripts = stored()
+    (runner.at / "scripts.json").write_text(json.dumps([*map(as_case, scripts)]))
+    found = json.loads(runner.test("scripts.js", "/at/scripts.json"))
+    wanted = [["OUT_OF_RANGE" if it.wanted[0] else it.wanted[1].decode(), True] for it in scripts]
+    assert len(found) == len(scripts) > 100
+    assert [it for it in zip(map(str, scripts), found, wanted) if it[1] != it[2]] == []
+
+
+@on("wasm64")
+@pytest.mark.parametrize("name", ("calls", "limits"))
+def test_in_javascript(runner: Any, name: str) -> None:
+    """Each call in its range and out of it; memory that is given back, the stack, machines that are dropped."""
+    see_passed(runner.test(f"{name}.js", header.stack()).decode())
+
+
+@on("wasm64")
+def test_little_memory(runner: Any) -> None:
+    wasm.folder(runner.at / "tight", runner.objects, f"--max-memory={MOST}")
+    see_passed(runner.test("tight.js", library="/at/tight").decode())
+
+
+@pytest.mark.needs("cc")
+@pytest.mark.parametrize(
+    "prefix",
+    [(), pytest.param(("valgrind", "-q", "--error-exitcode=9"), marks=pytest.mark.needs("valgrind"))],
+    ids=("alone", "valgrind"),
+)
+def test_allocator(prefix: Tuple[str, ...], folder: Path) -> None:
+    """The allocator natively, beside a list."""
+    names = ("-Dmalloc=heap_malloc", "-Drealloc=heap_realloc", "-Dfree=heap_free", "-ffreestanding")
+    words = ("-std=c11", "-O2", "-g", "-Wall", "-Wextra", "-Werror")
+    part = compiled(folder / "part.o", *words, *names, "-c", places.PARTS / "allocator.c")
+    made = compiled(folder / "allocator", *words, TESTS / "systems/allocator.c", part)
+    see_passed(succeeds(*prefix, made))
