@@ -98,4 +98,4 @@ def page(host: Host, driver: Any, at: Path) -> Iterator[Page]:
     page.open(host.url)
     yield page
     with suppress(NoAlertPresentException):
-        page.answer(True)
+        driver.switch_to.alert.accept()

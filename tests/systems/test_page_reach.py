@@ -86,7 +86,7 @@ def test_files_by_keys(name: str, page: Page) -> None:
     """Each button for files asks for one."""
     page.call("Page.setInterceptFileChooserDialog", enabled=True)
     go_to(page, name)
-    page.events("")
+    page.log.clear()
     page.press(ENTER)
     page.settle()
     assert len(page.events("Page.fileChooserOpened")) == 1
@@ -136,11 +136,10 @@ def test_names(filled: Page) -> None:
 
 def test_sources(page: Page, host: Host) -> None:
     """The page asks its own host for its own files, and nobody else for anything."""
-    page.events("")
-    page.open(host.url)
     page.type("step\n")
+    page.saved("save-script", "script.rsp")
+    page.open(host.url)
     page.run()
-    page.saved("save-replies", "replies.txt")
     urls = {it["request"]["url"] for it in page.events("Network.requestWillBeSent")}
     assert [it for it in urls if not it.startswith((host.url, "data:", "blob:", "about:"))] == []
     assert f"{host.url}page.js" in urls

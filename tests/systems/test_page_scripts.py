@@ -4,17 +4,21 @@ They fail if the replies to a script of the repository aren't those that are sto
 image isn't the one that the library for Linux leaves; scripts are typed, opened as files, and come by links.
 """
 
+from pathlib import Path
+from typing import Any, Tuple
+
 import pytest
 
 import rsp
 from lib.stored import Stored, stored
-from lib.systems.page import ENTER, LINKED, ROWS, Page, linked, the
+from lib.systems.page import ENTER, LINKED, ROWS, Host, Page, linked, the, way_of
 from rsp_tools.systems import places
 
 pytestmark = pytest.mark.xdist_group("page")
 SHOWN = 20000  # lines that are shown
 ENDLESS = "asm 0\nj 0\nnop\nend\n" + 5000 * "run 1000000\n"
 ANSWERED = [it for it in stored() if not it.wanted[0]]
+GIVEN = sorted(((way_of(n, it.script), it) for n, it in enumerate(ANSWERED)), key=lambda it: it[0])
 
 
 def replies_to(script: bytes) -> str:
@@ -22,10 +26,19 @@ def replies_to(script: bytes) -> str:
     return bytes(rsp.run_script(script)[0]).decode()
 
 
-@pytest.mark.parametrize("number, script", enumerate(ANSWERED), ids=map(str, ANSWERED))
-def test_stored(number: int, script: Stored, page: Page) -> None:
+@pytest.fixture(scope="module")
+def opened(host: Host, driver: Any, at: Path, request: pytest.FixtureRequest) -> Tuple[Page, str]:
+    """The page, opened once for all scripts that are given in one way, and the way."""
+    page = Page(driver, at / "saved")
+    page.open(host.url)
+    return page, request.param
+
+
+@pytest.mark.parametrize("opened, script", GIVEN, indirect=["opened"], ids=str)
+def test_stored(opened: Tuple[Page, str], script: Stored) -> None:
+    page, way = opened
     image, wanted = script.image(), script.wanted[1]
-    page.give(script.script, number % 3)
+    page.give(script.script, way)
     if image is None:
         page.click("zeros")
     else:

@@ -172,7 +172,7 @@ def test_scripts(runner: Any) -> None:
 @on("wasm64")
 @pytest.mark.parametrize("name", ("calls", "limits"))
 def test_in_javascript(runner: Any, name: str) -> None:
-    """Each call in its range and out of it; memory that is given back, the stack, machines that are dropped."""
+    """Each call in its range and out of it; memory that is given back, the stack, dropped machines."""
     see_passed(runner.test(f"{name}.js", header.stack()).decode())
 
 

@@ -26,6 +26,14 @@ def linked(script: bytes) -> str:
     return f"#bytes={len(script)}&script={base64.urlsafe_b64encode(script).decode().rstrip('=')}"
 
 
+def way_of(number: int, script: bytes) -> str:
+    """One of the three ways to give a script, in turns, as far as they carry its bytes."""
+    is_typed = script.isascii() and script and b"\r" not in script
+    if number % 3 == 0 and is_typed:
+        return "typed"
+    return "link" if number % 3 == 1 and len(script) <= LINKED else "file"
+
+
 class Host:
     """A folder, served by the command that the page names, at a port that is free."""
 
@@ -54,6 +62,7 @@ class Page:
 
     def __init__(self, driver: Any, saved: Path) -> None:
         self.driver, self.folder = driver, saved
+        self.log: List[Any] = []
 
     def call(self, method: str, **params: Any) -> Any:
         """What a command of DevTools is answered."""
@@ -68,15 +77,16 @@ class Page:
 
     def until(self, expression: str) -> None:
         """Waits until an expression is true."""
-        see = f"const see = () => {expression} ? done(true) : Date.now() > end ? done(false) : setTimeout(see, 5)"
         end = f"const end = Date.now() + {1000 * LONGEST}"
-        is_true = self.value(f"new Promise((done) => {{ {end}; {see}; see(); }})")
-        assert is_true, f"{expression} doesn't become true"
+        see = f"() => ({expression}) || Date.now() > end ? done() : setTimeout(see, 5)"
+        self.value(f"new Promise((done) => {{ {end}; const see = {see}; see(); }})")
+        assert self.value(expression), f"{expression} doesn't become true"
 
     def open(self, url: str) -> None:
         """Opens an address in a new page, also one that differs only after its #, without a question."""
-        self.driver.execute_script("onbeforeunload = null")
-        self.driver.get("about:blank")
+        self.value("onbeforeunload = null")
+        if "#" in url:
+            self.driver.get("about:blank")
         self.driver.get(url)
 
     def text(self, name: str) -> str:
@@ -124,7 +134,10 @@ class Page:
 
     def answer(self, is_accepted: bool) -> str:
         """Answers a dialog, and returns its text."""
-        dialog = self.driver.switch_to.alert
+        from selenium.webdriver.support.expected_conditions import alert_is_present
+        from selenium.webdriver.support.wait import WebDriverWait
+
+        dialog = WebDriverWait(self.driver, LONGEST, 0.05).until(alert_is_present())
         text = str(dialog.text)
         dialog.accept() if is_accepted else dialog.dismiss()
         return text
@@ -152,12 +165,11 @@ class Page:
         """Opens an image that is taken."""
         assert self.open_file("image-file", data, "given.bin") == "Runs begin with given.bin."
 
-    def give(self, script: bytes, way: int) -> None:
-        """Gives a script in one of three ways, as far as that carries its bytes."""
-        is_typed = script.isascii() and script and b"\r" not in script
-        if way == 0 and is_typed:
+    def give(self, script: bytes, way: str) -> None:
+        """Gives a script in one of the three ways."""
+        if way == "typed":
             self.type(script.decode())
-        elif way == 1 and len(script) <= LINKED:
+        elif way == "link":
             self.open_link(linked(script))
         else:
             self.open_file("script-file", script)
@@ -180,19 +192,26 @@ class Page:
         return self.download(name)
 
     def download(self, name: str) -> bytes:
-        """A file that the page has saved. Chromium gives it its name when it is whole."""
-        path, end = self.folder / name, time.monotonic() + LONGEST
-        while not path.exists():
+        """A file that the page has saved, when it is whole."""
+        end = time.monotonic() + LONGEST
+        while True:
+            begun = [
+                it["guid"] for it in self.events("Page.downloadWillBegin") if it["suggestedFilename"] == name
+            ]
+            ended = [it["guid"] for it in self.events("Page.downloadProgress") if it["state"] == "completed"]
+            if {*begun} & {*ended}:
+                break
             assert time.monotonic() < end, f"{name} isn't saved"
             time.sleep(0.01)
-        data = path.read_bytes()
-        path.unlink()
+        self.log.clear()
+        data = (self.folder / name).read_bytes()
+        (self.folder / name).unlink()
         return data
 
     def events(self, method: str) -> List[Any]:
-        """What Chromium has logged of events of a kind since this was last asked."""
-        logged = [json.loads(it["message"])["message"] for it in self.driver.get_log("performance")]
-        return [it["params"] for it in logged if it["method"] == method]
+        """What Chromium has logged of events of a kind since the last download."""
+        self.log += [json.loads(it["message"])["message"] for it in self.driver.get_log("performance")]
+        return [it["params"] for it in self.log if it["method"] == method]
 
     def settle(self) -> None:
         """Lets the page do what is under way."""
