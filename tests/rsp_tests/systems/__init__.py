@@ -1,1 +1,0 @@
-"""Tests of the library on other systems than Linux on x86-64."""
