@@ -1,12 +1,12 @@
-"""Prints how fast the library is on other systems, beside Linux on x86-64 in turns in one run: the best of five turns.
+"""Prints how fast the library is on other systems, beside Linux on x86-64: the best of five turns in one run.
 
-It measures what `tools/systems SYSTEM` has made, under qemu, wine or Chromium, which have to be here. It fails
-if a program does.
+It measures what `tools/systems SYSTEM` has made, under qemu, wine or Chromium, which have to be here. It
+fails if a program does.
 """
 
 import tempfile
 from pathlib import Path
-from typing import Dict, Type
+from typing import Dict, Tuple, Type
 
 from lib import TESTS
 from lib.systems.browser import Chromium
@@ -14,7 +14,8 @@ from lib.systems.runners import Arm, Native, Runner, Windows
 from measure import need, need_library, reader
 from rsp_tools.systems import places
 
-KINDS: Dict[str, Type[Runner]] = {it.system: it for it in (Arm, Windows, Chromium)}
+ALL: Tuple[Type[Runner], ...] = (Arm, Windows, Chromium)
+KINDS = {it.system: it for it in ALL}
 SOURCE = TESTS / "systems/rate.c"
 TURNS = 5
 MILLIONS = 60
@@ -47,9 +48,8 @@ def measure(system: str, at: Path) -> None:
 
 def main() -> None:
     words = reader(__doc__)
-    words.add_argument(
-        "systems", nargs="*", metavar="SYSTEM", help=f"of {', '.join(KINDS)} (all that are made)"
-    )
+    which = f"of {', '.join(KINDS)} (all that are made)"
+    words.add_argument("systems", nargs="*", metavar="SYSTEM", help=which)
     systems = words.parse_args().systems or [it for it in KINDS if (places.MADE / it).is_dir()]
     need_library()
     for system in systems:

@@ -1,5 +1,6 @@
 """The systems on which tests run, as parameters of tests."""
 
+from sys import intern
 from typing import Dict, Type
 
 import pytest
@@ -19,7 +20,8 @@ KINDS: Dict[str, Type[Runner]] = {
 
 def on(*names: str, of: str = "runner") -> pytest.MarkDecorator:
     """Runs a test with the fixture `runner` of all systems, or of these. Tests of one system share it."""
-    params = [pytest.param(it, marks=pytest.mark.xdist_group(it)) for it in names or KINDS]
+    # pytest makes a fixture again unless its parameter is the same object.
+    params = [pytest.param(intern(it), marks=pytest.mark.xdist_group(it)) for it in names or KINDS]
     return pytest.mark.parametrize(of, params, indirect=True)
 
 
