@@ -23,9 +23,10 @@ def pytest_addoption(parser: pytest.Parser) -> None:
 
 
 def pytest_collection_modifyitems(items: Any) -> None:
-    for item in items:
-        if Path(__file__).parent in item.path.parents:
-            item.add_marker(pytest.mark.outside(WHY))
+    for item in (it for it in items if Path(__file__).parent in it.path.parents):
+        item.add_marker(pytest.mark.outside(WHY))
+        if not item.get_closest_marker("timeout"):
+            item.add_marker(pytest.mark.timeout(1800))
 
 
 def folder_of(system: str) -> Path:

@@ -12,7 +12,6 @@ SOURCES, EXAMPLE = TESTS / "library/c", TOP / "examples/c"
 WRAPPED = "-Wl,--wrap=malloc,--wrap=realloc,--wrap=free"
 
 
-@pytest.mark.timeout(1800)
 @on()
 @pytest.mark.parametrize("name", ("calls", "owner"))
 def test_calls(runner: Any, name: str) -> None:
@@ -28,7 +27,6 @@ def test_lockstep(runner: Any) -> None:
         assert runner.run(made).stdout == (EXAMPLE / "lockstep.expected").read_text(), kind
 
 
-@pytest.mark.timeout(1800)
 @on("linux-aarch64", "windows-x86_64", "wasm64")
 def test_failing_allocations(runner: Any) -> None:
     words = ("-Dmain=all_calls", "-DQUIET", "-c")
@@ -36,7 +34,6 @@ def test_failing_allocations(runner: Any) -> None:
     runner.passes(runner.compile(SOURCES / "no_memory.c", WRAPPED, str(part)))
 
 
-@pytest.mark.timeout(1800)
 @on("linux-aarch64", "windows-x86_64")
 @pytest.mark.parametrize("name", ("stack", "threads"))
 def test_limits(runner: Any, name: str) -> None:

@@ -20,7 +20,6 @@ from rsp_tools.systems.toolchain import llvm
 OLDEST = (2, 17)  # the glibc of manylinux2014
 
 
-@pytest.mark.timeout(1800)
 @of(*SYSTEMS)
 def test_made_again(made: Path, folder: Path) -> None:
     (folder / "way").mkdir()

@@ -33,7 +33,6 @@ def test_build_script(made: Path, folder: Path) -> None:
         assert status == 0 and text.endswith(f"cargo:rustc-link-search={wanted}")
 
 
-@pytest.mark.timeout(1800)
 @on(*TESTED)
 def test_crate(runner: Any) -> None:
     """The crate's tests over the static library, linked and run as the runner does it."""
