@@ -149,16 +149,13 @@ WRONG = TYPED.replace(FIRST, f"{FIRST}\nstate.pc = 'a'\nstate.words = 'ab'")
 @pytest.mark.needs("mypy")
 def test_types(folder: Path) -> None:
     """`mypy --strict` takes the package and a program over it, and refuses two lines of another."""
+    (folder / "typed.py").write_text(TYPED)
+    (folder / "wrong.py").write_text(WRONG)
+    strict = ("mypy", "--strict", "--python-version", "3.8", "--cache-dir", folder / "cache")
     # Not at the top, whose pyproject.toml has mypy leave out what it doesn't find.
     how: Dict[str, Any] = {"cwd": folder, "env": {**os.environ, "MYPYPATH": str(OURS)}}
-    strict = ["mypy", "--strict", "--python-version", "3.8", "--cache-dir", folder / "cache"]
-    said = run(*strict, OURS / "rsp", **how).stdout
+    said = run(*strict, OURS / "rsp", "typed.py", "wrong.py", **how).stdout
     if 'module named "numpy"' in said:
         pytest.skip("mypy finds no numpy (Debian's package python3-numpy)")
-    assert said.startswith("Success")
-    programs: Tuple[Tuple[str, List[str]], ...] = ((TYPED, []), (WRONG, ["3", "4"]))
-    for text, lines in programs:
-        (folder / "program.py").write_text(text)
-        said = run(*strict, "program.py", **how).stdout
-        assert re.findall(r"py:(\d+): error", said) == lines, said
-        assert 'Revealed type is "builtins.int"' in said
+    assert re.findall(r"(\w+)\.pyi?:(\d+): error", said) == [("wrong", "3"), ("wrong", "4")], said
+    assert said.count('Revealed type is "builtins.int"') == 2, said
