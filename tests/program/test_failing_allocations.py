@@ -3,9 +3,10 @@
 They fail if an answer isn't the right one, or if the answers don't come in the order of the work.
 
 The program, or a test of the files out_of_memory.rt in rsp_tests_script, rsp_tests_machine and
-rsp_tests_cli, is run again and again: the first time its first allocation fails, the next time its second, and
-so on, until a run has no more of them. The programs are taken as they are: LD_PRELOAD puts the failing allocator before the
-C library's. The crates' tests (`-k crates`) are those that `rt ci`, or `rt test` in a crate, has built.
+rsp_tests_cli, is run again and again: the first time its first allocation fails, the next time its second,
+and so on, until a run has no more of them. The programs are taken as they are: LD_PRELOAD puts the failing
+allocator before the C library's. The crates' tests (`-k crates`) are those that `rt ci`, or `rt test` in a
+crate, has built.
 """
 
 import re
