@@ -25,12 +25,8 @@ ROUNDS = 25
 HERE = 0x400  # where the routine is in IMEM
 RDRAM = 16384  # its bytes
 # The table of microcode/README.md: the words of each routine, and its instructions, `A` or `A + B X`.
-COUNTS = {
-    name: (int(words), cost)
-    for name, words, cost in re.findall(
-        r"(?m)^\| \[(\w+)\.s\].* \| (\d+) \| (.*) \|$", page("microcode/README.md")
-    )
-}
+TABLE = re.findall(r"(?m)^\| \[(\w+)\.s\].* \| (\d+) \| (.*) \|$", page("microcode/README.md"))
+COUNTS = {name: (int(words), cost) for name, words, cost in TABLE}
 
 
 @dataclass
@@ -242,9 +238,8 @@ def mix_ramp(choose: Random, state: State) -> Wanted:
             clamped((2 * a * (v // 65536) + 65536 * b * w + 32768) // 65536)
             for (a, b), v in zip(samples[begin : begin + 8], volumes)
         ]
-        volumes = [
-            clamped((v + step) // 65536) * 65536 + (v + step) % 65536 for v, step in zip(volumes, steps)
-        ]
+        sums = [v + step for v, step in zip(volumes, steps)]
+        volumes = [clamped(it // 65536) * 65536 + it % 65536 for it in sums]
     return Wanted(count, both(3, 4, volumes), {to: packed(mixed)})
 
 
@@ -361,15 +356,10 @@ def transform(choose: Random, state: State) -> Wanted:
     state.scalars[1:4], state.vectors[0] = [matrix, points, to], [0] * 8
     entries = ((0, 1, -1, choose.randrange(-8192, 8192), edged(choose)) for _ in range(32))
     state.dmem[matrix : matrix + 64] = packed(choose.choice(it) for it in entries)
-    columns = [
-        fixed(halves(state.dmem, matrix + 16 * k), halves(state.dmem, matrix + 16 * (k + 4)))
-        for k in range(4)
-    ]
+    columns = [fixed(*(halves(state.dmem, matrix + 16 * it) for it in (k, k + 4))) for k in range(4)]
     numbers = halves(state.dmem, points)
-    sums = [
-        clamped(signed(sum(columns[k][i] * numbers[i // 4 * 4 + k] for k in range(4)), 48), 32)
-        for i in range(8)
-    ]
+    sums = [sum(columns[k][i] * numbers[i // 4 * 4 + k] for k in range(4)) for i in range(8)]
+    sums = [clamped(signed(it, 48), 32) for it in sums]
     return Wanted(memory={to: packed(it >> 16 for it in sums) + packed(sums)})
 
 
