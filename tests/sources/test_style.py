@@ -51,6 +51,7 @@ def is_shell(name: str) -> bool:
         return re.match(rb"#! ?/(usr/)?bin/(env )?(ba|da)?sh\b", file.readline()) is not None
 
 
+pytestmark = pytest.mark.timeout(600)  # for mypy beside other tests
 FILES = tracked()
 PYTHON = [it for it in FILES if it.endswith((".py", ".pyi"))]
 C = [it for it in FILES if it.endswith(".c")]
@@ -59,7 +60,7 @@ CRATES = [it for it in FILES if it.endswith("Cargo.toml")]
 
 def see_taken(files: Sequence[str], *words: object) -> None:
     """A tool with these words has no complaint of the files, of which there are some."""
-    ended = run(*words, *files)
+    ended = run(*words, *files, timeout=580)
     status, told = ended.returncode, ended.stdout
     assert files and status == 0, told
 
