@@ -23,6 +23,7 @@ from lib.pages import page
 from lib.processes import run, succeeds
 from lib.symbols import check_needs
 
+pytestmark = pytest.mark.timeout(900)  # conformance/check takes all processors, of which others have few
 PLUGIN = "plugin/mupen64plus-rsp-proved.so"
 PLUGIN_CALLS = "DoRspCycles InitiateRSP PluginGetVersion PluginShutdown PluginStartup RomClosed".split()
 LOOP, LOOP_WORDS = (
@@ -86,7 +87,7 @@ def test_version(archive: Path) -> None:
 
 def passes(*words: object) -> None:
     """Tests of files of tests/, of something of the archive, pass."""
-    told = succeeds(sys.executable, "-B", "-m", "pytest", "-q", *words)
+    told = succeeds(sys.executable, "-B", "-m", "pytest", "-q", *words, timeout=800)
     assert re.search(r"(?m)^[1-9]\d* passed", told), told[-600:]
 
 
@@ -98,7 +99,7 @@ def test_passes_the_tests_of_the_program(archive: Path, name: str) -> None:
 
 
 def test_passes_the_check_of_vectors(archive: Path) -> None:
-    told = succeeds("conformance/check", archive / "bin/rsp", env=BARE)
+    told = succeeds("conformance/check", archive / "bin/rsp", env=BARE, timeout=800)
     assert re.fullmatch(r"[1-9]\d* passed, 0 failed", told.splitlines()[-1])
 
 
