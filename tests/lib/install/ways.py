@@ -67,6 +67,11 @@ EMBEDDING, CAMPAIGN = "docs/EMBEDDING.md", "docs/CAMPAIGN.md"
 LOOP = file_of("loop.s", "loop: addiu $1, $1, -1\nbne $1, $0, loop\nnop\nbreak\n")
 LOOP_WORDS = "2421ffff1420fffe000000000000000d"
 MY_C = file_of("my.c", block_with(EMBEDDING, '#include "rsp.h"'))
+# What the page's block before it does, unless it was typed: in an archive, and in a clone.
+INSTALLED = """
+[ -d ~/prefix ] || if [ -d include ]; then mkdir ~/prefix && cp -dR include lib ~/prefix
+else library/c/install ~/prefix; fi
+"""
 MY_C_PRINTS = "..\n2 steps, $2 is 1234"
 CMAKE = """
 cmake_minimum_required(VERSION 3.10)
@@ -162,14 +167,14 @@ WAYS = (
     Way(
         EMBEDDING,
         "cp -dR ",
-        first="mkdir ~/prefix",
+        first="mkdir -p ~/prefix",
         instead=(("PREFIX", "~/prefix"),),
         then="test -s ~/prefix/lib/librsp.so",
     ),
     Way(
         EMBEDDING,
         "export PKG_CONFIG_PATH=",
-        first=MY_C,
+        first=MY_C + INSTALLED,
         instead=(("PREFIX/", "$HOME/prefix/"),),
         then="./a.out",
         prints=MY_C_PRINTS,
