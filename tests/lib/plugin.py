@@ -165,20 +165,16 @@ def assert_plays(bench: Bench, folder: Path, task: int) -> None:
     assert "fault" not in got and got[-len(replies) :] == replies
 
 
-def make_hunt(bench: Bench) -> None:
-    """The plugins and ROMs of the hunt."""
-    for fault in 0, 1:
-        bench.faulty(fault)
-    bench.rom("short", "-DWAITS=0")  # z64 doesn't come back from the tasks that wait for the CPU
-    bench.rom("all")
-
-
 def main() -> None:
     if len(sys.argv) not in (2, 3) or sys.argv[1].startswith("-"):
         sys.exit(__doc__)
     folder = Path(os.path.abspath(sys.argv[1]))
     folder.mkdir(parents=True, exist_ok=True)
-    make_hunt(Bench(folder, Path(os.path.abspath(sys.argv[2])) if sys.argv[2:] else TOP / "rsp"))
+    bench = Bench(folder, Path(os.path.abspath(sys.argv[2])) if sys.argv[2:] else TOP / "rsp")
+    for fault in 0, 1:
+        bench.faulty(fault)
+    bench.rom("short", "-DWAITS=0")  # z64 doesn't come back from the tasks that wait for the CPU
+    bench.rom("all")
 
 
 if __name__ == "__main__":

@@ -9,10 +9,11 @@ from typing import Any, Dict, Iterator, List, Tuple
 
 import pytest
 
+from lib import TOP
 from lib.packages import need
 from lib.pages import page
-from lib.plugin import CORE, FRONT_END, GRAPHICS, HEADERS, Z64, Bench, make_hunt, results
-from lib.processes import run
+from lib.plugin import CORE, FRONT_END, GRAPHICS, HEADERS, Z64, Bench, results
+from lib.processes import run, succeeds
 
 pytestmark = [pytest.mark.needs("cc"), pytest.mark.xdist_group("plugin-rom")]
 
@@ -29,9 +30,9 @@ PLAYS = r"(?ms)^    (\S*mupen64plus --.*?[^\\])$"  # a command of the page
 
 @pytest.fixture(scope="session")
 def hunt(bench: Bench) -> Bench:
-    """The bench with the plugins and ROMs of the page's hunt in its folder."""
+    """The bench with what the page's command makes in its folder: plugins and ROMs of the hunt."""
     need("mips-linux-gnu-gcc")
-    make_hunt(bench)
+    succeeds(TOP / "tools/python", "lib.plugin", bench.folder, bench.program)
     return bench
 
 
