@@ -5,9 +5,11 @@ from pathlib import Path
 from typing import Any, Dict
 
 PROGRAMS = ("chromium", "chromedriver", "python:selenium")
-# As root Chromium has no sandbox of its own; gc() is for machines that are dropped.
+# As root Chromium has no sandbox of its own; a small window is painted sooner; gc() is for machines that are
+# dropped.
 WORDS = """
---headless=new --no-sandbox --disable-gpu --disable-dev-shm-usage --no-first-run --js-flags=--expose-gc
+--headless=new --no-sandbox --disable-gpu --disable-dev-shm-usage --no-first-run
+--window-size=500,300 --js-flags=--expose-gc
 """.split()
 LONGEST = 1800  # seconds that a script in a page may take
 
