@@ -5,7 +5,7 @@
 use clap::builder::ValueParser;
 use clap::error::ErrorKind;
 use clap::{Arg, ArgAction, ArgMatches, Command, Error};
-use std::alloc::Global;
+use std::alloc::{AllocError, Global};
 
 /// The version of everything in this repository, and its day. They are given here alone: the script `rsp` at the top reads them
 /// from this line.
@@ -55,106 +55,141 @@ pub enum Request<'a> {
     },
 }
 
-/// A file that must be named, by its position.
-fn file_argument<'a>(alloc: Global, name: &'a str, about: &'a str) -> Arg<'a> {
-    Arg::new(alloc, name)
-        .value_parser(ValueParser::NonEmptyString)
-        .action(ArgAction::Set)
-        .required(true)
-        .help(about)
+/// An argument of a subcommand: its name, and at the end what the help says of it.
+#[derive(Clone, Copy)]
+enum ArgumentForm {
+    /// A file that must be named, by its position.
+    File(&'static str, &'static str),
+    /// An option with a value. The second text stands for the value in the help.
+    Value(&'static str, &'static str, &'static str),
+    /// An option without a value.
+    Flag(&'static str, &'static str),
 }
 
-fn file_option<'a>(alloc: Global, name: &'a str, about: &'a str) -> Arg<'a> {
-    Arg::new(alloc, name)
-        .long(name)
-        .value_name("FILE")
-        .value_parser(ValueParser::NonEmptyString)
-        .action(ArgAction::Set)
-        .help(about)
+struct SubcommandForm {
+    name: &'static str,
+    about: &'static str,
+    /// The line of its usage, if its arguments don't show that.
+    usage: Option<&'static str>,
+    arguments: &'static [ArgumentForm],
 }
 
-/// An option without a value.
-fn flag_option<'a>(alloc: Global, name: &'a str, about: &'a str) -> Arg<'a> {
-    Arg::new(alloc, name)
-        .long(name)
-        .action(ArgAction::SetTrue)
-        .help(about)
-}
+const SUBCOMMANDS: [SubcommandForm; 3] = [
+    SubcommandForm {
+        name: "run",
+        about: "Reads a script from standard input, and writes the replies to its lines",
+        usage: Some("rsp run [OPTIONS] < SCRIPT"),
+        arguments: &RUN,
+    },
+    SubcommandForm {
+        name: "asm",
+        about: "Assembles a text, and writes its words with the high byte first",
+        usage: None,
+        arguments: &ASM,
+    },
+    SubcommandForm {
+        name: "dis",
+        about: "Prints the words of a file, the high byte first, as assembly text",
+        usage: None,
+        arguments: &DIS,
+    },
+];
+
+const RUN: [ArgumentForm; 2] = [
+    ArgumentForm::Value(
+        "rdram",
+        "FILE",
+        "The image of the RDRAM; without it 4194304 zeros",
+    ),
+    ArgumentForm::Value("save", "FILE", "Where the image is written after the run"),
+];
+
+const ASM: [ArgumentForm; 5] = [
+    ArgumentForm::File("SRC", "The source text"),
+    ArgumentForm::File("OUT", "Where the words are written"),
+    ADDRESS,
+    ArgumentForm::Flag(
+        "listing",
+        "Prints the labels, and the address, the word and the source line of each word",
+    ),
+    ArgumentForm::Flag(
+        "explain",
+        "Shows the line of a fault, its operand, and what that may be",
+    ),
+];
+
+const DIS: [ArgumentForm; 4] = [
+    ArgumentForm::File("FILE", "The words, at most 1024"),
+    ADDRESS,
+    ArgumentForm::Flag("places", "Shows the place and the word before each text"),
+    ArgumentForm::Flag("labels", "Names the words that jumps and branches lead to"),
+];
 
 /// The address of the first word, as text. It is read and refused where it is used.
-fn address_option<'a>(alloc: Global) -> Arg<'a> {
-    Arg::new(alloc, "at")
-        .long("at")
-        .value_name("ADDR")
+const ADDRESS: ArgumentForm = ArgumentForm::Value(
+    "at",
+    "ADDR",
+    "The place of the first word in IMEM, a multiple of 4 up to 4092; without it 0",
+);
+
+fn argument<'a>(alloc: Global, form: ArgumentForm) -> Arg<'a> {
+    let argument = match form {
+        ArgumentForm::File(name, about) => Arg::new(alloc, name).required(true).help(about),
+        ArgumentForm::Value(name, value, about) => Arg::new(alloc, name)
+            .long(name)
+            .value_name(value)
+            .help(about),
+        ArgumentForm::Flag(name, about) => {
+            return Arg::new(alloc, name)
+                .long(name)
+                .action(ArgAction::SetTrue)
+                .help(about);
+        }
+    };
+    argument
         .value_parser(ValueParser::NonEmptyString)
         .action(ArgAction::Set)
-        .help("The place of the first word in IMEM, a multiple of 4 up to 4092; without it 0")
 }
 
-fn run_command<'a>(alloc: Global) -> Result<Command<'a>, Error> {
-    Ok(
-        Command::new(alloc, "run")
-            .about("Reads a script from standard input, and writes the replies to its lines")
-            .override_usage("rsp run [OPTIONS] < SCRIPT")
-            .arg(file_option(
-                alloc,
-                "rdram",
-                "The image of the RDRAM; without it 4194304 zeros",
-            ))?
-            .arg(file_option(alloc, "save", "Where the image is written after the run"))?,
-    )
+fn subcommand<'a>(alloc: Global, given: &SubcommandForm) -> Result<Command<'a>, AllocError> {
+    let mut command = Command::new(alloc, given.name).about(given.about);
+    if let Some(usage) = given.usage {
+        command = command.override_usage(usage);
+    }
+    for &form in given.arguments {
+        command = command.arg(argument(alloc, form))?;
+    }
+    Ok(command)
 }
 
-fn asm_command<'a>(alloc: Global) -> Result<Command<'a>, Error> {
-    Ok(
-        Command::new(alloc, "asm")
-            .about("Assembles a text, and writes its words with the high byte first")
-            .arg(file_argument(alloc, "SRC", "The source text"))?
-            .arg(file_argument(alloc, "OUT", "Where the words are written"))?
-            .arg(address_option(alloc))?
-            .arg(flag_option(
-                alloc,
-                "listing",
-                "Prints the labels, and the address, the word and the source line of each word",
-            ))?
-            .arg(flag_option(
-                alloc,
-                "explain",
-                "Shows the line of a fault, its operand, and what that may be",
-            ))?,
-    )
-}
-
-fn dis_command<'a>(alloc: Global) -> Result<Command<'a>, Error> {
-    Ok(
-        Command::new(alloc, "dis")
-            .about("Prints the words of a file, the high byte first, as assembly text")
-            .arg(file_argument(alloc, "FILE", "The words, at most 1024"))?
-            .arg(address_option(alloc))?
-            .arg(flag_option(
-                alloc,
-                "places",
-                "Shows the place and the word before each text",
-            ))?
-            .arg(flag_option(
-                alloc,
-                "labels",
-                "Names the words that jumps and branches lead to",
-            ))?,
-    )
+fn subcommands<'a>(alloc: Global) -> Result<Vec<Command<'a>>, AllocError> {
+    let mut made = Vec::new(alloc);
+    for given in &SUBCOMMANDS {
+        made.push(subcommand(alloc, given)?)?;
+    }
+    Ok(made)
 }
 
 /// The forms of the command line.
-fn command<'a>(alloc: Global) -> Result<Command<'a>, Error> {
-    let command = Command::new(alloc, "rsp")
-        .bin_name("rsp")?
+fn command<'a>(alloc: Global) -> Result<Command<'a>, AllocError> {
+    let subcommands = subcommands(alloc)?;
+    Command::new(alloc, "rsp")
         .about("A bench for the Reality Signal Processor")
         .version(VERSION)
         .subcommand_required(true)
-        .subcommand(run_command(alloc)?)?
-        .subcommand(asm_command(alloc)?)?
-        .subcommand(dis_command(alloc)?)?;
-    Ok(command)
+        .subcommands(subcommands)?
+        .bin_name("rsp")
+}
+
+/// The files of an assembly. None if the source text or the file of the words isn't named.
+fn assemble_files<'a>(given: &ArgMatches<'a>) -> Option<AssembleFiles<'a>> {
+    Some(AssembleFiles {
+        source: given.get_str("SRC")?,
+        out: given.get_str("OUT")?,
+        at: given.get_str("at"),
+        with_listing: given.get_flag("listing"),
+        with_explanation: given.get_flag("explain"),
+    })
 }
 
 /// What the matches of the command line ask for. None if they are of no subcommand, or lack one of its files.
@@ -165,13 +200,7 @@ fn request_in<'a>(matches: &ArgMatches<'a>) -> Option<Request<'a>> {
             rdram: given.get_str("rdram"),
             save: given.get_str("save"),
         })),
-        "asm" => Some(Request::Assemble(AssembleFiles {
-            source: given.get_str("SRC")?,
-            out: given.get_str("OUT")?,
-            at: given.get_str("at"),
-            with_listing: given.get_flag("listing"),
-            with_explanation: given.get_flag("explain"),
-        })),
+        "asm" => assemble_files(given).map(Request::Assemble),
         "dis" => Some(Request::Disassemble {
             words: given.get_str("FILE")?,
             at: given.get_str("at"),
@@ -182,15 +211,20 @@ fn request_in<'a>(matches: &ArgMatches<'a>) -> Option<Request<'a>> {
     }
 }
 
+/// The error if the matches ask for nothing. No command line leads to it, because the forms require a subcommand and its files.
+fn nothing_asked(alloc: Global) -> Result<Error, AllocError> {
+    Command::new(alloc, "rsp").error(
+        ErrorKind::MissingSubcommand,
+        "the command line asks for nothing that is known",
+    )
+}
+
 /// Reads the arguments, the first of which is the program's name. The error has the text to print and its kind: why the arguments
 /// are refused, or the help or the version that they ask for.
 pub fn read_arguments<'a>(alloc: Global, words: &'a [String]) -> Result<Request<'a>, Error> {
     let matches = command(alloc)?.try_get_matches_from(words)?;
     match request_in(&matches) {
         Some(asked) => Ok(asked),
-        None => Err(command(alloc)?.error(
-            ErrorKind::MissingSubcommand,
-            "the command line asks for nothing that is known",
-        )?),
+        None => Err(nothing_asked(alloc)?),
     }
 }
