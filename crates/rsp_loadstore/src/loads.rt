@@ -2,7 +2,7 @@ ghost use Rattle.std.specs.Prelude.{◌≡◌, ◌<◌, ◌≤◌, ◌+◌, ◌-
 ghost use Rattle.rsp_lanes.specs.Bytes.{of_bytes};
 ghost use Rattle.rsp_memory.specs.Memory.{bytes_at};
 ghost use Rattle.rsp_decode.specs.Table.{IsInstruction};
-ghost use Rattle.rsp_decode.specs.declared.vector.VectorLoadOp.TheVariants.{Lhv, Lfv, Ltv};
+ghost use Rattle.rsp_decode.specs.declared.vector.VectorLoadOp.TheVariants.{Lqv, Lhv, Lfv, Ltv};
 ghost use Rattle.rsp_loadstore.specs.Loads.{to_byte, to_lane, after_load, load_pairs, file_after_load, IsLoadElement};
 ghost use Rattle.rsp_loadstore.specs.TransposedLanes.{with_diagonal};
 ghost use Rattle.rsp_loadstore.specs.Pairs.{for_each, upper_half, wrapped_address};
@@ -41,7 +41,7 @@ fn load_op(op: VectorLoadOp, vt: u8, e: usize, a: u32, memory: &SpMem, file: &mu
         VectorLoadOp::Llv => load_bytes(vt, e, 4, a, memory, file),
         VectorLoadOp::Ldv => load_bytes(vt, e, 8, a, memory, file),
         VectorLoadOp::Lqv if misalignment == 0 && e == 0 => load_quadword(vt, a, memory, file),
-        VectorLoadOp::Lqv => load_bytes(vt, e, 16 - misalignment, a, memory, file),
+        VectorLoadOp::Lqv => load_part(vt, e, a, memory, file),
         VectorLoadOp::Lrv => load_bytes(vt, 16 - misalignment + e, 16, a - a % 16, memory, file),
         VectorLoadOp::Lpv => load_packed(vt, 256, e, a, memory, file),
         VectorLoadOp::Luv => load_packed(vt, 128, e, a, memory, file),
@@ -82,6 +82,17 @@ fn load_quadword(vt: u8, a: u32, memory: &SpMem, file: &mut VFile)
     ensures { file.new ≡ after_load memory.now file.old (for_each 16 (λ k. to_byte vt (0 + k) (a + k))) }
 {
     file.set_reg(vt, VReg::from_rotated(window(memory, a), 0));
+}
+
+/// LQV of a part of a quadword. It isn't inlined, so that LLVM inlines the load of a whole one.
+#[inline(never)]
+#[tactic(auto, unfolding(crate::specs::Loads::load_pairs))]
+fn load_part(vt: u8, e: usize, a: u32, memory: &SpMem, file: &mut VFile)
+    requires register { vt < 32 }
+    requires element { e < 16 }
+    ensures { file.new ≡ after_load memory.now file.old (load_pairs Lqv vt e a) }
+{
+    load_bytes(vt, e, 16 - (a % 16) as usize, a, memory, file);
 }
 
 /// LPV and LUV: the eight lanes of a register become bytes of the sixteen from a's doubleword on, times a factor.
