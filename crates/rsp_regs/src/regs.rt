@@ -303,7 +303,9 @@ impl SpRegs {
         self.skip = t.skip;
     }
 
-    /// The DMA from the RDRAM into the bank of SP_MEM_ADDR that a write of `value` to SP_RD_LEN does.
+    /// The DMA from the RDRAM into the bank of SP_MEM_ADDR that a write of `value` to SP_RD_LEN does. It isn't inlined, so that the
+    /// write of another register saves no registers of the host.
+    #[inline(never)]
     #[tactic(auto, unfolding(crate::specs::Sp::dmem_from_rdram, crate::specs::Sp::imem_from_rdram))]
     pub fn dma_in(&mut self, value: u32, dmem: &mut SpMem, imem: &mut SpMem, rdram: &mut Rdram)
         ensures registers { self.new ≡ after_dma (transfer value self.old) self.old }
@@ -320,7 +322,8 @@ impl SpRegs {
         self.advance(&t);
     }
 
-    /// The DMA from the bank of SP_MEM_ADDR into the RDRAM that a write of `value` to SP_WR_LEN does.
+    /// The DMA from the bank of SP_MEM_ADDR into the RDRAM that a write of `value` to SP_WR_LEN does. It isn't inlined either.
+    #[inline(never)]
     #[tactic(auto, unfolding(crate::specs::Sp::rdram_from_bank))]
     pub fn dma_out(&mut self, value: u32, dmem: &mut SpMem, imem: &mut SpMem, rdram: &mut Rdram)
         ensures registers { self.new ≡ after_dma (transfer value self.old) self.old }
