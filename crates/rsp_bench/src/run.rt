@@ -2,12 +2,13 @@ ghost use Rattle.std.specs.Prelude.{◌≡◌, ◌<◌, ◌≤◌, ◌+◌, ◌-
 ghost use Rattle.std.specs.Io.KnownBytes.{append_known};
 ghost use Rattle.rsp_script_io.specs.Faults.{failed_reads, failed_writes};
 ghost use Rattle.rsp_script_io.specs.EarlyEnd.{TakesAtMost, Takes, LeavesWritten};
+ghost use Rattle.rsp_script_io.specs.Feeds.{script_limit};
 ghost use Rattle.rsp_bench.specs.Run.{out_of, session_of, outcome, IfFinished};
 ghost use Rattle.rsp_bench.specs.Session.{line_answer, end_reply, first_session};
 
 use crate::session::Session;
 use rsp_memory::Rdram;
-use rsp_script_io::{RunFault, SCRIPT_LIMIT, Sink, Source, answer_script};
+use rsp_script_io::{RunFault, Sink, Source, answer_script};
 use std::alloc::Global;
 
 /// How a run of a script ended. What it had written is a clause of [`run_bench`].
@@ -41,7 +42,7 @@ pub fn run_bench<R: Source, W: Sink>(
     requires sink { W.fault_count sink.old < 2 ^ 64 - 1 }
 
     // A finished run wrote the replies to the whole script, which is within the limit, and left its session.
-    ensures fits { IfSome (R.rest source.old) (λ script. IfFinished result (λ _. length script ≤ SCRIPT_LIMIT)) }
+    ensures fits { IfSome (R.rest source.old) (λ script. IfFinished result (λ _. length script ≤ script_limit)) }
     ensures finished { IfSome (R.rest source.old) (λ script. IfFinished result (λ session.
         (W.written sink.new ≡ append_known (W.written sink.old) (out_of script image))
         × (session ≡ session_of script image))) }
@@ -49,9 +50,9 @@ pub fn run_bench<R: Source, W: Sink>(
     // Each other end has its cause. A read or a write that failed is not tried again, so a finished run had none.
     ensures reads { R.fault_count source.new ≡ R.fault_count source.old + failed_reads (outcome result) }
     ensures writes { W.fault_count sink.new ≡ W.fault_count sink.old + failed_writes (outcome result) }
-    ensures long { IfSome (R.rest source.old) (λ script. result ≡ BenchEnd.ScriptTooLong → SCRIPT_LIMIT < length script) }
-    ensures past { result ≡ BenchEnd.ScriptTooLong → Takes (SCRIPT_LIMIT + 1) (R.rest source.old) (R.rest source.new) }
-    ensures few { TakesAtMost (SCRIPT_LIMIT + 1) (R.rest source.old) (R.rest source.new) }
+    ensures long { IfSome (R.rest source.old) (λ script. result ≡ BenchEnd.ScriptTooLong → script_limit < length script) }
+    ensures past { result ≡ BenchEnd.ScriptTooLong → Takes (script_limit + 1) (R.rest source.old) (R.rest source.new) }
+    ensures few { TakesAtMost (script_limit + 1) (R.rest source.old) (R.rest source.new) }
 
     // What a run that ends early has written.
     ensures left { LeavesWritten (outcome result) (record {

@@ -6,8 +6,7 @@ ghost use Rattle.rsp_memory.specs.Image.{IsImageLength};
 ghost use Rattle.rsp_feed.specs.Bench.{first_bench, reply_to, bench_after, last_reply, bench_ended, bench_too_long, IsTooLong};
 ghost use Rattle.rsp_feed.specs.declared.bench.Stage.TheVariants as stage;
 ghost use Rattle.rsp_bench.specs.Session.{in_block};
-ghost use Rattle.rsp_script_io.specs.Feeds.{taken_of};
-ghost use Rattle.rsp_script_io.specs.declared.feed.TheConstants.{SCRIPT_LIMIT};
+ghost use Rattle.rsp_script_io.specs.Feeds.{script_limit, taken_of};
 ghost use Rattle.rsp_c.specs.Answers.{bank_of};
 ghost use Rattle.rsp_c.specs.Bytes.{bank_bytes};
 ghost use Rattle.rsp_c.specs.Calls.{IsDoneIf, IsNext};
@@ -83,7 +82,7 @@ pub extern "C" fn rsp_bench_take(
     ensures answer { IfSome handle.old.bench (λ b. (result ≡ OK) ⊎ (result ≡ NO_MEMORY) ⊎ (result ≡ NO_ROOM) ⊎ (result ≡ ENDED) ⊎ (result ≡ TOO_LONG)) }
     ensures some { result ≡ OK → used.new ≤ length bytes.now }
     ensures goes_on { result ≡ OK → 0 < length bytes.now → 0 < used.new }
-    ensures limit { result ≡ OK → IfSome handle.old.bench (λ b. b.fed.count + used.new ≤ SCRIPT_LIMIT) }
+    ensures limit { result ≡ OK → IfSome handle.old.bench (λ b. b.fed.count + used.new ≤ script_limit) }
     ensures taken { result ≡ OK → IfSome handle.old.bench (λ b. used.new ≡ taken_of bytes.now b.fed) }
     ensures reply { result ≡ OK → IfSome handle.old.bench (λ b. reply.new ≡ reply_to (take used.new bytes.now) b ++ drop written.new reply.old) }
     ensures len { result ≡ OK → IfSome handle.old.bench (λ b. written.new ≡ length (reply_to (take used.new bytes.now) b)) }

@@ -12,7 +12,7 @@ use Rattle.rsp_script_io.proofs.Runs as runs
 use Rattle.rsp_bench.specs.Session.{SessionState, line_answer, end_reply, first_session}
 use Rattle.rsp_bench.specs.LongLineAnswers.{long_alike}
 use Rattle.rsp_bench.specs.Run.{out_of, session_of}
-use Rattle.rsp_script_io.specs.declared.feed.TheConstants.{SCRIPT_LIMIT}
+use Rattle.rsp_script_io.specs.Feeds.{script_limit}
 use Rattle.rsp_feed.specs.declared.bench.Stage.TheVariants.{Open}
 use Rattle.rsp_feed.specs.Bench.{BenchState, first_bench, reply_to, bench_after, last_session, last_reply}
 use Rattle.rsp_feed.specs.Laws.{written_to, left_by, AnyCutComesOut}
@@ -61,7 +61,7 @@ pub record Fed (first : BenchState) (script replies rest : List ℕ) (b : BenchS
   pub joined : concat pieces ++ rest ≡ script
   pub stage : b.stage ≡ Open
   pub count : b.fed.count ≡ length (concat pieces)
-  pub few : b.fed.count ≤ SCRIPT_LIMIT
+  pub few : b.fed.count ≤ script_limit
   pub written : (more : List (List ℕ)) → replies ++ written_to more b ≡ written_to (pieces ++ more) first
   pub left : (more : List (List ℕ)) → left_by more b ≡ left_by (pieces ++ more) first
 
@@ -83,7 +83,7 @@ concat-last [] p = append-nil p
 concat-last (q ∷ qs) p = ap (λ r. q ++ r) (concat-last qs p) ∙ sym (append_assoc q (concat qs) p)
 
 -- one call more, which took n bytes
-took-piece : {first b : BenchState} {script replies rest : List ℕ} (n : ℕ) → n ≤ length rest → b.fed.count + n ≤ SCRIPT_LIMIT → Fed first script replies rest b
+took-piece : {first b : BenchState} {script replies rest : List ℕ} (n : ℕ) → n ≤ length rest → b.fed.count + n ≤ script_limit → Fed first script replies rest b
     → Fed first script (replies ++ reply_to (take n rest) b) (drop n rest) (bench_after (take n rest) b)
 took-piece {first = first} {b = b} {replies = replies} {rest = rest} n within few h =
     let p : List ℕ = take n rest in
@@ -101,7 +101,7 @@ took-piece {first = first} {b = b} {replies = replies} {rest = rest} n within fe
       left = λ more. h.left (p ∷ more) ∙ ap (λ ps. left_by ps first) (sym (append_assoc h.pieces (p ∷ []) more));
     }
 
-pub fed-more : {first b next : BenchState} {script replies rest longer reply : List ℕ} (n most : ℕ) → n ≤ length (take most rest) → b.fed.count + n ≤ SCRIPT_LIMIT
+pub fed-more : {first b next : BenchState} {script replies rest longer reply : List ℕ} (n most : ℕ) → n ≤ length (take most rest) → b.fed.count + n ≤ script_limit
     → longer ≡ replies ++ reply → reply ≡ reply_to (take n (take most rest)) b → next ≡ bench_after (take n (take most rest)) b → Fed first script replies rest b
     → Fed first script longer (drop n rest) next
 fed-more {first = first} {b = b} {next = next} {script = script} {replies = replies} {rest = rest} n most within few grown said after h =
@@ -116,7 +116,7 @@ none-left (b ∷ rest) e = absurd (omega (arith, e))
 
 -- all of the script was taken
 pub fed-all : {first b : BenchState} {script replies rest : List ℕ} (image : List ℕ) → first ≡ first_bench image → length rest ≡ 0 → Fed first script replies rest b
-    → (replies ++ last_reply b ≡ out_of script image) × (last_session b ≡ session_of script image) × (length script ≤ SCRIPT_LIMIT)
+    → (replies ++ last_reply b ≡ out_of script image) × (last_session b ≡ session_of script image) × (length script ≤ script_limit)
 fed-all {first = first} {script = script} {rest = rest} image e none h =
     let all : concat h.pieces ≡ script = sym (append-nil (concat h.pieces)) ∙ ap (λ r. concat h.pieces ++ r) (sym (none-left rest none)) ∙ h.joined in
     let cut = any_cut h.pieces image in (

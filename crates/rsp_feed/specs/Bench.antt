@@ -1,7 +1,6 @@
 -- A bench that is given a script in pieces of any size.
 use Rattle.std.specs.Prelude.{◌≡◌, ◌<◌, ℕ, List, ◌++◌, ◌⊎◌}
-use Rattle.rsp_script_io.specs.declared.feed.TheConstants.{SCRIPT_LIMIT}
-use Rattle.rsp_script_io.specs.Feeds.{FedBytes, no_bytes, bytes_after}
+use Rattle.rsp_script_io.specs.Feeds.{script_limit, FedBytes, no_bytes, bytes_after}
 use Rattle.rsp_script_io.specs.Lines.{ended_after, last_line}
 use Rattle.rsp_script_io.specs.Replies.{replies, final}
 use Rattle.rsp_bench.specs.Session.{SessionState, line_answer, end_reply, first_session}
@@ -47,7 +46,7 @@ bench_ended b = record { session = last_session b; fed = b.fed; stage = Ended }
 
 -- whether n bytes more make the script too long, or others did before
 abbrev pub IsTooLong : ℕ → BenchState → Type 0
-IsTooLong n b = (b.stage ≡ TooLong) ⊎ ((b.stage ≡ Open) × (b.fed.count ≡ SCRIPT_LIMIT) × (0 < n))
+IsTooLong n b = (b.stage ≡ TooLong) ⊎ ((b.stage ≡ Open) × (b.fed.count ≡ script_limit) × (0 < n))
 
 -- the bench after a script that is too long: it takes nothing more
 abbrev pub bench_too_long : BenchState → BenchState

@@ -1,5 +1,5 @@
 ghost use Rattle.std.specs.Prelude.{◌≡◌, ◌+◌, ◌<◌, ◌≤◌, ◌↔◌, true, length, take, IfOk, IfErr, OnOk, OnErr, IsErrOf};
-ghost use Rattle.rsp_script_io.specs.Feeds.{taken_of};
+ghost use Rattle.rsp_script_io.specs.Feeds.{script_limit, taken_of};
 ghost use Rattle.rsp_bench.specs.Session.{in_block, end_reply};
 ghost use Rattle.rsp_feed.specs.Bench.{first_bench, reply_to, bench_after, last_session, last_line_reply, bench_ended, IsTooLong, after_refusal};
 
@@ -7,7 +7,7 @@ use rsp_acc::PlaneAcc;
 use rsp_bench::{Reply, Session};
 use rsp_machine::Machine;
 use rsp_memory::Rdram;
-use rsp_script_io::{Feed, FeedFault, LineHandler, SCRIPT_LIMIT};
+use rsp_script_io::{Feed, FeedFault, LineHandler};
 use std::alloc::{AllocError, Global};
 use std::marker::Model;
 
@@ -77,7 +77,7 @@ impl Bench {
     ) -> Result<usize, BenchFault>
         ensures some { IfOk result (λ n. n ≤ length bytes.now) }
         ensures goes_on { IfOk result (λ n. 0 < length bytes.now → 0 < n) }
-        ensures limit { IfOk result (λ n. self.old.fed.count + n ≤ SCRIPT_LIMIT) }
+        ensures limit { IfOk result (λ n. self.old.fed.count + n ≤ script_limit) }
         ensures taken { IfOk result (λ n. n ≡ taken_of bytes.now self.old.fed) }
         ensures reply { IfOk result (λ n. reply.new ≡ reply_to (take n bytes.now) self.old) }
         ensures next { IfOk result (λ n. self.new ≡ bench_after (take n bytes.now) self.old) }

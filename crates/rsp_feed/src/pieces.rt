@@ -1,10 +1,10 @@
 ghost use Rattle.std.specs.Prelude.{◌≡◌, ◌<◌, ◌≤◌, ◌++◌, length, IfOk, IfErr, OnOk, IsErrOf};
+ghost use Rattle.rsp_script_io.specs.Feeds.{script_limit};
 ghost use Rattle.rsp_bench.specs.Run.{out_of, session_of};
 
 use crate::bench::{Bench, BenchFault};
 use rsp_bench::{Reply, Session};
 use rsp_memory::Rdram;
-use rsp_script_io::SCRIPT_LIMIT;
 use std::alloc::Global;
 
 /// Appends a text. OutOfMemory if there is no memory for it.
@@ -29,8 +29,8 @@ pub fn run_pieces(
     requires { 0 < size }
     ensures replies { IfOk result (λ run. run.0.items ≡ out_of script.now image) }
     ensures session { IfOk result (λ run. run.1 ≡ session_of script.now image) }
-    ensures fits { OnOk result (length script.now ≤ SCRIPT_LIMIT) }
-    ensures long { IsErrOf result BenchFault.ScriptTooLong → SCRIPT_LIMIT < length script.now }
+    ensures fits { OnOk result (length script.now ≤ script_limit) }
+    ensures long { IsErrOf result BenchFault.ScriptTooLong → script_limit < length script.now }
     ensures cause { IsErrOf result BenchFault.Ended → ⊥ }
 {
     let Ok(mut bench) = Bench::try_new(alloc, image) else {

@@ -6,7 +6,7 @@ use Rattle.std.proofs.lemmas.Bool.{cases_lt}
 use Rattle.std.proofs.lemmas.Option.{none-some}
 use Rattle.std.specs.Io.KnownBytes.{append_known, prepend_known, IsAtEnd}
 use Rattle.std.specs.Str.Lines.{lines}
-use Rattle.rsp_script_io.specs.declared.feed.TheConstants.{SCRIPT_LIMIT}
+use Rattle.rsp_script_io.specs.Feeds.{script_limit}
 use Rattle.rsp_script_io.specs.declared.run.RunFault.{RunFault}
 use Rattle.rsp_script_io.specs.declared.run.RunFault.TheVariants.{ReadFault, WriteFault, ScriptTooLong, OutOfMemory}
 use Rattle.rsp_script_io.specs.Faults.{IsAnswerFault}
@@ -47,14 +47,14 @@ told_front rest (Some ys) taken script e h =
     let same : Some (taken ++ ys) ≡ Some script = sym e ∙ h in
     (ys, cc)
 
-limit_all : (taken : List ℕ) → length taken ≤ SCRIPT_LIMIT → take SCRIPT_LIMIT taken ≡ taken
-limit_all taken h = take_all SCRIPT_LIMIT taken h
+limit_all : (taken : List ℕ) → length taken ≤ script_limit → take script_limit taken ≡ taken
+limit_all taken h = take_all script_limit taken h
 
-limit_more : (taken piece within : List ℕ) (total : ℕ) → length taken ≡ total → total ≤ SCRIPT_LIMIT → within ≡ take (SCRIPT_LIMIT - total) piece
-    → take SCRIPT_LIMIT taken ++ within ≡ take SCRIPT_LIMIT (taken ++ piece)
+limit_more : (taken piece within : List ℕ) (total : ℕ) → length taken ≡ total → total ≤ script_limit → within ≡ take (script_limit - total) piece
+    → take script_limit taken ++ within ≡ take script_limit (taken ++ piece)
 limit_more taken piece within total c h e =
-    let whole : length taken + (SCRIPT_LIMIT - total) ≡ SCRIPT_LIMIT = omega arith in
-    rw (e, limit_all taken (omega arith)) (sym (take-append-add taken piece (SCRIPT_LIMIT - total)) ∙ ap (λ n. take n (taken ++ piece)) whole)
+    let whole : length taken + (script_limit - total) ≡ script_limit = omega arith in
+    rw (e, limit_all taken (omega arith)) (sym (take-append-add taken piece (script_limit - total)) ∙ ap (λ n. take n (taken ++ piece)) whole)
 
 -- the part of the bytes read that is within the limit
 pub read_cut : (read others : List ℕ) (n k within room : ℕ) → n ≤ length read → within ≡ min n room → room ≡ k → take within (read ++ others) ≡ take k (take n read)
@@ -74,33 +74,33 @@ pub record Progress {S : Type 0} (answer_to : List ℕ → S → Answer S) (rest
   pub taken : List ℕ
   pub told : rest ≡ prepend_known taken unread
   pub count : length taken ≡ total
-  pub answers : PieceAnswered answer_to old now [] line s t (take SCRIPT_LIMIT taken)
+  pub answers : PieceAnswered answer_to old now [] line s t (take script_limit taken)
 
 module _ {S : Type 0} (answer_to : List ℕ → S → Answer S) (end_reply : S → List ℕ) (alike : LongLinesAlike answer_to) where
   pub progress-none : (r w : Option (List ℕ)) (s : S) → Progress answer_to r r w w [] s s 0
   progress-none r w s = record { taken = []; told = sym (prepend_known-nil r); count = refl; answers = answers-none answer_to alike w [] s }
 
   pub progress-more : {r u v w x y : Option (List ℕ)} {l m : List ℕ} {s t o : S} {total next : ℕ} (piece within : List ℕ) → Progress answer_to r u w x l s t total
-      → u ≡ prepend_known piece v → next ≡ total + length piece → total ≤ SCRIPT_LIMIT → within ≡ take (SCRIPT_LIMIT - total) piece → PieceAnswered answer_to x y l m t o within
+      → u ≡ prepend_known piece v → next ≡ total + length piece → total ≤ script_limit → within ≡ take (script_limit - total) piece → PieceAnswered answer_to x y l m t o within
       → Progress answer_to r v w y m s o next
   progress-more {w = w} {y = y} {m = m} {s = s} {o = o} {total = total} piece within h e len few cut a = record {
     taken = h.taken ++ piece;
     told = h.told ∙ ap (prepend_known h.taken) e ∙ prepend_known-append _ h.taken piece;
     count = omega (arith, length-append h.taken piece, h.count, len);
     answers = rw (← limit_more h.taken piece within total h.count few cut)
-        (answers-then answer_to alike (take SCRIPT_LIMIT h.taken) within h.answers a);
+        (answers-then answer_to alike (take script_limit h.taken) within h.answers a);
   }
 
   -- all of a piece was within the limit
   pub progress-within : {r u v w x y : Option (List ℕ)} {l m : List ℕ} {s t o : S} {total next : ℕ} (piece within : List ℕ) → Progress answer_to r u w x l s t total
-      → u ≡ prepend_known piece v → length piece ≤ SCRIPT_LIMIT - total → total ≤ SCRIPT_LIMIT → within ≡ take (SCRIPT_LIMIT - total) piece → next ≡ total + length within
+      → u ≡ prepend_known piece v → length piece ≤ script_limit - total → total ≤ script_limit → within ≡ take (script_limit - total) piece → next ≡ total + length within
       → PieceAnswered answer_to x y l m t o within → Progress answer_to r v w y m s o next
   progress-within {total = total} piece within h e all few cut n a =
-      progress-more piece within h e (omega (arith, n, ap length cut, length-take (SCRIPT_LIMIT - total) piece, all)) few cut a
+      progress-more piece within h e (omega (arith, n, ap length cut, length-take (script_limit - total) piece, all)) few cut a
 
   -- a read failed
   pub progress-ended : {r u v w x : Option (List ℕ)} {l : List ℕ} {s t : S} {total : ℕ} → Progress answer_to r u w x l s t total
-      → u ≡ prepend_known [] v → total ≤ SCRIPT_LIMIT → EndedLinesWritten (record { answer_to = answer_to; end_reply = end_reply; session = s; script = r; unread = v; before = w; written = x })
+      → u ≡ prepend_known [] v → total ≤ script_limit → EndedLinesWritten (record { answer_to = answer_to; end_reply = end_reply; session = s; script = r; unread = v; before = w; written = x })
   progress-ended {w = w} {s = s} {total = total} h e few = record {
     taken = h.taken;
     told = h.told ∙ ap (prepend_known h.taken) (e ∙ prepend_known-nil _);
@@ -111,20 +111,20 @@ module _ {S : Type 0} (answer_to : List ℕ → S → Answer S) (end_reply : S �
 
   -- a piece was not answered to its end
   pub progress-front : {r u v w x y : Option (List ℕ)} {l : List ℕ} {s t : S} {total : ℕ} (piece within : List ℕ) → Progress answer_to r u w x l s t total
-      → u ≡ prepend_known piece v → total ≤ SCRIPT_LIMIT → within ≡ take (SCRIPT_LIMIT - total) piece
+      → u ≡ prepend_known piece v → total ≤ script_limit → within ≡ take (script_limit - total) piece
       → WritesPrefix x y (replies answer_to (ended_after l within) t) → PrefixWritten (record { answer_to = answer_to; end_reply = end_reply; session = s; script = r; unread = v; before = w; written = y })
   progress-front {s = s} {total = total} piece within h e few cut f = record {
     taken = h.taken ++ piece;
     told = h.told ∙ ap (prepend_known h.taken) e ∙ prepend_known-append _ h.taken piece;
     prefix = inl (prefix-along
         (ap (λ text. replies answer_to (ended_after [] text) s) (limit_more h.taken piece within total h.count few cut)
-        ∙ ap (λ ls. replies answer_to ls s) (sym (ended_lines-after (take SCRIPT_LIMIT (h.taken ++ piece)))))
-        (answers-front answer_to alike (take SCRIPT_LIMIT h.taken) within h.answers f));
+        ∙ ap (λ ls. replies answer_to ls s) (sym (ended_lines-after (take script_limit (h.taken ++ piece)))))
+        (answers-front answer_to alike (take script_limit h.taken) within h.answers f));
   }
 
   -- at most one byte past the limit was taken
   pub progress-few : {r u w x : Option (List ℕ)} {l : List ℕ} {s t : S} {total : ℕ} (v : Option (List ℕ)) (piece : List ℕ) → Progress answer_to r u w x l s t total
-      → u ≡ prepend_known piece v → total + length piece ≤ SCRIPT_LIMIT + 1 → TakesAtMost (SCRIPT_LIMIT + 1) r v
+      → u ≡ prepend_known piece v → total + length piece ≤ script_limit + 1 → TakesAtMost (script_limit + 1) r v
   progress-few v piece h e few = (
     h.taken ++ piece,
     h.told ∙ ap (prepend_known h.taken) e ∙ prepend_known-append _ h.taken piece,
@@ -133,7 +133,7 @@ module _ {S : Type 0} (answer_to : List ℕ → S → Answer S) (end_reply : S �
 
   -- the byte past the limit was taken
   pub progress-past : {r u w x : Option (List ℕ)} {l : List ℕ} {s t : S} {total : ℕ} (v : Option (List ℕ)) (piece : List ℕ) → Progress answer_to r u w x l s t total
-      → u ≡ prepend_known piece v → total + length piece ≡ SCRIPT_LIMIT + 1 → Takes (SCRIPT_LIMIT + 1) r v
+      → u ≡ prepend_known piece v → total + length piece ≡ script_limit + 1 → Takes (script_limit + 1) r v
   progress-past v piece h e all = (
     h.taken ++ piece,
     h.told ∙ ap (prepend_known h.taken) e ∙ prepend_known-append _ h.taken piece,
@@ -142,13 +142,13 @@ module _ {S : Type 0} (answer_to : List ℕ → S → Answer S) (end_reply : S �
 
   -- a script that goes on past the limit
   pub progress-long : {r u w x : Option (List ℕ)} {l : List ℕ} {s t : S} {total : ℕ} → Progress answer_to r u w x l s t total
-      → SCRIPT_LIMIT < total → IfSome r (λ script. x ≡ append_known w (replies answer_to (ended_lines (take SCRIPT_LIMIT script)) s))
+      → script_limit < total → IfSome r (λ script. x ≡ append_known w (replies answer_to (ended_lines (take script_limit script)) s))
   progress-long {r = r} {u = u} {w = w} {s = s} h long = if_some r _ (λ script e.
       let there : (more : List ℕ) × (h.taken ++ more ≡ script) = told_front r u h.taken script h.told e in
-      let same : take SCRIPT_LIMIT h.taken ≡ take SCRIPT_LIMIT script =
-      sym (take-append-le SCRIPT_LIMIT h.taken there.0 (omega (arith, h.count))) ∙ ap (take SCRIPT_LIMIT) there.1 in
+      let same : take script_limit h.taken ≡ take script_limit script =
+      sym (take-append-le script_limit h.taken there.0 (omega (arith, h.count))) ∙ ap (take script_limit) there.1 in
       h.answers.written ∙ ap (λ text. append_known w (replies answer_to (ended_after [] text) s)) same
-      ∙ ap (λ ls. append_known w (replies answer_to ls s)) (sym (ended_lines-after (take SCRIPT_LIMIT script))))
+      ∙ ap (λ ls. append_known w (replies answer_to ls s)) (sym (ended_lines-after (take script_limit script))))
 
   -- the replies to the lines that a newline ended, and what is left to answer and to say
   pub out-pieces : (taken line : List ℕ) (s t : S) → kept line ≡ kept (open_after [] taken) → t ≡ final answer_to (ended_after [] taken) s
@@ -174,12 +174,12 @@ module _ {S : Type 0} (answer_to : List ℕ → S → Answer S) (end_reply : S �
 
   -- where the end of input was met and answered
   pub progress-end : {r u w x y : Option (List ℕ)} {l : List ℕ} {s t o : S} {total : ℕ} (v : Option (List ℕ)) (script : List ℕ) → Progress answer_to r u w x l s t total
-      → u ≡ prepend_known [] v → IsAtEnd v → total ≤ SCRIPT_LIMIT → r ≡ Some script
+      → u ≡ prepend_known [] v → IsAtEnd v → total ≤ script_limit → r ≡ Some script
       → y ≡ append_known x (replies answer_to (last_line l) t ++ end_reply (final answer_to (last_line l) t)) → o ≡ final answer_to (last_line l) t
-      → (length script ≤ SCRIPT_LIMIT) × (y ≡ append_known w (written_of answer_to end_reply script s)) × (o ≡ final answer_to (lines script) s)
+      → (length script ≤ script_limit) × (y ≡ append_known w (written_of answer_to end_reply script s)) × (o ≡ final answer_to (lines script) s)
   progress-end {r = r} {w = w} {x = x} {l = l} {s = s} {t = t} v script h e d few k written next =
       let all : h.taken ≡ script = told_all r v h.taken script (h.told ∙ ap (prepend_known h.taken) (e ∙ prepend_known-nil _)) d k in
-      let part : take SCRIPT_LIMIT h.taken ≡ script = limit_all h.taken (omega (arith, h.count)) ∙ all in
+      let part : take script_limit h.taken ≡ script = limit_all h.taken (omega (arith, h.count)) ∙ all in
       let a : PieceAnswered answer_to w x [] l s t script = rw (← part) h.answers in (
         omega (arith, h.count, ap length all),
         written ∙ ap (λ b. append_known b (replies answer_to (last_line l) t ++ end_reply (final answer_to (last_line l) t))) a.written
@@ -189,7 +189,7 @@ module _ {S : Type 0} (answer_to : List ℕ → S → Answer S) (end_reply : S �
 
   -- where the end of input was met and not answered
   pub progress-end_front : {r u v w x y : Option (List ℕ)} {l : List ℕ} {s t : S} {total : ℕ} → Progress answer_to r u w x l s t total
-      → u ≡ prepend_known [] v → IsAtEnd v → total ≤ SCRIPT_LIMIT
+      → u ≡ prepend_known [] v → IsAtEnd v → total ≤ script_limit
       → WritesPrefix x y (replies answer_to (last_line l) t ++ end_reply (final answer_to (last_line l) t)) → PrefixWritten (record { answer_to = answer_to; end_reply = end_reply; session = s; script = r; unread = v; before = w; written = y })
   progress-end_front {w = w} {x = x} {l = l} {s = s} {t = t} h e d few f =
       let a : PieceAnswered answer_to w x [] l s t h.taken = rw (← limit_all h.taken (omega (arith, h.count))) h.answers in

@@ -1,7 +1,7 @@
 -- What was read and written when a run ended early.
 use Rattle.std.specs.Prelude.{◌≡◌, ◌≤◌, ℕ, ◌⊎◌, List, ◌++◌, take, length, Option, IfSome, Result, Ok, Err}
 use Rattle.std.specs.Io.KnownBytes.{append_known, prepend_known, IsAtEnd}
-use Rattle.rsp_script_io.specs.declared.feed.TheConstants.{SCRIPT_LIMIT}
+use Rattle.rsp_script_io.specs.Feeds.{script_limit}
 use Rattle.rsp_script_io.specs.declared.run.RunFault.{RunFault}
 use Rattle.rsp_script_io.specs.declared.run.RunFault.TheVariants.{ReadFault, WriteFault, ScriptTooLong, OutOfMemory}
 use Rattle.rsp_script_io.specs.Lines.{ended_lines}
@@ -38,7 +38,7 @@ pub record ScriptRun (S : Type 0) : Type 0 where
 pub record EndedLinesWritten {S : Type 0} (r : ScriptRun S) : Type 0 where
   pub taken : List ℕ
   pub told : r.script ≡ prepend_known taken r.unread
-  pub few : length taken ≤ SCRIPT_LIMIT
+  pub few : length taken ≤ script_limit
   pub written : r.written ≡ append_known r.before (replies r.answer_to (ended_lines taken) r.session)
 
 -- a prefix was written of the replies to the lines that had ended in what was taken, as far as it is within the limit of a
@@ -46,12 +46,12 @@ pub record EndedLinesWritten {S : Type 0} (r : ScriptRun S) : Type 0 where
 pub record PrefixWritten {S : Type 0} (r : ScriptRun S) : Type 0 where
   pub taken : List ℕ
   pub told : r.script ≡ prepend_known taken r.unread
-  pub prefix : WritesPrefix r.before r.written (replies r.answer_to (ended_lines (take SCRIPT_LIMIT taken)) r.session)
+  pub prefix : WritesPrefix r.before r.written (replies r.answer_to (ended_lines (take script_limit taken)) r.session)
       ⊎ (IsAtEnd r.unread × WritesPrefix r.before r.written (written_of r.answer_to r.end_reply taken r.session))
 
 -- the replies to the lines that ended within the limit of a script were written in full, and nothing else
 abbrev pub LimitWritten : {S : Type 0} → ScriptRun S → Type 0
-LimitWritten r = IfSome r.script (λ script. r.written ≡ append_known r.before (replies r.answer_to (ended_lines (take SCRIPT_LIMIT script)) r.session))
+LimitWritten r = IfSome r.script (λ script. r.written ≡ append_known r.before (replies r.answer_to (ended_lines (take script_limit script)) r.session))
 
 -- what a run that ended early had written, by its fault
 abbrev pub LeavesWritten : {A S : Type 0} → Result A RunFault → ScriptRun S → Type 0

@@ -3,10 +3,11 @@ ghost use Rattle.std.specs.Io.KnownBytes.{append_known};
 ghost use Rattle.rsp_script_io.specs.Pieces.{PieceAnswered};
 ghost use Rattle.rsp_script_io.specs.Faults.{failed_writes, IsAnswerFault};
 ghost use Rattle.rsp_script_io.specs.EarlyEnd.{WritesPrefix};
+ghost use Rattle.rsp_script_io.specs.Feeds.{script_limit};
 ghost use Rattle.rsp_script_io.specs.Lines.{ended_after, last_line};
 ghost use Rattle.rsp_script_io.specs.Replies.{replies, final};
 
-use crate::feed::{Feed, FeedFault, SCRIPT_LIMIT};
+use crate::feed::{Feed, FeedFault};
 use crate::line_handler::LineHandler;
 use crate::reply::Reply;
 use crate::run::RunFault;
@@ -43,7 +44,7 @@ pub(crate) fn answer_piece<S: LineHandler, W: Sink>(
     sink: &mut W,
 ) -> Result<(), RunFault>
     requires sink { W.fault_count sink.old < 2 ^ 64 - 1 }
-    requires room { feed.old.count + length piece.now ≤ SCRIPT_LIMIT }
+    requires room { feed.old.count + length piece.now ≤ script_limit }
     ensures answers { OnOk result (PieceAnswered S.answer_to (W.written sink.old) (W.written sink.new) feed.old.line feed.new.line session.old session.new piece.now) }
     ensures bytes { OnOk result (feed.new.count ≡ feed.old.count + length piece.now) }
     ensures prefix { OnErr result (WritesPrefix (W.written sink.old) (W.written sink.new) (replies S.answer_to (ended_after feed.old.line piece.now) session.old)) }

@@ -1,7 +1,7 @@
 ghost use Rattle.std.specs.Prelude.{◌≡◌, ◌+◌, ◌-◌, ◌<◌, ◌≤◌, ◌↔◌, true, length, take, IfOk, OnOk, OnErr, IsErrOf};
 ghost use Rattle.rsp_script_io.specs.Lines.{through_newline, ended_after, open_after, kept, last_line};
 ghost use Rattle.rsp_script_io.specs.Replies.{replies, final};
-ghost use Rattle.rsp_script_io.specs.Feeds.{no_bytes, taken_of, bytes_after};
+ghost use Rattle.rsp_script_io.specs.Feeds.{script_limit, no_bytes, taken_of, bytes_after};
 
 use crate::line::LineSoFar;
 use crate::line_handler::LineHandler;
@@ -90,14 +90,13 @@ pub struct Feed {
 
 impl Model for Feed {
     ghost use Rattle.std.specs.Prelude.{◌≤◌};
-    ghost use Rattle.rsp_script_io.specs.Feeds.{FedBytes};
-    ghost use Rattle.rsp_script_io.specs.declared.feed.TheConstants.{SCRIPT_LIMIT};
+    ghost use Rattle.rsp_script_io.specs.Feeds.{FedBytes, script_limit};
 
     ghost Value = { FedBytes };
 
     ghost view = { λ f. record { line = f.line; count = f.count } };
 
-    ghost invariant = { λ f. f.count ≤ SCRIPT_LIMIT };
+    ghost invariant = { λ f. f.count ≤ script_limit };
 }
 
 impl Feed {
@@ -113,8 +112,8 @@ impl Feed {
 
     /// How many bytes it still takes.
     pub(crate) fn room(&self) -> usize
-        ensures value { result ≡ SCRIPT_LIMIT - self.now.count }
-        ensures limit { self.now.count ≤ SCRIPT_LIMIT }
+        ensures value { result ≡ script_limit - self.now.count }
+        ensures limit { self.now.count ≤ script_limit }
     {
         SCRIPT_LIMIT - self.count
     }
@@ -130,12 +129,12 @@ impl Feed {
     ) -> Result<usize, FeedFault>
         ensures some { IfOk result (λ n. n ≤ length bytes.now) }
         ensures goes_on { IfOk result (λ n. 0 < length bytes.now → 0 < n) }
-        ensures limit { IfOk result (λ n. self.old.count + n ≤ SCRIPT_LIMIT) }
+        ensures limit { IfOk result (λ n. self.old.count + n ≤ script_limit) }
         ensures taken { IfOk result (λ n. n ≡ taken_of bytes.now self.old) }
         ensures reply { IfOk result (λ n. reply.new ≡ replies S.answer_to (ended_after self.old.line (take n bytes.now)) session.old) }
         ensures session { IfOk result (λ n. session.new ≡ final S.answer_to (ended_after self.old.line (take n bytes.now)) session.old) }
         ensures fed { IfOk result (λ n. self.new ≡ bytes_after (take n bytes.now) self.old) }
-        ensures long { IsErrOf result FeedFault.ScriptTooLong ↔ ((self.old.count ≡ SCRIPT_LIMIT) × (0 < length bytes.now)) }
+        ensures long { IsErrOf result FeedFault.ScriptTooLong ↔ ((self.old.count ≡ script_limit) × (0 < length bytes.now)) }
         ensures memory { IsErrOf result FeedFault.OutOfMemory → S.may_allocate session.old ≡ true }
         ensures same { OnErr result (self.new ≡ self.old) }
         ensures same_session { OnErr result (session.new ≡ session.old) }

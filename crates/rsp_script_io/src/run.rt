@@ -3,6 +3,7 @@ ghost use Rattle.std.specs.Io.KnownBytes.{append_known};
 ghost use Rattle.std.specs.Str.Lines.{lines};
 ghost use Rattle.rsp_script_io.specs.Faults.{failed_reads, failed_writes};
 ghost use Rattle.rsp_script_io.specs.EarlyEnd.{TakesAtMost, Takes, LeavesWritten};
+ghost use Rattle.rsp_script_io.specs.Feeds.{script_limit};
 ghost use Rattle.rsp_script_io.specs.Replies.{final, written_of};
 
 use crate::answer::{answer_end, answer_piece};
@@ -44,7 +45,7 @@ pub fn answer_script<S: LineHandler, R: Source, W: Sink>(
     requires sink { W.fault_count sink.old < 2 ^ 64 - 1 }
 
     // A run that ends well has answered the whole script.
-    ensures fits { IfSome (R.rest source.old) (λ script. OnOk result (length script ≤ SCRIPT_LIMIT)) }
+    ensures fits { IfSome (R.rest source.old) (λ script. OnOk result (length script ≤ script_limit)) }
     ensures written { IfSome (R.rest source.old) (λ script. OnOk result (
         W.written sink.new ≡ append_known (W.written sink.old) (written_of S.answer_to S.end_reply script session.old))) }
     ensures session { IfSome (R.rest source.old) (λ script. OnOk result (session.new ≡ final S.answer_to (lines script) session.old)) }
@@ -52,9 +53,9 @@ pub fn answer_script<S: LineHandler, R: Source, W: Sink>(
     // A fault has its cause, and a read or a write that failed is not tried again.
     ensures reads { R.fault_count source.new ≡ R.fault_count source.old + failed_reads result }
     ensures writes { W.fault_count sink.new ≡ W.fault_count sink.old + failed_writes result }
-    ensures long { IfSome (R.rest source.old) (λ script. IsErrOf result RunFault.ScriptTooLong → SCRIPT_LIMIT < length script) }
-    ensures past { IsErrOf result RunFault.ScriptTooLong → Takes (SCRIPT_LIMIT + 1) (R.rest source.old) (R.rest source.new) }
-    ensures few { TakesAtMost (SCRIPT_LIMIT + 1) (R.rest source.old) (R.rest source.new) }
+    ensures long { IfSome (R.rest source.old) (λ script. IsErrOf result RunFault.ScriptTooLong → script_limit < length script) }
+    ensures past { IsErrOf result RunFault.ScriptTooLong → Takes (script_limit + 1) (R.rest source.old) (R.rest source.new) }
+    ensures few { TakesAtMost (script_limit + 1) (R.rest source.old) (R.rest source.new) }
 
     // What a run that ends early has written.
     ensures left { LeavesWritten result (record {

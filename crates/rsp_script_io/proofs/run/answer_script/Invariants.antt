@@ -1,5 +1,5 @@
 use Rattle.std.proofs.Common.{◌≡◌, ◌-◌}
-use Rattle.rsp_script_io.specs.declared.feed.TheConstants.{SCRIPT_LIMIT}
+use Rattle.rsp_script_io.specs.Feeds.{script_limit}
 use Rattle.rsp_script_io.proofs.Runs.{Progress}
 use Rattle.rsp_script_io.proofs.run.answer_script.Given as goal
 
@@ -12,4 +12,4 @@ invariant-loop-n g l = record {
 }
 
 abbrev pub decreases-loop-n : goal.decreases-loop-n
-decreases-loop-n g l = SCRIPT_LIMIT - l.feed.count
+decreases-loop-n g l = script_limit - l.feed.count
