@@ -21,20 +21,21 @@ use Rattle.rsp_feed.specs.declared.bench.BenchFault.{BenchFault}
 use Rattle.rsp_feed.specs.declared.bench.BenchFault.TheVariants as feeding
 use Rattle.rsp_syntax.specs.declared.fault.AsmFaultKind.{AsmFaultKind}
 use Rattle.rsp_syntax.specs.declared.fault.AsmFaultKind.TheVariants as fault
+use Rattle.rsp_c.specs.declared.status.TheConstants.{OK, NO_MEMORY, OUT_OF_RANGE, HALTED, RESERVED, TASK_PLACE, TASK_SIZE, BREAK_FULL, BREAK_TWICE, NO_BREAK, WATCH_FULL, NO_WATCH, ENDED, TOO_LONG}
 
 -- a step: done, halted, or at a reserved word
 abbrev pub step_status : StepEnd → ℕ
-step_status end.Done = 0
-step_status end.Halted = 4
-step_status (end.Reserved word) = 5
+step_status end.Done = OK
+step_status end.Halted = HALTED
+step_status (end.Reserved word) = RESERVED
 
 -- passing the word at pc: it is no transfer, or the machine is halted
 abbrev pub pass_fault_status : PassFault → ℕ
-pass_fault_status passing.Halted = 4
-pass_fault_status passing.OtherWord = 3
+pass_fault_status passing.Halted = HALTED
+pass_fault_status passing.OtherWord = OUT_OF_RANGE
 
 abbrev pub pass_status : {X : Type 0} → Result X PassFault → ℕ
-pass_status (Ok x) = 0
+pass_status (Ok x) = OK
 pass_status (Err f) = pass_fault_status f
 
 -- the moves of two masks
@@ -51,42 +52,42 @@ is_imem_address n = nat_lt n 4096 && n % 4 == 0
 
 -- a new pc
 abbrev pub address_status : ℕ → ℕ
-address_status address = if is_imem_address address then 0 else 3
+address_status address = if is_imem_address address then OK else OUT_OF_RANGE
 
 -- a task's start
 abbrev pub task_status : Option TaskFault → ℕ
-task_status None = 0
-task_status (Some task.TaskPlace) = 7
-task_status (Some task.TaskSize) = 8
+task_status None = OK
+task_status (Some task.TaskPlace) = TASK_PLACE
+task_status (Some task.TaskSize) = TASK_SIZE
 
 -- a new breakpoint
 abbrev pub break_fault_status : Option BreakFault → ℕ
-break_fault_status None = 0
-break_fault_status (Some breaking.BreakFull) = 9
-break_fault_status (Some breaking.BreakTwice) = 10
+break_fault_status None = OK
+break_fault_status (Some breaking.BreakFull) = BREAK_FULL
+break_fault_status (Some breaking.BreakTwice) = BREAK_TWICE
 
 abbrev pub add_break_status : ℕ → List Bool → ℕ
-add_break_status address breaks = if is_imem_address address then break_fault_status (break_fault address breaks) else 3
+add_break_status address breaks = if is_imem_address address then break_fault_status (break_fault address breaks) else OUT_OF_RANGE
 
 -- a breakpoint that is dropped
 abbrev pub drop_break_status : ℕ → List Bool → ℕ
-drop_break_status address breaks = if is_imem_address address then (if is_break breaks address then 0 else 11) else 3
+drop_break_status address breaks = if is_imem_address address then (if is_break breaks address then OK else NO_BREAK) else OUT_OF_RANGE
 
 -- a new watch
 abbrev pub add_watch_status : Result ℕ WatchFault → ℕ
-add_watch_status (Ok k) = 0
-add_watch_status (Err with_new_watch.WatchRange) = 3
-add_watch_status (Err with_new_watch.WatchFull) = 12
+add_watch_status (Ok k) = OK
+add_watch_status (Err with_new_watch.WatchRange) = OUT_OF_RANGE
+add_watch_status (Err with_new_watch.WatchFull) = WATCH_FULL
 
 -- a watch that is dropped
 abbrev pub drop_watch_status : ℕ → List (Option Watch) → ℕ
-drop_watch_status k watches = if has_watch k watches then 0 else 13
+drop_watch_status k watches = if has_watch k watches then OK else NO_WATCH
 
 -- a bench that refuses
 abbrev pub bench_fault_status : BenchFault → ℕ
-bench_fault_status feeding.Ended = 16
-bench_fault_status feeding.ScriptTooLong = 17
-bench_fault_status feeding.OutOfMemory = 2
+bench_fault_status feeding.Ended = ENDED
+bench_fault_status feeding.ScriptTooLong = TOO_LONG
+bench_fault_status feeding.OutOfMemory = NO_MEMORY
 
 -- the number of a fault of a text
 abbrev pub fault_number : AsmFaultKind → ℕ

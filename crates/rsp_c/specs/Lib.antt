@@ -8,3 +8,4 @@ pub mod Holding
 pub mod Laws
 pub mod ToC
 pub mod States
+pub mod Statuses

@@ -1,5 +1,6 @@
 //! Laws over the definitions alone.
 
+ghost use Rattle.rsp_c.specs.Statuses.{AreNumbers};
 ghost use Rattle.rsp_c.specs.Laws.{SetAsGot, GotAsSet};
 
 /// What `rsp_get` gives, `rsp_set` takes, and the machine stays as it is.
@@ -10,4 +11,9 @@ pub fn set_as_got()
 /// What `rsp_set` takes, `rsp_get` then gives, with 0 for `zero`.
 pub fn got_as_set()
     ensures { GotAsSet }
+{}
+
+/// The statuses and the length of a buffer for replies have the numbers of `rsp.h`.
+pub fn numbers()
+    ensures { AreNumbers }
 {}
