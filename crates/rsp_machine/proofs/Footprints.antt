@@ -24,11 +24,12 @@ use Rattle.rsp_machine.specs.LoopTests.{IsRanged}
 use Rattle.rsp_machine.specs.Transfers.{starts_dma, starts_dma_in, starts_dma_at}
 use Rattle.rsp_machine.specs.Until.{changes_memory_by, changes_memory_at}
 use Rattle.rsp_machine.specs.Writes.{vector_in, writes_by, writes_of}
-use Rattle.rsp_machine.specs.Footprints.{footprint_in, footprint_at, IsOutside, SameUpper, StaysOutside, FootprintsHold, WritesHold}
+use Rattle.rsp_machine.specs.Footprints.{footprint_in, footprint_at, IsOutside, IsPastQuadwords, SameUpper, StaysOutside, FootprintsHold, WritesHold}
 use Rattle.rsp_machine.specs.declared.step.StepEnd.TheVariants.{Done, Halted}
 use Rattle.rsp_machine.specs.declared.footprint.Footprint.{Footprint}
 use Rattle.rsp_machine.specs.declared.footprint.Footprint.TheVariants as of
 use Rattle.rsp_machine.proofs.OneStep.{leaves}
+use Rattle.rsp_machine.proofs.Stores.{stores_within}
 use Rattle.rsp_machine.proofs.Undo.{saved_back, dma_of, memory-kept}
 
 -- a write leaves the other registers, and the bytes outside of the sixteen that it writes
@@ -234,15 +235,21 @@ leaves_memory f a b = rw (a, b) refl
 writes_by_hold : (o : Option Inst) (s t : State) → StaysOutside (footprint_in o s) s t → (changes_memory_by o s ≡ false → t.dmem ≡ s.dmem)
     → ((n : ℕ) → n ≢ (writes_by o s).scalar → register t.registers n ≡ register s.registers n)
     × (((n : ℕ) → (n < (writes_by o s).vector) ⊎ ((writes_by o s).vector + (vectors_in (footprint_in o s)).1 ≤ n) → vector t.vectors n ≡ vector s.vectors n)
-    × ((writes_by o s).stored ≡ false → starts_dma_in o ≡ false → t.dmem ≡ s.dmem))
-writes_by_hold None s t h d = (h.registers, (λ n out. h.vectors n (inr (omega arith)), λ a b. d refl))
-writes_by_hold (Some i) s t h d =
-    (h.registers, (λ n out. h.vectors n (vector_out (footprint_of i s) n out), λ a b. d (leaves_memory (footprint_of i s) (dma_of i s ∙ ap not b) a)))
+    × (((writes_by o s).stored ≡ false → starts_dma_in o ≡ false → t.dmem ≡ s.dmem)
+    × ((writes_by o s).stored ≡ true → (x : ℕ) → IsPastQuadwords (writes_by o s).address x → byte_at t.dmem x ≡ byte_at s.dmem x)))
+writes_by_hold None s t h d = (h.registers, (λ n out. h.vectors n (inr (omega arith)), (λ a b. d refl, λ a x out. cc)))
+writes_by_hold (Some i) s t h d = (
+  h.registers,
+  (
+    λ n out. h.vectors n (vector_out (footprint_of i s) n out),
+    (λ a b. d (leaves_memory (footprint_of i s) (dma_of i s ∙ ap not b) a), λ a x out. h.dmem x (stores_within i s x a out)),
+  ),
+)
 
 pub writes_hold : WritesHold
 unfolding writes_of footprint_at starts_dma_at changes_memory_at
 writes_hold s h done =
     let w = writes_by_hold (inst_of (word_at s.imem s.pc)) s (step_of s).1 (footprints_hold s h done) (memory-kept s done) in
-    record { scalar = w.0; vector = w.1.0; dmem = w.1.1 }
+    record { scalar = w.0; vector = w.1.0; dmem = w.1.1.0; bytes = w.1.1.1 }
 
 pub ruleset footprints = (footprints_hold, writes_hold)

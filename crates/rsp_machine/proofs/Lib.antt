@@ -6,6 +6,7 @@ pub mod Lows
 pub mod Divides
 pub mod Undo
 pub mod OneStep
+pub mod Stores
 pub mod Footprints
 pub mod Passing
 pub mod CountersApart

@@ -6,6 +6,7 @@ use Rattle.rsp_acc.specs.Planes.{with_low}
 use Rattle.rsp_memory.specs.Memory.{word_at, byte_at}
 use Rattle.rsp_scalar.specs.Registers.{register}
 use Rattle.rsp_loadstore.specs.File.{vector}
+use Rattle.rsp_loadstore.specs.Pairs.{quadword_start}
 use Rattle.rsp_regs.specs.Sp.{after_step}
 use Rattle.rsp_machine.specs.State.{State, IsState}
 use Rattle.rsp_machine.specs.Step.{step_of}
@@ -54,12 +55,17 @@ pub record StaysOutside (f : Footprint) (s t : State) : Type 0 where
 abbrev pub FootprintsHold : Type 0
 FootprintsHold = (s : State) → IsState s → (step_of s).0 ≡ Done → StaysOutside (footprint_at s) s (step_of s).1
 
+-- a byte of DMEM is neither in the quadword that has an address nor in the next one
+abbrev pub IsPastQuadwords : ℕ → ℕ → Type 0
+IsPastQuadwords address x = (k : ℕ) → k < 32 → x % 4096 ≢ (quadword_start address + k) % 4096
+
 -- What a trace says of a step from s to t: no other scalar register was written, and no other vector register (LTV writes eight from the one that
--- it names), and what is neither a store nor starts a DMA leaves DMEM.
+-- it names); what is neither a store nor starts a DMA leaves DMEM; a store writes only to the quadword that has its address, and to the next one.
 pub record AreWrites (s t : State) : Type 0 where
   pub scalar : (n : ℕ) → n ≢ (writes_of s).scalar → register t.registers n ≡ register s.registers n
   pub vector : (n : ℕ) → (n < (writes_of s).vector) ⊎ ((writes_of s).vector + (vectors_in (footprint_at s)).1 ≤ n) → vector t.vectors n ≡ vector s.vectors n
   pub dmem : (writes_of s).stored ≡ false → starts_dma_at s ≡ false → t.dmem ≡ s.dmem
+  pub bytes : (writes_of s).stored ≡ true → (x : ℕ) → IsPastQuadwords (writes_of s).address x → byte_at t.dmem x ≡ byte_at s.dmem x
 
 abbrev pub WritesHold : Type 0
 WritesHold = (s : State) → IsState s → (step_of s).0 ≡ Done → AreWrites s (step_of s).1

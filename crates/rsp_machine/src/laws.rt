@@ -45,7 +45,8 @@ pub fn footprints()
     ensures { FootprintsHold }
 {}
 
-/// What a trace says of a step: it writes no other register, and leaves DMEM if it neither stores nor starts a DMA.
+/// What a trace says of a step: it writes no other register, and leaves DMEM if it neither stores nor starts a DMA. A store writes
+/// only to the quadword that has its address, and to the next one.
 #[tactic(auto, using(crate::proofs::Footprints::footprints))]
 pub fn writes()
     ensures { WritesHold }
