@@ -1,6 +1,6 @@
--- Entries of a trace, one after the other.
-use Rattle.std.proofs.Common.{◌≡◌, ℕ, ◌+◌, ◌<◌, List, [], ◌∷◌, ◌++◌, length, take, drop, map, refl, ap, sym, ◌∙◌, arith}
-use Rattle.std.specs.Prelude.{slice_set}
+-- Entries of a trace, one after the other, and what the entry of a store shows.
+use Rattle.std.proofs.Common.{◌≡◌, ℕ, ◌+◌, ◌<◌, List, [], ◌∷◌, ◌++◌, length, take, drop, map, refl, ap, sym, ◌∙◌, arith, Bool, true, false}
+use Rattle.std.specs.Prelude.{slice_set, if◌then◌else◌}
 use Rattle.std.specs.List.{range_with_len}
 use Rattle.std.proofs.lemmas.List.{take_more_set, drop-set-lt, drop-drop}
 use Rattle.std.proofs.lemmas.List.FromFn.{map-range_with_len_more}
@@ -9,9 +9,10 @@ use Rattle.rsp_machine.specs.State.{State}
 use Rattle.rsp_machine.specs.Laws.{steps_of}
 use Rattle.rsp_machine.specs.Writes.{writes_of}
 use Rattle.rsp_machine.specs.declared.writes.Writes.{Writes}
+use Rattle.rsp_machine.proofs.Footprints.{writes_hold}
 use Rattle.rsp_machine.proofs.LoopSteps.{steps-add}
 use Rattle.rsp_debug.specs.declared.trace_entry.TraceEntry.{TraceEntry}
-use Rattle.rsp_debug.specs.Traces.{step_entry, entry_made_of, trace_of}
+use Rattle.rsp_debug.specs.Traces.{step_entry, entry_made_of, EntriesShowStores, trace_of}
 
 -- no entries
 pub trace-none : (s : State) (out : List TraceEntry) → take 0 out ≡ trace_of 0 s
@@ -40,3 +41,11 @@ entry-is k j pc word writes s m t entry e p w f there next one =
     let after : t ≡ steps_of (k + 1) s = next ∙ ap (λ i. steps_of i m) one ∙ ap (λ (x : State). steps_of 1 x) there ∙ sym (steps-add k 1 s) in
     let made : entry ≡ step_entry m t = e ∙ rw (p, w, f) refl in
     made ∙ rw (after, there) refl
+
+-- the entry of a store
+pub is_stored : (b : Bool) → ◌≡◌ {A = ℕ} (if b then 1 else 0) 1 → b ≡ true
+is_stored true e = refl
+is_stored false e = cc
+
+pub stores_shown : EntriesShowStores
+stores_shown s h done stored = (writes_hold s h done).bytes (is_stored (writes_of s).stored stored)

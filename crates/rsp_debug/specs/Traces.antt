@@ -1,15 +1,18 @@
 -- What a run writes into a trace.
-use Rattle.std.specs.Prelude.{ℕ, ◌+◌, List, map, replicate, nat_lt, if◌then◌else◌}
+use Rattle.std.specs.Prelude.{ℕ, ◌≡◌, ◌+◌, List, map, replicate, nat_lt, if◌then◌else◌}
 use Rattle.std.specs.List.{range_with_len}
 use Rattle.std.specs.Simd.Lanes.{mask_l}
-use Rattle.rsp_memory.specs.Memory.{word_at}
+use Rattle.rsp_memory.specs.Memory.{word_at, byte_at}
 use Rattle.rsp_scalar.specs.Registers.{register}
 use Rattle.rsp_loadstore.specs.File.{vector}
 use Rattle.rsp_lanes.specs.Flags.{vco, vcc}
-use Rattle.rsp_machine.specs.State.{State}
+use Rattle.rsp_machine.specs.State.{State, IsState}
+use Rattle.rsp_machine.specs.Step.{step_of}
 use Rattle.rsp_machine.specs.Laws.{steps_of}
 use Rattle.rsp_machine.specs.Writes.{writes_of}
+use Rattle.rsp_machine.specs.Footprints.{IsPastQuadwords}
 use Rattle.rsp_machine.specs.declared.writes.Writes.{Writes}
+use Rattle.rsp_machine.specs.declared.step.StepEnd.TheVariants.{Done}
 use Rattle.rsp_debug.specs.declared.trace_entry.TraceEntry.{TraceEntry}
 
 -- the lanes of a vector register below 32; else 0
@@ -35,6 +38,13 @@ entry_made_of pc word writes t = record {
 -- the entry of a step from s to t
 abbrev pub step_entry : State → State → TraceEntry
 step_entry s t = entry_made_of s.pc (word_at s.imem s.pc) (writes_of s) t
+
+-- the entry of a store has the address: the store leaves all bytes of DMEM but the quadword that has this address, and the next one
+abbrev pub EntriesShowStores : Type 0
+EntriesShowStores = (s : State) → IsState s → (step_of s).0 ≡ Done →
+    let t = (step_of s).1 in
+    let e = step_entry s t in
+    e.stored ≡ 1 → (x : ℕ) → IsPastQuadwords e.address x → byte_at t.dmem x ≡ byte_at s.dmem x
 
 -- the entries of the first n steps from s
 unfoldable pub trace_of : ℕ → State → List TraceEntry

@@ -1,6 +1,7 @@
 //! Laws over the definitions alone.
 
 ghost use Rattle.rsp_debug.specs.Calls.{RunsAreSteps, RunsStopFirst, Undoes};
+ghost use Rattle.rsp_debug.specs.Traces.{EntriesShowStores};
 
 /// Cuts: for every list of steps and runs, each run with breakpoints, watches and a count of its own, if n steps returned
 /// Done in all, the state at the end is that after n plain steps, which all return Done.
@@ -22,4 +23,10 @@ pub fn l7()
 #[tactic(auto, using(crate::proofs::DoneSteps::afters))]
 pub fn runs_stop_first()
     ensures { RunsStopFirst }
+{}
+
+/// The entry of a store has the address: the store writes only to the quadword that has this address, and to the next one.
+#[tactic(auto, using(crate::proofs::Traces::stores_shown))]
+pub fn entries_show_stores()
+    ensures { EntriesShowStores }
 {}
