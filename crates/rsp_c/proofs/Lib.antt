@@ -5,3 +5,4 @@ pub mod Again
 pub mod Lines
 pub mod Walks
 pub mod Words
+pub mod Stores

@@ -1,6 +1,7 @@
 //! Laws over the definitions alone.
 
 ghost use Rattle.rsp_c.specs.Statuses.{AreNumbers};
+ghost use Rattle.rsp_c.specs.Changes.{ChangesShowStores};
 ghost use Rattle.rsp_c.specs.Laws.{SetAsGot, GotAsSet};
 
 /// What `rsp_get` gives, `rsp_set` takes, and the machine stays as it is.
@@ -16,4 +17,11 @@ pub fn got_as_set()
 /// The statuses and the length of a buffer for replies have the numbers of `rsp.h`.
 pub fn numbers()
     ensures { AreNumbers }
+{}
+
+/// What `rsp_step_changes` reports of a store has all that the store wrote: two quadwords of DMEM after the step, and the step
+/// leaves all other bytes.
+#[tactic(auto, using(crate::proofs::Stores::stores_shown))]
+pub fn changes_show_stores()
+    ensures { ChangesShowStores }
 {}
