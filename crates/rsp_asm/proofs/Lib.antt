@@ -12,3 +12,4 @@ pub mod SameAddresses
 pub mod Blocks
 pub mod BlockTexts
 pub mod Explaining
+pub mod OperandBounds

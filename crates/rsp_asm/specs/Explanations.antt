@@ -1,6 +1,6 @@
 -- The operand for which a line is refused, and what may be in its place. At which address the line is plays no part: the range of
 -- an operand is the same everywhere.
-use Rattle.std.specs.Prelude.{ℕ, zero, suc, ◌+◌, ◌-◌, ◌*◌, ◌==◌, Bool, true, false, List, [], ◌∷◌, length, is_none, option_map, Option, Some, None, Result, Ok, Err, if◌then◌else◌, pos, negsuc, neg_ℤ}
+use Rattle.std.specs.Prelude.{ℕ, zero, suc, ◌+◌, ◌-◌, ◌*◌, ◌%◌, ◌==◌, ◌≡◌, ◌↔◌, Bool, true, false, List, [], ◌∷◌, length, is_none, option_map, Option, Some, None, Result, Ok, Err, if◌then◌else◌, ℤ, pos, negsuc, neg_ℤ, unsigned_abs, ◌≤ℤ◌}
 use Rattle.std.specs.List.{before_first, after_first}
 use Rattle.std.specs.Option.{option_or}
 use Rattle.rsp_decode.specs.Table.{Operand, shift_amount, signed, unsigned, jump_target, branch_target, scalar_memory, vector_memory}
@@ -12,7 +12,7 @@ use Rattle.rsp_syntax.specs.declared.operand_range.OperandRange.{OperandRange}
 use Rattle.rsp_syntax.specs.declared.operand_range.OperandRange.TheVariants.{Half, Amount, Jump, Branch, Scaled, Word}
 use Rattle.rsp_syntax.specs.Cuts.{is_boundary}
 use Rattle.rsp_syntax.specs.Numbers.{expression_of}
-use Rattle.rsp_syntax.specs.Statement.{Labels, OperandValue, ranged_value, read, number_fails, fields_of, Form, no_operation, numbers_form, row_form, form_named, operand_texts}
+use Rattle.rsp_syntax.specs.Statement.{Labels, OperandValue, ranged_value, read, number_fails, field_of, fields_of, Form, no_operation, numbers_form, row_form, form_named, operand_texts}
 use Rattle.rsp_syntax.specs.SourceLine.{LineParts, split_line}
 use Rattle.rsp_syntax.specs.SourceText.{line_at, all_labels, fault_before, words_before}
 use Rattle.rsp_asm.specs.declared.explanation.Expected.{Expected}
@@ -147,6 +147,14 @@ bounds_of_range Jump = record { low = pos 0; high = pos 4092; step = 4 }
 bounds_of_range Branch = record { low = pos 0; high = pos 4092; step = 4 }
 bounds_of_range (Scaled scale) = record { low = neg_ℤ (pos (64 * scale)); high = pos (63 * scale); step = scale }
 bounds_of_range Word = record { low = negsuc 2147483647; high = pos 4294967295; step = 1 }
+
+-- one of these numbers
+abbrev pub IsWithin : Bounds → ℤ → Type 0
+IsWithin b z = (b.low ≤ℤ z) × (z ≤ℤ b.high) × (unsigned_abs z % b.step ≡ 0)
+
+-- At each address a value is out of its range exactly if it isn't one of the numbers of the range.
+abbrev pub BoundsHold : Type 0
+BoundsHold = (range : OperandRange) (address : ℕ) (z : ℤ) → (field_of range address (Some z) ≡ Err OutOfRange) ↔ ¬ (IsWithin (bounds_of_range range) z)
 
 abbrev pub bounds : Expected → Option Bounds
 bounds e = option_map bounds_of_range (range_of e)

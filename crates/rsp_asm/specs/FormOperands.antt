@@ -1,7 +1,7 @@
 -- Scaffolding of the contracts: what a statement takes as its operands, as the code has it.
 use Rattle.std.specs.Prelude.{◌≡◌, ℕ, List, true, Option}
 use Rattle.std.specs.List.{list_all}
-use Rattle.rsp_decode.specs.Table.{Operand, is_row_operand}
+use Rattle.rsp_decode.specs.Table.{is_row_operand}
 use Rattle.rsp_syntax.specs.Statement.{Labels}
 use Rattle.rsp_asm.specs.declared.explanation.Expected.{Expected}
 use Rattle.rsp_asm.specs.declared.explanation.Expected.TheVariants.{Kind, Number, Nothing}

@@ -2,6 +2,7 @@
 
 ghost use Rattle.rsp_asm.specs.AssembleFaults.{NoTextMeansOutOfMemory};
 ghost use Rattle.rsp_asm.specs.Decoding.{BlocksDecode, StatementsDecode};
+ghost use Rattle.rsp_asm.specs.Explanations.{BoundsHold};
 
 /// The instruction table decodes what the assembler writes: an accepted statement of an instruction gives one word, and the table
 /// decodes that word to the instruction with the values of the operands as fields. It is the canonical word of that instruction:
@@ -20,4 +21,11 @@ pub fn blocks_decode()
 /// No text means the fault OutOfMemory, at no origin: if [`assemble`](crate::assemble) returns it, the fault isn't the text's.
 pub fn no_text_means_out_of_memory()
     ensures { NoTextMeansOutOfMemory }
+{}
+
+/// The bounds of an operand are what the assembler takes: a value has the fault OutOfRange exactly if it is below the lowest number
+/// or above the highest one, or no multiple of the step.
+#[tactic(auto, using(crate::proofs::OperandBounds::bounds_hold))]
+pub fn bounds_hold()
+    ensures { BoundsHold }
 {}

@@ -1,4 +1,4 @@
-use Rattle.std.proofs.Common.{◌≡◌, ◌+◌, ◌≤◌, ℕ, length}
+use Rattle.std.proofs.Common.{◌≡◌, ◌+◌, ◌≤◌, length}
 use Rattle.std.specs.Prelude.{option_map}
 use Rattle.rsp_syntax.specs.Statement.{operand_texts}
 use Rattle.rsp_asm.specs.Forms.{form}
