@@ -4,7 +4,7 @@ use Rattle.std.specs.Prelude.{map, find, Option, Some, None, option_map, â—Œ==â—
 use Rattle.std.specs.List.{list_all}
 use Rattle.std.proofs.lemmas.Bool.{and_parts, and_from, cases_Bool, cond-true, cond-false, eq-eqb, eqb-true, ne_eqb}
 use Rattle.rsp_decode.specs.Table.{Operand, Row, rows, fits, fields, row_of, word_from, canonical_of, Entry, entry_of}
-use Rattle.rsp_syntax.specs.Disassembly.{has_text, operand_text, operands_after_name, row_text, word_directive, row_disassembly, disassembly}
+use Rattle.rsp_syntax.specs.Disassembly.{has_text, operand_text, operands_after_name, word_directive, row_disassembly, disassembly}
 use Rattle.rsp_dis.specs.Labels.{operands_target, row_target, word_target, name_or_text, operand_target, labelled_operand, labelled_row_text, labelled_row, labelled_disassembly}
 use Rattle.rsp_dis.specs.LabelTests.{labels_in}
 use Rattle.rsp_dis.specs.TextLength.{is_short}

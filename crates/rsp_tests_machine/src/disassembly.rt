@@ -7,7 +7,7 @@ use std::test::Fail;
 
 /// Whether the listing of these words assembles to the same words.
 fn is_read_back(alloc: Global, words: &[u32; 1024]) -> Result<bool, AllocError> {
-    Ok(assembled_listing(alloc, words)?.as_slice() == words.as_slice())
+    Ok(assembled_listing(alloc, 0, words)?.as_slice() == words.as_slice())
 }
 
 #[test]

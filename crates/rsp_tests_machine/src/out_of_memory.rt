@@ -47,7 +47,7 @@ fn a_machine_comes_back_when_there_is_no_memory(rt: HostRuntime) -> Result<(), F
 fn a_listing_is_assembled_when_memory_is_there(rt: HostRuntime) -> Result<(), Fail> {
     let words = [0x1000_ffff, 0, 0xffff_ffff, 0x4ac3_1050];
     for _ in 0..2 {
-        match assembled_listing(rt.alloc(), &words) {
+        match assembled_listing(rt.alloc(), 8, &words) {
             Ok(again) => assert!(rt; again.as_slice() == words.as_slice()),
             Err(_) => println!(rt; "no memory for a listing")?,
         }

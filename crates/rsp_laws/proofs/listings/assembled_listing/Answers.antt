@@ -4,10 +4,10 @@ use Rattle.rsp_laws.proofs.listings.assembled_listing.Goals as goal
 
 pub returns-in-Ok : goal.returns-in-Ok
 returns-in-Ok c =
-    gives_words _ c.args.words.now (c.deref.ensures ∙ c.in_ok-text.ensures) c.requires c.type_inv.words _ c.in-Ok.ensures.ok
+    gives_words c.args.origin c.requires.aligned _ c.args.words.now (c.deref.ensures ∙ c.in_ok-text.ensures) c.requires.room c.type_inv.words _ c.in-Ok.ensures.ok
 
 pub unreachable-requires : goal.unreachable-requires
 unreachable-requires c = elim c.in-Err.ensures.err [
-  | inl meaning_of_text ↦ gives_no_fault _ c.args.words.now (c.deref.ensures ∙ c.in_ok-text.ensures) c.requires c.type_inv.words _ meaning_of_text
+  | inl meaning_of_text ↦ gives_no_fault c.args.origin c.requires.aligned _ c.args.words.now (c.deref.ensures ∙ c.in_ok-text.ensures) c.requires.room c.type_inv.words _ meaning_of_text
   | inr short ↦ c.in_default.not-OutOfMemory short.kind
 ]
