@@ -15,6 +15,8 @@ use Rattle.rsp_decode.specs.declared.vector.VectorLogicOp.{VectorLogicOp}
 use Rattle.rsp_decode.specs.declared.vector.VectorLogicOp.TheVariants.{Vand, Vnand, Vor, Vnor, Vxor, Vnxor}
 use Rattle.rsp_decode.specs.declared.vector.VectorDivideOp.{VectorDivideOp}
 use Rattle.rsp_decode.specs.declared.vector.VectorDivideOp.TheVariants.{Vrcp, Vrcpl, Vrcph, Vmov, Vrsq, Vrsql, Vrsqh}
+use Rattle.rsp_decode.specs.declared.vector.VectorNopOp.{VectorNopOp}
+use Rattle.rsp_decode.specs.declared.vector.VectorNopOp.TheVariants.{Vnop, Vnull}
 use Rattle.rsp_multiply.specs.declared.op.MultiplyOp.{MultiplyOp}
 use Rattle.rsp_multiply.specs.declared.op.RoundOp.{RoundOp}
 use Rattle.rsp_multiply.specs.declared.op.MpegOp.{MpegOp}
@@ -88,3 +90,8 @@ divide_of Vmov = DivideOp.Vmov
 divide_of Vrsq = DivideOp.Vrsq
 divide_of Vrsql = DivideOp.Vrsql
 divide_of Vrsqh = DivideOp.Vrsqh
+
+-- the operation of an instruction of that group that changes nothing
+abbrev pub idle_of : VectorNopOp → DivideOp
+idle_of Vnop = DivideOp.Vnop
+idle_of Vnull = DivideOp.Vnull

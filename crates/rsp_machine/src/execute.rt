@@ -119,7 +119,7 @@ impl<A: Acc> Machine<A> {
                 vt,
                 element,
             } => self.divide(op, vd, lane, vt, element),
-            Inst::Idle { .. } => (),
+            Inst::Idle { op } => self.idle(op),
             Inst::VectorLoad { op, fields } => self.load_vector(op, fields),
             Inst::VectorStore { op, fields } => self.store_vector(op, fields),
         }

@@ -1,16 +1,15 @@
-// The operation, in its group's crate, of each vector instruction. These crates don't know the instruction table.
-//
-// So a name of the table is translated here, by one match for each group, which the compiler folds. It costs a second
-// name for 41 instructions. Scalar instructions, vector loads and stores have no operations: their crates take the
-// `Inst` itself, whose fields they read. VNOP and VNULL have none, since they change nothing.
+// The operation, in its group's crate, of each vector instruction. These crates don't know the instruction table, so a
+// name of the table is translated here, by one match for each group, which the compiler folds. It costs a second name
+// for 43 instructions. Scalar instructions, vector loads and stores have no operations: their crates take the `Inst`
+// itself, whose fields they read.
 
 ghost use Rattle.std.specs.Prelude.{◌≡◌};
-ghost use Rattle.rsp_machine.specs.Operations.{multiply_of, round_of, mpeg_of, add_of, select_of, clip_of, logic_of, divide_of};
+ghost use Rattle.rsp_machine.specs.Operations.{multiply_of, round_of, mpeg_of, add_of, select_of, clip_of, logic_of, divide_of, idle_of};
 
 use rsp_compare::{AddOp, ClipOp, LogicOp, SelectOp};
 use rsp_decode::{
     VectorAddOp, VectorClipOp, VectorDivideOp, VectorLogicOp, VectorMpegOp, VectorMultiplyOp,
-    VectorRoundOp, VectorSelectOp,
+    VectorNopOp, VectorRoundOp, VectorSelectOp,
 };
 use rsp_divide::DivideOp;
 use rsp_multiply::{MpegOp, MultiplyOp, RoundOp};
@@ -87,4 +86,12 @@ pub(crate) fn divide_of(op: VectorDivideOp) -> DivideOp
     ensures { result ≡ divide_of op }
 {
     same_name!(op, VectorDivideOp => DivideOp: Vrcp Vrcpl Vrcph Vmov Vrsq Vrsql Vrsqh)
+}
+
+/// The operation of an instruction of that group that changes nothing.
+#[inline(always)]
+pub(crate) fn idle_of(op: VectorNopOp) -> DivideOp
+    ensures { result ≡ idle_of op }
+{
+    same_name!(op, VectorNopOp => DivideOp: Vnop Vnull)
 }

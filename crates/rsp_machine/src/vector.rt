@@ -13,13 +13,13 @@ ghost use Rattle.rsp_machine.specs.Vector.{multiplies, rounds, multiplies_mpeg, 
 
 use crate::machine::Machine;
 use crate::operation::{
-    add_of, clip_of, divide_of, logic_of, mpeg_of, multiply_of, round_of, select_of,
+    add_of, clip_of, divide_of, idle_of, logic_of, mpeg_of, multiply_of, round_of, select_of,
 };
 use rsp_acc::Acc;
 use rsp_compare::{MergeOp, add_op, clip_op, logic_op, merge_op, select_op};
 use rsp_decode::{
     Inst, MoveOp, VectorAddOp, VectorClipOp, VectorDivideOp, VectorFields, VectorLoadOp,
-    VectorLogicOp, VectorMemoryFields, VectorMpegOp, VectorMultiplyOp, VectorRoundOp,
+    VectorLogicOp, VectorMemoryFields, VectorMpegOp, VectorMultiplyOp, VectorNopOp, VectorRoundOp,
     VectorSelectOp, VectorStoreOp,
 };
 use rsp_divide::divide_op;
@@ -166,6 +166,17 @@ impl<A: Acc> Machine<A> {
             &mut self.acc,
         );
         self.vregs.set_reg(vd, register);
+    }
+
+    /// VNOP or VNULL, which changes nothing, whatever registers it is given.
+    #[inline(always)]
+    #[tactic(auto, using(crate::proofs::Divides::idle_divider, crate::proofs::Divides::idle_accumulators))]
+    pub(crate) fn idle(&mut self, op: VectorNopOp)
+        ensures { self.new ≡ self.old }
+    {
+        let op = idle_of(op);
+        let (a, mut b) = (self.vregs.reg(0), self.vregs.reg(0));
+        divide_op(op, 0, 0, &a, &mut b, &mut self.divider, &mut self.acc);
     }
 
     /// A vector load.
