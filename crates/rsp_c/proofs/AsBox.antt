@@ -12,14 +12,14 @@ use Rattle.rsp_acc.specs.contracts.planes.PlaneAccAcc.TheImpl as Acc
 use Rattle.rsp_acc.proofs.planes.PlaneAcc.TheLaws as planes
 use Rattle.rsp_debug.proofs.debugger.Debugger.TheLaws as debugger
 use Rattle.rsp_c.proofs.held_bench.HeldBench.TheLaws as bench
-use Rattle.rsp_c.specs.Holding.{session_row, bench_row}
+use Rattle.rsp_c.specs.Holding.{debugger_row, bench_row}
 use Rattle.rsp_c.specs.contracts.handle.BoxParts as BoxParts
 
 abbrev pub boxed_of : (row : RattleType) → Laws row → Bx
 boxed_of row laws = record { row = row; laws = laws; al = record { row = Heap.the_row; laws = heap.the_row_laws; g = ghosts; d = dict; drops = impl [] tnil dnil } }
 
 abbrev pub E : Bx
-E = boxed_of session_row (debugger.the_row_laws PlaneAcc.the_row Acc.ghosts planes.the_row_laws)
+E = boxed_of debugger_row (debugger.the_row_laws PlaneAcc.the_row Acc.ghosts planes.the_row_laws)
 
 abbrev pub EB : Bx
 EB = boxed_of bench_row bench.the_row_laws

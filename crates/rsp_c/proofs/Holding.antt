@@ -43,13 +43,13 @@ module _ {M : Type 1} {𝓤 : Ura M} {𝓛 : Logic 𝓤} {K : Type 0} {Γ : List
 
   -- a handle by value is [what it holds; the allocator]
   pub held_out : K → (d : Handle.the_row.Denot) (vs : List Val)
-      → ((h : Val) → vs ≡ pair (ptr_val d.at) h ∷ [] → Fits E.al h → Seq K 𝓛 (‵ (holding E.row d.alloc d.at d.session) ∷ ‵ (E.al.row.own_val d.alloc (h ∷ [])) ∷ Γ) G) → Seq K 𝓛 (‵ (Handle.the_row.own_val d vs) ∷ Γ) G
+      → ((h : Val) → vs ≡ pair (ptr_val d.at) h ∷ [] → Fits E.al h → Seq K 𝓛 (‵ (holding E.row d.alloc d.at d.debugger) ∷ ‵ (E.al.row.own_val d.alloc (h ∷ [])) ∷ Γ) G) → Seq K 𝓛 (‵ (Handle.the_row.own_val d vs) ∷ Γ) G
   held_out t d vs k =
       fsplit t $ fpick t (λ vss. fsplit t $ feq_l t (λ ev. fsplit t $ feq_l t (λ ep. fsplit t $ handle_tells E.al t d.alloc vss.1.0 (λ h ea fits. move t (1 ∷ []) $ drop t $ move t (1 ∷ []) $ k h
       (subst (λ (ws : List Val). vs ≡ vstruct (of_list (ptr_val d.at ∷ (ws ++ []))) ∷ []) ea (subst (λ (ps : List Val). vs ≡ vstruct (of_list (ps ++ (vss.1.0 ++ []))) ∷ []) ep ev)) fits))))
 
   pub held_in : K → (d : Handle.the_row.Denot) (h : Val)
-      → Step K 𝓛 (‵ (Handle.the_row.own_val d (pair (ptr_val d.at) h ∷ [])) ∷ Γ) G (‵ (holding E.row d.alloc d.at d.session) ∷ ‵ (E.al.row.own_val d.alloc (h ∷ [])) ∷ Γ) G
+      → Step K 𝓛 (‵ (Handle.the_row.own_val d (pair (ptr_val d.at) h ∷ [])) ∷ Γ) G (‵ (holding E.row d.alloc d.at d.debugger) ∷ ‵ (E.al.row.own_val d.alloc (h ∷ [])) ∷ Γ) G
   held_in t d h = step (λ s. let v : Val = pair (ptr_val d.at) h in let p : List Val = ptr_val d.at ∷ [] in
       nothing t $ move t (2 ∷ 0 ∷ []) $ fjoin t $ feq_i t (List Val) p p refl $ fjoin t $ feq_i t (List Val) (v ∷ []) (v ∷ []) refl $ fjoin t $
       fpack t (Valss (RawPtr ∷ E.al.row ∷ [])) (within (shape Handle.the_type) (d.at, (((tt, tt), tt), tt)) (v ∷ [])) (p, (h ∷ [], tt)) $ fjoin t $ s)

@@ -11,11 +11,11 @@ use Rattle.rsp_acc.specs.contracts.planes.PlaneAccAcc.TheImpl as Acc
 use Rattle.rsp_debug.specs.contracts.debugger.Debugger as Debugger
 use Rattle.rsp_c.specs.contracts.held_bench.HeldBench as HeldBench
 
-abbrev pub session_row : RattleType
-session_row = Debugger.the_row PlaneAcc.the_row Acc.ghosts
+abbrev pub debugger_row : RattleType
+debugger_row = Debugger.the_row PlaneAcc.the_row Acc.ghosts
 
 abbrev pub Opened : Type 0
-Opened = session_row.Denot
+Opened = debugger_row.Denot
 
 abbrev pub bench_row : RattleType
 bench_row = HeldBench.the_row

@@ -2,7 +2,7 @@
 
 ghost use Rattle.std.specs.Box.Ownership.{box_owns};
 ghost use Rattle.std.specs.Prelude.{◌≡◌, Option, None, Some, MatchOption};
-ghost use Rattle.rsp_c.specs.Holding.{holding, session_row, Opened, bench_row, OpenedBench};
+ghost use Rattle.rsp_c.specs.Holding.{holding, debugger_row, Opened, bench_row, OpenedBench};
 
 use crate::held_bench::HeldBench;
 use rsp_acc::PlaneAcc;
@@ -41,25 +41,25 @@ impl<T, A: Allocator> BoxParts<T, A> {
     }
 }
 
-/// Owns a debugger with its machine, or nothing. In C it is `rsp`, a struct of one pointer. Contracts see the debugger as `session`.
+/// Owns a debugger with its machine, or nothing. In C it is `rsp`, a struct of one pointer. Contracts see it as `debugger`.
 #[repr(C)]
 pub struct Handle {
     at: *mut u8,
     alloc: Global,
-    pub ghost session: { Option Opened },
+    pub ghost debugger: { Option Opened },
 }
 
 impl Model for Handle {
-    ghost also_owns = { λ h. holding session_row h.alloc h.at h.session };
+    ghost also_owns = { λ h. holding debugger_row h.alloc h.at h.debugger };
 }
 
-// The pointer is to a block that the handle alone owns, and nothing in a session is bound to a thread.
+// The pointer is to a block that the handle alone owns, and nothing in a debugger is bound to a thread.
 unsafe impl Send for Handle {}
 
 impl Handle {
     /// A handle that owns nothing.
     pub fn none(alloc: Global) -> Handle
-        ensures { result.session ≡ None }
+        ensures { result.debugger ≡ None }
     {
         Handle {
             at: std::ptr::null_mut(),
@@ -67,9 +67,9 @@ impl Handle {
         }
     }
 
-    /// The handle of a session.
+    /// The handle of a debugger.
     pub fn of(parts: BoxParts<Debugger<PlaneAcc>, Global>) -> Handle
-        ensures { result.session ≡ Some parts.value }
+        ensures { result.debugger ≡ Some parts.value }
     {
         let BoxParts { ptr, alloc } = parts;
         Handle {
@@ -78,9 +78,9 @@ impl Handle {
         }
     }
 
-    /// The session of the handle, if it owns one.
+    /// The debugger of the handle, if it owns one.
     pub fn into_parts(self) -> Option<BoxParts<Debugger<PlaneAcc>, Global>>
-        ensures { MatchOption result (self.session ≡ None) (λ p. self.session ≡ Some p.value) }
+        ensures { MatchOption result (self.debugger ≡ None) (λ p. self.debugger ≡ Some p.value) }
     {
         let Handle { at, alloc } = self;
         if at.is_null() {
@@ -92,10 +92,10 @@ impl Handle {
         })
     }
 
-    /// Takes the session out of the handle, if it owns one.
+    /// Takes the debugger out of the handle, if it owns one.
     pub fn take(&mut self, alloc: Global) -> Option<Box<Debugger<PlaneAcc>, Global>>
-        ensures was { MatchOption result (self.old.session ≡ None) (λ b. self.old.session ≡ Some b.value) }
-        ensures now { self.new.session ≡ None }
+        ensures was { MatchOption result (self.old.debugger ≡ None) (λ b. self.old.debugger ≡ Some b.value) }
+        ensures now { self.new.debugger ≡ None }
     {
         let held = std::mem::replace(self, Handle::none(alloc));
         match held.into_parts() {
@@ -104,11 +104,11 @@ impl Handle {
         }
     }
 
-    /// Puts a session into the handle. The one that it owned is freed.
-    pub fn put(&mut self, session: Box<Debugger<PlaneAcc>, Global>)
-        ensures { self.new.session ≡ Some session.value }
+    /// Puts a debugger into the handle. The one that it owned is freed.
+    pub fn put(&mut self, debugger: Box<Debugger<PlaneAcc>, Global>)
+        ensures { self.new.debugger ≡ Some debugger.value }
     {
-        *self = Handle::of(BoxParts::of(session));
+        *self = Handle::of(BoxParts::of(debugger));
     }
 }
 

@@ -67,10 +67,10 @@ fn new_debugger(
 /// 4096. What the handle held is freed. OUT_OF_RANGE for another length or depth, before anything is copied.
 #[unsafe(no_mangle)]
 pub extern "C" fn rsp_new(handle: &mut Handle, alloc: Global, image: &[u8], depth: u32) -> u32
-    ensures ok { result ≡ OK → handle.new.session ≡ Some (debugging_of depth (start_of image.now)) }
+    ensures ok { result ≡ OK → handle.new.debugger ≡ Some (debugging_of depth (start_of image.now)) }
     ensures range { (result ≡ OUT_OF_RANGE) ↔ ((4096 < depth) ⊎ ¬ (IsImageLength (length image.now))) }
     ensures answer { (result ≡ OK) ⊎ (result ≡ NO_MEMORY) ⊎ (result ≡ OUT_OF_RANGE) }
-    ensures same { (result ≡ OK → ⊥) → handle.new.session ≡ handle.old.session }
+    ensures same { (result ≡ OK → ⊥) → handle.new.debugger ≡ handle.old.debugger }
 {
     if depth > 4096 || !is_image_length(image.len()) {
         return OUT_OF_RANGE;
@@ -119,11 +119,11 @@ fn copy_of(
 /// watches. What `to` held is freed.
 #[unsafe(no_mangle)]
 pub extern "C" fn rsp_copy(to: &mut Handle, alloc: Global, from: &mut Handle) -> u32
-    ensures none { IfNone from.old.session (result ≡ NO_MACHINE) }
-    ensures ok { result ≡ OK → IfSome from.old.session (λ d. to.new.session ≡ Some (debugging_of d.depth d.state)) }
-    ensures answer { IfSome from.old.session (λ d. (result ≡ OK) ⊎ (result ≡ NO_MEMORY)) }
-    ensures kept { from.new.session ≡ from.old.session }
-    ensures same { (result ≡ OK → ⊥) → to.new.session ≡ to.old.session }
+    ensures none { IfNone from.old.debugger (result ≡ NO_MACHINE) }
+    ensures ok { result ≡ OK → IfSome from.old.debugger (λ d. to.new.debugger ≡ Some (debugging_of d.depth d.state)) }
+    ensures answer { IfSome from.old.debugger (λ d. (result ≡ OK) ⊎ (result ≡ NO_MEMORY)) }
+    ensures kept { from.new.debugger ≡ from.old.debugger }
+    ensures same { (result ≡ OK → ⊥) → to.new.debugger ≡ to.old.debugger }
 {
     with_held!(from, alloc, |debugger| match copy_of(&debugger, alloc) {
         Err(_) => NO_MEMORY,
@@ -137,7 +137,7 @@ pub extern "C" fn rsp_copy(to: &mut Handle, alloc: Global, from: &mut Handle) ->
 /// Frees the machine, if the handle holds one. It holds none afterwards.
 #[unsafe(no_mangle)]
 pub extern "C" fn rsp_free(handle: &mut Handle, alloc: Global)
-    ensures { handle.new.session ≡ None }
+    ensures { handle.new.debugger ≡ None }
 {
     drop(handle.take(alloc));
 }

@@ -43,9 +43,9 @@ pub extern "C" fn rsp_load(
     address: u32,
     bytes: &[u8],
 ) -> u32
-    ensures inside { IsDoneIf (λ d. IsSomeAnd (bank_of number) (λ b. IsTrue (is_inside b address (length bytes.now) d.state))) handle.old.session result }
-    ensures next { result ≡ OK → IfSome (bank_of number) (λ b. handle.new.session ≡ option_map (λ d. set_by_host (with_bank_bytes b address bytes.now d.state) d) handle.old.session) }
-    ensures same { (result ≡ OK → ⊥) → handle.new.session ≡ handle.old.session }
+    ensures inside { IsDoneIf (λ d. IsSomeAnd (bank_of number) (λ b. IsTrue (is_inside b address (length bytes.now) d.state))) handle.old.debugger result }
+    ensures next { result ≡ OK → IfSome (bank_of number) (λ b. handle.new.debugger ≡ option_map (λ d. set_by_host (with_bank_bytes b address bytes.now d.state) d) handle.old.debugger) }
+    ensures same { (result ≡ OK → ⊥) → handle.new.debugger ≡ handle.old.debugger }
 {
     with_held!(handle, alloc, |debugger| match bank_of(number) {
         None => OUT_OF_RANGE,
@@ -65,10 +65,10 @@ pub extern "C" fn rsp_memory(
     address: u32,
     bytes: &mut [u8],
 ) -> u32
-    ensures inside { IsDoneIf (λ d. IsSomeAnd (bank_of number) (λ b. IsTrue (is_inside b address (length bytes.old) d.state))) handle.old.session result }
-    ensures value { result ≡ OK → IfSome handle.old.session (λ d. IfSome (bank_of number) (λ b. bytes.new ≡ take (length bytes.old) (drop address (bank_bytes b d.state)))) }
+    ensures inside { IsDoneIf (λ d. IsSomeAnd (bank_of number) (λ b. IsTrue (is_inside b address (length bytes.old) d.state))) handle.old.debugger result }
+    ensures value { result ≡ OK → IfSome handle.old.debugger (λ d. IfSome (bank_of number) (λ b. bytes.new ≡ take (length bytes.old) (drop address (bank_bytes b d.state)))) }
     ensures refused { (result ≡ OK → ⊥) → bytes.new ≡ bytes.old }
-    ensures same { handle.new.session ≡ handle.old.session }
+    ensures same { handle.new.debugger ≡ handle.old.debugger }
 {
     with_held!(handle, alloc, |debugger| match bank_of(number) {
         Some(bank) if debugger.machine().is_inside(bank, address, bytes.len()) => {
@@ -138,9 +138,9 @@ pub extern "C" fn rsp_load_words(
     address: u32,
     words: &[u32],
 ) -> u32
-    ensures inside { IsDoneIf (λ d. IsSomeAnd (bank_of number) (λ b. IsTrue (is_inside b address (4 * length words.now) d.state))) handle.old.session result }
-    ensures next { result ≡ OK → IfSome (bank_of number) (λ b. handle.new.session ≡ option_map (λ d. set_by_host (with_bank_bytes b address (words_bytes words.now) d.state) d) handle.old.session) }
-    ensures same { (result ≡ OK → ⊥) → handle.new.session ≡ handle.old.session }
+    ensures inside { IsDoneIf (λ d. IsSomeAnd (bank_of number) (λ b. IsTrue (is_inside b address (4 * length words.now) d.state))) handle.old.debugger result }
+    ensures next { result ≡ OK → IfSome (bank_of number) (λ b. handle.new.debugger ≡ option_map (λ d. set_by_host (with_bank_bytes b address (words_bytes words.now) d.state) d) handle.old.debugger) }
+    ensures same { (result ≡ OK → ⊥) → handle.new.debugger ≡ handle.old.debugger }
 {
     with_held!(handle, alloc, |debugger| match bank_of(number) {
         Some(bank) if has_words(debugger.machine(), bank, address, words.len()) => {
@@ -160,10 +160,10 @@ pub extern "C" fn rsp_memory_words(
     address: u32,
     words: &mut [u32],
 ) -> u32
-    ensures inside { IsDoneIf (λ d. IsSomeAnd (bank_of number) (λ b. IsTrue (is_inside b address (4 * length words.old) d.state))) handle.old.session result }
-    ensures value { result ≡ OK → IfSome handle.old.session (λ d. IfSome (bank_of number) (λ b. IsRead big_number 4 (take (4 * length words.old) (drop address (bank_bytes b d.state))) words.new)) }
+    ensures inside { IsDoneIf (λ d. IsSomeAnd (bank_of number) (λ b. IsTrue (is_inside b address (4 * length words.old) d.state))) handle.old.debugger result }
+    ensures value { result ≡ OK → IfSome handle.old.debugger (λ d. IfSome (bank_of number) (λ b. IsRead big_number 4 (take (4 * length words.old) (drop address (bank_bytes b d.state))) words.new)) }
     ensures refused { (result ≡ OK → ⊥) → words.new ≡ words.old }
-    ensures same { handle.new.session ≡ handle.old.session }
+    ensures same { handle.new.debugger ≡ handle.old.debugger }
 {
     with_held!(handle, alloc, |debugger| match bank_of(number) {
         Some(bank) if has_words(debugger.machine(), bank, address, words.len()) => {

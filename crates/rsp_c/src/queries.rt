@@ -16,9 +16,9 @@ use std::alloc::Global;
 /// Scalar register `n`, below 32.
 #[unsafe(no_mangle)]
 pub extern "C" fn rsp_reg(handle: &mut Handle, alloc: Global, n: u32, out: &mut u32) -> u32
-    ensures range { IsDoneIf (λ d. n < 32) handle.old.session result }
-    ensures value { IsFilled result (λ d. register d.state.registers n) handle.old.session out.old out.new }
-    ensures same { handle.new.session ≡ handle.old.session }
+    ensures range { IsDoneIf (λ d. n < 32) handle.old.debugger result }
+    ensures value { IsFilled result (λ d. register d.state.registers n) handle.old.debugger out.old out.new }
+    ensures same { handle.new.debugger ≡ handle.old.debugger }
 {
     with_held!(handle, alloc, |debugger| if n < 32 => do *out = debugger.machine().reg(n as u8))
 }
@@ -26,12 +26,12 @@ pub extern "C" fn rsp_reg(handle: &mut Handle, alloc: Global, n: u32, out: &mut 
 /// pc, npc and the scalar registers.
 #[unsafe(no_mangle)]
 pub extern "C" fn rsp_regs(handle: &mut Handle, alloc: Global, out: &mut RspScalars) -> u32
-    ensures answer { result ≡ status_of (λ _. OK) handle.old.session }
-    ensures pc { IfSome handle.old.session (λ d. out.new.pc ≡ d.state.pc) }
-    ensures npc { IfSome handle.old.session (λ d. out.new.npc ≡ d.state.npc) }
-    ensures words { IfSome handle.old.session (λ d. (n : ℕ) → n < 32 → slice_index out.new.words n ≡ register d.state.registers n) }
+    ensures answer { result ≡ status_of (λ _. OK) handle.old.debugger }
+    ensures pc { IfSome handle.old.debugger (λ d. out.new.pc ≡ d.state.pc) }
+    ensures npc { IfSome handle.old.debugger (λ d. out.new.npc ≡ d.state.npc) }
+    ensures words { IfSome handle.old.debugger (λ d. (n : ℕ) → n < 32 → slice_index out.new.words n ≡ register d.state.registers n) }
     ensures refused { (result ≡ OK → ⊥) → out.new ≡ out.old }
-    ensures same { handle.new.session ≡ handle.old.session }
+    ensures same { handle.new.debugger ≡ handle.old.debugger }
 {
     with_held!(handle, alloc, |debugger| do {
         let Scalars { pc, npc, words } = debugger.regs();
@@ -42,10 +42,10 @@ pub extern "C" fn rsp_regs(handle: &mut Handle, alloc: Global, out: &mut RspScal
 /// Vector register `n`, below 32.
 #[unsafe(no_mangle)]
 pub extern "C" fn rsp_vreg(handle: &mut Handle, alloc: Global, n: u32, out: &mut RspLanes) -> u32
-    ensures range { IsDoneIf (λ d. n < 32) handle.old.session result }
-    ensures value { result ≡ OK → IfSome handle.old.session (λ d. out.new.lanes ≡ vector d.state.vectors n) }
+    ensures range { IsDoneIf (λ d. n < 32) handle.old.debugger result }
+    ensures value { result ≡ OK → IfSome handle.old.debugger (λ d. out.new.lanes ≡ vector d.state.vectors n) }
     ensures refused { (result ≡ OK → ⊥) → out.new ≡ out.old }
-    ensures same { handle.new.session ≡ handle.old.session }
+    ensures same { handle.new.debugger ≡ handle.old.debugger }
 {
     with_held!(handle, alloc, |debugger| if n < 32 => do {
         *out = RspLanes { lanes: debugger.vreg(n as u8).to_array() }
@@ -55,9 +55,9 @@ pub extern "C" fn rsp_vreg(handle: &mut Handle, alloc: Global, n: u32, out: &mut
 /// The accumulators.
 #[unsafe(no_mangle)]
 pub extern "C" fn rsp_acc(handle: &mut Handle, alloc: Global, out: &mut RspAccumulators) -> u32
-    ensures answer { result ≡ status_of (λ _. OK) handle.old.session }
-    ensures value { IsFilled result (λ d. c_accumulators d.state.accumulators) handle.old.session out.old out.new }
-    ensures same { handle.new.session ≡ handle.old.session }
+    ensures answer { result ≡ status_of (λ _. OK) handle.old.debugger }
+    ensures value { IsFilled result (λ d. c_accumulators d.state.accumulators) handle.old.debugger out.old out.new }
+    ensures same { handle.new.debugger ≡ handle.old.debugger }
 {
     with_held!(handle, alloc, |debugger| do *out = c_accumulators(&debugger))
 }
@@ -65,9 +65,9 @@ pub extern "C" fn rsp_acc(handle: &mut Handle, alloc: Global, out: &mut RspAccum
 /// The flags, a bit for each lane.
 #[unsafe(no_mangle)]
 pub extern "C" fn rsp_flags(handle: &mut Handle, alloc: Global, out: &mut RspFlagBits) -> u32
-    ensures answer { result ≡ status_of (λ _. OK) handle.old.session }
-    ensures value { IsFilled result (λ d. c_flags d.state.flags) handle.old.session out.old out.new }
-    ensures same { handle.new.session ≡ handle.old.session }
+    ensures answer { result ≡ status_of (λ _. OK) handle.old.debugger }
+    ensures value { IsFilled result (λ d. c_flags d.state.flags) handle.old.debugger out.old out.new }
+    ensures same { handle.new.debugger ≡ handle.old.debugger }
 {
     with_held!(handle, alloc, |debugger| do *out = c_flags(debugger.flags().0))
 }
@@ -75,9 +75,9 @@ pub extern "C" fn rsp_flags(handle: &mut Handle, alloc: Global, out: &mut RspFla
 /// What the divide instructions keep from one to the next.
 #[unsafe(no_mangle)]
 pub extern "C" fn rsp_divider(handle: &mut Handle, alloc: Global, out: &mut RspDivideState) -> u32
-    ensures answer { result ≡ status_of (λ _. OK) handle.old.session }
-    ensures value { IsFilled result (λ d. c_divider d.state.divider) handle.old.session out.old out.new }
-    ensures same { handle.new.session ≡ handle.old.session }
+    ensures answer { result ≡ status_of (λ _. OK) handle.old.debugger }
+    ensures value { IsFilled result (λ d. c_divider d.state.divider) handle.old.debugger out.old out.new }
+    ensures same { handle.new.debugger ≡ handle.old.debugger }
 {
     with_held!(handle, alloc, |debugger| do *out = c_divider(debugger.flags().1))
 }

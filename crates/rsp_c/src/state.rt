@@ -19,9 +19,9 @@ use std::alloc::Global;
 /// All registers. Nothing changes.
 #[unsafe(no_mangle)]
 pub extern "C" fn rsp_get(handle: &mut Handle, alloc: Global, out: &mut RspState) -> u32
-    ensures answer { result ≡ status_of (λ _. OK) handle.old.session }
-    ensures value { IsFilled result (λ d. c_state (registers_of d.state) d.state.sp) handle.old.session out.old out.new }
-    ensures same { handle.new.session ≡ handle.old.session }
+    ensures answer { result ≡ status_of (λ _. OK) handle.old.debugger }
+    ensures value { IsFilled result (λ d. c_state (registers_of d.state) d.state.sp) handle.old.debugger out.old out.new }
+    ensures same { handle.new.debugger ≡ handle.old.debugger }
 {
     with_held!(handle, alloc, |debugger| do {
         *out = c_state(&debugger.all_registers(), debugger.sp_regs())
@@ -32,8 +32,8 @@ pub extern "C" fn rsp_get(handle: &mut Handle, alloc: Global, out: &mut RspState
 #[unsafe(no_mangle)]
 #[tactic(auto, using(crate::proofs::Fields::fields))]
 pub extern "C" fn rsp_set(handle: &mut Handle, alloc: Global, state: &RspState) -> u32
-    ensures range { IsDoneIf (λ d. state_fault state.now ≡ 0) handle.old.session result }
-    ensures next { IsNext result (λ d. set_by_host (with_registers (registers_from_c state.now) d.state) d) handle.old.session handle.new.session }
+    ensures range { IsDoneIf (λ d. state_fault state.now ≡ 0) handle.old.debugger result }
+    ensures next { IsNext result (λ d. set_by_host (with_registers (registers_from_c state.now) d.state) d) handle.old.debugger handle.new.debugger }
 {
     with_held!(handle, alloc, |debugger| if state_fault(state) == 0 => do {
         let Ok(()) = debugger.set_all_registers(&registers_from_c(state)) else {
@@ -46,8 +46,8 @@ pub extern "C" fn rsp_set(handle: &mut Handle, alloc: Global, state: &RspState) 
 /// start.
 #[unsafe(no_mangle)]
 pub extern "C" fn rsp_task(handle: &mut Handle, alloc: Global, address: u32) -> u32
-    ensures answer { result ≡ status_of (λ d. task_status (task_fault address d.state.rdram)) handle.old.session }
-    ensures next { IsNext result (λ d. set_by_host (with_task address d.state) d) handle.old.session handle.new.session }
+    ensures answer { result ≡ status_of (λ d. task_status (task_fault address d.state.rdram)) handle.old.debugger }
+    ensures next { IsNext result (λ d. set_by_host (with_task address d.state) d) handle.old.debugger handle.new.debugger }
 {
     with_held!(handle, alloc, |debugger| {
         match debugger.start_task(address) {
@@ -60,8 +60,8 @@ pub extern "C" fn rsp_task(handle: &mut Handle, alloc: Global, address: u32) -> 
 /// Goes on at an address of IMEM, a multiple of 4 below 4096, and empties the history.
 #[unsafe(no_mangle)]
 pub extern "C" fn rsp_set_pc(handle: &mut Handle, alloc: Global, pc: u32) -> u32
-    ensures answer { result ≡ status_of (λ _. address_status pc) handle.old.session }
-    ensures next { IsNext result (λ d. set_by_host (with_pc pc d.state) d) handle.old.session handle.new.session }
+    ensures answer { result ≡ status_of (λ _. address_status pc) handle.old.debugger }
+    ensures next { IsNext result (λ d. set_by_host (with_pc pc d.state) d) handle.old.debugger handle.new.debugger }
 {
     with_held!(handle, alloc, |debugger| if is_imem_address(pc) => do debugger.set_pc(pc as u16))
 }

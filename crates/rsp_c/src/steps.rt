@@ -19,8 +19,8 @@ use std::alloc::Global;
 /// Makes one step. HALTED or RESERVED if the machine can't, and then nothing changes.
 #[unsafe(no_mangle)]
 pub extern "C" fn rsp_step(handle: &mut Handle, alloc: Global) -> u32
-    ensures answer { result ≡ status_of (λ d. step_status (step_of d.state).0) handle.old.session }
-    ensures next { handle.new.session ≡ option_map after_debugger_step handle.old.session }
+    ensures answer { result ≡ status_of (λ d. step_status (step_of d.state).0) handle.old.debugger }
+    ensures next { handle.new.debugger ≡ option_map after_debugger_step handle.old.debugger }
 {
     with_held!(handle, alloc, |debugger| {
         status_of_step(debugger.step())
@@ -30,9 +30,9 @@ pub extern "C" fn rsp_step(handle: &mut Handle, alloc: Global) -> u32
 /// Makes steps up to a breakpoint, a watch, a halt, a reserved word, or `n` of them, 1 to 1000000, and reports where it stopped.
 #[unsafe(no_mangle)]
 pub extern "C" fn rsp_run(handle: &mut Handle, alloc: Global, n: u32, out: &mut RspStop) -> u32
-    ensures range { IsDoneIf (λ d. (1 ≤ n) × (n ≤ 1000000)) handle.old.session result }
-    ensures stop { IsFilled result (λ d. c_stop (stop_in n d) (after_run n d).state.imem) handle.old.session out.old out.new }
-    ensures next { IsNext result (after_run n) handle.old.session handle.new.session }
+    ensures range { IsDoneIf (λ d. (1 ≤ n) × (n ≤ 1000000)) handle.old.debugger result }
+    ensures stop { IsFilled result (λ d. c_stop (stop_in n d) (after_run n d).state.imem) handle.old.debugger out.old out.new }
+    ensures next { IsNext result (after_run n) handle.old.debugger handle.new.debugger }
 {
     with_held!(handle, alloc, |debugger| match debugger.run(n) {
         Err(_) => OUT_OF_RANGE,
@@ -55,9 +55,9 @@ pub extern "C" fn rsp_run_until_move(
     writes: u32,
     out: &mut RspMove,
 ) -> u32
-    ensures range { IsDoneIf (λ d. (1 ≤ n) × (n ≤ 1000000) × (reads < 65536) × (writes < 65536)) handle.old.session result }
-    ensures end { IsFilled result (λ d. c_move (move_end_in n (moves_from_c reads writes) d) (after_run_until_move n (moves_from_c reads writes) d).state.imem) handle.old.session out.old out.new }
-    ensures next { IsNext result (after_run_until_move n (moves_from_c reads writes)) handle.old.session handle.new.session }
+    ensures range { IsDoneIf (λ d. (1 ≤ n) × (n ≤ 1000000) × (reads < 65536) × (writes < 65536)) handle.old.debugger result }
+    ensures end { IsFilled result (λ d. c_move (move_end_in n (moves_from_c reads writes) d) (after_run_until_move n (moves_from_c reads writes) d).state.imem) handle.old.debugger out.old out.new }
+    ensures next { IsNext result (after_run_until_move n (moves_from_c reads writes)) handle.old.debugger handle.new.debugger }
 {
     with_held!(handle, alloc, |debugger| if reads <= 0xffff && writes <= 0xffff => {
         let (reads, writes) = (reads as u16, writes as u16);
@@ -80,10 +80,10 @@ pub extern "C" fn rsp_trace(
     out: &mut [RspTraced],
     stop: &mut RspStop,
 ) -> u32
-    ensures range { IsDoneIf (λ d. (1 ≤ length out.old) × (length out.old ≤ 1000000)) handle.old.session result }
-    ensures stop { IsFilled result (λ d. c_stop (stop_in (length out.old) d) (after_run (length out.old) d).state.imem) handle.old.session stop.old stop.new }
-    ensures next { IsNext result (after_run (length out.old)) handle.old.session handle.new.session }
-    ensures entries { result ≡ OK → IfSome handle.old.session (λ d. take stop.new.steps out.new ≡ trace_of stop.new.steps d.state) }
+    ensures range { IsDoneIf (λ d. (1 ≤ length out.old) × (length out.old ≤ 1000000)) handle.old.debugger result }
+    ensures stop { IsFilled result (λ d. c_stop (stop_in (length out.old) d) (after_run (length out.old) d).state.imem) handle.old.debugger stop.old stop.new }
+    ensures next { IsNext result (after_run (length out.old)) handle.old.debugger handle.new.debugger }
+    ensures entries { result ≡ OK → IfSome handle.old.debugger (λ d. take stop.new.steps out.new ≡ trace_of stop.new.steps d.state) }
     ensures rest { result ≡ OK → drop stop.new.steps out.new ≡ drop stop.new.steps out.old }
     ensures refused { (result ≡ OK → ⊥) → out.new ≡ out.old }
 {
@@ -100,9 +100,9 @@ pub extern "C" fn rsp_trace(
 /// stay, but single step halts as after any instruction. HALTED if the machine is halted, OUT_OF_RANGE if another word is at pc.
 #[unsafe(no_mangle)]
 pub extern "C" fn rsp_pass(handle: &mut Handle, alloc: Global, value: u32) -> u32
-    ensures answer { result ≡ status_of (λ d. pass_status (pass_of value d.state)) handle.old.session }
-    ensures next { IfSome handle.old.session (λ d. IfOk (pass_of value d.state) (λ s. handle.new.session ≡ Some (set_by_host s d))) }
-    ensures same { (result ≡ OK → ⊥) → handle.new.session ≡ handle.old.session }
+    ensures answer { result ≡ status_of (λ d. pass_status (pass_of value d.state)) handle.old.debugger }
+    ensures next { IfSome handle.old.debugger (λ d. IfOk (pass_of value d.state) (λ s. handle.new.debugger ≡ Some (set_by_host s d))) }
+    ensures same { (result ≡ OK → ⊥) → handle.new.debugger ≡ handle.old.debugger }
 {
     with_held!(handle, alloc, |debugger| match debugger.pass(value) {
         Ok(()) => OK,
@@ -113,11 +113,11 @@ pub extern "C" fn rsp_pass(handle: &mut Handle, alloc: Global, value: u32) -> u3
 /// Undoes `n` steps, 1 to 1000000. SHORT_HISTORY if the history holds fewer.
 #[unsafe(no_mangle)]
 pub extern "C" fn rsp_back(handle: &mut Handle, alloc: Global, n: u32) -> u32
-    ensures none { IfNone handle.old.session (result ≡ NO_MACHINE) }
-    ensures count { IfSome handle.old.session (λ d. (result ≡ OUT_OF_RANGE) ↔ ((n ≡ 0) ⊎ (1000000 < n))) }
-    ensures short { IfSome handle.old.session (λ d. (result ≡ SHORT_HISTORY) ↔ ((0 < n) × (n ≤ 1000000) × (length d.past < n))) }
-    ensures answer { IfSome handle.old.session (λ d. (result ≡ OK) ⊎ (result ≡ OUT_OF_RANGE) ⊎ (result ≡ SHORT_HISTORY)) }
-    ensures next { IsNext result (after_back n) handle.old.session handle.new.session }
+    ensures none { IfNone handle.old.debugger (result ≡ NO_MACHINE) }
+    ensures count { IfSome handle.old.debugger (λ d. (result ≡ OUT_OF_RANGE) ↔ ((n ≡ 0) ⊎ (1000000 < n))) }
+    ensures short { IfSome handle.old.debugger (λ d. (result ≡ SHORT_HISTORY) ↔ ((0 < n) × (n ≤ 1000000) × (length d.past < n))) }
+    ensures answer { IfSome handle.old.debugger (λ d. (result ≡ OK) ⊎ (result ≡ OUT_OF_RANGE) ⊎ (result ≡ SHORT_HISTORY)) }
+    ensures next { IsNext result (after_back n) handle.old.debugger handle.new.debugger }
 {
     with_held!(handle, alloc, |debugger| match debugger.back(n) {
         Ok(()) => OK,

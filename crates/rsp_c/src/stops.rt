@@ -16,8 +16,8 @@ use std::alloc::Global;
 /// one.
 #[unsafe(no_mangle)]
 pub extern "C" fn rsp_add_break(handle: &mut Handle, alloc: Global, address: u32) -> u32
-    ensures answer { result ≡ status_of (λ d. add_break_status address d.breaks) handle.old.session }
-    ensures next { IsNext result (with_breakpoint address) handle.old.session handle.new.session }
+    ensures answer { result ≡ status_of (λ d. add_break_status address d.breaks) handle.old.debugger }
+    ensures next { IsNext result (with_breakpoint address) handle.old.debugger handle.new.debugger }
 {
     with_held!(handle, alloc, |debugger| if is_imem_address(address) => {
         match debugger.add_break(address as u16) {
@@ -30,8 +30,8 @@ pub extern "C" fn rsp_add_break(handle: &mut Handle, alloc: Global, address: u32
 /// Removes the breakpoint of an address of IMEM. NO_BREAK if it has none.
 #[unsafe(no_mangle)]
 pub extern "C" fn rsp_drop_break(handle: &mut Handle, alloc: Global, address: u32) -> u32
-    ensures answer { result ≡ status_of (λ d. drop_break_status address d.breaks) handle.old.session }
-    ensures next { IsNext result (without_breakpoint address) handle.old.session handle.new.session }
+    ensures answer { result ≡ status_of (λ d. drop_break_status address d.breaks) handle.old.debugger }
+    ensures next { IsNext result (without_breakpoint address) handle.old.debugger handle.new.debugger }
 {
     with_held!(handle, alloc, |debugger| if is_imem_address(address) => {
         match debugger.drop_break(address as u16) {
@@ -51,10 +51,10 @@ pub extern "C" fn rsp_add_watch(
     len: u32,
     number: &mut usize,
 ) -> u32
-    ensures answer { result ≡ status_of (λ d. add_watch_status (number_for address len d.watches)) handle.old.session }
-    ensures number { result ≡ OK → IfSome handle.old.session (λ d. number_for address len d.watches ≡ Ok number.new) }
+    ensures answer { result ≡ status_of (λ d. add_watch_status (number_for address len d.watches)) handle.old.debugger }
+    ensures number { result ≡ OK → IfSome handle.old.debugger (λ d. number_for address len d.watches ≡ Ok number.new) }
     ensures refused { (result ≡ OK → ⊥) → number.new ≡ number.old }
-    ensures next { IsNext result (with_new_watch number.new address len) handle.old.session handle.new.session }
+    ensures next { IsNext result (with_new_watch number.new address len) handle.old.debugger handle.new.debugger }
 {
     with_held!(handle, alloc, |debugger| {
         match debugger.add_watch(address, len) {
@@ -70,8 +70,8 @@ pub extern "C" fn rsp_add_watch(
 /// Removes the watch of a number. NO_WATCH if there is none.
 #[unsafe(no_mangle)]
 pub extern "C" fn rsp_drop_watch(handle: &mut Handle, alloc: Global, number: u32) -> u32
-    ensures answer { result ≡ status_of (λ d. drop_watch_status number d.watches) handle.old.session }
-    ensures next { IsNext result (with_watch_dropped number) handle.old.session handle.new.session }
+    ensures answer { result ≡ status_of (λ d. drop_watch_status number d.watches) handle.old.debugger }
+    ensures next { IsNext result (with_watch_dropped number) handle.old.debugger handle.new.debugger }
 {
     with_held!(handle, alloc, |debugger| {
         match debugger.drop_watch(number) {

@@ -153,10 +153,10 @@ pub extern "C" fn rsp_listing(
     address: u32,
     lines: &mut [RspLine],
 ) -> u32
-    ensures range { IsDoneIf (λ d. (address % 4 ≡ 0) × (address < 4096) × (address + 4 * length lines.old ≤ 4096)) handle.old.session result }
-    ensures value { IsFilled result (λ d. c_lines d.state.imem address (length lines.old)) handle.old.session lines.old lines.new }
+    ensures range { IsDoneIf (λ d. (address % 4 ≡ 0) × (address < 4096) × (address + 4 * length lines.old ≤ 4096)) handle.old.debugger result }
+    ensures value { IsFilled result (λ d. c_lines d.state.imem address (length lines.old)) handle.old.debugger lines.old lines.new }
     ensures ended { result ≡ OK → All IsEnded lines.new }
-    ensures same { handle.new.session ≡ handle.old.session }
+    ensures same { handle.new.debugger ≡ handle.old.debugger }
 {
     let is_right = is_imem_address(address) && lines.len() <= (4096 - address as usize) / 4;
     with_held!(handle, alloc, |debugger| if is_right => do {

@@ -1,4 +1,4 @@
--- A handle leads to a block that it alone owns, and the session there is bound to no thread.
+-- A handle leads to a block that it alone owns, and the debugger there is bound to no thread.
 use mir.Raw.{raw as bare}
 use base.Shift.{Keyless}
 use denote.Memory.{lone}
@@ -11,18 +11,18 @@ use Rattle.std.specs.Global.{Global}
 use Rattle.std.proofs.Crossing.{frees}
 use Rattle.std_alloc.proofs.SendSync.{lies, quiet}
 use Rattle.std_heap.proofs.Global.TheSendSync as heap
-use Rattle.rsp_c.specs.Holding.{holding, session_row}
+use Rattle.rsp_c.specs.Holding.{holding, debugger_row}
 use Rattle.rsp_acc.specs.contracts.planes.PlaneAcc as PlaneAcc
 use Rattle.rsp_acc.specs.contracts.planes.PlaneAccAcc.TheImpl as Acc
 use Rattle.rsp_acc.proofs.planes.PlaneAcc.TheSendSync as planes
-use Rattle.rsp_debug.proofs.debugger.Debugger.TheSendSync as session
+use Rattle.rsp_debug.proofs.debugger.Debugger.TheSendSync as debugger
 use Rattle.rsp_c.specs.contracts.handle.Handle.{the_row, the_type}
 
-held : (a : Global) (p : Ptr) (s : Option session_row.Denot) → Keyless (holding session_row a p s)
+held : (a : Global) (p : Ptr) (s : Option debugger_row.Denot) → Keyless (holding debugger_row a p s)
 held a p None = tt
-held a p (Some x) = (lies session_row (session.the_send PlaneAcc.the_row Acc.ghosts planes.the_send) p x, frees.frees a (bare (lone session_row.mir)) p)
+held a p (Some x) = (lies debugger_row (debugger.the_send PlaneAcc.the_row Acc.ghosts planes.the_send) p x, frees.frees a (bare (lone debugger_row.mir)) p)
 
 pub send : IsSend the_row
 send =
     let all : AllSend (fields the_type) = (search sendable, (heap.the_field_send, tt)) in
-    owning_send the_type all (λ h. held h.alloc h.at h.session) (λ k. quiet (to the_type) (exits_of k (fields the_type)) ((struct_send (shape the_type) all).leaving k))
+    owning_send the_type all (λ h. held h.alloc h.at h.debugger) (λ k. quiet (to the_type) (exits_of k (fields the_type)) ((struct_send (shape the_type) all).leaving k))

@@ -22,7 +22,7 @@ into_parts_spec 𝓤 𝓛 𝓜 𝓡 wired =
     qed 𝓛 ((‵ ftrue ⊛ ‵ (fsep (Handle.the_row.own_val d z.0.4.0) ftrue)) ∷ raw (emp 𝓤) ∷ []) ∵ split ! $ drop ! $ fsplit ! $
     held_out ! d z.0.4.0 (λ hv ws fa. move ! (2 ∷ 3 ∷ []) $ drop ! $ drop ! $
     let Goes : List Val → SProp 𝓤 = λ us. WpFn 𝓤 𝓛.H 𝓣.C 𝓣.Λ code.function (us ++ []) (W.post z) in
-    either E.row ! d.alloc d.at d.session
+    either E.row ! d.alloc d.at d.debugger
     (λ e ed.
     let Γ : List (Item 𝓤) = ‵ (E.al.row.own_val d.alloc (hv ∷ [])) ∷ [] in
     let v₀ : Val = live 0 vnil in

@@ -15,7 +15,7 @@ none_spec 𝓤 𝓛 𝓜 𝓡 wired =
     proved_at 𝓛 F.ended st c 𝓜 𝓡 (Goes-dropped 𝓛 0 (plain (λ _. E.al.row)) yes (λ κs x f. refl), tt) #self code.function (code.unfolded 𝓤 𝓛.H 𝓜 𝓡 wired) (λ z are.
     let a = z.0.3.0 in
     let To = type_at F.signature.result tt in
-    let made : To.Denot = record { at = null_ptr; alloc = a; session = None } in
+    let made : To.Denot = record { at = null_ptr; alloc = a; debugger = None } in
     qed 𝓛 ((‵ ftrue ⊛ ‵ (fsep (E.al.row.own_val a z.0.4.0) ftrue)) ∷ raw (emp 𝓤) ∷ []) ∵ split ! $ drop ! $ fsplit ! $
     handle_tells E.al ! a z.0.4.0 (λ hv ws fa. move ! (1 ∷ 2 ∷ []) $ drop ! $ drop ! $
     let w = pair vnull hv in
