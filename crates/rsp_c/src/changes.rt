@@ -13,7 +13,7 @@ use crate::handle::{Handle, with_held};
 use crate::status::{OK, status_of_step};
 use crate::to_c::{c_accumulators, c_divider};
 use rsp_acc::PlaneAcc;
-use rsp_debug::{Debugger, TraceEntry as RspTraced};
+use rsp_debug::{Debugger, TraceEntry as RspTraced, entry_of};
 use rsp_machine::{StepEnd, Writes};
 use rsp_memory::SpMem;
 use std::alloc::Global;
@@ -64,27 +64,10 @@ fn changes_by(pc: u16, word: u32, writes: Writes, debugger: &Debugger<PlaneAcc>)
     requires { writes.scalar < 32 }
     ensures { result ≡ changes_by pc word writes debugger.now.state }
 {
-    let (machine, flags) = (debugger.machine(), debugger.flags().0);
+    let machine = debugger.machine();
     let quadword = writes.address / 16 * 16;
-    let traced = RspTraced {
-        word,
-        value: machine.reg(writes.scalar),
-        pc,
-        address: writes.address,
-        vco: flags.vco(),
-        vcc: flags.vcc(),
-        vce: flags.extra.bits(),
-        scalar: writes.scalar,
-        vector: writes.vector,
-        stored: if writes.stored { 1 } else { 0 },
-        lanes: if writes.vector < 32 {
-            machine.vreg(writes.vector).to_array()
-        } else {
-            [0; 8]
-        },
-    };
     RspChanges {
-        traced,
+        traced: entry_of(pc, word, writes, machine),
         pc: machine.pc(),
         npc: machine.npc(),
         divider: c_divider(machine.divider()),

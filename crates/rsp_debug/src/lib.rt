@@ -21,5 +21,5 @@ pub use debugger::{BackFault, CountFault, Debugger};
 pub use moves::{MoveEnd, Moves};
 pub use queries::{ListingLine, Scalars};
 pub use stop::{Reason, Stop, Watch};
-pub use trace_entry::TraceEntry;
+pub use trace_entry::{TraceEntry, entry_of};
 pub use watches::{NoWatch, WatchFault};
