@@ -64,7 +64,7 @@ AreAligned s = (register s.registers 1 % 16 ≡ 0) × (register s.registers 2 % 
 pub record Transforms (words : List ℕ) (s t : State) (matrix vectors result : ℕ) : Type 0 where
   -- the eight numbers at the result: high parts first, then the low ones
   pub product : (i : ℕ) → i < 8 → fixed (lanes_at t.dmem result) (lanes_at t.dmem (result + 16)) i ≡ transformed s.dmem matrix vectors i
-  -- no other byte of DMEM with_written, nor anything else but vector registers 1 to 11, the accumulators, pc and npc
+  -- no other byte of DMEM is written, nor anything else but vector registers 1 to 11, the accumulators, pc and npc
   pub outside : (x : ℕ) → IsOutside result 32 x → byte_at t.dmem x ≡ byte_at s.dmem x
   pub others : t ≡ record s {
     pc = address_after_words words s.pc;
