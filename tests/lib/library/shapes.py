@@ -99,14 +99,15 @@ def constants(file: str, form: str) -> Dict[str, int]:
     return numbers(file, rf"^(?:pub )?const (?P<name>{form}): \w+ = (?P<number>\d+);")
 
 
-STATUSES = constants("status.rt", r"\w+")
+# The statuses, as the definition numbers them and not the code, and the least length of a buffer for replies.
+STATUSES = numbers("../specs/Statuses.antt", r"^  pub \w+ : (?P<name>\w+) ≡ (?P<number>\d+)$")
+REPLIES = STATUSES.pop("REPLIES", -1)
 HELD = numbers("status.rt", r"(?P<number>\d+) => Some\(Bank::(?P<name>\w+)\),")
 BANKS = {name.upper(): number for name, number in HELD.items()}
-# The faults of a text, the fields of a state that can have one, and the least length of a buffer for replies.
+# The faults of a text, and the fields of a state that can have one.
 FAULTS = numbers("status.rt", r"AsmFaultKind::(?P<name>\w+) => (?P<number>\d+),")
 FAULTS["NotText"] = constants("texts.rt", "NOT_TEXT").get("NOT_TEXT", -1)
 FIELDS = constants("fault.rt", r"\w+")
-REPLIES = constants("script.rt", "REPLIES").get("REPLIES", -1)
 # The reasons of a stop, by their names in C, of which two aren't those of the debugger.
 STOPS = numbers("to_c.rt", r"Reason::(?P<name>\w+)(?:\(k\))? => \((?P<number>\d+),")
 REASONS = {{"Halted": "HALT", "Watched": "WATCH"}.get(it, it.upper()): n for it, n in STOPS.items()}
