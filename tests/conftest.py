@@ -8,7 +8,7 @@ tests another program. `pytest --markers` and `pytest --fixtures` say more.
 import os
 import tempfile
 from pathlib import Path
-from typing import Any, Callable, Iterator
+from typing import Any, Callable, Iterator, List
 
 import pytest
 
@@ -45,6 +45,16 @@ def pytest_configure(config: pytest.Config) -> None:
 def pytest_xdist_auto_num_workers() -> int:
     """`-n auto` is a worker for each processor that this process may use."""
     return len(os.sched_getaffinity(0))
+
+
+@pytest.hookimpl(trylast=True)
+def pytest_collection_modifyitems(items: List[pytest.Item]) -> None:
+    """Tests that have more than the usual time begin first, so that no long one ends alone."""
+
+    def limit(item: pytest.Item) -> int:
+        return max([300, *(mark.args[0] for mark in item.iter_markers("timeout") if mark.args)])
+
+    items.sort(key=limit, reverse=True)
 
 
 def pytest_runtest_setup(item: pytest.Item) -> None:
