@@ -1,6 +1,6 @@
 // Moves between the scalar registers and the SP registers, before which a run can end.
 
-ghost use Rattle.std.specs.Prelude.{◌≡◌, ◌<◌, ◌==◌, ◌&&◌, IsTrue, IfSome};
+ghost use Rattle.std.specs.Prelude.{◌≡◌, ◌<◌, ◌==◌, ◌&&◌, IsTrue, IfSome, is_none};
 ghost use Rattle.rsp_decode.specs.Table.{inst_of, IsInstruction};
 ghost use Rattle.rsp_debug.specs.Moves.{no_moves, end_by};
 ghost use Rattle.rsp_debug.specs.Runs.{move_of, has_move};
@@ -69,6 +69,14 @@ fn move_of(word: u32) -> Option<Inst>
     let mut kept = KeptMove { inst: None };
     visit(word, &mut kept);
     kept.inst
+}
+
+/// Whether a word has no instruction.
+#[inline]
+pub(crate) fn is_reserved(word: u32) -> bool
+    ensures { result ≡ is_none (inst_of word) }
+{
+    !visit(word, &mut KeptMove { inst: None })
 }
 
 impl Moves {

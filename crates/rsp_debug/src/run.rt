@@ -12,11 +12,10 @@ ghost use Rattle.rsp_debug.specs.Runs.{step_refusal, Asks, Refuses, IsRun};
 use crate::breaks::Breaks;
 use crate::conditions::StopConditions;
 use crate::history::History;
-use crate::moves::Moves;
+use crate::moves::{Moves, is_reserved};
 use crate::stop::{Reason, Stop};
 use crate::watches::Watches;
 use rsp_acc::Acc;
-use rsp_decode::decode;
 use rsp_machine::{Machine, Never, Until};
 
 /// Why a machine can't make a step, if it can't.
@@ -27,7 +26,7 @@ fn step_refusal<A: Acc>(machine: &Machine<A>) -> Option<Reason>
     if machine.sp_regs().halted() {
         return Some(Reason::Halted);
     }
-    if decode(machine.imem().aligned_word(usize::from(machine.pc()))).is_none() {
+    if is_reserved(machine.imem().aligned_word(usize::from(machine.pc()))) {
         return Some(Reason::Reserved);
     }
     None
