@@ -19,8 +19,7 @@ pub enum BreakFault {
 #[derive(Clone, Copy, Debug, PartialEq, Eq, Drop)]
 pub struct NoBreak;
 
-/// The addresses of IMEM that have a breakpoint. Contracts see a list of 1024 truth values, one for each word of IMEM in the order
-/// of addresses.
+/// The addresses of IMEM that have a breakpoint. Contracts see a list of 1024 truth values, one for each word of IMEM in the order of addresses.
 #[derive(Drop)]
 pub struct Breaks {
     bits: [u64; 16],

@@ -129,9 +129,8 @@ impl<A: Acc> Debugger<A> {
         self.breaks.remove(address)
     }
 
-    /// Watches `len` bytes of DMEM from an address on, and returns the watch's number, the lowest that is free: a run stops after a
-    /// step that changes one of them. WatchRange unless they are 1 to 64 bytes inside DMEM, else WatchFull if there are eight
-    /// watches.
+    /// Watches `len` bytes of DMEM from an address on, and returns the watch's number, the lowest that is free: a run stops after a step that changes
+    /// one of them. WatchRange unless they are 1 to 64 bytes inside DMEM, else WatchFull if there are eight watches.
     pub fn add_watch(&mut self, address: u32, len: u32) -> Result<usize, WatchFault>
         ensures answer { result ≡ number_for address len self.old.watches }
         ensures ok { IfOk result (λ k. self.new ≡ with_new_watch k address len self.old) }
@@ -172,10 +171,9 @@ impl<A: Acc> Debugger<A> {
         ))
     }
 
-    /// Runs as [`Debugger::run`] does, and also ends before an MFC0 or MTC0 of an SP register that `moves` names, which isn't
-    /// executed, also before the first step. The reasons, in their order: the word at pc is reserved and the machine isn't halted;
-    /// it is halted; the last step changed a byte of a watch; it led to a breakpoint; such a move is next; `n` steps are made.
-    /// CountFault unless `n` is 1 to 1000000.
+    /// Runs as [`Debugger::run`] does, and also ends before an MFC0 or MTC0 of an SP register that `moves` names, which isn't executed, also before
+    /// the first step. The reasons, in their order: the word at pc is reserved and the machine isn't halted; it is halted; the last step changed a
+    /// byte of a watch; it led to a breakpoint; such a move is next; `n` steps are made. CountFault unless `n` is 1 to 1000000.
     pub fn run_until_move(&mut self, n: u32, moves: Moves) -> Result<MoveEnd, CountFault>
         ensures count { IsOk result ↔ ((1 ≤ n) × (n ≤ 1000000)) }
         ensures end { IfOk result (λ end. end ≡ move_end_in n moves self.old) }

@@ -161,9 +161,8 @@ impl History {
         self.count -= 1;
     }
 
-    /// Makes 1 to `n` steps of a machine, or none if the next one isn't Done or `until` refuses it. Returns how many. With a depth
-    /// other than 0 it keeps their records. It stops early at the ring's last entry, after a step that starts a DMA, or if `until`
-    /// ends it or refuses the next step.
+    /// Makes 1 to `n` steps of a machine, or none if the next one isn't Done or `until` refuses it. Returns how many. With a depth other than 0 it
+    /// keeps their records. It stops early at the ring's last entry, after a step that starts a DMA, or if `until` ends it or refuses the next step.
     pub fn stretch<A: Acc, U: Until>(&mut self, machine: &mut Machine<A>, n: u32, until: &U) -> u32
         requires { 0 < n }
         ensures within { result ≤ n }

@@ -37,8 +37,7 @@ impl<A: Acc> Debugger<A> {
         self.machine.write_reg(n, value);
     }
 
-    /// Sets pc to an address of IMEM, a multiple of 4 below 4096, as [`rsp_machine::Machine::set_pc`] does, and empties the
-    /// history.
+    /// Sets pc to an address of IMEM, a multiple of 4 below 4096, as [`rsp_machine::Machine::set_pc`] does, and empties the history.
     pub fn set_pc(&mut self, pc: u16)
         requires below { pc < 4096 }
         requires whole { pc % 4 ≡ 0 }
@@ -81,9 +80,8 @@ impl<A: Acc> Debugger<A> {
         Ok(())
     }
 
-    /// Starts the task whose structure of 64 bytes is at an address of the RDRAM, as
-    /// [`rsp_machine::Machine::start_task`] does, and empties the history. TaskPlace or TaskSize, and nothing changes, if
-    /// it can't start.
+    /// Starts the task whose structure of 64 bytes is at an address of the RDRAM, as [`rsp_machine::Machine::start_task`] does, and empties the
+    /// history. TaskPlace or TaskSize, and nothing changes, if it can't start.
     pub fn start_task(&mut self, a: u32) -> Result<(), TaskFault>
         ensures fault { MatchResult result (λ _. task_fault a self.old.state.rdram ≡ None) (λ f. task_fault a self.old.state.rdram ≡ Some f) }
         ensures ok { OnOk result (self.new ≡ set_by_host (with_task a self.old.state) self.old) }

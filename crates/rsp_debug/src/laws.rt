@@ -10,16 +10,14 @@ pub fn l5()
     ensures { RunsAreSteps }
 {}
 
-/// Undo: from any state with an empty history, after any list of steps, runs and steps back, each run with breakpoints, watches and
-/// a count of its own, the state is that after as many plain steps as returned Done, less those that were undone. These plain
-/// steps all return Done.
+/// Undo: from any state with an empty history, after any list of steps, runs and steps back, each run with breakpoints, watches and a count of its
+/// own, the state is that after as many plain steps as returned Done, less those that were undone. These plain steps all return Done.
 #[tactic(auto, using(crate::proofs::UndoLaw::undoes))]
 pub fn l7()
     ensures { Undoes }
 {}
 
-/// A run stops at the least number of steps, at most its count, after which there is a reason to stop, and for the first
-/// such reason.
+/// A run stops at the least number of steps, at most its count, after which there is a reason to stop, and for the first such reason.
 #[tactic(auto, using(crate::proofs::DoneSteps::afters))]
 pub fn runs_stop_first()
     ensures { RunsStopFirst }
