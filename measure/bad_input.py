@@ -3,16 +3,14 @@
 For each it prints the processor's seconds, the least of three runs, and the status.
 """
 
-import argparse
 import resource
 import subprocess
 import tempfile
 from pathlib import Path
 from typing import Iterator, Tuple
 
-from rsp_tools import TOP
+from measure import add_program, reader
 
-BUILT = TOP / "crates/rsp_main/out/rsp_main"
 LONGEST = 1_048_576
 
 
@@ -54,14 +52,9 @@ def seconds(program: Path, kind: str, source: Path) -> Tuple[float, int]:
 
 
 def main() -> None:
-    raw = argparse.RawDescriptionHelpFormatter
-    words = argparse.ArgumentParser(
-        usage="tools/python measure.bad_input", description=__doc__, formatter_class=raw
-    )
-    words.add_argument(
-        "program", nargs="?", type=Path, metavar="PROGRAM", default=TOP / "crates/rsp_main/out/rsp_main"
-    )
-    program = words.parse_args().program.resolve()
+    words = reader(__doc__)
+    add_program(words)
+    program = words.parse_args().program
     with tempfile.TemporaryDirectory() as folder:
         for name, kind, data in shapes():
             source = Path(folder) / "shape"

@@ -5,12 +5,16 @@ It prints how many times as much as the runs of both machines alone.
 
 import time
 
-import rsp
+from measure import need_library, reader
 
 LOOP = "loop: addiu $2, $2, 1\nvadd $v2, $v2, $v1\nsqv $v2[0], 0($0)\nbeq $0, $0, loop\nnop\n"
 
 
 def main() -> None:
+    reader(__doc__).parse_args()
+    need_library()
+    import rsp
+
     machine, emulator = rsp.Rsp(bytes(64)), rsp.Rsp(bytes(64))
     machine.load_words(rsp.IMEM, 0, rsp.assemble(LOOP))
     for every, steps in ((10000, 4000000), (64, 640000)):
