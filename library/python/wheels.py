@@ -13,7 +13,7 @@ import hashlib
 import re
 import zipfile
 from pathlib import Path
-from typing import Any, Dict
+from typing import Any, Dict, Sequence, Union
 
 HERE = Path(__file__).resolve().parent
 MADE = HERE.parent / "c/librsp.so"
@@ -21,7 +21,6 @@ TEXT = (HERE / "pyproject.toml").read_text()
 PROJECT = dict(re.findall(r'(?m)^([a-z-]+) = (?:\{ text = )?"(.*)"(?: \})?$', TEXT))
 NAME = f"{PROJECT['name']}-{PROJECT['version']}"
 PLATFORMS = "manylinux_2_17_x86_64", "manylinux2014_x86_64"
-TAG = f"py3-none-{'.'.join(PLATFORMS)}"
 METADATA = f"""Metadata-Version: 2.1
 Name: {PROJECT["name"]}
 Version: {PROJECT["version"]}
@@ -29,22 +28,19 @@ Summary: {PROJECT["description"]}
 License: {PROJECT["license"]}
 Requires-Python: {PROJECT["requires-python"]}
 """
-TAGS = "".join(f"Tag: py3-none-{it}\n" for it in PLATFORMS)
-WHEEL = f"Wheel-Version: 1.0\nGenerator: wheels\nRoot-Is-Purelib: false\n{TAGS}"
+WHEEL = "Wheel-Version: 1.0\nGenerator: wheels\nRoot-Is-Purelib: false\n"
 DAY = (1980, 1, 1, 0, 0, 0)  # the first that a wheel can have
 
 
-def write(folder: str, files: Dict[str, bytes]) -> str:
+def write(folder: Union[str, Path], files: Dict[str, bytes], platforms: Sequence[str] = PLATFORMS) -> str:
     """Writes a wheel of these files to a folder, and returns its name."""
-    if not MADE.is_file():
-        raise FileNotFoundError(f"{MADE} isn't there: run library/c/build first")
-    info, lines = f"{NAME}.dist-info", ""
-    files = {**files, f"{info}/METADATA": METADATA.encode(), f"{info}/WHEEL": WHEEL.encode()}
+    info, lines, tags = f"{NAME}.dist-info", "", "".join(f"Tag: py3-none-{it}\n" for it in platforms)
+    files = {**files, f"{info}/METADATA": METADATA.encode(), f"{info}/WHEEL": f"{WHEEL}{tags}".encode()}
     for path, data in files.items():
         digest = base64.urlsafe_b64encode(hashlib.sha256(data).digest()).rstrip(b"=").decode()
         lines += f"{path},sha256={digest},{len(data)}\n"
     files[f"{info}/RECORD"] = f"{lines}{info}/RECORD,,\n".encode()
-    name = f"{NAME}-{TAG}.whl"
+    name = f"{NAME}-py3-none-{'.'.join(platforms)}.whl"
     with zipfile.ZipFile(Path(folder, name), "w", zipfile.ZIP_DEFLATED) as wheel:
         for path, data in files.items():
             entry = zipfile.ZipInfo(path, DAY)
@@ -53,14 +49,27 @@ def write(folder: str, files: Dict[str, bytes]) -> str:
     return name
 
 
+def with_library(library: Path, name: str) -> Dict[str, bytes]:
+    """The files of the module with a library of this name."""
+    paths = [*sorted((HERE / "rsp").glob("*.py*")), HERE / "rsp/py.typed"]
+    return {**{f"rsp/{it.name}": it.read_bytes() for it in paths}, f"rsp/{name}": library.read_bytes()}
+
+
+def made() -> Path:
+    """The library, if it is built."""
+    if not MADE.is_file():
+        raise FileNotFoundError(f"{MADE} isn't there: run library/c/build first")
+    return MADE
+
+
 def build_wheel(wheel_directory: str, config_settings: Any = None, metadata_directory: Any = None) -> str:
     """The wheel of an install and of the release: the module with its library."""
-    paths = [*sorted((HERE / "rsp").glob("*.py*")), HERE / "rsp/py.typed", MADE]
-    return write(wheel_directory, {f"rsp/{it.name}": it.read_bytes() for it in paths if it.is_file()})
+    return write(wheel_directory, with_library(made(), MADE.name))
 
 
 def build_editable(wheel_directory: str, config_settings: Any = None, metadata_directory: Any = None) -> str:
     """The wheel of an editable install."""
+    made()
     return write(wheel_directory, {f"{PROJECT['name']}.pth": f"{HERE}\n".encode()})
 
 

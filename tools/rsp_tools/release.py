@@ -31,7 +31,7 @@ from rsp_tools.packaging import installed, packed, pages, repository, systems
 from rsp_tools.packaging.installed import File
 from rsp_tools.packaging.link import linked_program
 from rsp_tools.packaging.repository import said
-from rsp_tools.systems import places
+from rsp_tools.systems import header, places
 from rsp_tools.systems.__main__ import SYSTEMS
 from rsp_tools.systems.toolchain import missing
 
@@ -63,7 +63,7 @@ def succeed(why: str, *words: str) -> None:
 
 def check_versions(version: str) -> None:
     for name, form in VERSIONS.items():
-        (named,) = installed.found(form, name)
+        (named,) = header.found(form, TOP / name)
         if named != version:
             fail(f"{name} says version {named}, not {version}")
 

@@ -1,11 +1,10 @@
 """What an installation holds below its prefix. library/c/install writes it, and the release packs it."""
 
-import re
-from typing import Iterator, List, NamedTuple, Optional, Tuple, Union
+from typing import Iterator, NamedTuple, Optional, Tuple, Union
 
 from rsp_tools import TOOLS, TOP
 from rsp_tools.packaging import manpage
-
+from rsp_tools.systems import header
 
 # The script `rsp` of an archive.
 STARTER = """#!/bin/sh
@@ -29,41 +28,21 @@ def starter(about: Tuple[str, str]) -> File:
     return File("rsp", STARTER.format(*about).encode(), True)
 
 
-def found(form: str, path: str) -> Tuple[str, ...]:
-    """The groups of a form that a file of the repository has."""
-    text = re.search(form, (TOP / path).read_text(), re.M)
-    if not text:
-        raise ValueError(f"{path} has nothing of the form {form}")
-    return text.groups()
-
-
-def version() -> Tuple[str, ...]:
-    """The version and its day, which have their one place in rsp_cli_args."""
-    return found(r'const VERSION: &str = "([\d.]+) \(([\d-]+)\)"', "crates/rsp_cli_args/src/lib.rt")
+def version() -> Tuple[str, str]:
+    """The version and its day."""
+    number, day = header.dated_version().split()
+    return number, day.strip("()")
 
 
 def soname() -> str:
     """The name of the shared library, with the version of its interface."""
-    return "librsp.so." + found(r"^#define RSP_VERSION (\d+)$", "library/c/rsp.h")[0]
-
-
-def calls() -> List[str]:
-    """The names of the calls that the header declares."""
-    return re.findall(r"(?m)^(?:uint32_t|void) (rsp_\w+)\(", (TOP / "library/c/rsp.h").read_text())
+    return f"librsp.so.{header.interface()}"
 
 
 def filled(name: str, prefix: str) -> bytes:
-    """A template of tools/packaging, with its words in capitals replaced."""
-    number, _ = version()
-    words = {
-        "PREFIX": prefix,
-        "ABOUT": found(r'^description = "(.*)"$', "library/python/pyproject.toml")[0],
-        "VERSION": number,
-        "MAJOR": number.split(".")[0],
-        "SONAME": soname(),
-    }
-    text = (TOOLS / "packaging" / name).read_text()
-    return re.sub(r"@([A-Z]+)@", lambda it: words[it[1]], text).encode(errors="surrogateescape")
+    """A template of tools/packaging."""
+    text = header.filled(TOOLS / "packaging" / name, PREFIX=prefix, SONAME=soname())
+    return text.encode(errors="surrogateescape")
 
 
 def contents(prefix: str, program: Optional[bytes]) -> Iterator[File]:

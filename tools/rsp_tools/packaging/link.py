@@ -19,6 +19,7 @@ from typing import List, NoReturn
 
 from rsp_tools import TOOLS, TOP
 from rsp_tools.packaging import installed
+from rsp_tools.systems import header
 
 NAME = "tools/python rsp_tools.packaging.link"
 C = TOP / "library/c"
@@ -53,7 +54,7 @@ def put(folder: Path, name: str) -> None:
 
 
 def link_library(archives: List[str]) -> None:
-    name, keep = installed.soname(), [f"--keep-global-symbol={it}" for it in installed.calls()]
+    name, keep = installed.soname(), [f"--keep-global-symbol={it}" for it in header.calls()]
     with tempfile.TemporaryDirectory() as folder:
         at = Path(folder)
         call("ld", "-r", "-o", at / "all.o", "--whole-archive", *archives)

@@ -1,9 +1,20 @@
-"""What c/rsp.h declares, and the version that is packed."""
+"""What library/c/rsp.h declares, the version that is packed, and templates that have both."""
 
 import re
+from pathlib import Path
 from typing import List, Tuple
 
+import wheels
+
 from . import places
+
+
+def found(form: str, path: Path) -> Tuple[str, ...]:
+    """The groups of a form that a file of the repository has."""
+    text = re.search(form, path.read_text(), re.M)
+    if not text:
+        raise ValueError(f"{path.relative_to(places.TOP)} has nothing of the form {form}")
+    return text.groups()
 
 
 def calls() -> List[str]:
@@ -13,24 +24,18 @@ def calls() -> List[str]:
 
 def interface() -> str:
     """The version of the interface, which the name of a shared library has."""
-    found = re.search(r"^#define RSP_VERSION (\d+)$", places.HEADER.read_text(), re.M)
-    assert found, "rsp.h has its version"
-    return found[1]
+    return found(r"^#define RSP_VERSION (\d+)$", places.HEADER)[0]
 
 
 def stack() -> int:
     """How many bytes of stack a call needs at most."""
-    found = re.search(r"^#define RSP_STACK (\d+)$", places.HEADER.read_text(), re.M)
-    assert found, "rsp.h has the stack of a call"
-    return int(found[1])
+    return int(found(r"^#define RSP_STACK (\d+)$", places.HEADER)[0])
 
 
 def dated_version() -> str:
     """The version of the project with its day, which has its one place in rsp_cli_args."""
-    source = (places.CRATES / "rsp_cli_args" / "src" / "lib.rt").read_text()
-    found = re.search(r'const VERSION: &str = "([\d.]+ \(.*\))";', source)
-    assert found, "rsp_cli_args has the version"
-    return found[1]
+    source = places.CRATES / "rsp_cli_args/src/lib.rt"
+    return found(r'const VERSION: &str = "([\d.]+ \([\d-]+\))"', source)[0]
 
 
 def version() -> str:
@@ -38,14 +43,8 @@ def version() -> str:
     return dated_version().split()[0]
 
 
-def project() -> Tuple[str, ...]:
-    """What the Python project says of itself: name, description, licence, and the Python that it wants."""
-    text = (places.PYTHON / "pyproject.toml").read_text()
-    forms = (
-        r'^name = "(.*)"$',
-        r'^description = "(.*)"$',
-        r'^license = \{ text = "(.*)" \}$',
-        r'^requires-python = "(.*)"$',
-    )
-    found = [re.search(form, text, re.M) for form in forms]
-    return tuple(it[1] for it in found if it)
+def filled(template: Path, **words: str) -> str:
+    """A template, with its words in capitals replaced."""
+    number = version()
+    words.update(VERSION=number, MAJOR=number.split(".")[0], ABOUT=wheels.PROJECT["description"])
+    return re.sub(r"@([A-Z]+)@", lambda it: words[it[1]], template.read_text())

@@ -4,7 +4,7 @@ from __future__ import annotations
 
 from dataclasses import dataclass
 
-from rsp_conformance.table import ROWS, fields_of
+from rsp_conformance.table import ROWS, destination, fields_of
 
 from . import stop
 
@@ -109,10 +109,8 @@ class Instruction:
     @property
     def scalar(self) -> int:
         """The scalar register that it writes, or 0."""
-        if self.form in ("shift", "three"):
-            return self.fields["d"]
-        writes_t = ("immediate", "upper", "load", "from sp", "from vector", "from control")
-        return self.fields["t"] if self.form in writes_t else 0
+        to = destination(ROWS[self.name])
+        return self.fields[to] if to else 0
 
     @property
     def vectors(self) -> list[int]:

@@ -6,8 +6,9 @@ from .buffers import marked, result_use
 from .instructions import uses
 from .kit import KIT, OPENED
 from .loops import lemmas, needs_bound
-from .pieces import Piece, aligned, bases_of, definitions, listing, pieces_text
+from .pieces import Piece, aligned, bases_of
 from .routine import Joined, Routine
+from .straight import code_text, record_text
 
 JOINS = """\
 use Rattle.std.specs.Prelude.{◌++◌}
@@ -23,12 +24,16 @@ def joined_proof(it: Joined) -> str:
         for piece in block.pieces if block else []:
             piece.name = f"{name}_{piece.name}" if piece.name else ""
     names = f"{it.module}Entered, {it.module}Does, Does{it.module}"
-    blocks = [block_text(it.front, "front"), back_text(it.back)]
+    blocks = code_text(it.front, "front_words", "front", "front_decoded") if it.front else ""
+    if it.back and it.returns:
+        blocks += record_text(it.back, "Routine", "back", "back_decoded")
+    elif it.back:
+        blocks += code_text(it.back, "back_words", "back", "back_decoded")
     return f"""-- {it.name}.
 {KIT}{uses(it.code)}{JOINS}use Rattle.rsp_routines.specs.{it.module}.{{{names}}}
 {result_use(it.loop)}
 {lemmas(it.loop)}
-{"".join(blocks)}abbrev words : List ℕ
+{blocks}abbrev words : List ℕ
 words = {" ++ ".join(words_in(it))}
 
 {moved(it)}{does(it)}"""
@@ -40,47 +45,6 @@ def words_in(it: Joined) -> list[str]:
     back = ["back.words" if it.returns else "back_words"] if it.back else []
     parts = [*front, "loop.words", *back]
     return [*parts[:-2], f"({' ++ '.join(parts[-2:])})"] if len(parts) == 3 else parts
-
-
-def hexadecimal(it: Routine) -> str:
-    return listing([f"0x{word:08x}" for word in it.words])
-
-
-def block_text(it: Routine | None, name: str) -> str:
-    """Straight code."""
-    if not it:
-        return ""
-    return f"""{definitions(it.pieces)}abbrev {name}_words : List ℕ
-{name}_words = {hexadecimal(it)}
-
-abbrev {name} : List Piece
-{name} =
-    {pieces_text(it.pieces, 4)}
-
-{name}_decoded : map inst_of {name}_words ≡ map Some (code_of {name})
-unfolding inst_of row_of
-{name}_decoded = refl
-
-"""
-
-
-def back_text(it: Routine | None) -> str:
-    """The code after the loop."""
-    if not it or not it.returns:
-        return block_text(it, "back")
-    return f"""{definitions(it.pieces)}abbrev back : Routine
-back = record {{
-  words = {hexadecimal(it)};
-  pieces =
-      {pieces_text(it.pieces, 4)};
-  slot = {it.code[-1].term};
-}}
-
-back_decoded : map inst_of back.words ≡ map Some (routine_code back)
-unfolding inst_of row_of
-back_decoded = refl
-
-"""
 
 
 def does(it: Joined) -> str:

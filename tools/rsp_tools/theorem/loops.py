@@ -7,8 +7,9 @@ import re
 from .buffers import MARK, filled, marked, memory, result_use, stored
 from .instructions import uses
 from .kit import KIT, OPENED
-from .pieces import aligned, definitions, listing, pieces_text
+from .pieces import aligned
 from .routine import Routine
+from .straight import record_text
 
 
 def wide(amount: int) -> int:
@@ -33,20 +34,7 @@ def loop_proof(it: Routine) -> str:
 
 def lemmas(it: Routine) -> str:
     """The loop, and what one round does."""
-    words = listing([f"0x{word:08x}" for word in it.words])
-    return f"""{definitions(it.pieces)}abbrev loop : Loop
-loop = record {{
-  words = {words};
-  pieces =
-      {pieces_text(it.pieces, 4)};
-  branch = {it.code[-2].term};
-  slot = {it.code[-1].term};
-}}
-
-decoded : map inst_of loop.words ≡ map Some (loop_code loop)
-unfolding inst_of row_of
-decoded = refl
-
+    return f"""{record_text(it, "Loop", "loop", "decoded")}\
 {invariant_text(it)}
 {counted(it)}
 -- whether a round is left

@@ -66,6 +66,10 @@ class Text:
         return [it.word for it in self.code]
 
     @property
+    def listed_words(self) -> str:
+        return listing([f"0x{word:08x}" for word in self.words])
+
+    @property
     def numbers(self) -> str:
         """The scalar registers that it writes, as a list."""
         return listed({it.scalar for it in self.code} - {0})

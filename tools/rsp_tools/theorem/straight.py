@@ -4,7 +4,7 @@ from __future__ import annotations
 
 from .kit import KIT, OPENED
 from .instructions import uses
-from .pieces import aligned, definitions, listing, pieces_text
+from .pieces import aligned, definitions, pieces_text
 from .routine import Routine
 
 
@@ -12,17 +12,7 @@ def straight_proof(it: Routine) -> str:
     return f"""-- {it.name}.
 {KIT}{uses(it.code)}use Rattle.rsp_routines.specs.{it.module}.{{Does{it.module}}}
 
-{definitions(it.pieces)}abbrev words : List ℕ
-words = {words_of(it)}
-
-abbrev pieces : List Piece
-pieces =
-    {pieces_text(it.pieces, 4)}
-
-decoded : map inst_of words ≡ map Some (code_of pieces)
-unfolding inst_of row_of
-decoded = refl
-
+{code_text(it, "words", "pieces", "decoded")}\
 {does(it, "words", "pieces", "pieces_run law words pieces")}"""
 
 
@@ -32,23 +22,46 @@ def routine_proof(it: Routine) -> str:
 use Rattle.rsp_routines.specs.{it.module}.{{Does{it.module}}}
 use Rattle.rsp_microcode.proofs.Calls.{{routine_run}}
 
-{definitions(it.pieces)}abbrev routine : Routine
-routine = record {{
-  words = {words_of(it)};
-  pieces =
-      {pieces_text(it.pieces, 4)};
-  slot = {it.code[-1].term};
-}}
-
-decoded : map inst_of routine.words ≡ map Some (routine_code routine)
-unfolding inst_of row_of
-decoded = refl
-
+{record_text(it, "Routine", "routine", "decoded")}\
 {does(it, "routine.words", "routine.pieces", "routine_run law routine")}"""
 
 
-def words_of(it: Routine) -> str:
-    return listing([f"0x{word:08x}" for word in it.words])
+def code_text(it: Routine, words: str, pieces: str, fact: str) -> str:
+    """Straight code by these names: its words, its pieces, and that they are the same."""
+    return f"""\
+{definitions(it.pieces)}abbrev {words} : List ℕ
+{words} = {it.listed_words}
+
+abbrev {pieces} : List Piece
+{pieces} =
+    {pieces_text(it.pieces, 4)}
+
+{same_text(fact, words, f"code_of {pieces}")}
+"""
+
+
+def record_text(it: Routine, kind: str, name: str, fact: str) -> str:
+    """A Routine or a Loop of this name, and that its words are its pieces."""
+    branch = f"  branch = {it.code[-2].term};\n" if it.counter else ""
+    return f"""\
+{definitions(it.pieces)}abbrev {name} : {kind}
+{name} = record {{
+  words = {it.listed_words};
+  pieces =
+      {pieces_text(it.pieces, 4)};
+{branch}  slot = {it.code[-1].term};
+}}
+
+{same_text(fact, f"{name}.words", f"{kind.lower()}_code {name}")}
+"""
+
+
+def same_text(fact: str, words: str, code: str) -> str:
+    return f"""\
+{fact} : map inst_of {words} ≡ map Some ({code})
+unfolding inst_of row_of
+{fact} = refl
+"""
 
 
 def does(it: Routine, words: str, pieces: str, law: str) -> str:
