@@ -5,19 +5,18 @@ The kit has no command that gives them. It takes the folder of its toolchain by 
 folder of links stands for it, with a program `clang` that keeps its input. A module is kept until a source
 of the library or the kit changes. """
 
-import re
 import shutil
 import subprocess
 import tempfile
 from pathlib import Path
 from typing import Callable, Dict, List, NamedTuple
 
+from rsp_tools.build import over_libraries, with_below
+
 from . import places
 from .toolchain import Refused, call, kit, llvm
 
 TARGETS: Dict[str, str] = {"x86_64": "x86_64-unknown-linux-gnu", "aarch64": "aarch64-unknown-linux-gnu"}
-# The library begins its lines of crates.txt with the name of a crate.
-LINE = re.compile(r"(\w+)(?: staticlib)?:(.*)")
 
 
 class Module(NamedTuple):
@@ -59,42 +58,16 @@ def mark(crate: Crate) -> str:
         raise Refused(f"the {crate.what} isn't built: {crate.command} makes it")
     text = built.read_text(errors="surrogateescape")
     # The first line is the kit's version, and the last one the sum of what is built.
-    if call(str(places.SOURCES), *with_below(crate.name, uses())).splitlines() != text.splitlines()[1:-1]:
+    if call(str(places.SOURCES), *with_below(crate.name)).splitlines() != text.splitlines()[1:-1]:
         raise Refused(
             f"the {crate.what}'s sources have changed since it was built: {crate.command} makes it again"
         )
     return text
 
 
-def uses() -> Dict[str, List[str]]:
-    """The crates that each crate of the repository uses."""
-    lines = places.CRATES.with_suffix(".txt").read_text().splitlines()
-    return {found[1]: found[2].split() for found in map(LINE.fullmatch, lines) if found}
-
-
-def with_below(name: str, used: Dict[str, List[str]]) -> List[str]:
-    """A crate and those of the repository that it uses, each after those that it uses itself."""
-    if name not in used:
-        return []
-    return [*dict.fromkeys(below for it in used[name] for below in with_below(it, used)), name]
-
-
 def words_of(crate: Crate, target: str, toolchain: Path, out: Path) -> List[str]:
     """The words of `rattle build`, as `rt` has them, with a target and a toolchain."""
-    used = uses()
-    ours = with_below(crate.name, used)[:-1]
-    words = f"--crate-name {crate.name} {crate.words} --backend llvm --jobs 2".split()
-    for name in ["std", *used[crate.name]]:
-        folder = places.CRATES / name / "out" / "rlib" if name in ours else kit() / "rlibs"
-        words += ["--extern", f"{name}={folder}/{name}.rlib"]
-    for at in [kit() / "rlibs", *(places.CRATES / it / "out" / "rlib" for it in ours)]:
-        words += ["-L", f"dependency={at}"]
-    words += [
-        "--antt-project",
-        f"{kit()}/rattle/logic/antt-project.json",
-        "--logic-built",
-        f"{kit()}/logic_built",
-    ]
+    words = [*over_libraries("build", crate.name), *f"{crate.words} --backend llvm --jobs 2".split()]
     words += ["--incremental", str(incremental(crate)), "--target", TARGETS[target]]
     return [*words, "--toolchain", str(toolchain), "-o", str(out)]
 
@@ -103,10 +76,8 @@ def link_toolchain(folder: Path) -> None:
     """A folder of links to the kit's toolchain, with our program as its clang."""
     (folder / "bin").mkdir(parents=True)
     (folder / "lib").symlink_to(kit() / "toolchain" / "lib")
-    for it in (kit() / "toolchain" / "bin").iterdir():
-        (folder / "bin" / it.name).symlink_to(
-            kit() / "toolchain" / "bin" / "clang" if it.is_symlink() else it
-        )
+    for it in (kit() / "toolchain/bin").iterdir():
+        (folder / "bin" / it.name).symlink_to(kit() / "toolchain/bin/clang" if it.is_symlink() else it)
     (folder / "bin" / "kit").mkdir()
     (folder / "bin" / "clang").rename(folder / "bin" / "kit" / "clang")
     shutil.copy(places.PARTS / "clang", folder / "bin" / "clang")
@@ -125,9 +96,8 @@ def take(crate: Crate, target: str, folder: Path) -> None:
         # `rt ci` there is none.
         shutil.copytree(found, kept, symlinks=True)
     link_toolchain(folder / "toolchain")
-    words = words_of(crate, target, folder / "toolchain", folder / "made")
     ended = subprocess.run(
-        [f"{kit()}/bin/rattle", "build", *words],
+        words_of(crate, target, folder / "toolchain", folder / "made"),
         cwd=crate.out.parent,
         stdin=subprocess.DEVNULL,
         capture_output=True,
@@ -151,12 +121,8 @@ def flags(words: List[str]) -> List[str]:
     passed = [it for word, it in zip(words, words[1:]) if word == "-mllvm" and "x86" not in it]
     if "-O3" not in words or not passed:
         raise Refused(f"the kit gives clang other words than these rules were written for: {' '.join(words)}")
-    return [
-        "-O3",
-        "-ffunction-sections",
-        "-fdata-sections",
-        *(word for it in passed for word in ("-mllvm", it)),
-    ]
+    passes = (word for it in passed for word in ("-mllvm", it))
+    return ["-O3", "-ffunction-sections", "-fdata-sections", *passes]
 
 
 def is_kept(folder: Path, made_of: str) -> bool:

@@ -14,10 +14,9 @@ KINDS = {"posix.c", "windows.c"}
 
 def definitions() -> List[str]:
     """The version and the texts of --help: those of the proved program, each in its one place."""
-    texts = {
-        f"HELP_{it.upper()}": (places.HELP / f"{it}.txt").read_text() for it in ("rsp", "run", "asm", "dis")
-    }
-    given = {"VERSION": header.dated_version(), **texts}
+    given = {"VERSION": header.dated_version()}
+    for it in ("rsp", "run", "asm", "dis"):
+        given[f"HELP_{it.upper()}"] = (places.HELP / f"{it}.txt").read_text()
     return [f"-D{name}={json.dumps(text)}" for name, text in given.items()]
 
 
@@ -26,14 +25,5 @@ def link(compiler: str, kind: str, to: Path, *words: Word) -> None:
     library."""
     sources = sorted(it for it in places.PROGRAM.glob("*.c") if it.name not in KINDS - {kind})
     to.parent.mkdir(parents=True, exist_ok=True)
-    given: List[Word] = [
-        "-std=c11",
-        "-O2",
-        "-s",
-        f"-I{places.HEADER.parent}",
-        *definitions(),
-        "-o",
-        to,
-        *sources,
-    ]
-    call(compiler, *given, *words)
+    flags = ["-std=c11", "-O2", "-s", f"-I{places.HEADER.parent}", *definitions()]
+    call(compiler, *flags, "-o", to, *sources, *words)
