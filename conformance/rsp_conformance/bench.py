@@ -12,8 +12,9 @@ A state is a dict of texts, all in hexadecimal, as in the vectors:
   divided         no state: the number that was divided last, which says how `out` can be made
 """
 
+import itertools
 import subprocess
-from typing import Any, Dict, Iterable, Iterator, List, Optional, Sequence, Tuple
+from typing import Any, Callable, Dict, Iterable, Iterator, List, Optional, Sequence, Tuple
 
 from rsp_conformance.states import Texts
 from rsp_conformance.table import Row, uses_memory
@@ -329,23 +330,25 @@ def banks_of(row: Row) -> Tuple[str, ...]:
 
 
 def observe(program: str, cases: Iterable[Observed]) -> Iterator[Looks]:
-    """Makes one step of each case.
+    """Makes one step of each case."""
+    for script, count in joined(itertools.starmap(script_of_case, cases), prelude):
+        yield from answers(program, script, count)
 
-    They go into scripts that are as long as a script may be, so few runs are made.
-    """
-    count, script = 0, prelude()
-    for case in cases:
-        script_of_case = Script()
-        append_case(script_of_case, *case)
-        if script.size + script_of_case.size > LONGEST_SCRIPT:
-            yield from answers(program, script, count)
-            count, script = 0, prelude()
-        script.append(script_of_case, count)
+
+def joined(scripts: Iterable[Script], begin: Callable[[], Script]) -> Iterator[Tuple[Script, int]]:
+    """Few long scripts of many, each with how many it has after its beginning."""
+    whole, count = begin(), 0
+    for script in scripts:
+        if whole.size + script.size > LONGEST_SCRIPT:
+            yield whole, count
+            whole, count = begin(), 0
+        whole.append(script, count)
         count += 1
-    yield from answers(program, script, count)
+    yield whole, count
 
 
-def append_case(script: Script, row: Row, word: int, state: Texts) -> None:
+def script_of_case(row: Row, word: int, state: Texts) -> Script:
+    script = Script()
     set_state(script, state, word)
     script.say(f"dis {int(state['pc'], 16)} 1", 1, ("text", "text"))
     banks = banks_of(row)
@@ -354,6 +357,7 @@ def append_case(script: Script, row: Row, word: int, state: Texts) -> None:
     look(script, banks, "after")
     if "rdram" in state:
         script.load("rdram", WINDOW, "00" * WINDOW_LENGTH)
+    return script
 
 
 def answers(program: str, script: Script, count: int) -> Iterator[Looks]:

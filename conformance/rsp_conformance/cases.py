@@ -7,7 +7,7 @@ from typing import Any, Callable, Dict, Iterator, List, Optional, Sequence, Tupl
 
 from rsp_conformance.aims import TRIES, aim, near
 from rsp_conformance.draws import LANES, Random
-from rsp_conformance.outcomes import possible, selected
+from rsp_conformance.outcomes import possible, selected, signed
 from rsp_conformance.states import Texts
 from rsp_conformance.table import FORMS, MPEG, SCALE, Row, destination, ignored_bits, uses_memory, word_of
 from rsp_conformance.whole import DIVIDENDS, elements_of, zeros
@@ -68,12 +68,6 @@ def vector_state(random: Random) -> Texts:
 
 def word(random: Random) -> str:
     return f"{random.mixed(WORDS, 32):08x}"
-
-
-def signed(number: Any, bits: int) -> Any:
-    """The number with a sign that has the same low bits; of an array, each."""
-    half = 1 << bits - 1
-    return (number & 2 * half - 1 ^ half) - half
 
 
 def divisor(random: Random) -> int:

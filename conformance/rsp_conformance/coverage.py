@@ -76,9 +76,8 @@ def complaints(row: Row, found: Found) -> Iterator[Complaints]:
     if row.form == "vector" and row.name not in outcomes.KINDS:
         yield [f"{row.name.upper()}: outcomes.py has no outcomes of it"]
     for kind, lanes in found.items():
-        absent, head = [
-            lane for lane, cases in lanes.items() if not cases
-        ], f"{row.name.upper()}: {kind.text}"
+        absent = [lane for lane, cases in lanes.items() if not cases]
+        head = f"{row.name.upper()}: {kind.text}"
         if why := reason(row, kind):
             yield unless(len(absent) == len(lanes), f"{head}: occurs, though {why}")
         else:

@@ -87,14 +87,6 @@ def cases_in(data: bytes) -> Iterator[Dict[str, Any]]:
             found.append((when, bank, address, data[here : here + length]))
             here += length + -length % 4
         states = [data[at + CASE.size + n * STATE.size :][: STATE.size] for n in (0, 1)]
-        named = name.rstrip(b"\0").decode()
-        before, after = map(state_of, states)
-        yield {
-            "name": named,
-            "word": word,
-            "choice": is_choice,
-            "before": before,
-            "after": after,
-            "pieces": found,
-        }
+        case = {"name": name.rstrip(b"\0").decode(), "word": word, "choice": is_choice, "pieces": found}
+        yield {**case, **dict(zip(("before", "after"), map(state_of, states)))}
         at += size

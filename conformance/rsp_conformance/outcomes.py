@@ -5,6 +5,7 @@ them in the vectors, and aims.py makes lanes that have them.
 """
 
 from collections import namedtuple
+from operator import attrgetter
 from typing import Any, Callable, Dict, Iterable, Iterator, List, Tuple
 
 from rsp_conformance.states import Texts
@@ -27,8 +28,10 @@ FLAGS = {
 LIMIT = 1 << 47  # an accumulator is below it, and not below its opposite
 
 
-def signed(number: int) -> int:
-    return (number ^ 0x8000) - 0x8000
+def signed(number: Any, bits: int = 16) -> Any:
+    """The number with a sign that has the same low bits; of an array, each."""
+    half = 1 << bits - 1
+    return (number & 2 * half - 1 ^ half) - half
 
 
 def selected(element: int, lane: int) -> int:
@@ -183,12 +186,7 @@ SUBTRACT_CARRY = [
 ]
 
 
-def a_of(it: Lane) -> Any:
-    return it.a
-
-
-def b_of(it: Lane) -> Any:
-    return it.b
+a_of, b_of = attrgetter("a"), attrgetter("b")
 
 
 def minus_b(it: Lane) -> Any:
@@ -230,12 +228,13 @@ def kinds_if(condition: Number, start: str, kinds: Iterable[Kind]) -> List[Kind]
     ]
 
 
-def total_of(it: Lane) -> Any:
+def by_number(number: Number, kinds: Iterable[Any]) -> List[Kind]:
+    """Outcomes by where a number is. Each of `kinds` is a text, a condition of the number, and the result."""
+    return [Kind(text, lambda it, when=when: when(number(it)), result) for text, when, result in kinds]
+
+
+def sum_of(it: Lane) -> Any:
     return it.a + it.b
-
-
-def parts_of_sum(*parts: Any) -> List[Kind]:
-    return [Kind(text, lambda it, when=when: when(total_of(it)), result) for text, when, result in parts]
 
 
 BY_COMPARE = [
@@ -243,13 +242,13 @@ BY_COMPARE = [
     Kind("compare clear", lambda it: not it.compare, a_of),
 ]
 BY_CLIP = [Kind("clip set", lambda it: it.clip, b_of), Kind("clip clear", lambda it: not it.clip, a_of)]
-WITH_EXTRA = parts_of_sum(
+WITH_EXTRA = (
     ("sum 0", lambda n: n == 0, minus_b),
     ("sum 1 to 65535", lambda n: 0 < n < 65536, minus_b),
     ("sum 65536", lambda n: n == 65536, minus_b),
     ("sum above 65536", lambda n: n > 65536, a_of),
 )
-WITHOUT_EXTRA = parts_of_sum(
+WITHOUT_EXTRA = (
     ("sum 0", lambda n: n == 0, minus_b),
     ("sum 65536", lambda n: n == 65536, a_of),
     ("another sum", lambda n: n not in (0, 65536), a_of),
@@ -261,20 +260,15 @@ BY_ORDER = [
 ]
 CLIP_LOW = [
     *kinds_if(with_flags(1, 1), "carry, not-equal: ", BY_COMPARE),
-    *kinds_if(lambda it: with_flags(1, 0)(it) and it.extra, "carry, extra: ", WITH_EXTRA),
-    *kinds_if(lambda it: with_flags(1, 0)(it) and not it.extra, "carry, no extra: ", WITHOUT_EXTRA),
+    *kinds_if(lambda it: with_flags(1, 0)(it) and it.extra, "carry, extra: ", by_number(sum_of, WITH_EXTRA)),
+    *kinds_if(
+        lambda it: with_flags(1, 0)(it) and not it.extra,
+        "carry, no extra: ",
+        by_number(sum_of, WITHOUT_EXTRA),
+    ),
     *kinds_if(with_flags(0, 1), "not-equal: ", BY_CLIP),
     *kinds_if(with_flags(0, 0), "no flag: ", BY_ORDER),
 ]
-
-
-def borders(condition: Number, start: str, number: Number, kinds: Iterable[Any]) -> List[Kind]:
-    """Outcomes by where a number is. Each of `kinds` is a text, a condition of the number, and the result."""
-    return kinds_if(
-        condition,
-        start,
-        [Kind(text, lambda it, when=when: when(number(it)), result) for text, when, result in kinds],
-    )
 
 
 DIFFERENCES = (
@@ -290,11 +284,12 @@ def with_signs(differ: bool, below: bool) -> Number:
 
 def clip_by_signs(shift: int, sums: Iterable[Any]) -> List[Kind]:
     """VCH and VCR: by the signs of a and b, and by their sum (plus `shift`) or their difference."""
+    apart = by_number(lambda it: it.sa + it.sb + shift, sums)
+    alike = by_number(lambda it: it.sa - it.sb, DIFFERENCES)
     kinds: List[Kind] = []
     for text, below in (("b below 0", True), ("b not below 0", False)):
-        apart, alike = with_signs(True, below), with_signs(False, below)
-        kinds += borders(apart, f"signs differ, {text}, ", lambda it: it.sa + it.sb + shift, sums)
-        kinds += borders(alike, f"signs agree, {text}, ", lambda it: it.sa - it.sb, DIFFERENCES)
+        kinds += kinds_if(with_signs(True, below), f"signs differ, {text}, ", apart)
+        kinds += kinds_if(with_signs(False, below), f"signs agree, {text}, ", alike)
     return kinds
 
 

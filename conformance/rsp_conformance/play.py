@@ -5,7 +5,7 @@ from pathlib import Path
 from typing import Any, Dict, Iterable, Iterator, List, Optional
 
 from rsp_conformance import bench
-from rsp_conformance.bench import LONGEST_SCRIPT, RspError, Script, run_script
+from rsp_conformance.bench import RspError, Script, joined, run_script
 from rsp_conformance.programs import MEMORY, Program, programs_of
 from rsp_conformance.steps import FLAG_NAMES
 from rsp_conformance.table import Row
@@ -18,21 +18,19 @@ def play(program: str, entries: Iterable[Program]) -> Iterator[Dict[str, Any]]:
 
     Yields of each its IMEM image, its steps, DMEM at the end, and its words' texts.
     """
-    script, batch = Script(), 0
-    for made in entries:
-        one = Script()
-        one.copy(bench.ZEROS, "imem")
-        one.assemble(0, [*made.lines, "break"])
-        one.memory("imem", 0, MEMORY, ("imem",))
-        run_images(one, None, bytes(made.data))
-        for case in made.cases:
-            one.say(f"dis {int(case['pc'], 16)} 1", 1, ("text",))
-        if script.size + one.size > LONGEST_SCRIPT:
-            yield from played(program, script, batch)
-            script, batch = Script(), 0
-        script.append(one, batch)
-        batch += 1
-    yield from played(program, script, batch)
+    for script, count in joined(map(script_of, entries), Script):
+        yield from played(program, script, count)
+
+
+def script_of(made: Program) -> Script:
+    script = Script()
+    script.copy(bench.ZEROS, "imem")
+    script.assemble(0, [*made.lines, "break"])
+    script.memory("imem", 0, MEMORY, ("imem",))
+    run_images(script, None, bytes(made.data))
+    for case in made.cases:
+        script.say(f"dis {int(case['pc'], 16)} 1", 1, ("text",))
+    return script
 
 
 def run_images(script: Script, imem: Optional[bytes], dmem: bytes) -> None:

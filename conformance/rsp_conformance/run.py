@@ -9,7 +9,7 @@ replaces bench.py alone.
 
 import sys
 from pathlib import Path
-from typing import Iterator, List
+from typing import Iterator
 
 from rsp_conformance import bench, play, steps
 from rsp_conformance.commands import PROGRAM, Complaints, counted, reader
@@ -30,11 +30,6 @@ def run_row(program: str, folder: Path, name: str) -> Iterator[Complaints]:
         raise VectorsFault(f"{name}: one of its cases or programs isn't one: {what}") from None
 
 
-def run_rows(program: str, folder: Path, names: List[str]) -> Iterator[Complaints]:
-    for name in names:
-        yield from run_row(program, folder, name)
-
-
 def main() -> None:
     words = reader("run", __doc__)
     words.add_argument("--program", default=PROGRAM)
@@ -45,7 +40,7 @@ def main() -> None:
         names = names_in(args.folder, args.names)
         if refusal := bench.refusal_of(args.program):
             raise VectorsFault(refusal)
-        found = [*run_rows(args.program, args.folder, names)]
+        found = [it for name in names for it in run_row(args.program, args.folder, name)]
         if not found:
             raise VectorsFault(f"{args.folder} has no case")
     except VectorsFault as fault:

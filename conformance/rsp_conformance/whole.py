@@ -9,7 +9,7 @@ import itertools
 from collections import namedtuple
 from typing import Any, Callable, Dict, Iterable, Iterator, List, Sequence, Tuple
 
-from rsp_conformance.outcomes import Kind
+from rsp_conformance.outcomes import Kind, signed
 from rsp_conformance.table import FORMS, SCALE, Row, destination, uses_memory
 
 # A case: its instruction, its fields, and the whole state before it, of texts.
@@ -21,13 +21,8 @@ def register(it: Whole, name: str) -> int:
     return int(it.before[f"r{it.fields[name]}"], 16)
 
 
-def signed(number: int, bits: int = 32) -> int:
-    half = 1 << bits - 1
-    return (number ^ half) - half
-
-
 def immediate(it: Whole) -> int:
-    return signed(it.fields["imm"], 16)
+    return signed(it.fields["imm"])
 
 
 def memory(it: Whole, address: int, count: int) -> int:
@@ -41,11 +36,15 @@ def memory(it: Whole, address: int, count: int) -> int:
 SIZES = {"lb": 1, "lbu": 1, "sb": 1, "lh": 2, "lhu": 2, "sh": 2, "lw": 4, "lwu": 4, "sw": 4}
 
 
+def address_of(row: Row, fields: Dict[str, Any], register_of: Callable[[str], Any]) -> Any:
+    """The address that an instruction loads from, or stores to. All numbers may be arrays."""
+    if "off" in fields:
+        return (register_of("base") + signed(fields["off"], 7) * SCALE[row.name[1]]) % 4096
+    return (register_of("s") + signed(fields["imm"])) % 4096
+
+
 def address(it: Whole) -> int:
-    """The address that an instruction loads from, or stores to."""
-    if it.row.name in SIZES:
-        return (register(it, "s") + immediate(it)) % 4096
-    return (register(it, "base") + signed(it.fields["off"], 7) * SCALE[it.row.name[1]]) % 4096
+    return address_of(it.row, it.fields, lambda name: register(it, name))
 
 
 def loaded(it: Whole) -> int:
@@ -74,20 +73,20 @@ Rule = Callable[[Whole], Any]
 WRITTEN: Dict[str, Rule] = {
     "sll": lambda it: t_of(it) << it.fields["sa"],
     "srl": lambda it: t_of(it) >> it.fields["sa"],
-    "sra": lambda it: signed(t_of(it)) >> it.fields["sa"],
+    "sra": lambda it: signed(t_of(it), 32) >> it.fields["sa"],
     "sllv": lambda it: t_of(it) << s_of(it) % 32,
     "srlv": lambda it: t_of(it) >> s_of(it) % 32,
-    "srav": lambda it: signed(t_of(it)) >> s_of(it) % 32,
+    "srav": lambda it: signed(t_of(it), 32) >> s_of(it) % 32,
     **dict.fromkeys(("add", "addu"), lambda it: s_of(it) + t_of(it)),
     **dict.fromkeys(("sub", "subu"), lambda it: s_of(it) - t_of(it)),
     "and": lambda it: s_of(it) & t_of(it),
     "or": lambda it: s_of(it) | t_of(it),
     "xor": lambda it: s_of(it) ^ t_of(it),
     "nor": lambda it: ~(s_of(it) | t_of(it)),
-    "slt": lambda it: signed(s_of(it)) < signed(t_of(it)),
+    "slt": lambda it: signed(s_of(it), 32) < signed(t_of(it), 32),
     "sltu": lambda it: s_of(it) < t_of(it),
     **dict.fromkeys(("addi", "addiu"), lambda it: s_of(it) + immediate(it)),
-    "slti": lambda it: signed(s_of(it)) < immediate(it),
+    "slti": lambda it: signed(s_of(it), 32) < immediate(it),
     "sltiu": lambda it: s_of(it) < immediate(it) % TOP,
     "andi": lambda it: s_of(it) & it.fields["imm"],
     "ori": lambda it: s_of(it) | it.fields["imm"],
@@ -103,10 +102,10 @@ WRITTEN: Dict[str, Rule] = {
 TAKEN: Dict[str, Rule] = {
     "beq": lambda it: s_of(it) == t_of(it),
     "bne": lambda it: s_of(it) != t_of(it),
-    **dict.fromkeys(("bltz", "bltzal"), lambda it: signed(s_of(it)) < 0),
-    **dict.fromkeys(("bgez", "bgezal"), lambda it: signed(s_of(it)) >= 0),
-    "blez": lambda it: signed(s_of(it)) <= 0,
-    "bgtz": lambda it: signed(s_of(it)) > 0,
+    **dict.fromkeys(("bltz", "bltzal"), lambda it: signed(s_of(it), 32) < 0),
+    **dict.fromkeys(("bgez", "bgezal"), lambda it: signed(s_of(it), 32) >= 0),
+    "blez": lambda it: signed(s_of(it), 32) <= 0,
+    "bgtz": lambda it: signed(s_of(it), 32) > 0,
 }
 # What is true of an instruction's operands, or false: the two outcomes of its rule.
 EITHER = {
@@ -233,8 +232,8 @@ def source_of(it: Whole) -> int:
     """What a divide instruction divides, signed."""
     source = it.before[f"v{it.fields['vt']}"][4 * (it.fields["e"] % 8) :][:4]
     if it.row.name[-1] == "l" and it.before["loaded"] == "1":
-        return signed(int(it.before["in"] + source, 16))
-    return signed(int(source, 16), 16)
+        return signed(int(it.before["in"] + source, 16), 32)
+    return signed(int(source, 16))
 
 
 # The branches of the divider's rule, of the number that is divided.

@@ -4,19 +4,8 @@ from random import Random
 from typing import Dict, List, Sequence, Tuple
 
 from drawings import svg
-from drawings.looks import (
-    CLEAR,
-    FLAGS,
-    NAMES,
-    Case,
-    Flags,
-    Look,
-    accumulators_of,
-    after,
-    after_each,
-    case,
-    random_state,
-)
+from drawings.looks import CLEAR, FLAGS, NAMES, Case, Flags, Look
+from drawings.looks import accumulators_of, after, after_each, case, random_state
 from rsp_conformance.states import lanes_of
 
 Uses = Dict[str, Tuple[str, ...]]

@@ -4,7 +4,7 @@ from itertools import islice
 from random import Random
 from typing import Any, Dict, Iterator, List, Sequence, Tuple
 
-from rsp_conformance import bench
+from rsp_conformance import bench, coverage, outcomes
 from rsp_conformance.table import ROWS, word_of
 
 Look = Dict[str, Any]
@@ -13,13 +13,7 @@ Lanes = Sequence[int]
 Case = Tuple[Any, int, Look]
 
 # The flags in the words of the pages: each with its register, and the bit of lane 0 there.
-FLAGS = {
-    "carry": ("vco", 0),
-    "not-equal": ("vco", 8),
-    "compare": ("vcc", 0),
-    "clip": ("vcc", 8),
-    "extra": ("vce", 0),
-}
+FLAGS = {coverage.NAMES.get(flag, flag): at for flag, at in outcomes.FLAGS.items()}
 CLEAR = {"vco": "0000", "vcc": "0000", "vce": "00"}
 ZEROS = [0] * 8
 NAMES = [name for name, row in ROWS.items() if row.form in ("vector", "lane", "nothing")]

@@ -12,8 +12,9 @@ import sys
 from typing import Dict, Iterator, List
 
 import numpy as np
-from rsp_conformance.cases import signed
-from rsp_conformance.table import FORMS, ROWS, SCALE, Row, uses_memory
+from rsp_conformance.outcomes import signed
+from rsp_conformance.table import FORMS, ROWS, Row, uses_memory
+from rsp_conformance.whole import address_of
 
 from .generator import HALVES, OFFSETS, SELECTED, Array, accumulates, cases_of
 
@@ -36,14 +37,6 @@ def classes(values: Array, edges: Array) -> Array:
     return np.where(is_edge.any(-1), is_edge.argmax(-1), len(edges))
 
 
-def address_of(row: Row, fields: Features, words: Array) -> Array:
-    """The address of a load or store."""
-    each = np.arange(len(words))
-    if "off" in fields:
-        return words[each, fields["base"]] + signed(fields["off"], 7) * SCALE[row.name[1]] & 0xFFF
-    return words[each, fields["s"]] + signed(fields["imm"], 16) & 0xFFF
-
-
 def of_cases(row: Row, cases: Array) -> Features:
     """Fields, and what is read with them."""
     word, state = cases["word"].astype(np.int64), cases["state"]
@@ -58,7 +51,8 @@ def of_cases(row: Row, cases: Array) -> Features:
     if row.form == "lane":
         found["de = e mod 8"] = fields["de"] == fields["e"] % 8
     if uses_memory(row):
-        at = address_of(row, fields, state["words"].astype(np.int64))
+        each, words = np.arange(len(cases)), state["words"].astype(np.int64)
+        at = address_of(row, fields, lambda name: words[each, fields[name]])
         found.update(zip(ADDRESS, (at % 16, at >= 4080)))
     return found
 

@@ -9,18 +9,8 @@ from typing import Iterator, List, Sequence, Set, Tuple
 import numpy as np
 import rsp
 
-from .generator import (
-    EDGE,
-    FIRST_EDGE,
-    IMEM,
-    INSTRUCTIONS,
-    MEMORIES,
-    Array,
-    Draw,
-    cases_of,
-    generator,
-    registers,
-)
+from .generator import EDGE, FIRST_EDGE, IMEM, INSTRUCTIONS, MEMORIES
+from .generator import Array, Draw, cases_of, generator, registers
 from .shared import PROGRAM, SHOWN, Result, name_of
 from .shrink import cut_down, settable
 from .sides import Program, Sides, in_brief, in_words

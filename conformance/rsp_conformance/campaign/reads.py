@@ -3,9 +3,9 @@
 from typing import Dict, Iterator, List, Tuple
 
 import rsp
-from rsp_conformance.cases import signed
 from rsp_conformance.outcomes import selected
-from rsp_conformance.table import FORMS, ROWS, SCALE, Row, fields_of, uses_memory
+from rsp_conformance.table import FORMS, ROWS, Row, fields_of, uses_memory
+from rsp_conformance.whole import address_of
 
 Reads = Iterator[Tuple[str, str]]  # what it is, and its value
 
@@ -57,15 +57,12 @@ def vectors(state: rsp.State, numbers: List[int]) -> Reads:
         yield f"$v{number}", " ".join(f"{it:04x}" for it in state.vectors[number])
 
 
-def address_of(row: Row, state: rsp.State, fields: Dict[str, int]) -> int:
-    """The address that a load or store accesses."""
-    if "off" in fields:
-        return (state.words[fields["base"]] + signed(fields["off"], 7) * SCALE[row.name[1]]) % 4096
-    return (state.words[fields["s"]] + signed(fields["imm"], 16)) % 4096
+def addressed(row: Row, state: rsp.State, fields: Dict[str, int]) -> int:
+    return address_of(row, fields, lambda name: state.words[fields[name]])
 
 
 def memory(row: Row, state: rsp.State, fields: Dict[str, int], memories: bytes) -> Reads:
-    at = address_of(row, state, fields)
+    at = addressed(row, state, fields)
     yield "address", f"{at:03x}"
     yield "DMEM there", bytes(memories[(at + i) % 4096] for i in range(READ)).hex(" ", 2)
 
@@ -109,5 +106,5 @@ def in_brief(name: str, word: int, state: rsp.State, line: str) -> str:
     else:
         found = [*scalars(state, fields)]
         if uses_memory(row):
-            found.append(("address", f"{address_of(row, state, fields):03x}"))
+            found.append(("address", f"{addressed(row, state, fields):03x}"))
     return "".join(f"{', ' if at else '; '}{what} {value}" for at, (what, value) in enumerate(found))
