@@ -22,6 +22,7 @@ from lib.processes import Ended, run
 from rsp_conformance.table import FORMS, ROWS, word_of
 from rsp_tools import build
 from rsp_tools.theorem.instructions import instruction_of
+from rsp_tools.theorem.routine import module_of
 
 LONGEST = 1500  # seconds of a check
 pytestmark = [pytest.mark.xdist_group("theorems"), pytest.mark.timeout(LONGEST + 300)]
@@ -122,10 +123,6 @@ def search(pattern: str, text: str) -> "re.Match[str]":
     found = re.search(pattern, text)
     assert found, f"nothing is like {pattern}"
     return found
-
-
-def module_of(name: str) -> str:
-    return "".join(part.capitalize() for part in name.split("_"))
 
 
 @pytest.fixture(scope="module")

@@ -4,8 +4,6 @@ import re
 from pathlib import Path
 from typing import List, Tuple
 
-import wheels
-
 from . import places
 
 
@@ -45,6 +43,6 @@ def version() -> str:
 
 def filled(template: Path, **words: str) -> str:
     """A template, with its words in capitals replaced."""
-    number = version()
-    words.update(VERSION=number, MAJOR=number.split(".")[0], ABOUT=wheels.PROJECT["description"])
+    number, about = version(), found(r'^description = "(.*)"$', places.PYTHON / "pyproject.toml")[0]
+    words.update(VERSION=number, MAJOR=number.split(".")[0], ABOUT=about)
     return re.sub(r"@([A-Z]+)@", lambda it: words[it[1]], template.read_text())
