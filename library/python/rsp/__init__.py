@@ -25,7 +25,7 @@ from . import words as _in_words
 from .compare import Emulator, FirstDifference, first_difference
 from .shown import Difference, Part
 from .state import Accumulators, Changes, Divider, Flags, Scalars, SpWords, State, Traced, unset
-from .state import u32 as _u32
+from .state import alike as _alike
 from .words import FAULTS
 
 __version__ = "1.0.0"
@@ -173,19 +173,22 @@ class Line(NamedTuple):
 
 
 class _Handle(Structure):
-    _fields_ = [("at", c_void_p)]
+    """That of a machine, or of a bench."""
 
-
-class _BenchHandle(Structure):
     _fields_ = [("at", c_void_p)]
 
 
 class _Stop(Structure):
-    _fields_ = [*_u32("reason", "steps"), ("watch", c_size_t), ("pc", c_uint16), *_u32("word")]
+    _fields_ = [
+        *_alike(c_uint32, "reason", "steps"),
+        ("watch", c_size_t),
+        ("pc", c_uint16),
+        ("word", c_uint32),
+    ]
 
 
 class _Move(Structure):
-    _fields_ = [("stop", _Stop), *_u32("word", "number", "writes", "value")]
+    _fields_ = [("stop", _Stop), *_alike(c_uint32, "word", "number", "writes", "value")]
 
 
 class _Assembled(Structure):
@@ -217,7 +220,6 @@ def _library() -> str:
 
 _lib = ctypes.CDLL(_library())
 _M, _U, _Z, _B, _W = POINTER(_Handle), c_uint32, c_size_t, c_char_p, POINTER(c_uint32)
-_T = POINTER(_BenchHandle)
 _CALLS = {
     "rsp_version": [], "rsp_new": [_M, _B, _Z, _U], "rsp_copy": [_M, _M],
     "rsp_get": [_M, POINTER(State)], "rsp_set": [_M, POINTER(State)],
@@ -235,15 +237,15 @@ _CALLS = {
     "rsp_write": [_M, _U, _U], "rsp_sp": [_M, POINTER(SpWords)], "rsp_set_sp": [_M, POINTER(SpWords)],
     "rsp_assemble": [_U, _B, _Z, _W, _Z, POINTER(_Assembled)], "rsp_text": [_U, _U, POINTER(_Line)],
     "rsp_listing": [_M, _U, POINTER(_Line), _Z], "rsp_explain": [_U, _B, _Z, POINTER(_explain.Operand)],
-    "rsp_bench_new": [_T, _B, _Z],
-    "rsp_bench_take": [_T, c_void_p, _Z, POINTER(_Z), c_void_p, _Z, POINTER(_Z)],
-    "rsp_bench_end": [_T, c_void_p, _Z, POINTER(_Z)],
-    "rsp_bench_memory": [_T, _U, _U, c_void_p, _Z],
+    "rsp_bench_new": [_M, _B, _Z],
+    "rsp_bench_take": [_M, c_void_p, _Z, POINTER(_Z), c_void_p, _Z, POINTER(_Z)],
+    "rsp_bench_end": [_M, c_void_p, _Z, POINTER(_Z)],
+    "rsp_bench_memory": [_M, _U, _U, c_void_p, _Z],
 }  # fmt: skip
 for _name, _types in _CALLS.items():
     getattr(_lib, _name).argtypes, getattr(_lib, _name).restype = _types, _U
 _lib.rsp_free.argtypes, _lib.rsp_free.restype = [_M], None
-_lib.rsp_bench_free.argtypes, _lib.rsp_bench_free.restype = [_T], None
+_lib.rsp_bench_free.argtypes, _lib.rsp_bench_free.restype = [_M], None
 
 VERSION = 1
 _found = _lib.rsp_version()
@@ -596,7 +598,7 @@ class Bench(_Owner):
     """
 
     def __init__(self, image: Optional[bytes] = None) -> None:
-        self._handle, self._reply = _BenchHandle(), (ctypes.c_char * 16384)()
+        self._handle, self._reply = _Handle(), (ctypes.c_char * 16384)()
         given = bytes(1 << 22) if image is None else image
         self._length = _made("Bench", _lib.rsp_bench_new, self._handle, given)
 

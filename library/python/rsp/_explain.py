@@ -2,17 +2,13 @@
 
 from ctypes import Structure, c_int64, c_size_t, c_uint32
 
+from .state import alike
+
 
 class Operand(Structure):
     """`rsp_operand` of rsp.h."""
 
-    _fields_ = [
-        ("low", c_int64),
-        ("high", c_int64),
-        ("number", c_size_t),
-        ("kind", c_uint32),
-        ("step", c_uint32),
-    ]
+    _fields_ = [*alike(c_int64, "low", "high"), ("number", c_size_t), *alike(c_uint32, "kind", "step")]
 
 
 # By the numbers of RSP_OPERAND_ in rsp.h. A range follows what ends with a comma.
@@ -38,11 +34,8 @@ def allowed(found: Operand, fault: int) -> str:
     """Which operand is at fault, and what it may be; nothing if none is."""
     if not found.number:
         return ""
-    span = (
-        f"{found.low} to {found.high}" + f", a multiple of {found.step}" * (found.step > 1)
-        if found.step
-        else ""
-    )
+    span = f"{found.low} to {found.high}" if found.step else ""
+    span += f", a multiple of {found.step}" if found.step > 1 else ""
     if fault == _BAD_OPERAND:
         form = _FORMS[found.kind] if found.kind < len(_FORMS) else "another one"
         span = f"{form} {span}".strip() + ", and a scalar register in parentheses" * (found.kind in _MEMORY)

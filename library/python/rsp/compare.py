@@ -10,7 +10,6 @@ from .state import State
 if TYPE_CHECKING:
     from . import Rsp
 
-NAMES = "DMEM", "IMEM", "RDRAM"
 LENGTHS = 1 << 2 | 1 << 3  # a write of SP_RD_LEN or SP_WR_LEN starts a DMA
 QUADWORD = 16
 
@@ -98,7 +97,7 @@ def _put(side: Emulator, seen: _Seen) -> None:
 
 def _quadwords(mine: Sequence[bytes], its: Sequence[bytes]) -> Iterator[Part]:
     """The quadwords of memories that differ."""
-    for name, here, there in zip(NAMES, mine, its):
+    for name, here, there in zip(_in_words.BANKS, mine, its):
         for at in range(0, len(here), QUADWORD) if here != there else ():
             value, other = (int.from_bytes(it[at : at + QUADWORD], "big") for it in (here, there))
             if value != other:

@@ -139,12 +139,8 @@ _CODES = {premise: _code(premise) for premises in (*PREMISES.values(), _EVERYWHE
 
 def _values(machine: "Rsp") -> Dict[str, Any]:
     state = machine.get()
-    values: Dict[str, Any] = {
-        "pc": state.pc,
-        "npc": state.npc,
-        "status": machine.peek(4),
-        "rdram": machine.image_length,
-    }
+    values: Dict[str, Any] = {"pc": state.pc, "npc": state.npc}
+    values.update(status=machine.peek(4), rdram=machine.image_length)
     values.update((f"s{n}", word) for n, word in enumerate(state.words))
     values.update((f"v{n}", list(lanes)) for n, lanes in enumerate(state.vectors))
     return values

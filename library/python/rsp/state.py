@@ -15,19 +15,9 @@ _P = TypeVar("_P", bound="Plain")
 Fields = List[Tuple[str, Any]]
 
 
-def u32(*names: str) -> Fields:
-    """Fields of 32 bits."""
-    return [(name, c_uint32) for name in names]
-
-
-def u16(*names: str) -> Fields:
-    """Fields of 16 bits."""
-    return [(name, c_uint16) for name in names]
-
-
-def u8(*names: str) -> Fields:
-    """Fields of 8 bits."""
-    return [(name, c_uint8) for name in names]
+def alike(kind: Any, *names: str) -> Fields:
+    """Fields of one type."""
+    return [(name, kind) for name in names]
 
 
 class Plain(Structure):
@@ -92,7 +82,7 @@ class Scalars(Plain):
     """The scalar registers `words`, 32 numbers below 2**32, and the addresses pc and npc, multiples of 4
     below 4096."""
 
-    _fields_ = [("words", Words), *u16("pc", "npc")]
+    _fields_ = [("words", Words), *alike(c_uint16, "pc", "npc")]
     if TYPE_CHECKING:
         words: typed.NumbersField
         pc: int
@@ -128,7 +118,7 @@ class Flags(Plain):
     """Flags, numbers below 256, bit i for lane i. VCO is `carry` in bits 0 to 7 and `differ` (not-equal) in 8
     to 15, VCC `compare` and `clip`, VCE `extra`."""
 
-    _fields_ = [*u8("carry", "differ", "compare", "clip", "extra")]
+    _fields_ = [*alike(c_uint8, "carry", "differ", "compare", "clip", "extra")]
     if TYPE_CHECKING:
         carry: int
         differ: int
@@ -143,7 +133,7 @@ class Flags(Plain):
 class Divider(Plain):
     """What the divide instructions keep: DIV_IN and DIV_OUT, below 65536, and 1 or 0, if DIV_IN is loaded."""
 
-    _fields_ = [*u16("input", "output", "loaded")]
+    _fields_ = [*alike(c_uint16, "input", "output", "loaded")]
     if TYPE_CHECKING:
         input: int
         output: int
@@ -157,7 +147,7 @@ class SpWords(Plain):
     """The sixteen SP registers as `peek` gives them, `words`, and `interrupt`, 1 if the interrupt flag is
     set, else 0."""
 
-    _fields_ = [("words", SpItems), *u32("interrupt")]
+    _fields_ = [("words", SpItems), ("interrupt", c_uint32)]
     if TYPE_CHECKING:
         words: typed.NumbersField
         interrupt: int
@@ -179,9 +169,9 @@ class Traced(Plain):
     """
 
     _fields_ = [
-        *u32("word", "value"),
-        *u16("pc", "address", "vco", "vcc"),
-        *u8("vce", "scalar", "vector", "stored"),
+        *alike(c_uint32, "word", "value"),
+        *alike(c_uint16, "pc", "address", "vco", "vcc"),
+        *alike(c_uint8, "vce", "scalar", "vector", "stored"),
         ("lanes", Lanes),
     ]
     if TYPE_CHECKING:
@@ -215,9 +205,9 @@ class Changes(Plain):
 
     _fields_ = [
         ("traced", Traced),
-        *u16("pc", "npc"),
+        *alike(c_uint16, "pc", "npc"),
         ("divider", Divider),
-        *u16("quadword"),
+        ("quadword", c_uint16),
         ("accumulators", Accumulators),
         ("bytes", StoredBytes),
     ]
@@ -254,11 +244,11 @@ class State(Plain):
         ("vectors", Vectors),
         ("accumulators", Accumulators),
         ("flags", Flags),
-        *u8("zero"),
+        ("zero", c_uint8),
         ("divider", Divider),
-        *u16("pc", "npc"),
+        *alike(c_uint16, "pc", "npc"),
         ("sp", Sp),
-        *u32("interrupt"),
+        ("interrupt", c_uint32),
     ]
     if TYPE_CHECKING:
         words: typed.NumbersField
