@@ -60,9 +60,8 @@ CRATES = [it for it in FILES if it.endswith("Cargo.toml")]
 
 def see_taken(files: Sequence[str], *words: object) -> None:
     """A tool with these words has no complaint of the files, of which there are some."""
-    ended = run(*words, *files, timeout=580)
-    status, told = ended.returncode, ended.stdout
-    assert files and status == 0, told
+    assert files
+    succeeds(*words, *files, timeout=580)
 
 
 @pytest.mark.needs("black")

@@ -1,5 +1,6 @@
 """What an installation holds below its prefix. library/c/install writes it, and the release packs it."""
 
+from pathlib import Path
 from typing import Iterator, NamedTuple, Optional, Tuple, Union
 
 from rsp_tools import TOOLS, TOP
@@ -21,6 +22,14 @@ class File(NamedTuple):
     name: str
     data: Union[bytes, str]
     can_run: bool = False
+
+
+def file(name: str, path: Path) -> File:
+    return File(name, path.read_bytes(), bool(path.stat().st_mode & 0o100))
+
+
+def man_page() -> File:
+    return File("share/man/man1/rsp.1", manpage.page(*version()).encode())
 
 
 def starter(about: Tuple[str, str]) -> File:
@@ -56,6 +65,6 @@ def contents(prefix: str, program: Optional[bytes]) -> Iterator[File]:
     yield File("lib/pkgconfig/rsp.pc", filled("rsp.pc.in", prefix))
     for name in "rspConfig.cmake", "rspConfigVersion.cmake":
         yield File(f"lib/cmake/rsp/{name}", filled(f"{name}.in", prefix))
-    yield File("share/man/man1/rsp.1", manpage.page(*version()).encode())
+    yield man_page()
     if program:
         yield File("bin/rsp", program, True)

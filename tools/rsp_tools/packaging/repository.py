@@ -5,7 +5,7 @@ from typing import Iterator, Sequence
 
 from rsp_tools import TOP
 from rsp_tools.packaging import pages
-from rsp_tools.packaging.installed import File
+from rsp_tools.packaging.installed import File, file
 
 
 def said(*words: str) -> str:
@@ -18,4 +18,4 @@ def tracked(parts: Sequence[str]) -> Iterator[File]:
     for name in said("git", "ls-files", "--", *parts).splitlines():
         path = TOP / name
         if not name.endswith(".gitignore") and not path.is_symlink():
-            yield File(pages.moved(name), path.read_bytes(), bool(path.stat().st_mode & 0o100))
+            yield file(pages.moved(name), path)

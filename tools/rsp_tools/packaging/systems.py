@@ -5,7 +5,7 @@ import tempfile
 from pathlib import Path
 from typing import Callable, Dict, Iterator, List, Tuple
 
-from rsp_tools.packaging import installed, manpage, packed, pages, readme, repository
+from rsp_tools.packaging import installed, packed, pages, readme, repository
 from rsp_tools.packaging.installed import File
 from rsp_tools.systems.toolchain import llvm
 
@@ -36,10 +36,6 @@ Thin = Callable[[Path, str], bytes]
 ENDINGS = {"windows-x86_64": "zip", "page": "zip", "wasm64": "tgz"}  # all others are .tar.gz
 
 
-def file(name: str, path: Path) -> File:
-    return File(name, path.read_bytes(), bool(path.stat().st_mode & 0o100))
-
-
 def of_repository(parts: List[str]) -> Iterator[File]:
     """What these parts of the repository have for other systems, where an archive has it."""
     yield from (it for it in repository.tracked(parts) if not it.name.startswith(NOT_THERE))
@@ -49,7 +45,7 @@ def of_folder(folder: Path) -> Iterator[File]:
     """What tools/systems has made. `librsp.so`, which there is a copy, is a link."""
     for path in sorted(it for it in folder.rglob("*") if it.is_file()):
         name = str(path.relative_to(folder))
-        yield File(name, installed.soname()) if name == "lib/librsp.so" else file(name, path)
+        yield File(name, installed.soname()) if name == "lib/librsp.so" else installed.file(name, path)
 
 
 def thinned(library: Path, processor: str) -> bytes:
@@ -67,12 +63,6 @@ def of_rust(system: str, folder: Path, thin: Thin) -> Iterator[File]:
         yield File(f"rust/lib/{target}/{name}", data)
 
 
-def of_program(about: Tuple[str, str]) -> Iterator[File]:
-    """What is beside a program bin/rsp."""
-    yield installed.starter(about)
-    yield File("share/man/man1/rsp.1", manpage.page(*installed.version()).encode())
-
-
 def contents(system: str, folder: Path, about: Tuple[str, str], thin: Thin = thinned) -> Iterator[File]:
     """Each file of a system's archive but its README."""
     yield from of_folder(folder)
@@ -82,7 +72,8 @@ def contents(system: str, folder: Path, about: Tuple[str, str], thin: Thin = thi
         yield from of_repository(PARTS)
         yield from of_rust(system, folder, thin)
     if system == "linux-aarch64":
-        yield from of_program(about)
+        yield installed.starter(about)
+        yield installed.man_page()
 
 
 def name_of(system: str, version: str) -> str:

@@ -24,7 +24,7 @@ import signal
 import sys
 import tempfile
 from pathlib import Path
-from typing import Callable, Dict, List, Mapping, NamedTuple, Tuple
+from typing import Callable, Dict, Mapping, NamedTuple, Tuple
 
 from . import linux, macos, page, places, wasm, windows
 from .modules import Source, module
@@ -83,21 +83,15 @@ def report(name: str) -> None:
             print(f"  {path.stat().st_size:>9} {path.relative_to(places.TOP)}")
 
 
-def main(words: List[str]) -> int:
+def main() -> int:
     """The program. The status."""
-    reader = argparse.ArgumentParser(
-        prog="tools/systems", description=__doc__, formatter_class=argparse.RawDescriptionHelpFormatter
-    )
+    form = argparse.RawDescriptionHelpFormatter
+    reader = argparse.ArgumentParser(prog="tools/systems", description=__doc__, formatter_class=form)
     reader.add_argument("systems", nargs="*", metavar="SYSTEM")
-    names = reader.parse_args(words).systems or [*SYSTEMS]
+    names = reader.parse_args().systems or [*SYSTEMS]
     signal.signal(signal.SIGINT, lambda *_: sys.exit(130))
-    unknown = [it for it in names if it not in SYSTEMS]
-    if unknown:
-        print(
-            f"tools/systems: there is no system {unknown[0]}: the systems are {', '.join(SYSTEMS)}",
-            file=sys.stderr,
-        )
-        return 1
+    if unknown := [it for it in names if it not in SYSTEMS]:
+        sys.exit(f"tools/systems: there is no system {unknown[0]}: the systems are {', '.join(SYSTEMS)}")
     status = 0
     for name in names:
         try:
@@ -110,4 +104,4 @@ def main(words: List[str]) -> int:
 
 
 if __name__ == "__main__":
-    sys.exit(main(sys.argv[1:]))
+    sys.exit(main())

@@ -109,12 +109,6 @@ def take(crate: Crate, target: str, folder: Path) -> None:
         raise Refused(f"`rattle build` for {TARGETS[target]} ended with status {ended.returncode}:\n{last}")
 
 
-def take_text(folder: Path) -> None:
-    """Writes the module of a folder as text."""
-    words = ["-S", "-emit-llvm", "-O0", "-Wno-override-module"]
-    llvm("clang", "-x", "ir", folder / "module", *words, "-o", folder / "module.ll")
-
-
 def flags(words: List[str]) -> List[str]:
     """Of the words that the kit gives clang, how it optimizes, on any processor. Refused if it doesn't say
     so as it did."""
@@ -146,7 +140,8 @@ def module(target: str) -> Module:
     if not is_kept(kept, made_of):
         with tempfile.TemporaryDirectory() as at:
             take(LIBRARY, target, Path(at))
-            take_text(Path(at))
+            as_text = ["-S", "-emit-llvm", "-O0", "-Wno-override-module"]
+            llvm("clang", "-x", "ir", Path(at, "module"), *as_text, "-o", Path(at, "module.ll"))
             names = {"module.ll": "module.ll", "module.words": "module.words", "librsp_c.a": "made"}
             keep(kept, made_of, {name: Path(at, made) for name, made in names.items()})
     given = kept.joinpath("module.words").read_text().splitlines()

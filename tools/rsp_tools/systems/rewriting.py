@@ -11,17 +11,6 @@ from .toolchain import Refused
 PROCESSORS = "x86|aarch64|arm|wasm"
 
 
-def without_stack_probes(text: str) -> str:
-    """Drops how the stack is probed, and how often."""
-    return re.sub(r' "(?:probe-stack|stack-probe-size)"="[^"]*"', "", text)
-
-
-def with_unwind_tables(text: str) -> str:
-    """Has LLVM write a table of the frame of each function that the module defines. These alone name their
-    processor."""
-    return re.sub(r'(?m)^(attributes #\d+ = \{ )(.*"target-cpu")', r"\1uwtable \2", text)
-
-
 class Change(NamedTuple):
     """A change of a module's text, and why a system needs it."""
 
@@ -29,16 +18,18 @@ class Change(NamedTuple):
     made: Callable[[str], str]
 
 
+# Drops how the stack is probed, and how often.
 STACK_PROBES = Change(
     "the module wants the stack probed by inline assembler, which LLVM has neither for Windows nor for"
     " WebAssembly: it would call a function of that name. Windows has probes of its own",
-    without_stack_probes,
+    lambda text: re.sub(r' "(?:probe-stack|stack-probe-size)"="[^"]*"', "", text),
 )
-
+# Has LLVM write a table of the frame of each function that the module defines. These alone name their
+# processor.
 UNWIND_TABLES = Change(
     "Windows and its debuggers walk the stack by a table of each frame, and take a function without one for"
     " one that has no frame",
-    with_unwind_tables,
+    lambda text: re.sub(r'(?m)^(attributes #\d+ = \{ )(.*"target-cpu")', r"\1uwtable \2", text),
 )
 
 
@@ -57,15 +48,11 @@ def rewritten(text: str, known: AbstractSet[str], changes: Iterable[Change] = ()
     return text
 
 
-def without_processors(text: str) -> str:
-    """Drops which processor each function is for."""
-    return re.sub(r' "(?:target-cpu|target-features|tune-cpu)"(?:="[^"]*")?', "", text)
-
-
+# Drops which processor each function is for.
 PROCESSOR = Change(
     "functions name a processor and its features, which go before those of clang's words: WebAssembly would"
     " have no SIMD",
-    without_processors,
+    lambda text: re.sub(r' "(?:target-cpu|target-features|tune-cpu)"(?:="[^"]*")?', "", text),
 )
 
 PSHUFB = "llvm.x86.ssse3.pshuf.b.128"

@@ -6,7 +6,7 @@ from .buffers import marked, result_use
 from .instructions import uses
 from .kit import KIT, OPENED
 from .loops import lemmas, needs_bound
-from .pieces import Piece, aligned, bases_of
+from .pieces import aligned, bases_of
 from .routine import Joined, Routine
 from .straight import code_text, record_text
 
@@ -34,23 +34,15 @@ def joined_proof(it: Joined) -> str:
 {result_use(it.loop)}
 {lemmas(it.loop)}
 {blocks}abbrev words : List ℕ
-words = {" ++ ".join(words_in(it))}
+words = {f"front_words ++ {rest(it)}" if it.front else rest(it).strip("()")}
 
 {moved(it)}{does(it)}"""
-
-
-def words_in(it: Joined) -> list[str]:
-    """The names of the words of each block."""
-    front = ["front_words"] if it.front else []
-    back = ["back.words" if it.returns else "back_words"] if it.back else []
-    parts = [*front, "loop.words", *back]
-    return [*parts[:-2], f"({' ++ '.join(parts[-2:])})"] if len(parts) == 3 else parts
 
 
 def does(it: Joined) -> str:
     """The theorem: each block by its law, and all of them joined."""
     before, each, after = it.steps
-    facts = "".join(f" a{base}" for base in bases_of(straight_pieces(it)))
+    facts = "".join(f" a{base}" for base in it.straight_bases)
     cuts = [f"steps_after {before} ({it.later_steps}) s"] if it.front else []
     cuts += [f"steps_after (n * {each}) {after} u"] if it.back else []
     lines = [*front_lines(it), *loop_lines(it), *back_lines(it)]
@@ -112,10 +104,6 @@ def filled(it: Joined) -> str:
         return proof
     goal = f"IsFilled (result {start}) {start}.dmem m (register {start}.registers {target}) n"
     return f"subst (λ m. {goal}) (sym (ap (λ (x : State). x.dmem) last.frame)) ({proof})"
-
-
-def straight_pieces(it: Joined) -> list[Piece]:
-    return [piece for block in (it.front, it.back) if block for piece in block.pieces]
 
 
 def rest(it: Joined) -> str:

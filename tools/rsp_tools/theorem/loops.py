@@ -87,11 +87,6 @@ counted t n =
 """
 
 
-def compared(it: Routine) -> str:
-    """What the branch reads of the counter, r at the start of a round."""
-    return "r" if it.rounds.is_late else f"(r + {it.rounds.step % 2**32}) % 2 ^ 32"
-
-
 def in_letters(it: Routine, fact: str) -> str:
     """A fact of the start, with c for the counter and z for what it is compared with."""
     letters = {str(it.rounds.register): "c", str(it.rounds.other): "z"}
@@ -99,8 +94,9 @@ def in_letters(it: Routine, fact: str) -> str:
 
 
 def more(it: Routine) -> str:
-    """The branch is taken exactly if a round is left."""
-    after, counter = compared(it), it.rounds
+    """The branch is taken exactly if a round is left. It reads `after`, of r at the start of a round."""
+    counter = it.rounds
+    after = "r" if counter.is_late else f"(r + {counter.step % 2**32}) % 2 ^ 32"
     facts = ["k < n", "r < 2 ^ 32", counter.held("r", "c"), in_letters(it, counter.entered)]
     small = in_letters(it, counter.small)
     facts += [small] if small else []
@@ -195,7 +191,9 @@ one_round s n entered k t h is spares holds =
 def ends(it: Routine) -> str:
     """The law of loops, with the invariant."""
     starts = [f"count = omega (arith, is.registers.words {it.rounds.register});"]
-    starts += [f"base_{base} = {at_start(base, it.far[base])};" for base in it.bases]
+    for base in it.bases:
+        proof = f"omega (arith, is.registers.words {base})" if it.far[base] else "refl"
+        starts.append(f"base_{base} = {proof};")
     start = "".join(f"      {line}\n" for line in starts)
     if it.target:
         start += f"{MARK}      filled = filled_none (result s) s.dmem (register s.registers {it.target});\n"
@@ -221,7 +219,3 @@ does law s is at n entered =
 {results}      others = end.others {it.numbers} {it.vectors} refl;
     }}
 """
-
-
-def at_start(base: int, amount: int) -> str:
-    return f"omega (arith, is.registers.words {base})" if amount else "refl"

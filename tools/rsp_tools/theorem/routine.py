@@ -4,6 +4,8 @@ from __future__ import annotations
 
 from dataclasses import dataclass
 
+from rsp_conformance.outcomes import signed
+
 from . import stop
 from .instructions import Instruction, instruction_of
 from .pieces import Piece, bases_of, listing, pieces_of
@@ -135,6 +137,11 @@ class Joined(Text):
         return bool(self.back and self.back.returns)
 
     @property
+    def straight_bases(self) -> list[int]:
+        blocks = [block for block in (self.front, self.back) if block]
+        return bases_of([piece for block in blocks for piece in block.pieces])
+
+    @property
     def counter(self) -> Counter | None:
         return self.loop.counter
 
@@ -232,13 +239,8 @@ def counter_of(code: list[Instruction]) -> Counter:
             "one register of the loop's branch has to be counted by one `addiu $C, $C, N`, and nothing else"
             " may write the registers of the branch"
         )
-    counter = Counter(
-        moved[0],
-        amount if amount < 0x8000 else amount - 0x10000,
-        sum(compared) - moved[0],
-        branch.name,
-        steps[0] is slot,
-    )
+    other = sum(compared) - moved[0]
+    counter = Counter(moved[0], signed(amount), other, branch.name, steps[0] is slot)
     if counter.step > 0 and not counter.other or counter.branch == "bgtz" and counter.is_late:
         stop(
             "a register that the branch compares with 0 has to be counted down, for `bgtz` before the branch"

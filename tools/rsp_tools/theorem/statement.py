@@ -4,7 +4,6 @@ from __future__ import annotations
 
 from .buffers import marked
 from .loops import after_rounds, needs_bound
-from .pieces import bases_of
 from .routine import Joined, Routine
 
 KIT = """\
@@ -135,6 +134,5 @@ def claim(it: Routine | Joined) -> str:
 
 def premises(it: Routine | Joined) -> str:
     """That the addresses of straight code are aligned."""
-    blocks = [block for block in (it.front, it.back) if block] if isinstance(it, Joined) else [it]
-    bases = bases_of([piece for block in blocks for piece in block.pieces])
+    bases = it.straight_bases if isinstance(it, Joined) else it.bases
     return "".join(f"register s.registers {base} % 16 ≡ 0 → " for base in bases)
