@@ -116,12 +116,6 @@ def data_of(state: Texts) -> str:
 DEFAULT_DATA = data_of(DEFAULT)
 
 
-def load_lines(bank: str, address: int, text: str) -> Iterator[str]:
-    """The lines that load these bytes, which are text in hexadecimal."""
-    for at in range(0, len(text), 200):
-        yield f"load {bank} {address + at // 2} {text[at:at + 200]}"
-
-
 class Script:
     """Lines for `rsp run`, with the number of reply lines that each of them has."""
 
@@ -142,8 +136,9 @@ class Script:
         self.say("end")
 
     def load(self, bank: str, address: int, text: str) -> None:
-        for line in load_lines(bank, address, text):
-            self.say(line)
+        """Loads bytes, which are text in hexadecimal."""
+        for at in range(0, len(text), 200):
+            self.say(f"load {bank} {address + at // 2} {text[at:at + 200]}")
 
     def copy(self, rdram: int, bank: str, to_rdram: bool = False) -> None:
         """Moves 4096 bytes between RDRAM and a memory of the processor."""

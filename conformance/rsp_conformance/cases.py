@@ -195,10 +195,6 @@ def make_lane(row: Row, random: Random, number: int, window: int) -> Made:
     return fields, before
 
 
-def make_nothing(row: Row, random: Random, number: int, window: int) -> Made:
-    return {}, {**vector_state(random), **divider(random, number)}
-
-
 def make_move(row: Row, random: Random, number: int, window: int) -> Made:
     """MFC2 and MTC2."""
     fields = {"e": number % 16, "vd": random.below(32), "t": random.below(32)}
@@ -236,10 +232,6 @@ def make_immediate(row: Row, random: Random, number: int, window: int) -> Made:
     return fields, {f"r{fields['s']}": f"{s:08x}"}
 
 
-def make_upper(row: Row, random: Random, number: int, window: int) -> Made:
-    return {"t": random.below(32), "imm": random.mixed(HALVES, 16)}, {}
-
-
 def places(random: Random) -> Texts:
     """pc and npc: any, and now and then a delay slot, whose npc isn't pc + 4."""
     pc = random.pick(PLACES) if random.one_in(3) else 4 * random.below(1024)
@@ -261,10 +253,6 @@ def make_branch(row: Row, random: Random, number: int, window: int) -> Made:
     return fields, before
 
 
-def make_jump(row: Row, random: Random, number: int, window: int) -> Made:
-    return {"target": random.pick((0, 1, 0x3FF, random.below(1024)))}, places(random)
-
-
 def make_jump_register(row: Row, random: Random, number: int, window: int) -> Made:
     fields = {"s": random.below(32), "d": random.pick((31, 31, 0, random.below(32)))}
     if random.one_in(4):
@@ -276,18 +264,10 @@ def status(random: Random) -> Texts:
     return {"c4": f"{random.below(1024) << 5:08x}", "interrupt": str(random.below(2))}
 
 
-def make_break(row: Row, random: Random, number: int, window: int) -> Made:
-    return {}, {**places(random), **status(random)}
-
-
 def sp_state(random: Random) -> Texts:
     before = {"c0": random.below(1 << 13) & ~7, "c1": random.below(1 << 24) & ~7, "c7": random.below(2)}
     texts = {**{key: f"{value:08x}" for key, value in before.items()}, **status(random)}
     return {**texts, **{f"c{number}": word(random) for number in range(8, 16)}}
-
-
-def make_from_sp(row: Row, random: Random, number: int, window: int) -> Made:
-    return {"c": number % 16, "t": random.below(32)}, sp_state(random)
 
 
 def make_to_sp(row: Row, random: Random, number: int, window: int) -> Made:
@@ -363,23 +343,24 @@ def make_vector_memory(row: Row, random: Random, number: int, window: int) -> Ma
     return fields, before
 
 
+# What makes the fields of a case and the state before it, by the instruction's form.
 MAKERS: Dict[str, Callable[[Row, Random, int, int], Made]] = {
     "shift": make_shift,
     "three": make_three,
     "immediate": make_immediate,
-    "upper": make_upper,
+    "upper": lambda row, it, number, window: ({"t": it.below(32), "imm": it.mixed(HALVES, 16)}, {}),
     **dict.fromkeys(("load", "store"), make_scalar_memory),
     **dict.fromkeys(("branch one", "branch two"), make_branch),
-    "jump": make_jump,
+    "jump": lambda row, it, number, window: ({"target": it.pick((0, 1, 0x3FF, it.below(1024)))}, places(it)),
     **dict.fromkeys(("jump register", "link register"), make_jump_register),
-    "break": make_break,
-    "from sp": make_from_sp,
+    "break": lambda row, it, number, window: ({}, {**places(it), **status(it)}),
+    "from sp": lambda row, it, number, window: ({"c": number % 16, "t": it.below(32)}, sp_state(it)),
     "to sp": make_to_sp,
     **dict.fromkeys(("from vector", "to vector"), make_move),
     **dict.fromkeys(("from control", "to control"), make_control),
     "vector": make_vector,
     "lane": make_lane,
-    "nothing": make_nothing,
+    "nothing": lambda row, it, number, window: ({}, {**vector_state(it), **divider(it, number)}),
     **dict.fromkeys(("vector load", "vector store"), make_vector_memory),
 }
 

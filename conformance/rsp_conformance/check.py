@@ -214,9 +214,8 @@ def flat_is_the_same(name: str) -> Complaints:
             state = texts_of(case[("before", "after")[when]])
             wrong += [f"{entry['name']} {key}" for key, text in state.items() if text != whole[key]]
             wrong += [it for it in flat.BANKS if pieces.get((when, it), {}) != part.get(it, {})]
-        wrong += (
-            [entry["name"]] if (case["name"], case["word"]) != (entry["name"], int(entry["word"], 16)) else []
-        )
+        is_same = (case["name"], case["word"]) == (entry["name"], int(entry["word"], 16))
+        wrong += [] if is_same else [entry["name"]]
     return unless(not wrong, f"{name}: form 4 differs from form 1 in {wrong[:4]}")
 
 
@@ -238,11 +237,8 @@ def machine_on(program: str, name: str) -> Any:
             case = (ROWS[name.lower()], word, {**texts_of(vars(self)), **memories})
             (looks,) = bench.observe(program, [case])
             vars(self).update(numbers_of(looks["after"]))
-            for bank, memory, start in (
-                ("dmem", self.ram, 0),
-                ("imem", self.ram, 4096),
-                ("rdram", self.rdram, bench.WINDOW),
-            ):
+            places = (("dmem", self.ram, 0), ("imem", self.ram, 4096), ("rdram", self.rdram, bench.WINDOW))
+            for bank, memory, start in places:
                 data = bytes.fromhex("".join(looks["after"].get(bank, [])))
                 memory.update({start + at: byte for at, byte in enumerate(data)})
 

@@ -7,7 +7,6 @@ from rsp_conformance import bench, play, steps
 from rsp_conformance.commands import Complaints, unless
 from rsp_conformance.coverage import NAMES, SHARED, Found
 from rsp_conformance.outcomes import FLAGS, Kind
-from rsp_conformance.states import Texts
 from rsp_conformance.steps import Entry
 from rsp_conformance.table import Row, destination
 from rsp_conformance.whole import TAKEN
@@ -15,11 +14,6 @@ from rsp_conformance.whole import TAKEN
 
 def value_after(entry: Entry, key: str) -> str:
     return str({**bench.DEFAULT, **entry["before"], **entry["after"]}[key])
-
-
-def after_of(entry: Entry) -> Texts:
-    """The state after a case as a machine shows it, without memories."""
-    return {key: value_after(entry, key) for key in bench.DEFAULT}
 
 
 def flipped(text: str, bit: int) -> str:
@@ -67,7 +61,8 @@ def in_steps(row: Row, found: Found) -> Iterator[Complaints]:
         entry, numbers = cases[0]
         if planted := fault(row, kind, lane, entry, numbers):
             key, bit, told = planted
-            after, start = after_of(entry), f"{entry['name']} ({entry['text']}), {told}:"
+            after = {key: value_after(entry, key) for key in bench.DEFAULT}  # without memories
+            start = f"{entry['name']} ({entry['text']}), {told}:"
             said = steps.complaints(entry, {**after, key: flipped(after[key], bit)})
             right = len(said) == 1 and said[0].startswith(start)
             yield unless(right, f"{row.name.upper()}: {kind.text}: a wrong {told} was answered by {said}")

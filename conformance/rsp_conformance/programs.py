@@ -221,12 +221,6 @@ def add_register(program: Program, case: Case) -> None:
     program.close(case, saved.start, saved.fields)
 
 
-def add_to_vector(program: Program, case: Case) -> None:
-    saved = begun(program, case, vectors=1)
-    saved.vector("register", f"v{case.fields['vd']}")
-    program.close(case, saved.start, saved.fields)
-
-
 def add_to_control(program: Program, case: Case) -> None:
     saved = begun(program, case, halves=3)
     saved.flags()
@@ -238,7 +232,8 @@ def add_store(program: Program, case: Case) -> None:
     program.close(case, case.window, [("memory", 0, WINDOW_LENGTH)])
 
 
-def add_vector_load(program: Program, case: Case) -> None:
+def add_vectors(program: Program, case: Case) -> None:
+    """A case whose result is in the vector registers that it names."""
     registers = keys(case, "v")
     saved = begun(program, case, vectors=len(registers))
     for number, register in enumerate(registers):
@@ -321,10 +316,9 @@ ADDERS: Dict[str, Callable[[Program, Case], None]] = {
     **dict.fromkeys(
         ("shift", "three", "immediate", "upper", "from vector", "from control", "load"), add_register
     ),
-    "to vector": add_to_vector,
+    **dict.fromkeys(("to vector", "vector load"), add_vectors),
     "to control": add_to_control,
     **dict.fromkeys(("store", "vector store"), add_store),
-    "vector load": add_vector_load,
     **dict.fromkeys(JUMPS, add_jump),
     **dict.fromkeys(SP_MOVES, add_sp),
     "break": add_break,

@@ -56,10 +56,6 @@ def from_vector(it: Whole) -> int:
     return int((text + text[:2])[2 * e :][:4], 16)
 
 
-def from_control(it: Whole) -> int:
-    return int(it.before[("vco", "vcc", "vce", "vce")[it.fields["c"]]], 16)
-
-
 def s_of(it: Whole) -> int:
     return register(it, "s")
 
@@ -96,7 +92,7 @@ WRITTEN: Dict[str, Rule] = {
     "jalr": lambda it: (int(it.before["npc"], 16) + 4) % 4096,
     "mfc0": lambda it: int(it.before[f"c{it.fields['c']}"], 16),
     "mfc2": from_vector,
-    "cfc2": from_control,
+    "cfc2": lambda it: int(it.before[("vco", "vcc", "vce", "vce")[it.fields["c"]]], 16),
 }
 # Whether a branch is taken.
 TAKEN: Dict[str, Rule] = {
@@ -251,10 +247,6 @@ def zeros(x: int) -> int:
     return 32 - (x if x > 0 else -x if x > -32768 else -x - 1).bit_length()
 
 
-def has_root(x: int) -> bool:
-    return x not in (0, -32768)
-
-
 def divide_kinds(name: str) -> List[Kind]:
     """The outcomes of a divide instruction in the lane that it writes."""
     kinds = [
@@ -266,7 +258,7 @@ def divide_kinds(name: str) -> List[Kind]:
     if name in ("vrsq", "vrsql"):
         for n, text in enumerate(("leading zeros even", "leading zeros odd")):
             kinds.append(
-                Kind(text, lambda it, n=n: has_root(source_of(it)) and zeros(source_of(it)) % 2 == n)
+                Kind(text, lambda it, n=n: source_of(it) not in (0, -32768) and zeros(source_of(it)) % 2 == n)
             )
     return kinds
 
