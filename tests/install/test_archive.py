@@ -14,9 +14,10 @@ from pathlib import Path
 import pytest
 
 from lib import TESTS, TOP
-from lib.cmake import SAID as LOCKSTEP
 from lib.cmake import check_cmake
 from lib.install.unpacked import BARE, check_pack, check_sums, unpacked
+from lib.install.ways import LOOP_CODE, LOOP_TEXT, LOOP_WORDS
+from lib.library import LOCKSTEP
 from lib.links import broken
 from lib.packages import need
 from lib.pages import page
@@ -26,10 +27,6 @@ from lib.symbols import check_needs
 pytestmark = pytest.mark.timeout(900)  # conformance/check takes all processors, of which others have few
 PLUGIN = "plugin/mupen64plus-rsp-proved.so"
 PLUGIN_CALLS = "DoRspCycles InitiateRSP PluginGetVersion PluginShutdown PluginStartup RomClosed".split()
-LOOP, LOOP_WORDS = (
-    "loop: addiu $1, $1, -1\nbne $1, $0, loop\nnop\nbreak\n",
-    "2421ffff1420fffe000000000000000d",
-)
 VERSION = r"rsp [\d.]+ \([\d-]+\), commit [0-9a-f]{40}\nproved and built by \S+"
 
 
@@ -70,12 +67,11 @@ def test_first_script(archive: Path) -> None:
 
 
 def test_assembles_and_disassembles(archive: Path, folder: Path) -> None:
-    (folder / "loop.s").write_text(LOOP)
+    (folder / "loop.s").write_text(LOOP_TEXT)
     where = {"cwd": folder, "env": BARE}
     assert succeeds(archive / "rsp", "asm", "loop.s", "loop.bin", **where) == "ok 4 words\n"
-    assert (folder / "loop.bin").read_bytes().hex() == LOOP_WORDS
-    told = succeeds(archive / "rsp", "dis", "loop.bin", **where)
-    assert told == "addiu $1, $1, -1\nbne $1, $0, 0x000\nnop\nbreak\n"
+    assert (folder / "loop.bin").read_bytes().hex() == LOOP_CODE
+    assert succeeds(archive / "rsp", "dis", "loop.bin", **where) == LOOP_WORDS
 
 
 def test_version(archive: Path) -> None:

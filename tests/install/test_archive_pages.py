@@ -9,10 +9,10 @@ from typing import Iterator, NamedTuple
 
 import pytest
 
-from lib.cmake import SAID as LOCKSTEP
 from lib.install.commands import Block, blocks_in, check, in_table, is_command, lines_of, with_ways
 from lib.install.unpacked import BARE
 from lib.install.ways import WAYS, Way
+from lib.library import LOCKSTEP
 from lib.processes import run, succeeds
 from lib.user import User
 

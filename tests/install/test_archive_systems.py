@@ -14,15 +14,17 @@ from typing import Iterator
 import pytest
 
 from lib import TOP
-from lib.cmake import PROJECT
-from lib.cmake import SAID as LOCKSTEP
 from lib.install.unpacked import BARE, check_pack, check_sums, given, unpacked
+from lib.install.ways import LOOP_CODE, LOOP_TEXT, LOOP_WORDS
+from lib.library import LOCKSTEP
 from lib.library.typescript import OPTIONS, USE
 from lib.links import broken
 from lib.packages import need
 from lib.pages import page
 from lib.processes import Ended, bytes_of, run, succeeds
-from lib.systems import browser, chromium, files, macos, node, runners, rust, windows
+from lib.systems import browser, files, macos, node, rust
+from lib.systems.kinds import KINDS
+from lib.systems.runners import Runner
 from rsp_tools.packaging import installed, systems
 from rsp_tools.systems import packages
 from rsp_tools.systems.toolchain import llvm
@@ -59,11 +61,6 @@ LINES = "rsp 1.0.0 (2000-01-01), commit 0123", "proved and built by no logic"
 outside = pytest.mark.outside("it tests archives of other systems: `--archive dist`")
 
 
-def named_there(top: Path, name: str) -> bool:
-    """Whether there is a file of this name, or a program for Windows."""
-    return bool([*top.glob(name)] or (top / f"{name}.exe").exists())
-
-
 def check_files(top: Path, system: str) -> None:
     """The files that it has and hasn't, those that its README names, and the links of its pages."""
     check_sums(top)
@@ -74,7 +71,8 @@ def check_files(top: Path, system: str) -> None:
     assert text.startswith(f"# rsp {installed.version()[0]} for ")
     folders = "bin|lib|include|share|python|rust|examples|conformance"
     named = re.findall(rf"(?<![\w/\\~-])(?:{folders})[/\\][\w./\\*-]+", text)
-    assert [it for it in named if not named_there(top, it.replace("\\", "/"))] == []
+    paths = [it.replace("\\", "/") for it in named]
+    assert [it for it in paths if not [*top.glob(it), *top.glob(f"{it}.exe")]] == []
 
 
 def stand_in(system: str, folder: Path) -> None:
@@ -106,16 +104,12 @@ def test_stand_in(folder: Path, library: Path, system: str) -> None:
     check_files(unpacked(packed, folder / "into"), system)
 
 
-def held() -> dict[str, int]:
-    """The files of dist, with their times."""
-    return {str(it): it.stat().st_mtime_ns for it in (TOP / "dist").glob("**/*")}
-
-
 def refused(*words: str, path: str) -> str:
     """What ./release says that fails with these words and this PATH, and writes nothing."""
-    before = held()
+    before = sorted((it, it.stat().st_mtime_ns) for it in (TOP / "dist").glob("**/*"))
     ended = run("./release", "--untested", *words, env={"PATH": path})
-    assert ended.returncode == 1 and held() == before
+    assert ended.returncode == 1
+    assert sorted((it, it.stat().st_mtime_ns) for it in (TOP / "dist").glob("**/*")) == before
     return ended.stdout
 
 
@@ -150,10 +144,9 @@ def top(packed_for: Path, folder: Path) -> Path:
 
 
 def of(*names: str) -> pytest.MarkDecorator:
-    return pytest.mark.parametrize("system", names)
+    return pytest.mark.parametrize("system", [pytest.param(it, marks=outside) for it in names])
 
 
-@outside
 @of(*MADE)
 def test_files(packed_for: Path, top: Path, system: str) -> None:
     # npm wants another name.
@@ -162,13 +155,11 @@ def test_files(packed_for: Path, top: Path, system: str) -> None:
     check_files(top, system)
 
 
-@outside
 @of(*rust.TARGETS)
 def test_wheel(top: Path, system: str) -> None:
     files.check_wheel(system, top)
 
 
-@outside
 @pytest.mark.needs("rustc", "cargo")
 @of(*rust.TARGETS)
 def test_crate(top: Path, folder: Path, system: str) -> None:
@@ -184,127 +175,76 @@ def test_crate(top: Path, folder: Path, system: str) -> None:
         assert f"lib/{target}/{name}" in listed.splitlines()
 
 
-# Programs are compiled by Debian's cross compilers, and run under qemu and wine: how, what CMake is told,
-# and the shared library and the program of the archive.
-CROSS = {
-    "linux-aarch64": (
-        runners.Arm,
-        (
-            "-DCMAKE_SYSTEM_NAME=Linux",
-            "-DCMAKE_SYSTEM_PROCESSOR=aarch64",
-            f"-DCMAKE_C_COMPILER={runners.Arm.compiler}",
-        ),
-        "lib/librsp.so.1",
-        "bin/rsp",
-    ),
-    "windows-x86_64": (runners.Windows, windows.CROSS, "bin/rsp.dll", "bin/rsp.exe"),
-}
+# Programs are compiled by Debian's cross compilers, and run under qemu and wine.
+CROSS = ("linux-aarch64", "windows-x86_64")
 EXAMPLE = "examples/c/lockstep.c"
-LOOP, LOOP_WORDS = "loop: addiu $1, $1, -1\nbne $1, $0, loop\n", "2421ffff1420fffe"
 
 
 @pytest.fixture
-def runner(top: Path, folder: Path, system: str) -> Iterator[runners.Runner]:
-    kind = CROSS[system][0]
+def runner(top: Path, folder: Path, system: str) -> Iterator[Runner]:
+    kind = KINDS[system]
     need(*kind.programs)
     made = kind(top, folder)
     yield made
     made.stop()
 
 
-def check_lockstep(runner: runners.Runner, made: Path, shared: str, is_shared: bool) -> None:
-    """A program over the library says what the example says."""
-    assert (Path(shared).name.encode() in made.read_bytes()) == is_shared
-    assert runner.run(made).stdout.replace("\r\n", "\n") == LOCKSTEP
-
-
-@outside
 @of(*CROSS)
-def test_c(top: Path, runner: runners.Runner, system: str) -> None:
+def test_c(top: Path, runner: Runner, system: str) -> None:
     """The example by the files, static and shared."""
     for how, library in runner.libraries().items():
         made = runner.compile(top / EXAMPLE, name=f"lockstep {how}", library=library)
-        check_lockstep(runner, made, CROSS[system][2], how != "static")
+        runner.check_lockstep(made, how != "static")
 
 
-@outside
 @pytest.mark.needs("pkg-config")
 @of("linux-aarch64")
-def test_pkg_config(top: Path, runner: runners.Runner, system: str) -> None:
+def test_pkg_config(top: Path, runner: Runner, system: str) -> None:
     where = {**BARE, "PKG_CONFIG_PATH": f"{top}/lib/pkgconfig"}
     found = succeeds("pkg-config", "--cflags", "--libs", "rsp", env=where).split()
     assert f"-I{top}/lib/pkgconfig/../../include" in found
-    check_lockstep(runner, runner.compile(top / EXAMPLE, library=found), CROSS[system][2], True)
+    runner.check_lockstep(runner.compile(top / EXAMPLE, library=found), True)
 
 
-@outside
 @pytest.mark.needs("cmake", "make")
 @of(*CROSS)
-def test_cmake(top: Path, runner: runners.Runner, system: str) -> None:
-    """Shared and static. On another system it isn't found."""
-    _, told, shared, _ = CROSS[system]
-    folder = runner.folder / "cmake"
-    folder.mkdir()
-    for it in (PROJECT, top / EXAMPLE):
-        shutil.copy(it, folder)
-    words = ("cmake", "-S", folder, f"-DCMAKE_PREFIX_PATH={top}")
-    succeeds(*words, *told, "-B", folder / "out", env=BARE)
-    succeeds("cmake", "--build", folder / "out", env=BARE)
-    if runner.ending:
-        shutil.copy(top / shared, folder / "out")
-    for name in ("shared", "static"):
-        check_lockstep(runner, folder / "out" / f"{name}{runner.ending}", shared, name == "shared")
-    assert run(*words, "-B", folder / "here", env=BARE).returncode
+def test_cmake(top: Path, runner: Runner, system: str) -> None:
+    runner.check_cmake()
 
 
-@outside
 @of(*rust.TESTED)
-def test_example_of_the_crate(top: Path, runner: runners.Runner, system: str) -> None:
+def test_example_of_the_crate(top: Path, runner: Runner, system: str) -> None:
     """Where Debian has Rust's own library for the system."""
-    target, package = rust.TESTED[system]
-    folder = rust.rust_for(target)
-    if not folder:
-        pytest.skip(f"there is no Rust for it (Debian's packages cargo and {package})")
-    named = f"CARGO_TARGET_{target.upper().replace('-', '_')}"
-    where = {
-        **runner.env,
-        "PATH": f"{folder}{os.pathsep}{os.environ['PATH']}",
-        f"{named}_LINKER": runner.compiler,
-        f"{named}_RUNNER": " ".join(runner.start),
-    }
-    words = ("cargo", "run", "--offline", "--quiet", "--example", "lockstep", "--target", target)
-    assert succeeds(*words, cwd=shutil.copytree(top / "rust", runner.folder / "rust"), env=where) == LOCKSTEP
+    crate = shutil.copytree(top / "rust", runner.at / "rust")
+    assert rust.cargo(runner, "run", "--example", "lockstep", at=crate) == LOCKSTEP
 
 
-def of_archive(runner: runners.Runner, *words: str, given: bytes = b"") -> "Ended[bytes]":
+def of_archive(runner: Runner, *words: str, given: bytes = b"") -> "Ended[bytes]":
     """A run of a program of the archive, in its folder."""
     command = [*runner.start, *words]
     return bytes_of(command[0], command[1:], given, cwd=runner.folder, env=runner.env)
 
 
-@outside
 @of(*CROSS)
-def test_program(top: Path, runner: runners.Runner, system: str) -> None:
+def test_program(top: Path, runner: Runner, system: str) -> None:
     """The first script, an assembly and a disassembly, and a file that isn't there."""
-    program = CROSS[system][3]
+    program = f"bin/rsp{runner.ending}"
     first = of_archive(runner, program, "run", given=page("examples/first.rsp").encode())
     assert first.stdout == page("examples/first.out").encode()
-    (top / "loop.s").write_text(LOOP)
-    assert of_archive(runner, program, "asm", "loop.s", "loop.bin").stdout == b"ok 2 words\n"
-    assert (top / "loop.bin").read_bytes().hex() == LOOP_WORDS
-    said = of_archive(runner, program, "dis", "loop.bin").stdout
-    assert said == b"addiu $1, $1, -1\nbne $1, $0, 0x000\n"
+    (top / "loop.s").write_text(LOOP_TEXT)
+    assert of_archive(runner, program, "asm", "loop.s", "loop.bin").stdout == b"ok 4 words\n"
+    assert (top / "loop.bin").read_bytes().hex() == LOOP_CODE
+    assert of_archive(runner, program, "dis", "loop.bin").stdout == LOOP_WORDS.encode()
     lost = of_archive(runner, program, "run", "--rdram", "no-such-file")
     assert lost.returncode == 1 and not lost.stdout
 
 
-@outside
 @of(*CROSS)
 @pytest.mark.parametrize("name", ["VADD", "MTC0"])
-def test_vectors(top: Path, runner: runners.Runner, system: str, name: str) -> None:
+def test_vectors(top: Path, runner: Runner, system: str, name: str) -> None:
     """The archive's runner, by this machine's Python, which starts the program by a script of the shell."""
     script = top / "program"
-    script.write_text(f'#!/bin/sh\nexec {" ".join(runner.start)} {CROSS[system][3]} "$@"\n')
+    script.write_text(f'#!/bin/sh\nexec {" ".join(runner.start)} bin/rsp{runner.ending} "$@"\n')
     script.chmod(0o755)
     where = {**BARE, **runner.env, "PYTHONPATH": f"conformance{os.pathsep}python"}
     words = ("-B", "-m", "rsp_conformance.run", "--program", script, "conformance/vectors", name)
@@ -312,16 +252,14 @@ def test_vectors(top: Path, runner: runners.Runner, system: str, name: str) -> N
     assert re.fullmatch(r"[1-9]\d* passed, 0 failed", told.splitlines()[-1])
 
 
-@outside
 @of("windows-x86_64")
-def test_first_line_of_windows(top: Path, runner: runners.Runner) -> None:
+def test_first_line_of_windows(top: Path, runner: Runner) -> None:
     """The README's, by the command interpreter."""
     line = r"bin\rsp run < examples\first.rsp"
     assert f"`{line}`" in (top / "README.md").read_text()
     assert of_archive(runner, "cmd", "/c", line).stdout == page("examples/first.out").encode()
 
 
-@outside
 @pytest.mark.needs("rt")
 @of("macos")
 def test_macos(top: Path, folder: Path) -> None:
@@ -332,7 +270,6 @@ def test_macos(top: Path, folder: Path) -> None:
         assert held == [processor], target
 
 
-@outside
 @of("wasm64")
 def test_package(packed_for: Path, top: Path) -> None:
     described = json.loads((top / "package.json").read_text())
@@ -344,20 +281,10 @@ def test_package(packed_for: Path, top: Path) -> None:
 
 @pytest.fixture
 def project(packed_for: Path, folder: Path) -> Path:
-    """A folder in which npm has installed the package, without a network."""
     need("npm", "node")
-    where = {
-        **BARE,
-        "npm_config_cache": str(folder / "npm"),
-        "npm_config_offline": "true",
-        "HOME": str(folder),
-    }
-    (folder / "project").mkdir()
-    succeeds("npm", "install", "--no-audit", "--no-fund", packed_for, cwd=folder / "project", env=where)
-    return folder / "project"
+    return node.installed(folder, packed_for)
 
 
-@outside
 @of("wasm64")
 def test_npm(top: Path, project: Path) -> None:
     """What it installs, and that Node runs it, or says what it lacks."""
@@ -370,7 +297,6 @@ def test_npm(top: Path, project: Path) -> None:
         pytest.skip(left)
 
 
-@outside
 @pytest.mark.needs("tsc")
 @of("wasm64")
 def test_declarations(project: Path) -> None:
@@ -383,17 +309,9 @@ def test_declarations(project: Path) -> None:
     assert run("tsc", "-p", ".", cwd=project, env=BARE).stdout.count("error TS") == 1
 
 
-@outside
-@pytest.mark.needs(*chromium.PROGRAMS)
 @of("wasm64")
-def test_example_in_chromium(top: Path, folder: Path) -> None:
-    runner = browser.Chromium(top, folder)
-    try:
-        text = (top / "examples/js/lockstep.js").read_text()
-        (folder / "lockstep.js").write_text(text.replace('from "rsp"', 'from "/library/rsp.js"'))
-        assert runner.test("code.js", "/at/lockstep.js").decode() == LOCKSTEP
-    finally:
-        runner.stop()
+def test_example_in_chromium(runner: browser.Chromium, system: str) -> None:
+    assert runner.says("lockstep.js", page("examples/js/lockstep.js")) == LOCKSTEP
 
 
 # What a page loads, in HTML, in modules and in what they start; and the addresses that it names.
@@ -413,7 +331,6 @@ def loaded(path: Path) -> Iterator[Path]:
         yield from ((path.parent / it).resolve() for it in found if not re.match(r"\w+:", it))
 
 
-@outside
 @of("page")
 def test_page(top: Path) -> None:
     """It loads files that are there, from index.html on, and all of them; no address leads elsewhere."""

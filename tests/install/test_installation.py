@@ -12,7 +12,8 @@ from pathlib import Path
 import pytest
 
 from lib import TESTS, TOP
-from lib.cmake import LOCKSTEP, SAID, check_cmake
+from lib.cmake import EXAMPLE, check_cmake
+from lib.library import LOCKSTEP
 from lib.packages import need
 from lib.pages import page
 from lib.processes import compiled, run, succeeds
@@ -151,11 +152,11 @@ def test_full_disk(library: Path, folder: Path) -> None:
 def test_pkg_config(prefix: Path, folder: Path, command: str, flags: str) -> None:
     """As a user types it, in a folder of his own: the words that pkg-config gives pass a shell."""
     need(command.split()[0])
-    shutil.copy(LOCKSTEP, folder / "my.c")
+    shutil.copy(EXAMPLE, folder / "my.c")
     line = f"{command} $(pkg-config {flags} --cflags --libs rsp)"
     line = f'eval "{line}"' if " " in str(prefix) else line
     succeeds("sh", "-c", line, cwd=folder, env=found_in(prefix))
-    assert succeeds(folder / "a.out", cwd="/") == SAID
+    assert succeeds(folder / "a.out", cwd="/") == LOCKSTEP
     assert ("NEEDED" in succeeds("objdump", "-p", folder / "a.out")) != ("-static" in command)
 
 

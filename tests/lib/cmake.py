@@ -4,27 +4,36 @@ import shutil
 from pathlib import Path
 
 from lib import TESTS, TOP
-from lib.pages import page
-from lib.processes import run, succeeds
+from lib.library import LOCKSTEP
+from lib.processes import Ended, run, succeeds
 
 PROJECT = TESTS / "install/installation/CMakeLists.txt"
-LOCKSTEP = TOP / "examples/c/lockstep.c"
-SAID = page("examples/c/lockstep.expected")
+EXAMPLE = TOP / "examples/c/lockstep.c"
+
+
+def configured(prefix: Path, folder: Path, out: str, *told: str) -> "Ended[str]":
+    """How CMake finds the library of a prefix for the project in a folder."""
+    return run("cmake", "-S", folder, f"-DCMAKE_PREFIX_PATH={prefix}", "-B", folder / out, *told)
+
+
+def built(prefix: Path, folder: Path, *told: str) -> Path:
+    """The folder of the programs that CMake makes in a new folder, `shared` and `static`."""
+    folder.mkdir()
+    for it in PROJECT, EXAMPLE:
+        shutil.copy(it, folder)
+    ended = configured(prefix, folder, "out", *told)
+    assert ended.returncode == 0, ended.stdout
+    succeeds("cmake", "--build", folder / "out")
+    return folder / "out"
 
 
 def check_cmake(prefix: Path, folder: Path) -> None:
     """By CMake in a new folder, shared and static; a version that isn't there is refused."""
-    folder.mkdir()
-    shutil.copy(LOCKSTEP, folder)
-    configure = ("cmake", "-S", folder, f"-DCMAKE_PREFIX_PATH={prefix}", "-B")
-    project, lists = PROJECT.read_text(), folder / "CMakeLists.txt"
-    lists.write_text(project)
-    succeeds(*configure, folder / "out")
-    succeeds("cmake", "--build", folder / "out")
+    made = built(prefix, folder)
     for name in "shared", "static":
-        program = folder / "out" / name
-        assert succeeds(program, cwd="/") == SAID, name
+        program = made / name
+        assert succeeds(program, cwd="/") == LOCKSTEP, name
         assert ("librsp" in succeeds("objdump", "-p", program)) == (name == "shared")
     for asked in "2.0", "1.99", "0.9":
-        lists.write_text(project.replace("rsp 1.0", f"rsp {asked}"))
-        assert run(*configure, folder / f"out-{asked}").returncode, f"version {asked} isn't refused"
+        (folder / PROJECT.name).write_text(PROJECT.read_text().replace("rsp 1.0", f"rsp {asked}"))
+        assert configured(prefix, folder, f"out-{asked}").returncode, f"version {asked} isn't refused"

@@ -5,11 +5,13 @@ from typing import Any
 
 import pytest
 
-from lib import TESTS, TOP
+from lib import TESTS
+from lib.cmake import EXAMPLE
+from lib.library import LOCKSTEP
 from lib.systems.kinds import on
 
-SOURCES, EXAMPLE = TESTS / "library/c", TOP / "examples/c"
-WRAPPED = "-Wl,--wrap=malloc,--wrap=realloc,--wrap=free"
+SOURCES = TESTS / "library/c"
+COUNTED = "-Wl,--wrap=malloc,--wrap=realloc,--wrap=free"
 
 
 @on()
@@ -23,15 +25,15 @@ def test_calls(runner: Any, name: str) -> None:
 @on()
 def test_lockstep(runner: Any) -> None:
     for kind, library in runner.libraries().items():
-        made = runner.compile(EXAMPLE / "lockstep.c", name=f"lockstep-{kind}", library=library)
-        assert runner.run(made).stdout == (EXAMPLE / "lockstep.expected").read_text(), kind
+        made = runner.compile(EXAMPLE, name=f"lockstep-{kind}", library=library)
+        assert runner.run(made).stdout == LOCKSTEP, kind
 
 
 @on("linux-aarch64", "windows-x86_64", "wasm64")
 def test_failing_allocations(runner: Any) -> None:
     words = ("-Dmain=all_calls", "-DQUIET", "-c")
     part = runner.compile(SOURCES / "calls.c", *words, name="all_calls.o", library=[])
-    runner.passes(runner.compile(SOURCES / "no_memory.c", WRAPPED, str(part)))
+    runner.passes(runner.compile(SOURCES / "no_memory.c", COUNTED, str(part)))
 
 
 @on("linux-aarch64", "windows-x86_64")
@@ -42,4 +44,4 @@ def test_limits(runner: Any, name: str) -> None:
 
 @on("wasm64")
 def test_memory_is_given_back(runner: Any) -> None:
-    runner.passes(runner.compile(SOURCES / "balance.c", WRAPPED))
+    runner.passes(runner.compile(SOURCES / "balance.c", COUNTED))

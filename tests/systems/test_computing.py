@@ -11,7 +11,7 @@ import struct
 from functools import lru_cache
 from itertools import zip_longest
 from pathlib import Path
-from typing import Any, Callable, Dict, Iterator, List, Tuple
+from typing import Any, Callable, Dict, List, Tuple
 
 import pytest
 
@@ -77,14 +77,9 @@ def complaints(entry: Entry, result: bytes) -> List[str]:
     return list(steps.complaints(entry, found))
 
 
-def all_entries() -> Iterator[Entry]:
-    for name in names_in(VECTORS, []):
-        yield from entries_in(VECTORS, name)
-
-
 def results(runner: Runner) -> List[Tuple[Entry, bytes]]:
     """What a library makes of each case."""
-    entries = [*all_entries()]
+    entries = [it for name in names_in(VECTORS, []) for it in entries_in(VECTORS, name)]
     (runner.at / "cases").write_bytes(b"".join(map(written, entries)))
     if isinstance(runner, Chromium):
         found = runner.test("vectors.js", "/at/cases")

@@ -9,9 +9,9 @@ from pathlib import Path
 
 import pytest
 
-from lib.systems.files import PLATFORMS, check_wheel, shown
-from lib.systems.kinds import made as of
 from lib.systems import macos
+from lib.systems.files import PLATFORMS, check_wheel, shown
+from lib.systems.kinds import of
 from rsp_tools.systems import header, wasm
 from rsp_tools.systems.__main__ import SYSTEMS
 from rsp_tools.systems.modules import module

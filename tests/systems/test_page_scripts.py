@@ -50,10 +50,6 @@ def test_stored(opened: Tuple[Page, str], script: Stored) -> None:
     assert is_left, "the page leaves another image"
 
 
-def test_there_are_scripts() -> None:
-    assert len(ANSWERED) > 100
-
-
 def test_examples(page: Page) -> None:
     """Each example that can be chosen is a script of the repository, or assembles."""
     options = "[...document.querySelectorAll('#example option')].slice(1).map((it) => it.textContent)"

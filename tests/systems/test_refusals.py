@@ -9,16 +9,11 @@ import pytest
 from lib import TOP
 from lib.processes import Ended, run
 from lib.systems.kinds import SYSTEMS
-from rsp_tools.systems import places, rewriting
+from rsp_tools.systems import places
 from rsp_tools.systems.toolchain import Refused, kit
 
 # The packages that are named where there are none.
-PACKAGES = {
-    "linux-aarch64": "gcc-aarch64-linux-gnu",
-    "windows-x86_64": "gcc-mingw-w64-x86-64",
-}
-# A call as a module has it, of an instruction that no processor has.
-FOREIGN = "%2 = call <16 x i8> @llvm.x86.rsp.add(<16 x i8> %1)\n"
+PACKAGES = {"linux-aarch64": "gcc-aarch64-linux-gnu", "windows-x86_64": "gcc-mingw-w64-x86-64"}
 
 
 def said(*words: str, path: str = os.environ["PATH"]) -> "Ended[str]":
@@ -63,9 +58,3 @@ def test_another_clang(folder: Path, monkeypatch: pytest.MonkeyPatch) -> None:
             kit()
     finally:
         kit.cache_clear()
-
-
-def test_another_intrinsic() -> None:
-    with pytest.raises(Refused) as refused:
-        rewriting.rewritten(FOREIGN, {"llvm.x86.ssse3.pshuf.b.128"})
-    assert str(refused.value) == "the module has the intrinsic llvm.x86.rsp.add, which no rule names"

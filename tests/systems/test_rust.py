@@ -9,9 +9,8 @@ from typing import Any
 import pytest
 
 from lib.processes import succeeds
-from lib.systems.kinds import made as of
-from lib.systems.kinds import on
-from lib.systems.rust import TARGETS, TESTED, rust_for, said
+from lib.systems.kinds import of, on
+from lib.systems.rust import TARGETS, TESTED, cargo, said
 from rsp_tools.systems import header, places
 
 
@@ -36,19 +35,7 @@ def test_build_script(made: Path, folder: Path) -> None:
 @on(*TESTED)
 def test_crate(runner: Any) -> None:
     """The crate's tests over the static library, linked and run as the runner does it."""
-    target, package = TESTED[runner.system]
-    folder = rust_for(target)
-    if not folder:
-        pytest.skip(f"there is no Rust for {target} (Debian's packages cargo and {package})")
-    named = f"CARGO_TARGET_{target.upper().replace('-', '_')}"
-    shutil.copytree(places.RUST, runner.at / "rust", ignore=shutil.ignore_patterns("target", "Cargo.lock"))
-    env = {
-        **runner.env,
-        "PATH": f"{folder}{os.pathsep}{os.environ['PATH']}",
-        "RSP_LIB_DIR": str(runner.folder / "lib"),
-        f"{named}_LINKER": runner.compiler,
-        f"{named}_RUNNER": " ".join(runner.start),
-    }
-    words = ("cargo", "test", "--offline", "-q", "--tests", "--target", target)
-    text = succeeds(*words, cwd=runner.at / "rust", env=env, timeout=1700)
+    ignored = shutil.ignore_patterns("target", "Cargo.lock")
+    crate = shutil.copytree(places.RUST, runner.at / "rust", ignore=ignored)
+    text = cargo(runner, "test", "--tests", at=crate, RSP_LIB_DIR=str(runner.folder / "lib"))
     assert "test result: ok. " in text.replace("test result: ok. 0 passed", "")

@@ -3,7 +3,6 @@ its folder."""
 
 import base64
 import json
-import os
 import re
 import shutil
 from pathlib import Path
@@ -12,12 +11,12 @@ from typing import Any, Dict, Iterable, List, Tuple
 import pytest
 
 from lib import TESTS, TOP
+from lib.library import LOCKSTEP
 from lib.pages import page
 from lib.processes import compiled, succeeds
 from lib.stored import Stored, stored
 from lib.systems import node
-from lib.systems.kinds import made as of
-from lib.systems.kinds import on
+from lib.systems.kinds import of, on
 from lib.systems.runners import see_passed
 from rsp_tools.systems import header, places, wasm
 from rsp_tools.systems.modules import Module
@@ -112,10 +111,7 @@ def test_names(runner: Any) -> None:
 @pytest.mark.parametrize("kind", ([], ["--install-links"]), ids=("a link", "a copy of what it packs"))
 def test_npm(made: Path, kind: List[str], folder: Path) -> None:
     """npm takes the folder. A Node that is new enough runs it, and an older one says which are."""
-    project = folder / "project"
-    project.mkdir()
-    env = {**os.environ, "npm_config_cache": str(folder / "npm"), "npm_config_offline": "true"}
-    succeeds("npm", "install", "--no-audit", "--no-fund", *kind, made, cwd=project, env=env)
+    project = node.installed(folder, made, *kind)
     held = {it.name for it in (project / "node_modules/rsp").glob("*")}
     assert held == {it.name for it in made.iterdir()}
     why = node.check_use(project)
@@ -126,16 +122,10 @@ def test_npm(made: Path, kind: List[str], folder: Path) -> None:
 # The ES module.
 
 
-def said(runner: Any, name: str, text: str) -> str:
-    """What code that imports the package says."""
-    (runner.at / name).write_text(text.replace('from "rsp"', 'from "/library/rsp.js"'))
-    return str(runner.test("code.js", f"/at/{name}").decode())
-
-
 @on("wasm64")
 def test_lockstep(runner: Any) -> None:
     text = (TOP / "examples/js/lockstep.js").read_text()
-    assert said(runner, "lockstep.js", text) == (TOP / "examples/c/lockstep.expected").read_text()
+    assert runner.says("lockstep.js", text) == LOCKSTEP
 
 
 def page_code() -> List[Tuple[str, str]]:
@@ -148,7 +138,7 @@ def page_code() -> List[Tuple[str, str]]:
 @on("wasm64")
 @pytest.mark.parametrize("code, told", page_code(), ids=lambda it: it.strip()[:20])
 def test_code_of_page(runner: Any, code: str, told: str) -> None:
-    assert said(runner, "page.js", code) == f"{told}\n"
+    assert runner.says("page.js", code) == f"{told}\n"
 
 
 def as_case(script: Stored) -> Dict[str, Any]:
@@ -165,7 +155,7 @@ def test_scripts(runner: Any) -> None:
     (runner.at / "scripts.json").write_text(json.dumps([*map(as_case, scripts)]))
     found = json.loads(runner.test("scripts.js", "/at/scripts.json"))
     wanted = [["OUT_OF_RANGE" if it.wanted[0] else it.wanted[1].decode(), True] for it in scripts]
-    assert len(found) == len(scripts) > 100
+    assert len(found) == len(scripts)
     assert [it for it in zip(map(str, scripts), found, wanted) if it[1] != it[2]] == []
 
 

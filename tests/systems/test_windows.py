@@ -8,12 +8,10 @@ from typing import Any, Set
 
 import pytest
 
-from lib import TESTS, TOP
-from lib.processes import run, succeeds
+from lib import TESTS
 from lib.systems.files import shown
-from lib.systems.kinds import made as of
-from lib.systems.kinds import on
-from lib.systems.windows import CROSS, link_for_msvc
+from lib.systems.kinds import of, on
+from lib.systems.windows import link_for_msvc
 from rsp_tools.systems import header, modules, objects
 from rsp_tools.systems.toolchain import llvm
 from rsp_tools.systems.windows import GNU
@@ -24,7 +22,6 @@ TAKEN = {"free", "malloc", "memcpy", "memmove", "memset", "realloc"}
 STATIC = {"librsp.a": TAKEN | {"___chkstk_ms"}, "rsp_static.lib": TAKEN | {"__chkstk"}}
 # These call nothing, and take no room on the stack.
 FRAMELESS = {"rsp_state_fault", "rsp_version"}
-EXAMPLE = TOP / "examples/c"
 
 
 def uses_library(program: Path) -> bool:
@@ -85,21 +82,7 @@ def test_msvc(runner: Any, library: str) -> None:
     runner.passes(program)
 
 
-@pytest.mark.needs("cmake")
+@pytest.mark.needs("cmake", "make")
 @on("windows-x86_64")
 def test_cmake(runner: Any) -> None:
-    """A project finds the library, shared and static. It isn't found for another system."""
-    at = runner.at / "cmake"
-    at.mkdir()
-    for it in (TESTS / "install/installation/CMakeLists.txt", EXAMPLE / "lockstep.c"):
-        shutil.copy(it, at)
-    words = ("cmake", "-S", at, f"-DCMAKE_PREFIX_PATH={runner.folder}", "-B")
-    succeeds(*words, at / "out", *CROSS)
-    succeeds("cmake", "--build", at / "out")
-    shutil.copy(runner.folder / "bin/rsp.dll", at / "out")
-    for name in ("shared", "static"):
-        program = at / "out" / f"{name}.exe"
-        assert uses_library(program) == (name == "shared")
-        assert runner.run(program).stdout == (EXAMPLE / "lockstep.expected").read_text()
-    other = run(*words, at / "other")
-    assert other.returncode != 0 and "rspConfig" in other.stdout
+    runner.check_cmake()

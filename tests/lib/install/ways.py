@@ -64,8 +64,12 @@ def file_of(name: str, text: str) -> str:
 
 
 EMBEDDING, CAMPAIGN = "docs/EMBEDDING.md", "docs/CAMPAIGN.md"
-LOOP = file_of("loop.s", "loop: addiu $1, $1, -1\nbne $1, $0, loop\nnop\nbreak\n")
-LOOP_WORDS = "2421ffff1420fffe000000000000000d"
+LOOP_TEXT, LOOP_CODE = (
+    "loop: addiu $1, $1, -1\nbne $1, $0, loop\nnop\nbreak\n",
+    "2421ffff1420fffe000000000000000d",
+)
+LOOP_WORDS = "addiu $1, $1, -1\nbne $1, $0, 0x000\nnop\nbreak\n"
+LOOP = file_of("loop.s", LOOP_TEXT)
 MY_C = file_of("my.c", block_with(EMBEDDING, '#include "rsp.h"'))
 # What the page's block before it does, unless it was typed: in an archive, and in a clone.
 INSTALLED = """
@@ -91,7 +95,7 @@ WAYS = (
         "./rsp asm SRC OUT\n./rsp dis FILE",
         first=LOOP,
         instead=(("SRC OUT", "loop.s loop.bin"), ("FILE", "loop.bin")),
-        prints="ok 4 words\naddiu $1, $1, -1\nbne $1, $0, 0x000\nnop\nbreak\n",
+        prints=f"ok 4 words\n{LOOP_WORDS}",
     ),
     Way("README.md", "./rsp --help", instead=(("--help", "--help || [ $? = 2 ]"),)),
     Way("README.md", "export PATH=", then="cd /\necho 'mem dmem 0 4' | rsp run", prints="000000: 00000000"),
@@ -206,7 +210,7 @@ WAYS = (
         "docs/SCRIPT.md",
         "od ",
         first=f"{LOOP}\nrsp asm loop.s code.bin",
-        prints=f"ok 4 words\nload imem 0 {LOOP_WORDS}",
+        prints=f"ok 4 words\nload imem 0 {LOOP_CODE}",
     ),
     Way(
         "docs/SCRIPT.md",

@@ -131,6 +131,11 @@ class Chromium(Runner):
         assert status == 0, f"{name}: {said[:2000]!r}"
         return said
 
+    def says(self, name: str, text: str) -> str:
+        """What code that imports the package says."""
+        (self.at / name).write_text(text.replace('from "rsp"', 'from "/library/rsp.js"'))
+        return self.test("code.js", f"/at/{name}").decode()
+
     def stop(self) -> None:
         if "driver" in vars(self):
             self.driver.quit()

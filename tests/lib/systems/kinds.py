@@ -18,13 +18,13 @@ KINDS: Dict[str, Type[Runner]] = {
 }
 
 
-def on(*names: str, of: str = "runner") -> pytest.MarkDecorator:
+def on(*names: str, fixture: str = "runner") -> pytest.MarkDecorator:
     """Runs a test with the fixture `runner` of all systems, or of these. Tests of one system share it."""
     # pytest makes a fixture again unless its parameter is the same object.
     params = [pytest.param(intern(it), marks=pytest.mark.xdist_group(it)) for it in names or KINDS]
-    return pytest.mark.parametrize(of, params, indirect=True)
+    return pytest.mark.parametrize(fixture, params, indirect=True)
 
 
-def made(*names: str) -> pytest.MarkDecorator:
+def of(*names: str) -> pytest.MarkDecorator:
     """Runs a test with the fixture `folder_of` of these systems: what tools/systems has made."""
-    return on(*names, of="made")
+    return on(*names, fixture="made")

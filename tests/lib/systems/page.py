@@ -121,11 +121,9 @@ class Page:
         from selenium.webdriver import ActionChains
 
         keys = ActionChains(self.driver, duration=0)
-        if with_control:
-            keys = keys.key_down(CONTROL).send_keys(key).key_up(CONTROL)
-        else:
-            keys = keys.send_keys(key)
-        keys.perform()
+        (
+            keys.key_down(CONTROL).send_keys(key).key_up(CONTROL) if with_control else keys.send_keys(key)
+        ).perform()
 
     def choose(self, number: int) -> None:
         """Chooses an example."""

@@ -52,8 +52,7 @@ def see_tests(program: Path, system: str, seconds: int) -> None:
 
 def command_lines() -> Iterator[List[str]]:
     """Those that the other tests have refused, and drawn ones."""
-    scripts, texts = (runpy.run_path(str(TESTS / f"program/test_{it}.py")) for it in ("scripts", "texts"))
-    yield from (it.split() for it in [*scripts["REFUSED"], *texts["MIXED_UP"].strip().split("\n")])
+    yield from map(str.split, runpy.run_path(str(TESTS / "program/test_scripts.py"))["REFUSED"])
     yield from ([it] for it in WORDS)
     choose = random.Random(20261126)
     for _ in range(LINES):

@@ -6,6 +6,8 @@ import shutil
 from pathlib import Path
 from typing import Dict, List, Optional, Tuple
 
+from lib import cmake
+from lib.library import LOCKSTEP
 from lib.processes import Ended, run, succeeds
 from lib.systems import macho
 from rsp_tools.systems import places
@@ -24,6 +26,8 @@ class Runner:
     for the programs and their files."""
 
     system = ""  # the folder of library/systems
+    cmake: Tuple[str, str] = ("", "")  # what CMake calls the system and its processor
+    dll = ""  # the shared library that programs load
     compiler = "cc"
     programs: Tuple[str, ...] = ("cc",)  # those that have to be here
     ending = ""
@@ -46,6 +50,23 @@ class Runner:
     def libraries(self) -> Dict[str, List[str]]:
         """The words that link each kind of library."""
         return {"static": self.static(), "shared": self.shared()}
+
+    def check_cmake(self) -> None:
+        """A project finds the library, shared and static. It isn't found for another system."""
+        folder, names = self.at / "cmake", ("SYSTEM_NAME", "SYSTEM_PROCESSOR", "C_COMPILER")
+        told = (f"-DCMAKE_{name}={it}" for name, it in zip(names, (*self.cmake, self.compiler)))
+        made = cmake.built(self.folder, folder, *told)
+        if self.ending:  # Windows looks for a library beside the program
+            shutil.copy(self.folder / self.dll, made)
+        for name in ("shared", "static"):
+            self.check_lockstep(made / f"{name}{self.ending}", name == "shared")
+        other = cmake.configured(self.folder, folder, "other")
+        assert other.returncode and "rspConfig" in other.stdout
+
+    def check_lockstep(self, program: Path, is_shared: bool) -> None:
+        """A program over the library says what the example says."""
+        assert (Path(self.dll).name.encode() in program.read_bytes()) == is_shared
+        assert self.run(program).stdout.replace("\r\n", "\n") == LOCKSTEP
 
     def compile(self, source: Path, *words: str, name: str = "", library: Optional[List[str]] = None) -> Path:
         """Compiles a program, or fails with what the compiler says."""
@@ -82,6 +103,8 @@ class Arm(Runner):
     """Linux on ARM, under qemu."""
 
     system = "linux-aarch64"
+    cmake = "Linux", "aarch64"
+    dll = "lib/librsp.so.1"
     compiler = "aarch64-linux-gnu-gcc"
     programs = ("aarch64-linux-gnu-gcc", "qemu-aarch64")
     start = ("qemu-aarch64", "-L", "/usr/aarch64-linux-gnu")
@@ -91,6 +114,8 @@ class Windows(Runner):
     """Windows on x86-64, under wine, whose files are in a folder of their own."""
 
     system = "windows-x86_64"
+    cmake = "Windows", "AMD64"
+    dll = "bin/rsp.dll"
     compiler = "x86_64-w64-mingw32-gcc"
     programs = ("x86_64-w64-mingw32-gcc", "wine")
     start = ("wine",)
@@ -106,7 +131,7 @@ class Windows(Runner):
 
     def shared(self) -> List[str]:
         # Windows looks for a library beside the program.
-        shutil.copy(self.folder / "bin/rsp.dll", self.at)
+        shutil.copy(self.folder / self.dll, self.at)
         return [f"-L{self.folder}/lib", "-lrsp"]
 
     def stop(self) -> None:

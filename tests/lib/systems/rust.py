@@ -5,7 +5,10 @@ import shutil
 from pathlib import Path
 from typing import Dict, Tuple
 
-from lib.processes import run
+import pytest
+
+from lib.processes import run, succeeds
+from lib.systems.runners import Runner
 
 # The library of a system's folder for each target, and what the crate calls it.
 TARGETS: Dict[str, Dict[str, Tuple[str, str]]] = {
@@ -26,6 +29,17 @@ def said(script: Path, target: str) -> Tuple[int, str]:
     env.pop("RSP_LIB_DIR", None)
     ended = run(script, env=env)
     return ended.returncode, ended.stdout
+
+
+def cargo(runner: Runner, *words: str, at: Path, **more: str) -> str:
+    """What cargo says in a folder that builds for a runner's target and runs there."""
+    target, package = TESTED[runner.system]
+    folder, named = rust_for(target), f"CARGO_TARGET_{target.upper().replace('-', '_')}"
+    if not folder:
+        pytest.skip(f"there is no Rust for {target} (Debian's packages cargo and {package})")
+    tools = {f"{named}_LINKER": runner.compiler, f"{named}_RUNNER": " ".join(runner.start)}
+    env = {**runner.env, **tools, "PATH": f"{folder}{os.pathsep}{os.environ['PATH']}", **more}
+    return succeeds("cargo", *words, "--offline", "-q", "--target", target, cwd=at, env=env, timeout=1700)
 
 
 def rust_for(target: str) -> str:

@@ -1,4 +1,4 @@
-"""How programs are made for Windows by CMake, and by lld-link for MSVC."""
+"""How programs are made for Windows by lld-link for MSVC."""
 
 from pathlib import Path
 from typing import List
@@ -9,12 +9,6 @@ from rsp_tools.systems.windows import MSVC
 
 MINGW = Path("/usr/x86_64-w64-mingw32/lib")
 HEADERS = "/usr/share/mingw-w64/include"
-# CMake's words for another system's compiler.
-CROSS = (
-    "-DCMAKE_SYSTEM_NAME=Windows",
-    "-DCMAKE_SYSTEM_PROCESSOR=AMD64",
-    "-DCMAKE_C_COMPILER=x86_64-w64-mingw32-gcc",
-)
 # The start of a program, in place of that of MSVC's C library.
 START = "int main(void);\n__declspec(noreturn) void exit(int);\nvoid start(void) { exit(main()); }\n"
 
