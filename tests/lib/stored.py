@@ -48,4 +48,5 @@ class Stored:
 
 def stored() -> List[Stored]:
     places = [*SCRIPTS.glob("*/*.script"), *TOP.glob("examples/*.rsp"), *TOP.glob("microcode/*.rsp")]
+    assert len(places) > 100
     return [Stored(it) for it in sorted(places)]

@@ -17,7 +17,7 @@ LEFT_OUT: Dict[str, Dict[str, str]] = {
     },
     "linux-aarch64": {},
     "windows-x86_64": {
-        "scripts.py::test_refused[b'run --save ": NO_TEXT,
+        "scripts.py::test_refused[run --save \\": NO_TEXT,
         "saves.py::test_no_room[": LIMITED,
         "saves.py::test_killed_by_the_limit": LIMITED,
         "saves.py::test_link_no_room": LIMITED,

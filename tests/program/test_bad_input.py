@@ -18,7 +18,6 @@ from lib import devices
 from lib.program import content
 from lib.stored import SCRIPTS, Stored
 
-LONGEST = 1_048_576
 STOP = re.compile(rb"stop (Reserved|Halted|Limit) steps (\d+) pc [0-9a-f]{3}")
 TOO_LONG = b"rsp: fault 42 ScriptTooLong\n"
 
@@ -51,8 +50,10 @@ def test_random_code_is_run(seed: int, rsp: Any) -> None:
 def test_random_words_come_back(seed: int, rsp: Any, folder: Path) -> None:
     for image in random_images(seed, 64):
         (folder / "image").write_bytes(image)
-        (folder / "source").write_bytes(rsp("dis", "image").output)
-        rsp("asm", "source", "words")
+        listed = rsp("dis", "image")
+        assert (listed.status, listed.errors) == (0, b"")
+        (folder / "source").write_bytes(listed.output)
+        assert rsp("asm", "source", "words") == (0, b"ok 1024 words\n", b"")
         assert content(folder / "words") == image
 
 
@@ -148,38 +149,14 @@ def test_output_is_closed_early(program: Path) -> None:
         assert (ran.stderr.read(), ran.wait(20)) == (b"rsp: fault 41 WriteFault\n", 1)
 
 
-@pytest.mark.parametrize("byte", (b"x", b"\n"), ids=("without LF", "of LF alone"))
-def test_script_too_long(byte: bytes, rsp: Any, folder: Path) -> None:
-    assert rsp("run", "--save", "saved", script=byte * (LONGEST + 1)) == (1, b"", TOO_LONG)
-    assert not (folder / "saved").exists()
-
-
 def test_script_that_never_ends(rsp: Any) -> None:
     with open("/dev/zero", "rb") as endless:
         assert rsp("run", stdin=endless) == (1, b"", TOO_LONG)
 
 
-def test_image_is_saved_onto_its_own_file(rsp: Any, folder: Path) -> None:
-    (folder / "image").write_bytes(bytes(64))
-    ran = rsp("run", "--rdram", "image", "--save", "image", script=b"load rdram 60 01020304\n")
-    assert ran == (0, b"ok\n", b"")
-    assert content(folder / "image") == bytes(60) + bytes([1, 2, 3, 4])
-
-
-STEPPED, NO_ROOM = b"step Done pc 004\n", b"rsp: cannot write {full}\n"
-FILES = {
-    "a text that never ends": ("asm /dev/zero out", b"", TOO_LONG),
-    "an image that never ends": ("run --rdram /dev/zero", b"", b"rsp: fault 7 SizeFault\n"),
-    "words that never end": ("dis /dev/zero", b"", b"rsp: bad size\n"),
-    "the disk is full": ("run --rdram image --save {full}", STEPPED, NO_ROOM),
-    "the disk is full for words": ("asm source {full}", b"", NO_ROOM),
-}
-
-
-@pytest.mark.parametrize("words, output, errors", FILES.values(), ids=FILES)
-def test_files(words: str, output: bytes, errors: bytes, rsp: Any, folder: Path) -> None:
-    full = str(devices.full(folder)) if "{full}" in words else ""
-    (folder / "image").write_bytes(bytes(64))
+@pytest.mark.parametrize("words, output", (("asm source {}", b""), ("run --save {}", b"step Done pc 004\n")))
+def test_full_disk(words: str, output: bytes, rsp: Any, folder: Path) -> None:
     (folder / "source").write_bytes(b"nop\n")
-    ran = rsp(*words.format(full=full).split(), script=b"step\n")
-    assert ran == (1, output, errors.replace(b"{full}", full.encode()))
+    full = devices.full(folder)
+    ran = rsp(*words.format(full).split(), script=b"step\n")
+    assert ran == (1, output, f"rsp: cannot write {full}\n".encode())

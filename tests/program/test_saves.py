@@ -26,6 +26,8 @@ SIZE = 4096
 OLD = bytes(i % 251 for i in range(SIZE))
 NOBODY = 65534
 IS_ROOT = os.geteuid() == 0
+# Gives up root's rights, where they are.
+AS_NOBODY: Any = {"user": NOBODY, "group": NOBODY, "extra_groups": []} if IS_ROOT else {}
 ROOT_ALONE = pytest.mark.skipif(not IS_ROOT, reason="root alone can make files of another owner, and mounts")
 
 
@@ -111,14 +113,6 @@ New = Callable[..., Trial]
 @pytest.fixture
 def new(writer: Writer, folder: Path) -> New:
     return lambda *words, **how: Trial(writer, folder, *words, **how)
-
-
-def as_nobody() -> None:
-    """Gives up root's rights, where they are."""
-    if IS_ROOT:
-        os.setgroups([])
-        os.setresgid(NOBODY, NOBODY, NOBODY)
-        os.setresuid(NOBODY, NOBODY, NOBODY)
 
 
 def limited(is_ignored: bool = True) -> None:
@@ -281,15 +275,15 @@ def test_folder_without_rights(new: New) -> None:
     give(it.file)
     it.folder.chmod(0o555)
     number = it.file.stat().st_ino
-    it.run(setting=as_nobody).saved()
+    it.run(**AS_NOBODY).saved()
     assert it.file.stat().st_ino == number
-    it.run(it.folder / "free", as_nobody).refused()
+    it.run(it.folder / "free", **AS_NOBODY).refused()
 
 
 def test_file_without_rights(new: New) -> None:
     it = new(0o444)
     give(it.file, it.folder)
-    it.run(setting=as_nobody).refused().kept().names("file")
+    it.run(**AS_NOBODY).refused().kept().names("file")
 
 
 @ROOT_ALONE

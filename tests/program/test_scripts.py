@@ -5,7 +5,6 @@ They fail if a reply, an exit status or a file that is written differs from what
 """
 
 import os
-import random
 import subprocess
 import sys
 import threading
@@ -67,6 +66,7 @@ def test_example(program: Path) -> None:
 TEXT = b"loop: addiu $1, $1, 1\nbne $1, $2, loop\r\nnop\nbreak"
 WORDS = bytes.fromhex("242100011422fffe000000000000000d")
 GIVEN = {
+    "image": bytes(64),
     "longest": bytes(LONGEST_IMAGE),
     "longer": bytes(LONGEST_IMAGE + 8),
     "text": TEXT,
@@ -94,6 +94,8 @@ PLACES_AT_FF8 = b"ff8 1000fffe beq $0, $0, 0xff4\nffc 00000000 nop\n"
 AT_80 = {"words": bytes.fromhex("08000022000000000000000d")}
 SAVED = {"saved": bytes(4194302) + b"\1\2"}
 ENDS = b"mem rdram 8388607 1\nmem rdram 8388608 1\n"
+OVER = {"image": bytes(60) + bytes([1, 2, 3, 4])}
+LINES_ALONE = b"\n" * (LONGEST_SCRIPT + 1)
 TOO_LONG = b"step\n" + b"#" * (LONGEST_SCRIPT - 4)
 NO_SCRIPT = b"rsp: fault 42 ScriptTooLong\n"
 NOBODY_HEARS = b"rsp: fault 41 WriteFault\n"
@@ -121,8 +123,12 @@ ROWS = {
     "longest image": Asked("run --rdram longest", b"7fffff: 00\nfault 6 RangeFault\n", ENDS),
     "image too long": fails("run --rdram longer", b"fault 7 SizeFault"),
     "image without end": fails("run --rdram /dev/zero", b"fault 7 SizeFault"),
+    "image onto itself": Asked(
+        "run --rdram image --save image", b"ok\n", b"load rdram 60 01020304\n", left=OVER
+    ),
     "image can't be saved": fails("run --save no/saved", b"cannot write no/saved", output=STEPPED),
     "image is saved": Asked("run --save saved", b"ok\n", b"load rdram 0x3ffffe 0102\n", left=SAVED),
+    "script of LF alone too long": Asked("run --save saved", b"", LINES_ALONE, NO_SCRIPT, {"saved": None}),
     "script too long": Asked("run --save saved", STEPPED, TOO_LONG, NO_SCRIPT, {"saved": None}),
     "longest script": Asked("run", STEPPED + b"fault 32 LineTooLong\n", TOO_LONG[:-1]),
     # Source texts, and their files.
@@ -132,6 +138,7 @@ ROWS = {
     "text past the end": fails("asm jump words --at 4092", b"fault 16 PastEnd line 2"),
     "text listed": Asked("asm listed words --listing --at 0x80", LISTING),
     "text at fault isn't listed": fails("asm --listing unknown words", b"fault 11 UnknownName line 2"),
+    "text without end": fails("asm /dev/zero words", b"fault 42 ScriptTooLong"),
     "missing text": fails("asm missing words", b"cannot read missing"),
     "words can't be written": fails("asm text no/words", b"cannot write no/words"),
     # Words, and their files.
@@ -203,7 +210,9 @@ NO_COMMANDS = """
 walk|asm|asm a|asm a b c|asm a b --at|asm a b --at=|asm a b --at 0 --at 0|asm a b --places
 asm a b --listing --listing|asm a b --listing=yes|asm --help|dis|dis a b|dis a --places --places
 run a|run --fast|run --rdram|run --rdram=|run --rdram a --rdram b|run --save a --save b|run --at 0
-run --version|run --help|--help|help|help run
+run --version|run --help|--help|help|help run|run --labels
+asm a b --labels|asm a b --explain --explain|asm a b --explain=yes
+dis a --labels --labels|dis a --labels=1|dis a --explain
 """
 NO_ADDRESSES = "3 4096 0xffe 0X10 x -4 +4 0x 0x000000004 00000000004 4#".split()
 REFUSED: List[str] = ["", *NO_COMMANDS.strip().replace("\n", "|").split("|")]
@@ -216,16 +225,7 @@ REFUSED += [f"{verb} --at={it}" for it in NO_ADDRESSES for verb in ("asm a b", "
 def test_refused(line: bytes, rsp: Any) -> None:
     ran = rsp(*line.split(), script=STEP)
     assert (ran.status, ran.output) == (2, b"") and ran.errors
-
-
-def test_random_words_come_back(rsp: Any, folder: Path) -> None:
-    words = random.Random(64).randbytes(4096)
-    (folder / "words").write_bytes(words)
-    listed = rsp("dis", "words")
-    (folder / "text").write_bytes(listed.output)
-    assert (listed.status, listed.errors) == (0, b"")
-    assert rsp("asm", "text", "again") == (0, b"ok 1024 words\n", b"")
-    assert content(folder / "again") == words
+    assert ran.errors.startswith(b"error: ") == (b"help" not in line)
 
 
 @pytest.mark.needs("qemu-x86_64")

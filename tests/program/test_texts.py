@@ -247,23 +247,6 @@ def test_explanation_of_no_text(rsp: Any, folder: Path) -> None:
     assert rsp("asm", "text", "made", "--explain").errors == told
 
 
-MIXED_UP = """
-asm a b --labels
-asm a b --explain --explain
-asm a b --explain=yes
-dis a --labels --labels
-dis a --labels=1
-dis a --explain
-run --labels
-"""
-
-
-@pytest.mark.parametrize("line", MIXED_UP.strip().split("\n"))
-def test_refused(line: str, rsp: Any) -> None:
-    ran = rsp(*line.split())
-    assert (ran.status, ran.output, ran.errors[:7]) == (2, b"", b"error: ")
-
-
 # Blocks of pages.
 
 

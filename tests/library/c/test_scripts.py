@@ -24,10 +24,6 @@ def bench(library: Path, tmp_path_factory: pytest.TempPathFactory) -> Path:
     return built(tmp_path_factory.mktemp("bench"), HERE / "script.c")
 
 
-def test_there_are_scripts() -> None:
-    assert len(stored()) > 100
-
-
 @pytest.mark.xdist_group("script.c")
 @pytest.mark.parametrize("script", stored(), ids=str)
 def test_script(script: Stored, bench: Path, folder: Path) -> None:
