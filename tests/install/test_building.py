@@ -14,7 +14,8 @@ from typing import Iterator, NamedTuple
 
 import pytest
 
-from lib.install.tiny import C, RSP, Data, Ran, Tiny, as_nobody
+from lib.install.tiny import C, RSP, Data, Ran, Tiny
+from lib.user import AS_NOBODY
 
 pytestmark = [pytest.mark.needs("rt"), pytest.mark.timeout(900)]
 # Those of one group are run by one process, which proves the tiny crates once.
@@ -96,7 +97,7 @@ def test_in_a_read_only_checkout(folder: Path, command: str) -> None:
     tree = Tiny(folder)
     for it in tree.at / "crates", *(tree.at / "crates").iterdir():
         it.chmod(0o555)
-    ran = tree.run([*as_nobody(), *command.split()])
+    ran = tree.run([*AS_NOBODY, *command.split()])
     assert ran.status == 1 and re.fullmatch(r".*Permission denied.*\n", ran.said)
 
 

@@ -3,11 +3,12 @@
 import os
 import subprocess
 from pathlib import Path
-from typing import Tuple
 
 from lib.processes import Ended, run
 
 NOBODY = 65534
+# The words before a command by which it obeys the rights of files. Root's commands don't.
+AS_NOBODY = ["setpriv", f"--reuid={NOBODY}", f"--regid={NOBODY}", "--clear-groups"] * (os.geteuid() == 0)
 LONGEST = 3600  # seconds that a script may take
 
 
@@ -16,12 +17,10 @@ class User:
 
     def __init__(self, at: Path, home: Path, *owned: Path, path: str = "/usr/bin:/bin") -> None:
         self.at = at
-        self.prefix: Tuple[str, ...] = ("timeout", str(LONGEST))
+        self.prefix = (*AS_NOBODY, "timeout", str(LONGEST))
         self.env = {"HOME": str(home), "PATH": path, "LC_ALL": "C.UTF-8", "MANPAGER": "cat"}
         home.mkdir(exist_ok=True)
         if os.getuid() == 0:
-            user = ("setpriv", f"--reuid={NOBODY}", f"--regid={NOBODY}", "--clear-groups")
-            self.prefix = (*user, *self.prefix)
             run("chown", "-R", f"{NOBODY}:{NOBODY}", home, at, *owned, check=True)
 
     def types(self, script: str) -> "Ended[str]":

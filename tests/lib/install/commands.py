@@ -77,11 +77,6 @@ def with_ways(blocks: Iterable[Block], ways: Iterable[Way]) -> Iterator[tuple[Bl
         left = [it for it in left if it is not [*found, None][0]]
 
 
-def reason_to_leave(line: str) -> str:
-    """Why a line isn't typed. Nothing if it is."""
-    return next((why for form, why in LEFT if re.search(form, line)), "")
-
-
 def lines_of(block: Block, way: Way) -> tuple[str, str]:
     """The lines that are typed, with their words put in, and why others aren't."""
     text = re.sub(r"\\\n\s*", "", block.lines)
@@ -89,9 +84,11 @@ def lines_of(block: Block, way: Way) -> tuple[str, str]:
         text = text.replace(words, typed)
     if way.begins:
         return ("", way.left_out) if way.left_out else (text, "")
-    lines = [(it, reason_to_leave(it.split("  #")[0].strip())) for it in text.splitlines()]
-    left = dict.fromkeys(why for _, why in lines if why)
-    return "\n".join(it for it, why in lines if not why), "; ".join(left)
+    typed, left = [], []
+    for line in text.splitlines():
+        reasons = [why for form, why in LEFT if re.search(form, line.split("  #")[0].strip())]
+        left, typed = [*left, *reasons[:1]], [*typed, *[line] * (not reasons)]
+    return "\n".join(typed), "; ".join(dict.fromkeys(left))
 
 
 def check(user: User, block: Block, way: Way, before: str) -> None:

@@ -52,17 +52,11 @@ pub extern "C" fn rsp_answer() -> u32 {
 """,
 }
 HEADER = "#define RSP_VERSION 1\nuint32_t rsp_answer(void);\n"
-COPIED = "rsp library/c/build library/c/rsp.map library/python/pyproject.toml tools"
+COPIED = "rsp library/c/build library/c/rsp.map library/python/pyproject.toml"
 TOOLS = "sh env cat dirname readlink grep sed find head tr sort sha256sum"
-FAILS = '[ "$1" != {word} ] || {{ echo "rt: out of luck"; exit 2; }}\nexec "{rt}" "$@"'
-# A kit that keeps what it has checked of two functions, and says nothing.
-SILENT = """[ "$1" = lib ] && mkdir out/incremental/new && cd out/incremental/new &&
-    touch Rattle-rsp_c-proofs.one.Lts.oantt Rattle-rsp_c-proofs.two.Lts.oantt && sleep 4 &&
-    rm -r "$PWD" && exit 2
-exec {rt} "$@"
-"""
+FAILS = '[ "$1" != %s ] || {{ echo "rt: out of luck"; exit 2; }}\nexec "{rt}" "$@"'
 # A kit that begins a crate by a command for another one or for itself, and then takes a minute.
-WAITS = """[ "$1" = {word} ] && [ "${{PWD##*/}}" = {of} ] && mkdir -p ../{crate}/out/rlib && exec sleep 60
+WAITS = """[ "$1" = %s ] && [ "${{PWD##*/}}" = %s ] && mkdir -p ../%s/out/rlib && exec sleep 60
 exec "{rt}" "$@"
 """
 STOPPED = {
@@ -75,13 +69,15 @@ STOPPED = {
 # telling its words; broken.
 RT = {
     "other": '[ "$1" != version ] || exec echo "rattle-kit-0 logic 0"\nexec "{rt}" "$@"',
-    **{f"no {word}": FAILS.replace("{word}", word) for word in ("lib", "all", "run")},
-    **{
-        f"waits in {crate}": WAITS.replace("{word}", word).replace("{of}", of).replace("{crate}", crate)
-        for crate, (word, of) in STOPPED.items()
-    },
+    **{f"no {it}": FAILS % it for it in ("lib", "all", "run")},
+    **{f"waits in {crate}": WAITS % (*how, crate) for crate, how in STOPPED.items()},
     "slow": '[ "$1" = lib ] && echo so far: 3 of 8 functions checked && sleep 4 && exit 2\nexec {rt} "$@"',
-    "silent": SILENT,
+    # It keeps what it has checked of two functions, and says nothing.
+    "silent": """[ "$1" = lib ] && mkdir out/incremental/new && cd out/incremental/new &&
+    touch Rattle-rsp_c-proofs.one.Lts.oantt Rattle-rsp_c-proofs.two.Lts.oantt && sleep 4 &&
+    rm -r "$PWD" && exit 2
+exec {rt} "$@"
+""",
     "words": '[ "$1" = lib ] && echo asked for "$@" && exit 2\nexec {rt} "$@"',
     "broken": "exit 2",
 }
@@ -115,16 +111,15 @@ class Tiny:
 
     def __init__(self, folder: Path) -> None:
         self.at, self.runs = folder / "repository", dict[str, Ran]()
-        for name in COPIED.split():
+        shutil.copytree(TOP / "tools", self.at / "tools")
+        texts = {"crates.txt": CRATES, "library/c/rsp.h": HEADER}
+        texts.update({f"crates/{it}": text for it, text in SOURCES.items()})
+        for name in (*COPIED.split(), *texts):
             (self.at / name).parent.mkdir(parents=True, exist_ok=True)
-            if (TOP / name).is_dir():
-                shutil.copytree(TOP / name, self.at / name)
+            if name in texts:
+                (self.at / name).write_text(texts[name])
             else:
                 shutil.copy(TOP / name, self.at / name)
-        texts = {"crates.txt": CRATES, "library/c/rsp.h": HEADER}
-        for name, text in {**texts, **{f"crates/{it}": text for it, text in SOURCES.items()}}.items():
-            (self.at / name).parent.mkdir(parents=True, exist_ok=True)
-            (self.at / name).write_text(text)
         self.kits = {"": os.environ["PATH"], "none": str(folder / "none")}
         for name, text in RT.items():
             kit = folder / name / "rt"
@@ -231,8 +226,3 @@ def processes_in(folder: Path) -> list[int]:
         except OSError:
             pass
     return found
-
-
-def as_nobody() -> list[str]:
-    """The words before a command by which it obeys the rights of files. Root's commands don't."""
-    return [] if os.geteuid() else ["setpriv", "--reuid=65534", "--regid=65534", "--clear-groups"]
