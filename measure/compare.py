@@ -13,7 +13,7 @@ LOOP = "loop: addiu $2, $2, 1\nvadd $v2, $v2, $v1\nsqv $v2[0], 0($0)\nbeq $0, $0
 def main() -> None:
     reader(__doc__).parse_args()
     need_library()
-    import rsp
+    import rsp  # which --help does without
 
     machine, emulator = rsp.Rsp(bytes(64)), rsp.Rsp(bytes(64))
     machine.load_words(rsp.IMEM, 0, rsp.assemble(LOOP))
