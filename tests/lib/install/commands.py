@@ -84,11 +84,11 @@ def lines_of(block: Block, way: Way) -> tuple[str, str]:
         text = text.replace(words, typed)
     if way.begins:
         return ("", way.left_out) if way.left_out else (text, "")
-    typed, left = [], []
-    for line in text.splitlines():
-        reasons = [why for form, why in LEFT if re.search(form, line.split("  #")[0].strip())]
-        left, typed = [*left, *reasons[:1]], [*typed, *[line] * (not reasons)]
-    return "\n".join(typed), "; ".join(dict.fromkeys(left))
+    lines: dict[str, list[str]] = {}
+    for it in text.splitlines():
+        lines[it] = [why for form, why in LEFT if re.search(form, it.split("  #")[0].strip())][:1]
+    left = dict.fromkeys(why for reasons in lines.values() for why in reasons)
+    return "\n".join(it for it in text.splitlines() if not lines[it]), "; ".join(left)
 
 
 def check(user: User, block: Block, way: Way, before: str) -> None:
