@@ -95,7 +95,7 @@ AT_80 = {"words": bytes.fromhex("08000022000000000000000d")}
 SAVED = {"saved": bytes(4194302) + b"\1\2"}
 ENDS = b"mem rdram 8388607 1\nmem rdram 8388608 1\n"
 OVER = {"image": bytes(60) + bytes([1, 2, 3, 4])}
-LINES_ALONE = b"\n" * (LONGEST_SCRIPT + 1)
+LINES_ALONE, LINE_ALONE = b"\n" * (LONGEST_SCRIPT + 1), b"x" * (LONGEST_SCRIPT + 1)
 TOO_LONG = b"step\n" + b"#" * (LONGEST_SCRIPT - 4)
 NO_SCRIPT = b"rsp: fault 42 ScriptTooLong\n"
 NOBODY_HEARS = b"rsp: fault 41 WriteFault\n"
@@ -129,6 +129,7 @@ ROWS = {
     "image can't be saved": fails("run --save no/saved", b"cannot write no/saved", output=STEPPED),
     "image is saved": Asked("run --save saved", b"ok\n", b"load rdram 0x3ffffe 0102\n", left=SAVED),
     "script of LF alone too long": Asked("run --save saved", b"", LINES_ALONE, NO_SCRIPT, {"saved": None}),
+    "script of a line too long": Asked("run --save saved", b"", LINE_ALONE, NO_SCRIPT, {"saved": None}),
     "script too long": Asked("run --save saved", STEPPED, TOO_LONG, NO_SCRIPT, {"saved": None}),
     "longest script": Asked("run", STEPPED + b"fault 32 LineTooLong\n", TOO_LONG[:-1]),
     # Source texts, and their files.
