@@ -102,4 +102,4 @@ def listing(program: object, text: str, at: str) -> str:
 def see_reply(told: str, wanted: str) -> None:
     """A reply must be as a page has it, `..` being any lines."""
     lines, form = told.strip("\n").split("\n"), wanted.strip("\n").split("\n")
-    assert matches(lines, form), f"{wanted!r} is wanted, {told!r} is told"
+    assert matches(lines, form), f"{wanted!r} is wanted, {told!r} is printed"
