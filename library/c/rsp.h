@@ -402,7 +402,7 @@ uint32_t rsp_bench_new(rsp_bench *b, const uint8_t *image, size_t len);
  *   - RSP_NO_ROOM for a capacity below RSP_REPLIES;
  *   - RSP_ENDED after rsp_bench_end;
  *   - RSP_TOO_LONG if 1048576 bytes were taken and these are more. Then stop: the lines that had ended are
- *     answered, and rsp_bench_take and rsp_bench_end return this again, for a capacity of RSP_REPLIES or more.
+ *     answered, and with RSP_REPLIES bytes for replies rsp_bench_take and rsp_bench_end return this again.
  *     rsp_bench_memory still reads, and rsp_bench_new makes a new bench in the handle;
  *   - RSP_NO_MEMORY, only for a line of an `asm` block or its `end`. The same call may be made again. */
 uint32_t rsp_bench_take(rsp_bench *b, const uint8_t *bytes, size_t len, size_t *used, uint8_t *reply,
