@@ -16,6 +16,8 @@ PACKAGES = {
     **toolchain.PACKAGES,
     "c++": "g++",
     "cc": "gcc",
+    "clang++": "clang",
+    "man": "man-db",
     "mips-linux-gnu-gcc": "gcc-mips-linux-gnu",
     "qemu-mips": "qemu-user",
     "qemu-x86_64": "qemu-user",
