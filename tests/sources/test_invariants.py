@@ -24,8 +24,15 @@ UNSAFE = [
     "crates/rsp_c/src/handle.rt: unsafe impl Send for Handle {}",
     "crates/rsp_c/src/handle.rt: unsafe impl Send for BenchHandle {}",
 ]
-# What of rsp_machine matches on an instruction. `stored_at` is called before a step, not while one executes.
-MATCHES = ["footprint_of", "perform", "stored_at", "take"]
+# What matches on an instruction, in each crate. While a step executes, these are called, except `stored_at`,
+# the encoder's `canonical_word` and the debugger's `take`.
+MATCHES = {
+    "rsp_decode": "canonical_word",
+    "rsp_scalar": "alu taken target link load store",
+    "rsp_loadstore": "address load store move_from move_to control_from control_to",
+    "rsp_machine": "footprint_of perform stored_at take",
+    "rsp_debug": "take",
+}
 INVARIANTS = [
     " ".join(it.split())
     for it in re.split(r"\n- ", page("docs/ARCHITECTURE.md").partition("\n## Invariants\n")[2])[1:]
@@ -68,9 +75,10 @@ def test_matches(texts: Texts) -> None:
     """Where an instruction is inspected, and that no other crate executes one."""
     others = {path: text for path, text in texts.items() if not path.startswith("crates/rsp_machine/")}
     assert not [path for path, text in others.items() if re.search(r"\bexecute\(", text)]
-    matching = re.compile(r"\bmatch \*inst\b|\bif let Inst::\w+ .*= inst\b")
-    machine = [text for path, text in texts.items() if path not in others]
-    see_same((function_at(text, it.start()) for text in machine for it in matching.finditer(text)), MATCHES)
+    matching = re.compile(r"\bmatch \*?inst\b|\bif let Inst::\w+ [^=]*= \*?inst\b")
+    code = [(path.split("/")[1], text) for path, text in texts.items() if "rsp_tests" not in path]
+    found = {(name, function_at(text, it.start())) for name, text in code for it in matching.finditer(text)}
+    see_same(found, ((name, it) for name, functions in MATCHES.items() for it in functions.split()))
 
 
 def test_scaffolding() -> None:
