@@ -1,7 +1,7 @@
 -- One more pair, one more row, and runs of pairs.
-use Rattle.std.proofs.Common.{◌≡◌, ℕ, ◌+◌, ◌%◌, ◌<◌, ◌≤◌, List, [], ◌∷◌, ◌++◌, map, length, take, drop, get_or, refl, sym, ap, ◌∙◌, arith}
+use Rattle.std.proofs.Common.{◌≡◌, ℕ, ◌+◌, ◌%◌, ◌<◌, ◌≤◌, List, [], ◌∷◌, ◌++◌, map, length, take, drop, get_or, replicate, refl, sym, ap, ◌∙◌, arith}
 use Rattle.std.specs.List.{range_with_len, flat_map, fold}
-use Rattle.std.proofs.lemmas.List.{map-id, flat_map_more, length-take, length-drop, get_or-drop, get_or_past}
+use Rattle.std.proofs.lemmas.List.{map-id, flat_map_more, length-take, length-drop, get_or-drop, get_or_past, length-replicate, get_or-replicate, take-replicate}
 use Rattle.std.proofs.lemmas.List.Sums.{fold_push, fold-append}
 use Rattle.std.proofs.lemmas.List.FromFn.{map-range_with_len_more}
 use Rattle.rsp_memory.specs.Memory.{byte_at, with_byte, with_bytes}
@@ -72,10 +72,27 @@ row_out-turn bank image sp dram i n run now then s =
     (row_out-more bank image sp dram)
     (λ k l. byte_at-at bank (sp + i + k) ((sp + i) % 4096) k (omega (arith, length-drop ((sp + i) % 4096) bank)))
 
--- after the image's end the bytes are 0
-pub past_end : (image : List ℕ) (a n : ℕ) (run : List ℕ) → run ≡ take n (drop (a % 16777216) image) → 0 < n → length run ≡ 0 → image_byte image a ≡ 0
+-- a run that the image doesn't have, and its zeros at once
+pub past_end : (image : List ℕ) (a n : ℕ) (run : List ℕ) → run ≡ take n (drop (a % 16777216) image) → 0 < n → length run ≡ 0 → length image ≤ a % 16777216
+past_end image a n run e h z = omega (arith, ap length e, length-take n (drop (a % 16777216) image), length-drop (a % 16777216) image)
+
+image_byte-past : (image : List ℕ) (a k n : ℕ) → length image ≤ a % 16777216 → a % 16777216 + n ≤ 16777216 → k < n
+    → image_byte image (a + k) ≡ get_or (replicate n 0) k 0
 unfolding image_byte
-past_end image a n run e h z = get_or_past image (a % 16777216) 0 (omega (arith, ap length e, length-take n (drop (a % 16777216) image), length-drop (a % 16777216) image))
+image_byte-past image a k n past room h = get_or_past image ((a + k) % 16777216) 0 (omega arith) ∙ sym (get_or-replicate n k 0 0 h)
+
+pub row_in-zeros : (image bank : List ℕ) (sp dram i n : ℕ) (run now then : List ℕ) → length image ≤ (dram + i) % 16777216
+    → (dram + i) % 16777216 + n ≤ 16777216 → run ≡ replicate n 0 → now ≡ copied_in image bank (row_pairs sp dram i)
+    → then ≡ with_bytes now (sp + i) run → then ≡ copied_in image bank (row_pairs sp dram (i + n))
+row_in-zeros image bank sp dram i n run now then past room e f g =
+    let zeros : length (replicate {A = ℕ} n 0) ≡ n = length-replicate n 0 in
+    let whole : run ≡ take n (replicate n 0) = e ∙ sym (take-replicate n n 0 (omega arith)) in
+    let all : then ≡ copied_in image bank (row_pairs sp dram (i + length run)) =
+    run_turn with_byte (image_byte image) (λ k. copied_in image bank (row_pairs sp dram k)) sp dram i n (replicate n 0) run now then
+    (row_in-more image bank sp dram)
+    (λ k l. image_byte-past image (dram + i) k n past room (omega (arith, zeros)))
+    whole f g in
+    all ∙ ap (λ k. copied_in image bank (row_pairs sp dram (i + k))) (ap length e ∙ zeros)
 
 -- no row, and one more
 pub rows_in-none : (image bank : List ℕ) (t : Transfer) → copied_in image bank (first_rows t 0) ≡ bank

@@ -251,7 +251,8 @@ impl SpRegs {
     }
 
     /// A write of SP_STATUS: twelve pairs of a bit that clears a flag and one that sets it, and a single bit that
-    /// clears broke. Both bits of a pair, or neither, keep the flag.
+    /// clears broke. Both bits of a pair, or neither, keep the flag. It isn't inlined, as a DMA isn't.
+    #[inline(never)]
     #[tactic(auto, unfolding(crate::specs::Sp::after_status_write))]
     fn write_status(&mut self, value: u32)
         ensures { self.new ≡ after_status_write value self.old }
@@ -276,7 +277,7 @@ impl SpRegs {
 
     /// The DMA that a word describes when it is written to a length register.
     #[tactic(auto, unfolding(crate::specs::Sp::transfer))]
-    fn transfer(&self, value: u32) -> Transfer
+    pub fn transfer(&self, value: u32) -> Transfer
         ensures value { result ≡ transfer value self.now }
         ensures ranges { IsTransfer result }
         ensures whole { AreMultiplesOf8 result }
@@ -290,9 +291,9 @@ impl SpRegs {
         }
     }
 
-    /// Advances the address registers by a DMA. There is no skip after the last row.
+    /// Advances the address registers by a DMA, and moves no bytes. There is no skip after the last row.
     #[tactic(auto, unfolding(crate::specs::Sp::after_dma))]
-    fn advance(&mut self, t: &Transfer)
+    pub fn advance(&mut self, t: &Transfer)
         requires ranges { IsTransfer t.now }
         requires whole { AreMultiplesOf8 t.now }
         ensures { self.new ≡ after_dma t.now self.old }
@@ -340,7 +341,8 @@ impl SpRegs {
         self.advance(&t);
     }
 
-    /// Writes register `n`. A write of a length register does its DMA.
+    /// Writes register `n`. A write of a length register does its DMA. It is inlined, since most writes are of one word.
+    #[inline(always)]
     #[tactic(auto, unfolding(crate::specs::Sp::after_register_write))]
     pub fn host_write(
         &mut self,

@@ -1,7 +1,8 @@
 // A transfer moves runs of bytes by slices if its rows don't wrap; its contract is the list of byte pairs applied in
 // order.
 
-ghost use Rattle.std.specs.Prelude.{◌≡◌, ◌+◌, ◌*◌, ◌<◌, ◌≤◌, ◌^◌};
+ghost use Rattle.std.specs.Prelude.{◌≡◌, ◌+◌, ◌-◌, ◌*◌, ◌%◌, ◌<◌, ◌≤◌, ◌^◌, min, replicate};
+ghost use Rattle.rsp_memory.specs.Memory.{with_bytes};
 ghost use Rattle.rsp_regs.specs.Dma.{IsTransfer, row_pairs, pairs, copied_in, copied_out};
 
 use rsp_memory::{Rdram, SpMem};
@@ -62,13 +63,29 @@ fn copy_row_in(sp: u32, dram: u32, length: u32, rdram: &Rdram, bank: &mut SpMem)
     while done < length {
         let run = rdram.run(dram + done, (length - done) as usize);
         if run.is_empty() {
-            bank.set_byte(sp + done, 0);
-            done += 1;
+            done += set_zeros(sp + done, dram + done, length - done, bank);
         } else {
             bank.set_bytes(sp + done, run);
             done += run.len() as u32;
         }
     }
+}
+
+/// The bytes of a row after the image's end.
+static ZEROS: [u8; 4096] = [0; 4096];
+
+/// Writes zeros for the bytes of a row after the image's end, up to the last address of RDRAM, and returns how many. It isn't inlined, so
+/// that a row inside the image costs nothing more.
+#[cold]
+#[inline(never)]
+fn set_zeros(sp: u32, dram: u32, length: u32, bank: &mut SpMem) -> u32
+    requires length { length ≤ 4096 }
+    ensures count { result ≡ min (16777216 - dram % 16777216) length }
+    ensures bank { bank.new ≡ with_bytes bank.old sp (replicate result 0) }
+{
+    let count = (0x100_0000 - dram % 0x100_0000).min(length);
+    bank.set_bytes(sp, &ZEROS[..count as usize]);
+    count
 }
 
 /// Copies a row in pieces that wrap in neither memory.
