@@ -1,6 +1,7 @@
 -- Passing over a move of an SP register, beside a step that executes it.
-use Rattle.std.proofs.Common.{◌≡◌, ◌≢◌, ℕ, ◌%◌, ◌==◌, Bool, true, false, List, refl, sym, ap, subst, ◌∙◌, Option, Some, None}
+use Rattle.std.proofs.Common.{◌≡◌, ◌≢◌, ℕ, ◌⊎◌, inl, inr, ◌%◌, ◌==◌, ◌||◌, Bool, true, false, List, refl, sym, ap, subst, ◌∙◌, Option, Some, None}
 use Rattle.std.specs.Prelude.{if◌then◌else◌, Result, Ok, Err, slice_index, slice_set}
+use Rattle.std.proofs.lemmas.Bool.{eqb-true}
 use Rattle.std.proofs.lemmas.List.{set-set, set-get_or}
 use Rattle.rsp_decode.specs.declared.inst.Inst.{Inst}
 use Rattle.rsp_decode.specs.declared.inst.Inst.TheVariants.{MoveSp}
@@ -9,13 +10,14 @@ use Rattle.rsp_decode.specs.declared.scalar.MoveOp.TheVariants.{From, To}
 use Rattle.rsp_decode.specs.Table.{inst_of}
 use Rattle.rsp_memory.specs.Memory.{word_at}
 use Rattle.rsp_scalar.specs.Registers.{register}
-use Rattle.rsp_regs.specs.Sp.{Sp, after_step, read_value, after_register_write}
+use Rattle.rsp_regs.specs.Sp.{Sp, after_step, read_value, after_register_write, after_dma, transfer, is_length_register}
 use Rattle.rsp_machine.specs.State.{State, advanced}
 use Rattle.rsp_machine.specs.Host.{moved_in, moved_out}
 use Rattle.rsp_machine.specs.Step.{executed, instruction_effect, moves_sp, after_single_step, step_by, step_of}
 use Rattle.rsp_machine.specs.Footprint.{footprint_of, scalar_in}
 use Rattle.rsp_machine.specs.Footprints.{footprint_in, footprint_at, PassesAreSteps}
-use Rattle.rsp_machine.specs.Pass.{after_pass, pass_by, pass_of}
+use Rattle.rsp_machine.specs.Transfers.{starts_dma_in, starts_dma_at}
+use Rattle.rsp_machine.specs.Pass.{after_pass, pass_by, pass_of, dma_word_by, dma_word_at, pass_dma_of}
 use Rattle.rsp_machine.specs.declared.step.StepEnd.{StepEnd}
 use Rattle.rsp_machine.specs.declared.step.StepEnd.TheVariants.{Done, Halted}
 use Rattle.rsp_machine.specs.declared.pass.PassFault.{PassFault}
@@ -80,3 +82,77 @@ passes_are_steps value s p e =
     record { done = w.done; same = w.same; registers = w.registers; rest = w.rest }
 
 pub ruleset passing = (passes_are_steps)
+
+-- ---- a DMA
+
+-- a write of a length register
+two_or_three : (k : ℕ) (b c : Bool) → (k == 2) ≡ b → (k == 3) ≡ c → (b || c) ≡ true → (k ≡ 2) ⊎ (k ≡ 3)
+two_or_three k true c e f h = inl (eqb-true k 2 e)
+two_or_three k false true e f h = inr (eqb-true k 3 f)
+two_or_three k false false e f h = cc
+
+length_case : (k : ℕ) (x y z w : Sp) → (k ≡ 2) ⊎ (k ≡ 3) → (if k == 0 then x else if k == 1 then y else if k == 2 || k == 3 then z else w) ≡ z
+length_case k x y z w (inl e) = subst (λ j. (if j == 0 then x else if j == 1 then y else if j == 2 || j == 3 then z else w) ≡ z) (sym e) refl
+length_case k x y z w (inr e) = subst (λ j. (if j == 0 then x else if j == 1 then y else if j == 2 || j == 3 then z else w) ≡ z) (sym e) refl
+
+length_write : (n v : ℕ) (q : Sp) → is_length_register n ≡ true → after_register_write n v q ≡ after_dma (transfer v q) q
+unfolding after_register_write
+length_write n v q e = length_case (n % 16) _ _ (after_dma (transfer v q) q) _ (two_or_three (n % 16) (n % 16 == 2) (n % 16 == 3) refl refl e)
+
+-- the state after a pass over the DMA of a word
+abbrev pub after_dma_pass : ℕ → State → State
+after_dma_pass v s = record (advanced s) { sp = after_step (after_dma (transfer v s.sp) s.sp) }
+
+-- a step that does a DMA, with the memories as they were
+bytes_left : (a b : Bool) (v : ℕ) (q : Sp) (s : State)
+    → let t = after_single_step (record (if a then moved_in v (advanced s) else if b then moved_out v (advanced s) else advanced s) { sp = q }) in
+    record t { dmem = s.dmem; imem = s.imem; rdram = s.rdram } ≡ record (advanced s) { sp = after_step q }
+bytes_left true b v q s = refl
+bytes_left false true v q s = refl
+bytes_left false false v q s = refl
+
+dma_step : (rt n : ℕ) (s : State) → is_length_register n ≡ true
+    → record (after_single_step (executed (MoveSp To rt n) s)) { dmem = s.dmem; imem = s.imem; rdram = s.rdram } ≡ after_dma_pass (register s.registers rt) s
+unfolding executed instruction_effect moves_sp
+dma_step rt n s e =
+    let v = register s.registers rt in
+    bytes_left (n % 16 == 2) (n % 16 == 3) v (after_register_write n v s.sp) s
+    ∙ ap (λ (q : Sp). let t : State = record (advanced s) { sp = after_step q } in t) (length_write n v s.sp e)
+
+-- the same by the instruction at pc
+abbrev DmaPassed : Option Inst → ℕ → State → Option ℕ → Type 0
+DmaPassed o word s None = starts_dma_in o ≡ false
+DmaPassed o word s (Some v) = (starts_dma_in o ≡ true) × (record (step_by o word s).1 { dmem = s.dmem; imem = s.imem; rdram = s.rdram } ≡ after_dma_pass v s)
+
+move_passed : (b : Bool) (rt n word : ℕ) (s : State) → is_length_register n ≡ b → DmaPassed (Some (MoveSp To rt n)) word s (if b then Some (register s.registers rt) else None)
+move_passed true rt n word s e = (e, dma_step rt n s e)
+move_passed false rt n word s e = e
+
+dma_passed_by : (o : Option Inst) (word : ℕ) (s : State) → DmaPassed o word s (dma_word_by o s)
+dma_passed_by None word s = refl
+dma_passed_by (Some (MoveSp To rt n)) word s = move_passed (is_length_register n) rt n word s refl
+dma_passed_by (Some (MoveSp From rt n)) word s = refl
+dma_passed_by (Some _) word s = refl
+
+pub dma_passed : (s : State) (v : ℕ) → s.sp.halted ≡ false → dma_word_at s ≡ Some v → pass_dma_of s ≡ Ok (after_dma_pass v s)
+unfolding dma_word_at pass_dma_of starts_dma_at step_of
+dma_passed s v running e =
+    let o = inst_of (word_at s.imem s.pc) in let word = word_at s.imem s.pc in
+    let w = subst (DmaPassed o word s) e (dma_passed_by o word s) in
+    ap (λ b. if b then Err fault.Halted else if starts_dma_in o then Ok (record (if b then (Halted, s) else step_by o word s).1 { dmem = s.dmem; imem = s.imem; rdram = s.rdram }) else Err fault.OtherWord) running
+    ∙ ap (λ b. if b then Ok (record (step_by o word s).1 { dmem = s.dmem; imem = s.imem; rdram = s.rdram }) else Err fault.OtherWord) w.0
+    ∙ ap Ok w.1
+
+pub other_passed : (s : State) → s.sp.halted ≡ false → dma_word_at s ≡ None → pass_dma_of s ≡ Err fault.OtherWord
+unfolding dma_word_at pass_dma_of starts_dma_at
+other_passed s running e =
+    let o = inst_of (word_at s.imem s.pc) in let word = word_at s.imem s.pc in
+    let w = subst (DmaPassed o word s) e (dma_passed_by o word s) in
+    ap (λ b. if b then Err fault.Halted else if starts_dma_in o then Ok (record (step_of s).1 { dmem = s.dmem; imem = s.imem; rdram = s.rdram }) else Err fault.OtherWord) running
+    ∙ ap (λ b. if b then Ok (record (step_of s).1 { dmem = s.dmem; imem = s.imem; rdram = s.rdram }) else Err fault.OtherWord) w
+
+pub halted_passed : (s : State) → s.sp.halted ≡ true → pass_dma_of s ≡ Err fault.Halted
+unfolding pass_dma_of
+halted_passed s e = ap (λ b. if b then Err fault.Halted else if starts_dma_at s then Ok (record (step_of s).1 { dmem = s.dmem; imem = s.imem; rdram = s.rdram }) else Err fault.OtherWord) e
+
+pub ruleset dmas = (dma_passed, other_passed, halted_passed)

@@ -1,14 +1,16 @@
--- Passing over a move of an SP register instead of executing it.
-use Rattle.std.specs.Prelude.{ℕ, Bool, true, false, Option, Some, Result, Ok, Err, if◌then◌else◌}
+-- Passing over a move of an SP register instead of executing it, and over one that starts a DMA.
+use Rattle.std.specs.Prelude.{ℕ, Bool, true, false, Option, None, Some, Result, Ok, Err, if◌then◌else◌}
 use Rattle.rsp_decode.specs.declared.inst.Inst.{Inst}
 use Rattle.rsp_decode.specs.declared.inst.Inst.TheVariants.{MoveSp}
 use Rattle.rsp_decode.specs.declared.scalar.MoveOp.{MoveOp}
 use Rattle.rsp_decode.specs.declared.scalar.MoveOp.TheVariants.{From, To}
 use Rattle.rsp_decode.specs.Table.{inst_of}
 use Rattle.rsp_memory.specs.Memory.{word_at}
-use Rattle.rsp_scalar.specs.Registers.{with_register}
+use Rattle.rsp_scalar.specs.Registers.{register, with_register}
+use Rattle.rsp_regs.specs.Sp.{is_length_register}
 use Rattle.rsp_machine.specs.State.{State, advanced}
-use Rattle.rsp_machine.specs.Step.{after_single_step}
+use Rattle.rsp_machine.specs.Step.{after_single_step, step_of}
+use Rattle.rsp_machine.specs.Transfers.{starts_dma_at}
 use Rattle.rsp_machine.specs.declared.pass.PassFault.{PassFault}
 use Rattle.rsp_machine.specs.declared.pass.PassFault.TheVariants.{Halted, OtherWord}
 
@@ -30,3 +32,19 @@ pass_by _ value s = Err OtherWord
 -- passing over the word at pc: the state after it, or why that is refused
 unfoldable pub pass_of : ℕ → State → Result State PassFault
 pass_of value s = if s.sp.halted then Err Halted else pass_by (inst_of (word_at s.imem s.pc)) value s
+
+-- the word that an instruction writes to a length register; None if it starts no DMA
+abbrev pub dma_word_by : Option Inst → State → Option ℕ
+dma_word_by (Some (MoveSp To rt n)) s = if is_length_register n then Some (register s.registers rt) else None
+dma_word_by _ s = None
+
+unfoldable pub dma_word_at : State → Option ℕ
+dma_word_at s = dma_word_by (inst_of (word_at s.imem s.pc)) s
+
+-- Passing over the DMA at pc, whose bytes the host moves: the state after the step, but with the memories as they were; or why that is
+-- refused.
+unfoldable pub pass_dma_of : State → Result State PassFault
+pass_dma_of s =
+    if s.sp.halted then Err Halted
+    else if starts_dma_at s then Ok (record (step_of s).1 { dmem = s.dmem; imem = s.imem; rdram = s.rdram })
+    else Err OtherWord
