@@ -1,5 +1,5 @@
 -- Where runs end.
-use Rattle.std.proofs.Common.{◌≡◌, ℕ, ◌-◌, List, [], ◌∷◌, refl, ap, sym, subst, ◌∙◌, arith, Bool, true, false, cond, Option, Some, None}
+use Rattle.std.proofs.Common.{◌≡◌, ℕ, ◌-◌, ◌≤◌, List, [], ◌∷◌, refl, ap, sym, subst, ◌∙◌, arith, Bool, true, false, cond, Option, Some, None}
 use Rattle.std.specs.Prelude.{not, is_some, unwrap_or, nat_lt, option_map, ◌&&◌, ◌==◌}
 use Rattle.rsp_machine.specs.State.{State}
 use Rattle.rsp_machine.specs.Laws.{steps_of}
@@ -13,12 +13,13 @@ use Rattle.rsp_machine.specs.Pass.{is_write}
 use Rattle.rsp_decode.specs.Table.{inst_of}
 use Rattle.rsp_debug.specs.declared.moves.Moves.{Moves}
 use Rattle.rsp_debug.specs.declared.moves.MoveEnd.{MoveEnd}
-use Rattle.rsp_debug.specs.Moves.{no_moves, is_asked, is_at_move, steps_to_move, end_by, move_end_of}
+use Rattle.rsp_debug.specs.declared.moves.MoveEnd.TheVariants as end
+use Rattle.rsp_debug.specs.Moves.{no_moves, is_asked, is_at_move, is_limit, move_by, steps_to_move, end_by, end_steps, move_end_of}
 use Rattle.rsp_debug.specs.declared.snapshot.Snapshot.{Snapshot}
 use Rattle.rsp_debug.specs.Snapshots.{watches_of}
 use Rattle.rsp_debug.specs.HistoryRing.{Records, states_before}
 use Rattle.rsp_debug.specs.Debugging.{Debugging, after_steps, after_run}
-use Rattle.rsp_debug.proofs.Least.{least-only}
+use Rattle.rsp_debug.proofs.Least.{least-is, least-only}
 use Rattle.rsp_debug.proofs.Stretches.{made-is}
 use Rattle.rsp_debug.specs.Runs.{has_move, Refuses, IsRun}
 use Rattle.rsp_debug.specs.declared.stop.Watch.{Watch}
@@ -99,6 +100,20 @@ pub move-end-is : (b : List Bool) (w : List (Option Watch)) (moves : Moves) (n :
 unfolding move_end_of
 move-end-is b w moves n s t stop r is e =
     e ∙ ap (λ (x : State). end_by moves stop x) is.reached ∙ ap (λ (x : Stop). end_by moves x (steps_of x.steps s)) (stop-is b w (steps_to_move moves n s) s t stop is)
+
+-- it makes no more steps than the run may make
+end_steps_by : (b : Bool) (o : Option Inst) (stop : Stop) (s : State) → end_steps (cond b (move_by o stop s) (end.Stop stop)) ≡ stop.steps
+end_steps_by true None stop s = refl
+end_steps_by true (Some (MoveSp op rt r)) stop s = refl
+end_steps_by true (Some _) stop s = refl
+end_steps_by false o stop s = refl
+
+pub move-end-within : (b : List Bool) (w : List (Option Watch)) (moves : Moves) (n : ℕ) (s t : State) (stop : Stop) (r : MoveEnd) → IsStop b w (steps_to_move moves n s) s t stop → r ≡ end_by moves stop t
+    → end_steps r ≤ n
+unfolding steps_to_move
+move-end-within b w moves n s t stop r is e =
+    let same : end_steps r ≡ stop.steps = ap end_steps e ∙ end_steps_by (is_limit stop.reason && is_at_move moves t) (inst_of (word_at t.imem t.pc)) stop t in
+    omega (arith, same, is.within, (least-is (λ k. is_at_move moves (steps_of k s)) n).within)
 
 -- a debugger after a run
 abbrev debugging : List Bool → List (Option Watch) → State → Records → Debugging

@@ -97,6 +97,15 @@ impl<A: Acc> Debugger<A> {
         self.history.depth()
     }
 
+    /// How many states the history has: so many steps can be undone.
+    #[tactic(auto, using(crate::proofs::HistoryRecords::more))]
+    pub fn history_len(&self) -> usize
+        ensures value { result ≡ length self.now.past }
+        ensures within { result ≤ self.now.depth }
+    {
+        self.history.len()
+    }
+
     /// Makes one step, as [`Machine::step`] does.
     pub fn step(&mut self) -> StepEnd
         ensures answer { result ≡ (step_of self.old.state).0 }
@@ -178,6 +187,7 @@ impl<A: Acc> Debugger<A> {
         ensures count { IsOk result ↔ ((1 ≤ n) × (n ≤ 1000000)) }
         ensures end { IfOk result (λ end. end ≡ move_end_in n moves self.old) }
         ensures reached { IfOk result (λ end. self.new.state ≡ steps_of (end_steps end) self.old.state) }
+        ensures within { IfOk result (λ end. end_steps end ≤ n) }
         ensures next { OnOk result (self.new ≡ after_run_until_move n moves self.old) }
         ensures err { OnErr result (self.new ≡ self.old) }
     {
@@ -207,7 +217,7 @@ impl<A: Acc> Debugger<A> {
         if n == 0 || n > RUN_LIMIT {
             return Err(BackFault::Count);
         }
-        if self.history.len() < n as usize {
+        if self.history_len() < n as usize {
             return Err(BackFault::ShortHistory);
         }
         for _ in 0..n {

@@ -6,7 +6,7 @@ ghost use Rattle.rsp_regs.specs.Parts.{sp_of};
 ghost use Rattle.rsp_machine.specs.State.{IsState};
 ghost use Rattle.rsp_machine.specs.Host.{register_written, is_inside, with_bank_bytes, task_fault, with_task, with_pc};
 ghost use Rattle.rsp_machine.specs.Registers.{registers_of, with_registers, registers_fault, sp_fault};
-ghost use Rattle.rsp_machine.specs.Pass.{pass_of};
+ghost use Rattle.rsp_machine.specs.Pass.{pass_of, pass_dma_of};
 ghost use Rattle.rsp_debug.specs.Debugging.{set_by_host, after_register_read};
 
 use crate::debugger::Debugger;
@@ -112,6 +112,18 @@ impl<A: Acc> Debugger<A> {
         ensures err { OnErr result (self.new ≡ self.old) }
     {
         self.machine.pass(value)?;
+        self.history.clear();
+        Ok(())
+    }
+
+    /// Passes over the DMA at pc, whose bytes the host then moves, as [`rsp_machine::Machine::pass_dma`] does, and empties the history.
+    pub fn pass_dma(&mut self) -> Result<(), PassFault>
+        ensures fault { IfErr result (λ f. pass_dma_of self.old.state ≡ Err f) }
+        ensures ok { OnOk result (pass_dma_of self.old.state ≡ Ok self.new.state) }
+        ensures next { OnOk result (self.new ≡ set_by_host self.new.state self.old) }
+        ensures err { OnErr result (self.new ≡ self.old) }
+    {
+        self.machine.pass_dma()?;
         self.history.clear();
         Ok(())
     }

@@ -71,8 +71,8 @@ fn move_of(word: u32) -> Option<Inst>
     kept.inst
 }
 
-/// Whether a word has no instruction.
-#[inline]
+/// Whether a word has no instruction. It isn't inlined, since it is a decoder.
+#[inline(never)]
 pub(crate) fn is_reserved(word: u32) -> bool
     ensures { result ≡ is_none (inst_of word) }
 {

@@ -8,7 +8,7 @@ ghost use Rattle.rsp_acc.specs.declared.parts.Part.TheVariants as part;
 ghost use Rattle.rsp_scalar.specs.Registers.{register};
 ghost use Rattle.rsp_loadstore.specs.File.{vector};
 ghost use Rattle.rsp_machine.specs.Host.{is_inside};
-ghost use Rattle.rsp_debug.specs.Queries.{bank_byte, memory_of, listing_line, listing_of};
+ghost use Rattle.rsp_debug.specs.Queries.{memory_of, listing_line, listing_of};
 
 use crate::debugger::Debugger;
 use arrayvec::ArrayVec;
@@ -51,14 +51,17 @@ impl Model for ListingLine {
     ghost view = { λ l. record { place = l.place; word = l.word; text = l.text.bytes } };
 }
 
-/// The byte at an address of a bank.
-fn bank_byte<A: Acc>(machine: &Machine<A>, bank: Bank, a: u32) -> u8
-    ensures { result ≡ bank_byte bank machine.now a }
+/// The bytes of a bank from an address on, in place: `n` of them, at least one, and all inside.
+#[tactic(auto, using(crate::proofs::QueryAnswers::runs))]
+fn run_of<A: Acc>(machine: &Machine<A>, bank: Bank, a: u32, n: usize) -> &[u8]
+    requires some { 1 ≤ n }
+    requires inside { IsTrue (is_inside bank a n machine.now) }
+    ensures { result.now ≡ memory_of bank machine.now a n }
 {
     match bank {
-        Bank::Dmem => machine.dmem().byte(a),
-        Bank::Imem => machine.imem().byte(a),
-        Bank::Rdram => machine.rdram().byte(a),
+        Bank::Dmem => machine.dmem().run(a, n),
+        Bank::Imem => machine.imem().run(a, n),
+        Bank::Rdram => machine.rdram().run(a, n),
     }
 }
 
@@ -151,9 +154,7 @@ impl<A: Acc> Debugger<A> {
             return Err(RangeFault);
         }
         let mut bytes = ArrayVec::new();
-        for i in 0..len {
-            bytes.push(bank_byte(&self.machine, bank, a + i as u32));
-        }
+        let _ = bytes.try_extend_from_slice(run_of(&self.machine, bank, a, len));
         Ok(bytes)
     }
 

@@ -2,7 +2,7 @@
 //
 // The debugger lends the machine the entries up to the ring's end, and inspects it between stretches. A stretch also
 // ends at an address that has a breakpoint, and after a step that may have changed DMEM, so watched bytes are compared
-// only there. If nothing else can end the run and no history is kept, the machine makes all its steps by one call.
+// only there. If there is neither and no history is kept, the machine makes all its steps by one call.
 
 ghost use Rattle.std.specs.Prelude.{◌≡◌, None, unwrap_or};
 ghost use Rattle.rsp_debug.specs.Moves.{steps_to_move};
@@ -18,33 +18,28 @@ use crate::watches::Watches;
 use rsp_acc::Acc;
 use rsp_machine::{Machine, Never, Until};
 
-/// Why a machine can't make a step, if it can't.
-fn step_refusal<A: Acc>(machine: &Machine<A>) -> Option<Reason>
-    ensures { result ≡ step_refusal machine.now }
-{
-    // A reserved word is a reason only if the machine isn't halted. So this is tested first.
-    if machine.sp_regs().halted() {
-        return Some(Reason::Halted);
-    }
-    if is_reserved(machine.imem().aligned_word(usize::from(machine.pc()))) {
-        return Some(Reason::Reserved);
-    }
-    None
-}
-
 /// A stop at the machine's pc: it can't make a step, or there is another reason.
-#[inline(always)]
 pub(crate) fn stopped_here<A: Acc>(machine: &Machine<A>, otherwise: Reason, steps: u32) -> Stop
     ensures { result ≡ record { reason = unwrap_or (step_refusal machine.now) otherwise; steps = steps; pc = machine.now.pc } }
 {
+    // A reserved word is a reason only if the machine isn't halted. So this is tested first.
+    let reason = if machine.sp_regs().halted() {
+        Reason::Halted
+    } else if is_reserved(machine.imem().aligned_word(usize::from(machine.pc()))) {
+        Reason::Reserved
+    } else {
+        otherwise
+    };
     Stop {
-        reason: step_refusal(machine).unwrap_or(otherwise),
+        reason,
         steps,
         pc: machine.pc(),
     }
 }
 
-/// Runs until one of the conditions holds. `until` ends a stretch of steps wherever one may hold, and refuses the moves.
+/// Runs until one of the conditions holds. `until` ends a stretch of steps wherever one may hold, and refuses the moves. It isn't inlined, so
+/// that a run by one call saves few registers of the host.
+#[inline(never)]
 fn run_to<A: Acc, U: Until>(
     machine: &mut Machine<A>,
     history: &mut History,
@@ -114,11 +109,15 @@ pub fn run<A: Acc>(
     if !breaks.is_empty() {
         return run_to(machine, history, &conditions, &conditions, n);
     }
+    // At most moves end this run. With a depth of 0 nothing is kept between two steps, so one call makes them all.
     if moves.is_empty() {
+        if history.depth() == 0 {
+            let steps = machine.steps_until(u64::from(n), &Never) as u32;
+            return stopped_here(machine, Reason::Limit, steps);
+        }
         return run_to(machine, history, &conditions, &Never, n);
     }
     if history.depth() == 0 {
-        // Only moves end this run, and nothing is kept between two steps, so one call makes them all.
         let steps = machine.steps_until(u64::from(n), &moves) as u32;
         return stopped_here(machine, Reason::Limit, steps);
     }
