@@ -21,7 +21,7 @@ use Rattle.rsp_asm.specs.declared.explanation.Expected.{Expected}
 use Rattle.rsp_asm.specs.declared.explanation.Expected.TheVariants.{Kind, Number, Nothing}
 use Rattle.rsp_asm.specs.declared.explanation.FaultyOperand.{FaultyOperand}
 use Rattle.rsp_asm.specs.Forms.{Shape, nothing_shape, numbers_shape, row_shape, form_shape}
-use Rattle.rsp_asm.specs.Explanations.{kind_at, expected, is_required, is_error, is_refused, is_yes, verdict, operand, unread, refused, faulty_in_form, faulty_in_parts, faulty_in_line, is_of_operand, operand_of_fault, explained_words, explained, explanation, text_in_parts, operand_text}
+use Rattle.rsp_asm.specs.Explanations.{kind_at, expected, is_required, is_error, is_refused, is_yes, verdict, operand, unread, refused, faulty_in_form, faulty_in_parts, faulty_in_line, is_of_operand, operand_of_fault, explained_words, explained, explanation, text_in_parts, operand_text, name_in_parts, statement_name}
 use Rattle.rsp_asm.specs.FormOperands.{expected_in, IsUsable, AreUsable, faulty_in_shape}
 use Rattle.rsp_asm.proofs.Decodes.{form_usable}
 use Rattle.rsp_asm.proofs.Forms.{is_row}
@@ -170,6 +170,10 @@ by_parts labels line o e = ap (faulty_in_parts labels) e
 pub text_by_parts : (line : List ℕ) (i : ℕ) (o : Option LineParts) → o ≡ split_line line → text_in_parts o i ≡ operand_text line i
 unfolding operand_text
 text_by_parts line i o e = ap (λ x. text_in_parts x i) e
+
+pub name_by_parts : (line : List ℕ) (o : Option LineParts) → o ≡ split_line line → name_in_parts o ≡ statement_name line
+unfolding statement_name
+name_by_parts line o e = ap name_in_parts e
 
 pub usable_form : (name : List ℕ) (count : ℕ) (s : Shape) → Some s ≡ option_map form_shape (form_named name count) → AreUsable s
 usable_form name count nothing_shape e = tt

@@ -13,3 +13,4 @@ pub mod Blocks
 pub mod BlockTexts
 pub mod Explaining
 pub mod OperandBounds
+pub mod LabelWalk

@@ -33,7 +33,7 @@ all_done ls n e = omega (arith, ap length e, length-drop n ls)
 
 module _ (origin : ℕ) (ls : List (List ℕ)) where
   -- a fault stays through so many lines more
-  fault_stays : (k n m : ℕ) (f : AsmFault) → fault_before origin ls n ≡ Some f → n + k ≡ m → fault_before origin ls m ≡ Some f
+  pub fault_stays : (k n m : ℕ) (f : AsmFault) → fault_before origin ls n ≡ Some f → n + k ≡ m → fault_before origin ls m ≡ Some f
   fault_stays zero n m f e is = let same : n ≡ m = omega (arith, is) in subst (λ i. fault_before origin ls i ≡ Some f) same e
   fault_stays (suc k) n m f e is = fault_stays k (suc n) m f (ap (λ o. or_fault o (suc n) (fault_of_line origin ls n)) e) (omega (arith, is))
 

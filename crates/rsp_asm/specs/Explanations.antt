@@ -171,3 +171,11 @@ text_in_parts (Some p) i = text_at (operand_texts (after_first (is_boundary Blan
 
 unfoldable pub operand_text : List ℕ → ℕ → Option (List ℕ)
 operand_text line i = text_in_parts (split_line line) i
+
+-- the name of a line's statement; empty if it has none, or is no line
+abbrev pub name_in_parts : Option LineParts → List ℕ
+name_in_parts None = []
+name_in_parts (Some p) = before_first (is_boundary Blank) p.body
+
+unfoldable pub statement_name : List ℕ → List ℕ
+statement_name line = name_in_parts (split_line line)

@@ -9,3 +9,4 @@ pub mod Block
 pub mod BlockFault
 pub mod Explanations
 pub mod FormOperands
+pub mod LabelList

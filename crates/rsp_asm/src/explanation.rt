@@ -5,7 +5,7 @@ ghost use Rattle.std.specs.Str.Lines.{lines};
 ghost use Rattle.rsp_syntax.specs.Statement.{operand_texts, form_named};
 ghost use Rattle.rsp_syntax.specs.SourceText.{line_at};
 ghost use Rattle.rsp_asm.specs.Forms.{form};
-ghost use Rattle.rsp_asm.specs.Explanations.{bounds_of_range, text_at, is_required, verdict, operand_text, faulty_in_operands, faulty_in_line, is_of_operand, operand_of_fault, explanation};
+ghost use Rattle.rsp_asm.specs.Explanations.{bounds_of_range, text_at, is_required, verdict, operand_text, statement_name, faulty_in_operands, faulty_in_line, is_of_operand, operand_of_fault, explanation};
 ghost use Rattle.rsp_asm.specs.FormOperands.{expected_in, IsUsable, AreUsable, faulty_in_shape};
 
 use crate::assembler::{first_pass, next_line, second_pass};
@@ -192,6 +192,16 @@ pub fn operand_text(line: &[u8], index: usize) -> Option<&[u8]>
     };
     let (_, operands) = split(parts.body);
     nth(operands, index)
+}
+
+/// The name of a line's statement: what is before the first blank after its label. Empty if it has no statement, or is no line.
+pub fn statement_name(line: &[u8]) -> &[u8]
+    ensures { result.now ≡ statement_name line.now }
+{
+    match split_line(line) {
+        Some(parts) => split(parts.body).0,
+        None => &[],
+    }
 }
 
 /// The operand `index` in the text after a statement's name, counted from 0.

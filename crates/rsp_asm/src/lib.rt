@@ -9,6 +9,7 @@ mod assembler;
 mod block;
 mod check;
 mod explanation;
+mod labels;
 pub mod laws;
 mod line;
 mod numbers;
@@ -20,7 +21,8 @@ mod words;
 
 pub use assembler::assemble;
 pub use block::{Block, BlockFault};
-pub use explanation::{Bounds, Expected, FaultyOperand, explain, operand_text};
+pub use explanation::{Bounds, Expected, FaultyOperand, explain, operand_text, statement_name};
+pub use labels::{Label, labels_of};
 pub use line::{LineLayout, read_line};
 pub use rsp_syntax::{AsmFault, AsmFaultKind};
 pub use words::Words;
