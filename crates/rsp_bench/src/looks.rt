@@ -106,6 +106,19 @@ pub(crate) fn put_sp_registers(reply: &mut Reply, sp: &SpRegs)
     reply.push_text(if sp.interrupt() { b"1\n" } else { b"0\n" });
 }
 
+/// Sixteen bytes, each as two hexadecimal digits. As many as most rows have, so that the loop over them is unrolled.
+#[tactic(auto, using(crate::proofs::Digits::digits))]
+fn push_row(reply: &mut Reply, row: &[u8; 16])
+    requires { length reply.old + 32 ≤ REPLY_LIMIT }
+    ensures text { reply.new ≡ reply.old ++ encode_lower row.now }
+    ensures len { length reply.new ≡ length reply.old + 32 }
+{
+    let bytes: &[u8] = row;
+    let mut digits = [0; 32];
+    let _ = hex::encode_to_slice(bytes, &mut digits);
+    reply.push_text(&digits);
+}
+
 /// At most 16 bytes, each as two hexadecimal digits.
 #[tactic(auto, using(crate::proofs::Digits::digits))]
 fn push_bytes(reply: &mut Reply, bytes: &[u8])
@@ -114,6 +127,9 @@ fn push_bytes(reply: &mut Reply, bytes: &[u8])
     ensures text { reply.new ≡ reply.old ++ encode_lower bytes.now }
     ensures len { length reply.new ≡ length reply.old + 2 * length bytes.now }
 {
+    if let Some(row) = bytes.as_array::<16>() {
+        return push_row(reply, row);
+    }
     let mut digits = [0; 32];
     let text = &mut digits[..2 * bytes.len()];
     let _ = hex::encode_to_slice(bytes, text);

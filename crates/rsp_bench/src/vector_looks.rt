@@ -8,15 +8,23 @@ use rsp_debug::Debugger;
 use rsp_divide::Divider;
 use rsp_lanes::{Flags, VReg};
 use rsp_script_io::{REPLY_LIMIT, Reply};
+use rsp_syntax::hex_digit;
 
-#[tactic(auto, using(rsp_script_io::proofs::Texts::parts), unfolding(crate::specs::Looks::half_text))]
+/// A blank and four digits, appended at once: `vregs` has 256 of them.
+#[tactic(auto, unfolding(crate::specs::Looks::half_text, rsp_script_io::specs::Text::hex_text))]
 fn push_half(reply: &mut Reply, half: u16)
     requires { length reply.old + 5 ≤ REPLY_LIMIT }
     ensures text { reply.new ≡ reply.old ++ half_text half }
     ensures len { length reply.new ≡ length reply.old + 5 }
 {
-    reply.push_text(b" ");
-    reply.push_hex(u32::from(half), 4);
+    let n = u32::from(half);
+    reply.push_text(&[
+        b' ',
+        hex_digit(n / 16 / 16 / 16 % 16),
+        hex_digit(n / 16 / 16 % 16),
+        hex_digit(n / 16 % 16),
+        hex_digit(n % 16),
+    ]);
 }
 
 #[tactic(auto, using(rsp_script_io::proofs::Texts::parts))]

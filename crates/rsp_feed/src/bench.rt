@@ -7,7 +7,7 @@ use rsp_acc::PlaneAcc;
 use rsp_bench::{Reply, Session};
 use rsp_machine::Machine;
 use rsp_memory::Rdram;
-use rsp_script_io::{Feed, FeedFault, LineHandler};
+use rsp_script_io::{Feed, LineHandler};
 use std::alloc::{AllocError, Global};
 use std::marker::Model;
 
@@ -91,13 +91,17 @@ impl Bench {
             Stage::TooLong => return Err(BenchFault::ScriptTooLong),
             Stage::Open => {}
         }
-        match self.feed.take(alloc, &mut self.session, bytes, reply) {
+        let within = bytes.len().min(self.feed.room());
+        if within == 0 && !bytes.is_empty() {
+            self.stage = Stage::TooLong;
+            return Err(BenchFault::ScriptTooLong);
+        }
+        match self
+            .feed
+            .take(alloc, &mut self.session, &bytes[..within], reply)
+        {
             Ok(n) => Ok(n),
-            Err(FeedFault::ScriptTooLong) => {
-                self.stage = Stage::TooLong;
-                Err(BenchFault::ScriptTooLong)
-            }
-            Err(FeedFault::OutOfMemory) => Err(BenchFault::OutOfMemory),
+            Err(_) => Err(BenchFault::OutOfMemory),
         }
     }
 

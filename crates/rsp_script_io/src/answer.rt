@@ -7,7 +7,7 @@ ghost use Rattle.rsp_script_io.specs.Feeds.{script_limit};
 ghost use Rattle.rsp_script_io.specs.Lines.{ended_after, last_line};
 ghost use Rattle.rsp_script_io.specs.Replies.{replies, final};
 
-use crate::feed::{Feed, FeedFault};
+use crate::feed::Feed;
 use crate::line_handler::LineHandler;
 use crate::reply::Reply;
 use crate::run::RunFault;
@@ -55,8 +55,7 @@ pub(crate) fn answer_piece<S: LineHandler, W: Sink>(
     while !rest.is_empty() {
         let n = match feed.take(alloc, session, rest, reply) {
             Ok(n) => n,
-            Err(FeedFault::ScriptTooLong) => unreachable!(),
-            Err(FeedFault::OutOfMemory) => return Err(RunFault::OutOfMemory),
+            Err(_) => return Err(RunFault::OutOfMemory),
         };
         let Ok(()) = write_all(sink, reply.bytes()) else {
             return Err(RunFault::WriteFault);

@@ -1,7 +1,7 @@
-ghost use Rattle.std.specs.Prelude.{◌≡◌, ◌+◌, ◌-◌, ◌<◌, ◌≤◌, ◌↔◌, true, length, take, IfOk, OnOk, OnErr, IsErrOf};
+ghost use Rattle.std.specs.Prelude.{◌≡◌, ◌+◌, ◌-◌, ◌<◌, ◌≤◌, true, length, take, IfOk, OnOk, OnErr};
 ghost use Rattle.rsp_script_io.specs.Lines.{through_newline, ended_after, open_after, kept, last_line};
 ghost use Rattle.rsp_script_io.specs.Replies.{replies, final};
-ghost use Rattle.rsp_script_io.specs.Feeds.{script_limit, no_bytes, taken_of, bytes_after};
+ghost use Rattle.rsp_script_io.specs.Feeds.{script_limit, no_bytes, bytes_after};
 
 use crate::line::LineSoFar;
 use crate::line_handler::LineHandler;
@@ -72,15 +72,6 @@ fn answer_last<S: LineHandler>(
     session.answer(alloc, line, reply)
 }
 
-/// Why bytes of a script are not taken. Then nothing changes.
-#[derive(Clone, Copy)]
-pub enum FeedFault {
-    /// Fault 42: `SCRIPT_LIMIT` bytes were taken, and these would be more.
-    ScriptTooLong,
-    /// Fault 43: there was no memory to answer a line.
-    OutOfMemory,
-}
-
 /// What is kept of a script that comes in pieces of any size.
 #[derive(Drop)]
 pub struct Feed {
@@ -111,41 +102,35 @@ impl Feed {
     }
 
     /// How many bytes it still takes.
-    pub(crate) fn room(&self) -> usize
+    pub fn room(&self) -> usize
         ensures value { result ≡ script_limit - self.now.count }
         ensures limit { self.now.count ≤ script_limit }
     {
         SCRIPT_LIMIT - self.count
     }
 
-    /// Takes the next bytes of a script up to the first LF and with it, or all of them, and overwrites the reply with that to the
-    /// line that the LF ended. Returns how many bytes it took: none only if there were none.
+    /// Takes the next bytes of a script, of which it must have room for all, up to the first LF and with it, or all of them, and
+    /// overwrites the reply with that to the line that the LF ended. Returns how many bytes it took: none only if there were none.
+    /// AllocError if there is no memory to answer the line: then nothing changes.
     pub fn take<S: LineHandler>(
         &mut self,
         alloc: Global,
         session: &mut S,
         bytes: &[u8],
         reply: &mut Reply,
-    ) -> Result<usize, FeedFault>
+    ) -> Result<usize, AllocError>
+        requires { self.old.count + length bytes.now ≤ script_limit }
         ensures some { IfOk result (λ n. n ≤ length bytes.now) }
         ensures goes_on { IfOk result (λ n. 0 < length bytes.now → 0 < n) }
-        ensures limit { IfOk result (λ n. self.old.count + n ≤ script_limit) }
-        ensures taken { IfOk result (λ n. n ≡ taken_of bytes.now self.old) }
+        ensures taken { IfOk result (λ n. n ≡ through_newline bytes.now) }
         ensures reply { IfOk result (λ n. reply.new ≡ replies S.answer_to (ended_after self.old.line (take n bytes.now)) session.old) }
         ensures session { IfOk result (λ n. session.new ≡ final S.answer_to (ended_after self.old.line (take n bytes.now)) session.old) }
         ensures fed { IfOk result (λ n. self.new ≡ bytes_after (take n bytes.now) self.old) }
-        ensures long { IsErrOf result FeedFault.ScriptTooLong ↔ ((self.old.count ≡ script_limit) × (0 < length bytes.now)) }
-        ensures memory { IsErrOf result FeedFault.OutOfMemory → S.may_allocate session.old ≡ true }
         ensures same { OnErr result (self.new ≡ self.old) }
         ensures same_session { OnErr result (session.new ≡ session.old) }
+        ensures cause { OnErr result (S.may_allocate session.old ≡ true) }
     {
-        let within = bytes.len().min(self.room());
-        if within == 0 && !bytes.is_empty() {
-            return Err(FeedFault::ScriptTooLong);
-        }
-        let Ok(n) = take_line(alloc, session, &mut self.line, &bytes[..within], reply) else {
-            return Err(FeedFault::OutOfMemory);
-        };
+        let n = take_line(alloc, session, &mut self.line, bytes, reply)?;
         self.count += n;
         Ok(n)
     }

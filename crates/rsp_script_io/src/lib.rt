@@ -22,7 +22,7 @@ mod run;
 mod sink;
 mod source;
 
-pub use feed::{Feed, FeedFault, SCRIPT_LIMIT};
+pub use feed::{Feed, SCRIPT_LIMIT};
 pub use line_handler::LineHandler;
 pub use reply::{REPLY_LIMIT, Reply};
 pub use run::{RunFault, answer_script};

@@ -23,7 +23,9 @@ impl Model for Reply {
     ghost view = { λ r. r.bytes.items };
 }
 
-/// The eight hexadecimal digits of a number, the highest first, in lower case.
+/// The eight hexadecimal digits of a number, the highest first, in lower case. It is inlined, as `push_text` is, so that digits
+/// that nobody asks for aren't computed.
+#[inline(always)]
 #[tactic(auto, unfolding(crate::specs::Text::hex_text))]
 fn hex_digits(n: u32) -> [u8; 8]
     ensures { result ≡ hex_text 8 n }
@@ -67,6 +69,7 @@ impl Reply {
     }
 
     /// Appends a text. There must be room for it.
+    #[inline(always)]
     pub fn push_text(&mut self, text: &[u8])
         requires { length self.old + length text.now ≤ REPLY_LIMIT }
         ensures text { self.new ≡ self.old ++ text.now }
