@@ -1,7 +1,7 @@
 """Draws docs/crates.svg again, the crates of crates.txt, by graphviz's `dot`: `tools/python drawings.crates`.
 
 An arrow goes from a crate to one that it uses, unless a longer way of arrows goes there too. The tests'
-crates and `rsp_laws`, which no crate of the program uses, aren't drawn.
+crates and `rsp_listings`, which no crate of the program uses, aren't drawn.
 """
 
 import argparse
@@ -34,7 +34,7 @@ Uses = Dict[str, List[str]]
 
 def drawn() -> Uses:
     """Each crate that is drawn, with those of the repository that it uses."""
-    hidden = ("rsp_tests", "rsp_laws")
+    hidden = ("rsp_tests", "rsp_listings")
     return {name: used for name, (_, used) in crates().items() if not name.startswith(hidden)}
 
 

@@ -1,6 +1,6 @@
 use Rattle.std.proofs.Common.{◌∙◌, inl, inr}
-use Rattle.rsp_laws.proofs.Listed.{gives_words, gives_no_fault}
-use Rattle.rsp_laws.proofs.listings.assembled_listing.Goals as goal
+use Rattle.rsp_listings.proofs.Listed.{gives_words, gives_no_fault}
+use Rattle.rsp_listings.proofs.listings.assembled_listing.Goals as goal
 
 pub returns-in-Ok : goal.returns-in-Ok
 returns-in-Ok c =
