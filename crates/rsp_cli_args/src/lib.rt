@@ -2,22 +2,27 @@
 //! command lines alone: it is checked beside the crates of the machine and not after them.
 #![tactic(auto)]
 
+mod escaped;
+
 use clap::builder::ValueParser;
 use clap::error::ErrorKind;
 use clap::{Arg, ArgAction, ArgMatches, Command, Error};
+pub use escaped::Escaped;
 use std::alloc::{AllocError, Global};
 
 /// The version of everything in this repository, and its day. They are given here alone: the script `rsp` at the top reads them
 /// from this line.
 const VERSION: &str = "1.0.0 (2026-11-23)";
 
-/// The files of a run.
+/// The files of a run, and how it ends.
 #[derive(Drop)]
 pub struct RunFiles<'a> {
     /// The file with the bytes of the RDRAM before the run; without one they are zeros.
     pub rdram: Option<&'a str>,
     /// The file that the bytes of the RDRAM are written to after the run.
     pub save: Option<&'a str>,
+    /// Whether a fault in a reply makes the run end with status 1.
+    pub is_strict: bool,
 }
 
 /// The files of an assembly, and what is printed of it.
@@ -95,13 +100,14 @@ const SUBCOMMANDS: [SubcommandForm; 3] = [
     },
 ];
 
-const RUN: [ArgumentForm; 2] = [
+const RUN: [ArgumentForm; 3] = [
     ArgumentForm::Value(
         "rdram",
         "FILE",
         "The image of the RDRAM; without it 4194304 zeros",
     ),
     ArgumentForm::Value("save", "FILE", "Where the image is written after the run"),
+    ArgumentForm::Flag("strict", "Ends with status 1 if a reply is a fault"),
 ];
 
 const ASM: [ArgumentForm; 5] = [
@@ -199,6 +205,7 @@ fn request_in<'a>(matches: &ArgMatches<'a>) -> Option<Request<'a>> {
         "run" => Some(Request::Run(RunFiles {
             rdram: given.get_str("rdram"),
             save: given.get_str("save"),
+            is_strict: given.get_flag("strict"),
         })),
         "asm" => assemble_files(given).map(Request::Assemble),
         "dis" => Some(Request::Disassemble {
@@ -219,12 +226,28 @@ fn nothing_asked(alloc: Global) -> Result<Error, AllocError> {
     )
 }
 
-/// Reads the arguments, the first of which is the program's name. The error has the text to print and its kind: why the arguments
-/// are refused, or the help or the version that they ask for.
-pub fn read_arguments<'a>(alloc: Global, words: &'a [String]) -> Result<Request<'a>, Error> {
+fn read_words<'a>(alloc: Global, words: &'a [String]) -> Result<Request<'a>, Error> {
     let matches = command(alloc)?.try_get_matches_from(words)?;
     match request_in(&matches) {
         Some(asked) => Ok(asked),
         None => Err(nothing_asked(alloc)?),
     }
+}
+
+fn escaped_words(alloc: Global, words: &[String]) -> Result<Vec<String>, AllocError> {
+    let mut escaped = Vec::new(alloc);
+    for word in words {
+        let shown = Escaped(word.as_str());
+        escaped.push(format!(in alloc; "{shown}")?)?;
+    }
+    Ok(escaped)
+}
+
+/// Reads the arguments, the first of which is the program's name. The error has the text to print and its kind: why the arguments
+/// are refused, or the help or the version that they ask for. It shows the arguments as [`Escaped`] does, because they are read in
+/// that form first.
+pub fn read_arguments<'a>(alloc: Global, words: &'a [String]) -> Result<Request<'a>, Error> {
+    let escaped = escaped_words(alloc, words)?;
+    read_words(alloc, &escaped)?;
+    read_words(alloc, words)
 }

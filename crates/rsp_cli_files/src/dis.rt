@@ -16,7 +16,8 @@ const WORDS_READ_LIMIT: u64 = 4097;
 
 /// Prints the disassembly of the words of a file, a line each, for the words at the address `at` of IMEM and after it. The high
 /// byte of a word comes first in the file. With `with_addresses` a line begins with the address and the word. With `with_labels` a
-/// word that a jump or a branch of the file leads to has a label, on a line before it. WordsSize if the file has no whole number of
+/// word that a jump or a branch of the file leads to has a label, on a line before it, and a comment says where a jump leads that is
+/// shown as `.word`. WordsSize if the file has no whole number of
 /// words, or more than fit from that address to the end of IMEM.
 pub fn disassemble_file<'a, F: FileStore, W: Write + Drop>(
     alloc: Global,
@@ -61,6 +62,7 @@ fn print_plain<W: Write>(
         let address = address_of(origin, index);
         let text = text_of(word, address);
         print_word(output, address, word, text.as_str(), with_addresses)?;
+        writeln!(output)?;
     }
     Ok(())
 }
@@ -86,10 +88,39 @@ fn print_labelled<W: Write>(
         }
         let text = labelled_text_of(word, address, &targets);
         print_word(output, address, word, text.as_str(), with_addresses)?;
+        print_comment(output, address, word)?;
     }
     Ok(())
 }
 
+/// The word of a jump with 0 in the bits of its target that are ignored, as code that was linked elsewhere has them. None of a jump
+/// without such bits, and of any other word.
+fn plain_jump(word: u32) -> Option<u32> {
+    let plain = word & 0xfc00_03ff;
+    if matches!(word >> 26, 2 | 3) && plain != word {
+        Some(plain)
+    } else {
+        None
+    }
+}
+
+/// Ends a line with what a jump that is shown as `.word` executes as, in a comment.
+fn print_comment<W: Write>(output: &mut W, address: u16, word: u32) -> io::Result<()>
+    requires { address < 4096 }
+{
+    match plain_jump(word) {
+        Some(plain) => {
+            let text = text_of(plain, address);
+            writeln!(
+                output,
+                " # executes as {text}, which would be the word 0x{plain:08x}"
+            )
+        }
+        None => writeln!(output),
+    }
+}
+
+/// Prints the text of a word, with its address and itself before it if that is asked for. It doesn't end the line.
 fn print_word<W: Write>(
     output: &mut W,
     address: u16,
@@ -100,5 +131,5 @@ fn print_word<W: Write>(
     if with_addresses {
         write!(output, "{address:03x} {word:08x} ")?;
     }
-    writeln!(output, "{text}")
+    write!(output, "{text}")
 }

@@ -1,26 +1,21 @@
 use rsp_asm::AsmFault;
-use thiserror::Error;
+use rsp_cli_args::Escaped;
+use std::fmt::{self, Display, Formatter, Write};
 
 /// Why the program ends with a fault. The text is that of its line on standard error.
-#[derive(Debug, Error, Drop)]
+#[derive(Drop)]
 pub enum Fault<'a> {
     /// The value of `--at` is no multiple of 4 from 0 to 4092.
-    #[error("invalid value '{0}' for '--at <ADDR>': not a multiple of 4 from 0 to 4092")]
     NoAddress(&'a str),
     /// A file couldn't be read.
-    #[error("cannot read {0}")]
     CannotRead(&'a str),
     /// A file couldn't be written.
-    #[error("cannot write {0}")]
     CannotWrite(&'a str),
     /// The length of the file for the RDRAM is no multiple of 8 from 64 to 8,388,608.
-    #[error("fault 7 SizeFault")]
     ImageSize,
     /// The length of a file of words is no multiple of 4, or the words don't fit into IMEM from their address on.
-    #[error("bad size")]
     WordsSize,
     /// The source text has a fault. Its explanation is empty if none is asked for.
-    #[error("{fault}{explanation}")]
     Source {
         /// The fault.
         fault: AsmFault,
@@ -28,21 +23,51 @@ pub enum Fault<'a> {
         explanation: String,
     },
     /// The source text isn't UTF-8.
-    #[error("fault 33 NotText")]
     NotText,
     /// There was no memory, outside the run of a script.
-    #[error("fault 17 OutOfMemory")]
     OutOfMemory,
     /// A read of the script failed.
-    #[error("fault 40 ReadFault")]
     RunRead,
     /// A write to standard output failed.
-    #[error("fault 41 WriteFault")]
     RunWrite,
     /// The script or the source text has more than 1,048,576 bytes.
-    #[error("fault 42 ScriptTooLong")]
     ScriptTooLong,
     /// There was no memory in the run of a script.
-    #[error("fault 43 OutOfMemory")]
     RunOutOfMemory,
+    /// A strict run has faults among its replies.
+    Replies {
+        /// How many replies are faults.
+        count: u64,
+        /// The first of them.
+        first: String,
+    },
+}
+
+impl Display for Fault<'_> {
+    fn fmt<W: Write>(&self, f: &mut Formatter<W>) -> fmt::Result {
+        let text = match self {
+            Fault::NoAddress(value) => {
+                let value = Escaped(value);
+                return write!(
+                    f,
+                    "invalid value '{value}' for '--at <ADDR>': not a multiple of 4 from 0 to 4092"
+                );
+            }
+            Fault::CannotRead(name) => return write!(f, "cannot read {}", Escaped(name)),
+            Fault::CannotWrite(name) => return write!(f, "cannot write {}", Escaped(name)),
+            Fault::Replies { count, first } => {
+                return write!(f, "faults in replies: {count}, the first: {first}");
+            }
+            Fault::Source { fault, explanation } => return write!(f, "{fault}{explanation}"),
+            Fault::ImageSize => "fault 7 SizeFault",
+            Fault::WordsSize => "bad size",
+            Fault::NotText => "fault 33 NotText",
+            Fault::OutOfMemory => "fault 17 OutOfMemory",
+            Fault::RunRead => "fault 40 ReadFault",
+            Fault::RunWrite => "fault 41 WriteFault",
+            Fault::ScriptTooLong => "fault 42 ScriptTooLong",
+            Fault::RunOutOfMemory => "fault 43 OutOfMemory",
+        };
+        f.write_str(text)
+    }
 }

@@ -3,6 +3,7 @@
 //! It is apart from `rsp_cli` since it doesn't wait for the machine.
 #![tactic(auto)]
 
+mod advice;
 mod assemble;
 mod beside;
 mod dis;
@@ -12,6 +13,7 @@ mod files;
 mod listing;
 mod origin;
 mod save;
+mod spelling;
 mod target;
 
 pub use assemble::assemble_file;

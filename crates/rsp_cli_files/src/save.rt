@@ -6,7 +6,7 @@ ghost use Rattle.rsp_cli_files.specs.Targets.{IsTarget};
 use crate::beside::beside;
 use crate::target::{Target, target_of};
 use std::alloc::AllocGlobal;
-use std::fs::{self, Metadata, OpenFile, OpenOptions};
+use std::fs::{self, File, Metadata, OpenFile, OpenOptions};
 use std::io::{self, ErrorKind, Write};
 use std::os::unix::fs::{MetadataExt, OpenOptionsExt, PermissionsExt, chown};
 use std::path::{Path, PathBuf};
@@ -116,8 +116,21 @@ fn fill<R: Files>(
 /// bytes are written in place, and the new file goes only when they are whole.
 fn put<R: Files>(runtime: &R, new: Path<'_>, path: Path<'_>, bytes: &[u8]) -> io::Result<()> {
     if fs::rename(runtime, new, path).is_ok() {
+        sync_folder(runtime, path);
         return Ok(());
     }
     fs::write(runtime, path, bytes)?;
     fs::remove_file(runtime, new)
+}
+
+/// Waits until a file's new name is on the disk too, so that it outlasts a loss of power. What the system refuses here is left: the
+/// bytes are whole, under the old name or the new one.
+fn sync_folder<R: Files>(runtime: &R, path: Path<'_>) {
+    let folder = match path.parent() {
+        Some(folder) if !folder.as_str().is_empty() => folder.as_str(),
+        _ => ".",
+    };
+    if let Ok(folder) = File::open(runtime, folder) {
+        let _ = folder.sync_all();
+    }
 }
