@@ -4,6 +4,7 @@
 //! It is apart from `rsp_main` since its tests are a crate above it, and a crate of tests can't use a program.
 #![tactic(auto)]
 
+mod faults;
 mod program;
 mod status;
 

@@ -1,3 +1,4 @@
+use crate::faults::{CountingWriter, Faults};
 use crate::status::Status;
 use clap::Error;
 use clap::error::ErrorKind;
@@ -82,7 +83,8 @@ fn faulted<E: Write>(fault: Fault, errors: &mut E) -> Status {
     Status::Faulted
 }
 
-/// Answers a script. The image of the RDRAM is read before the script, and saved after a run that finished.
+/// Answers a script. The image of the RDRAM is read before the script, and saved after a run that finished. A strict run then ends
+/// with a fault if a reply was one.
 fn run<'a, F: FileStore, R: Read + Drop, W: Write + Drop>(
     alloc: Global,
     asked: &RunFiles<'a>,
@@ -91,10 +93,26 @@ fn run<'a, F: FileStore, R: Read + Drop, W: Write + Drop>(
     output: W,
 ) -> Result<(), Fault<'a>> {
     let image = read_image(alloc, files, asked.rdram)?;
-    let image = answer(alloc, image, input, output)?;
-    match asked.save {
-        Some(name) => write_file(files, name, image.into_bytes().as_slice()),
-        None => Ok(()),
+    let mut output = CountingWriter::new(output);
+    let image = answer(alloc, image, input, &mut output)?;
+    if let Some(name) = asked.save {
+        write_file(files, name, image.into_bytes().as_slice())?;
+    }
+    if asked.is_strict {
+        refuse_faults(alloc, output.faults())?;
+    }
+    Ok(())
+}
+
+/// Ends a strict run with a fault if a reply was one.
+fn refuse_faults<'a>(alloc: Global, faults: &Faults) -> Result<(), Fault<'a>> {
+    let count = faults.count();
+    if count == 0 {
+        return Ok(());
+    }
+    match String::from_utf8_lossy(alloc, faults.first().trim_ascii_end()) {
+        Ok(first) => Err(Fault::Replies { count, first }),
+        Err(_) => Err(Fault::OutOfMemory),
     }
 }
 

@@ -1,0 +1,19 @@
+-- The faults among the replies of a run.
+use Rattle.std.specs.Prelude.{ℕ, List, Bool, ◌+◌, ◌-◌, ◌^◌, ◌==◌, min, length, take, codes, if◌then◌else◌}
+use Rattle.std.specs.Str.{bytes_eq}
+
+-- a reply is a fault if it begins so
+abbrev pub is_fault : List ℕ → Bool
+is_fault reply = bytes_eq (take 6 reply) (codes "fault ")
+
+-- how many replies were faults, and the first 64 bytes of the first one
+pub record NotedFaults : Type 0 where
+  pub count : ℕ
+  pub first : List ℕ
+
+-- the same after one more reply
+abbrev pub after_reply : List ℕ → NotedFaults → NotedFaults
+after_reply reply n = if is_fault reply then record {
+  count = min (n.count + 1) (2 ^ 64 - 1);
+  first = if n.count == 0 then take (min (length reply) 64) reply else n.first;
+} else n

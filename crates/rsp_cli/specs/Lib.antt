@@ -1,0 +1,2 @@
+-- What a strict run counts.
+pub mod Faults

@@ -1,0 +1,116 @@
+ghost use Rattle.std.specs.Prelude.{◌≡◌, []};
+ghost use Rattle.rsp_cli.specs.Faults.{after_reply};
+
+use std::io::{self, Write};
+use std::marker::Model;
+
+/// The most bytes of a fault that are kept. No fault of a reply has more.
+const LONGEST: usize = 64;
+
+/// The faults among the replies of a run.
+#[derive(Drop)]
+pub(crate) struct Faults {
+    count: u64,
+    first: [u8; LONGEST],
+    length: usize,
+}
+
+impl Model for Faults {
+    ghost use Rattle.std.specs.Prelude.{◌≤◌, take};
+    ghost use Rattle.rsp_cli.specs.Faults.{NotedFaults};
+
+    ghost Value = { NotedFaults };
+
+    ghost view = { λ s. record {
+      count = s.count;
+      first = take s.length s.first;
+    } };
+
+    ghost invariant = { λ s. s.length ≤ 64 };
+}
+
+impl Faults {
+    /// No faults.
+    pub(crate) fn new() -> Faults
+        ensures { result ≡ record { count = 0; first = [] } }
+    {
+        Faults {
+            count: 0,
+            first: [0; LONGEST],
+            length: 0,
+        }
+    }
+
+    /// How many replies were faults.
+    pub(crate) fn count(&self) -> u64
+        ensures { result ≡ self.now.count }
+    {
+        self.count
+    }
+
+    /// The first 64 bytes of the first fault; nothing if there was none.
+    pub(crate) fn first(&self) -> &[u8]
+        ensures { result.now ≡ self.now.first }
+    {
+        &self.first[..self.length]
+    }
+
+    /// Counts a reply if it is a fault.
+    fn note(&mut self, reply: &[u8])
+        ensures { self.new ≡ after_reply reply.now self.old }
+    {
+        if !reply.starts_with(b"fault ") {
+            return;
+        }
+        if self.count == 0 {
+            let length = reply.len().min(LONGEST);
+            self.first[..length].copy_from_slice(&reply[..length]);
+            self.length = length;
+        }
+        self.count = self.count.saturating_add(1);
+    }
+}
+
+/// A writer that passes replies on to another one, and counts the faults among them.
+///
+/// The bench begins each reply with a write of its own, so a reply begins where a write begins a line.
+#[derive(Drop)]
+pub(crate) struct CountingWriter<W> {
+    writer: W,
+    faults: Faults,
+    is_line_start: bool,
+}
+
+impl<W> CountingWriter<W> {
+    pub(crate) fn new(writer: W) -> CountingWriter<W> {
+        CountingWriter {
+            writer,
+            faults: Faults::new(),
+            is_line_start: true,
+        }
+    }
+
+    /// The faults among the replies that were written.
+    pub(crate) fn faults(&self) -> &Faults
+        ensures { result.now ≡ self.now.faults }
+    {
+        &self.faults
+    }
+}
+
+impl<W: Write> Write for CountingWriter<W> {
+    fn write(&mut self, bytes: &[u8]) -> io::Result<usize> {
+        let taken = self.writer.write(bytes)?;
+        if taken > 0 {
+            if self.is_line_start {
+                self.faults.note(bytes);
+            }
+            self.is_line_start = bytes[taken - 1] == b'\n';
+        }
+        Ok(taken)
+    }
+
+    fn flush(&mut self) -> io::Result<()> {
+        self.writer.flush()
+    }
+}
