@@ -1,5 +1,5 @@
 -- What the changes of a store show.
-use Rattle.std.proofs.Common.{◌≡◌, ◌≢◌, ◌∙◌, refl, ap, ℕ, ◌+◌, ◌*◌, ◌/◌, ◌%◌, ◌<◌, List, [], ◌∷◌, Bool, true, arith}
+use Rattle.std.proofs.Common.{◌≡◌, ◌∙◌, refl, ap, ℕ, ◌+◌, ◌*◌, ◌/◌, ◌%◌, List, [], ◌∷◌, Bool, true, arith}
 use Rattle.rsp_memory.specs.Memory.{bytes_at}
 use Rattle.rsp_loadstore.specs.Pairs.{quadword_start}
 use Rattle.rsp_machine.specs.Footprints.{IsPastQuadwords}

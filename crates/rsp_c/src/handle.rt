@@ -104,11 +104,12 @@ impl Handle {
         }
     }
 
-    /// Puts a debugger into the handle. The one that it owned is freed.
+    /// Puts a debugger into the handle, which owns none. So there is nothing to free, and no test whether there is.
     pub fn put(&mut self, debugger: Box<Debugger<PlaneAcc>, Global>)
+        requires { self.old.debugger ≡ None }
         ensures { self.new.debugger ≡ Some debugger.value }
     {
-        *self = Handle::of(BoxParts::of(debugger));
+        std::mem::forget(std::mem::replace(self, Handle::of(BoxParts::of(debugger))));
     }
 }
 
@@ -184,11 +185,12 @@ impl BenchHandle {
         }
     }
 
-    /// Puts a bench into the handle. The one that it owned is freed.
+    /// Puts a bench into the handle, which owns none.
     pub fn put(&mut self, bench: Box<HeldBench, Global>)
+        requires { self.old.bench ≡ None }
         ensures { self.new.bench ≡ Some bench.value }
     {
-        *self = BenchHandle::of(BoxParts::of(bench));
+        std::mem::forget(std::mem::replace(self, BenchHandle::of(BoxParts::of(bench))));
     }
 }
 

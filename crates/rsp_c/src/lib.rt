@@ -6,10 +6,12 @@
 
 mod c_structs;
 mod changes;
+mod event;
 mod explain;
 mod fault;
 mod handle;
 mod held_bench;
+mod labels;
 pub mod laws;
 mod life;
 mod memory;

@@ -78,6 +78,7 @@ pub extern "C" fn rsp_new(handle: &mut Handle, alloc: Global, image: &[u8], dept
     match new_debugger(alloc, image, depth as usize) {
         Err(_) => NO_MEMORY,
         Ok(debugger) => {
+            let _freed = handle.take(alloc);
             handle.put(debugger);
             OK
         }
@@ -128,6 +129,7 @@ pub extern "C" fn rsp_copy(to: &mut Handle, alloc: Global, from: &mut Handle) ->
     with_held!(from, alloc, |debugger| match copy_of(&debugger, alloc) {
         Err(_) => NO_MEMORY,
         Ok(copy) => {
+            let _freed = to.take(alloc);
             to.put(copy);
             OK
         }

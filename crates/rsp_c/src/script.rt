@@ -56,6 +56,7 @@ pub extern "C" fn rsp_bench_new(handle: &mut BenchHandle, alloc: Global, image: 
     match new_bench(alloc, image) {
         Err(_) => NO_MEMORY,
         Ok(held) => {
+            let _freed = handle.take(alloc);
             handle.put(held);
             OK
         }

@@ -125,3 +125,13 @@ pub extern "C" fn rsp_back(handle: &mut Handle, alloc: Global, n: u32) -> u32
         Err(BackFault::ShortHistory) => SHORT_HISTORY,
     })
 }
+
+/// How many states the history has: so many steps can be undone.
+#[unsafe(no_mangle)]
+pub extern "C" fn rsp_history(handle: &mut Handle, alloc: Global, out: &mut usize) -> u32
+    ensures answer { result ≡ status_of (λ _. OK) handle.old.debugger }
+    ensures value { IsFilled result (λ d. length d.past) handle.old.debugger out.old out.new }
+    ensures same { handle.new.debugger ≡ handle.old.debugger }
+{
+    with_held!(handle, alloc, |debugger| do *out = debugger.history_len())
+}

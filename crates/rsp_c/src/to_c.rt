@@ -72,6 +72,8 @@ pub fn c_stop(stop: Stop, imem: &SpMem) -> RspStop
 
 /// The reason of a run that ends before a move.
 const AT_MOVE: u32 = 5;
+/// The reason of a run that ends before a DMA.
+pub const AT_DMA: u32 = 6;
 
 /// The end of a run that also ends before moves, of a machine with this IMEM.
 pub fn c_move(end: MoveEnd, imem: &SpMem) -> RspMove

@@ -1,5 +1,5 @@
 -- `into_parts` tests the pointer, and what the handle held goes with it.
-use Rattle.rsp_c.proofs.Walks.{refl, sym, ap, subst, ◌∙◌, List, [], ◌∷◌, ◌++◌, lit<, Val, vnull, vcons, vnil, has_ty, SProp, ent, emp, id⊢, ftrue, fsep, tables, WpFn, Item, ‵, raw, at_ret, ◌⊛◌, ◌$◌, ◌∵◌, !, qed, by, move, drop, use0, use1, split, join, fsplit, fjoin, suffices, done, live, whole, sub, agg, stop, fld, lit, bin, no_more, and_then, of_opd, first, branches, skips, exec, returns, returns_within, enter, alloc_all, pass_all, free_all, look_at, get, get_in, sets, env, yes, Ptr, block_ptr, ptr_val, tests_null, RattleType, plain, type_at, nothing, says, Stays, stay_dropped, walk_of, ends_at, Goes-dropped, None, Some, proved_at, and_tt}
+use Rattle.rsp_c.proofs.Walks.{refl, sym, ap, subst, ◌∙◌, List, [], ◌∷◌, ◌++◌, lit<, Val, vnull, vcons, vnil, has_ty, SProp, ent, emp, id⊢, ftrue, fsep, tables, WpFn, Item, ‵, raw, at_ret, ◌⊛◌, ◌$◌, ◌∵◌, !, qed, by, move, drop, use0, use1, split, join, fsplit, fjoin, suffices, done, live, whole, sub, agg, stop, fld, lit, bin, no_more, and_then, of_opd, first, branches, skips, exec, returns, returns_within, enter, alloc_all, pass_all, free_all, look_at, get, get_in, sets, env, yes, Ptr, block_ptr, ptr_val, tests_null, plain, type_at, nothing, says, Stays, stay_dropped, walk_of, ends_at, Goes-dropped, None, Some, proved_at, and_tt}
 use Rattle.core.proofs.option.Made.{Some-of, none_of}
 use Rattle.std.proofs.alloc.Calls.{α}
 use Rattle.std.proofs.BoxSteps.Form.{D, B, word, box_typed}

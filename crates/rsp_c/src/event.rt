@@ -1,0 +1,112 @@
+// Runs to the next event, for a host that owns the RDRAM, and passes over a DMA whose bytes it moves.
+
+ghost use Rattle.std.specs.Prelude.{◌≡◌, ◌<◌, ◌≤◌, Some, IfSome, IfOk};
+ghost use Rattle.rsp_machine.specs.Pass.{pass_dma_of};
+ghost use Rattle.rsp_debug.specs.Debugging.{move_end_in, after_run_until_move, set_by_host};
+ghost use Rattle.rsp_c.specs.Answers.{pass_status};
+ghost use Rattle.rsp_c.specs.Calls.{status_of, IsDoneIf, IsNext, IsFilled};
+ghost use Rattle.rsp_c.specs.Events.{event_moves, event_end, c_reached};
+
+use crate::c_structs::RspMove;
+use crate::handle::{Handle, with_held};
+use crate::status::{OK, OUT_OF_RANGE, status_of_pass};
+use crate::to_c::{AT_DMA, c_move};
+use rsp_acc::Acc;
+use rsp_debug::{MoveEnd, Moves, Reason, Stop};
+use rsp_machine::Machine;
+use rsp_regs::Dma as RspDma;
+use std::alloc::Global;
+
+/// What a run reached.
+#[repr(C)]
+#[derive(Clone, Copy, Drop)]
+pub struct RspReached {
+    /// Where it stopped, with the move that is next, if one is. Before a DMA the reason is 6.
+    pub at: RspMove,
+    /// The DMA that is next; zeros if none is.
+    pub dma: RspDma,
+    /// SP_STATUS.
+    pub status: u32,
+    /// 1 if the interrupt flag is set, else 0.
+    pub interrupt: u32,
+}
+
+/// The length registers, as a mask.
+const LENGTH_REGISTERS: u16 = 12;
+
+/// The end of a run of at most `n` steps. If all of them are made, it is at the limit, and a move that is next isn't reported.
+fn event_end(n: u32, end: MoveEnd) -> MoveEnd
+    ensures { result ≡ event_end n end }
+{
+    match end {
+        MoveEnd::Move { steps, pc, .. } if steps == n => MoveEnd::Stop(Stop {
+            reason: Reason::Limit,
+            steps,
+            pc,
+        }),
+        _ => end,
+    }
+}
+
+/// What a run reached that ended so.
+fn c_reached<A: Acc>(end: MoveEnd, machine: &Machine<A>) -> RspReached
+    ensures { result ≡ c_reached end machine.now }
+{
+    let sp = machine.sp_regs();
+    let mut at = c_move(end, machine.imem());
+    let mut dma = RspDma::none();
+    if at.writes == 1
+        && let Some(found) = sp.described(at.number, at.value)
+    {
+        at.stop.reason = AT_DMA;
+        dma = found;
+    }
+    RspReached {
+        at,
+        dma,
+        status: sp.peek(4),
+        interrupt: if sp.interrupt() { 1 } else { 0 },
+    }
+}
+
+/// Runs as `rsp_run_until_move` does, also up to each DMA, and reports what is next. A move or a DMA is reported only if fewer than `n`
+/// steps are made: if all are, the end is at the limit. So passing over it is one of the `n` steps too.
+#[unsafe(no_mangle)]
+pub extern "C" fn rsp_event(
+    handle: &mut Handle,
+    alloc: Global,
+    n: u32,
+    reads: u32,
+    writes: u32,
+    out: &mut RspReached,
+) -> u32
+    ensures range { IsDoneIf (λ d. (1 ≤ n) × (n ≤ 1000000) × (reads < 65536) × (writes < 65536)) handle.old.debugger result }
+    ensures event { IsFilled result (λ d. c_reached (event_end n (move_end_in n (event_moves reads writes) d)) (after_run_until_move n (event_moves reads writes) d).state) handle.old.debugger out.old out.new }
+    ensures counted { result ≡ OK → 5 ≤ out.new.at.stop.reason → out.new.at.stop.steps < n }
+    ensures next { IsNext result (after_run_until_move n (event_moves reads writes)) handle.old.debugger handle.new.debugger }
+{
+    with_held!(handle, alloc, |debugger| if reads <= 0xffff && writes <= 0xffff => {
+        let (reads, writes) = (reads as u16, writes as u16 | LENGTH_REGISTERS);
+        match debugger.run_until_move(n, Moves { reads, writes }) {
+            Err(_) => OUT_OF_RANGE,
+            Ok(end) => {
+                *out = c_reached(event_end(n, end), debugger.machine());
+                OK
+            }
+        }
+    })
+}
+
+/// Passes over the DMA at pc, whose bytes the host then moves, and empties the history. All is as after a step, the SP registers too, but
+/// the memories stay. HALTED if the machine is halted, OUT_OF_RANGE if the word at pc starts no DMA.
+#[unsafe(no_mangle)]
+pub extern "C" fn rsp_pass_dma(handle: &mut Handle, alloc: Global) -> u32
+    ensures answer { result ≡ status_of (λ d. pass_status (pass_dma_of d.state)) handle.old.debugger }
+    ensures next { IfSome handle.old.debugger (λ d. IfOk (pass_dma_of d.state) (λ s. handle.new.debugger ≡ Some (set_by_host s d))) }
+    ensures same { (result ≡ OK → ⊥) → handle.new.debugger ≡ handle.old.debugger }
+{
+    with_held!(handle, alloc, |debugger| match debugger.pass_dma() {
+        Ok(()) => OK,
+        Err(fault) => status_of_pass(fault),
+    })
+}
