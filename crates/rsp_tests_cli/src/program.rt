@@ -3,7 +3,7 @@ mod fakes;
 mod long_files;
 mod out_of_memory;
 
-use fakes::{AfterBytes, FakeFiles, FakeReader};
+use fakes::{AfterBytes, FakeFiles, FakeReader, NarrowWriter};
 use rsp_cli::{FileFault, Status, refuse_arguments, work};
 use std::io::{self, ErrorKind, Write};
 use std::test::Fail;
@@ -147,6 +147,48 @@ fn an_image_may_not_be_saved(rt: HostRuntime) -> Result<(), Fail> {
         assert_eq!(rt; end.status, Status::Faulted);
         assert_eq!(rt; end.errors.as_str(), message);
         assert!(rt; output.as_slice() == b"step Done pc 004\n".as_slice());
+    }
+    Ok(())
+}
+
+/// Replies come byte by byte, and none is counted twice.
+#[test]
+fn a_strict_run_counts_faults(rt: HostRuntime) -> Result<(), Fail> {
+    let cases: [(&[u8], Status, &str); 4] = [
+        (
+            b"step\nfoo # no command\n",
+            Status::Faulted,
+            "1, the first: fault 30 BadCommand\n",
+        ),
+        (
+            b"pc 2\nregs\nfoo",
+            Status::Faulted,
+            "2, the first: fault 31 BadNumber\n",
+        ),
+        (
+            b"asm 0\nnop",
+            Status::Faulted,
+            "1, the first: fault 10 BadLine line 2\n",
+        ),
+        (b"step\nregs", Status::Done, ""),
+    ];
+    for (script, status, told) in cases {
+        let mut files = FakeFiles::new(rt.alloc(), b"");
+        let mut script = FakeReader::new(script, AfterBytes::End);
+        let mut output = NarrowWriter {
+            bytes: Vec::new(rt.alloc()),
+        };
+        let line = "rsp run --strict --save saved";
+        let end = run_work(&rt, line, &mut files, &mut script, &mut output)?;
+        assert_eq!(rt; end.status, status);
+        let errors = end.errors.as_str();
+        assert_eq!(rt;
+            errors
+                .strip_prefix("rsp: faults in replies: ")
+                .unwrap_or(errors),
+            told
+        );
+        assert_eq!(rt; files.written, 1);
     }
     Ok(())
 }

@@ -1,7 +1,7 @@
 // Disassembly in the compiled program: a listing assembles to its words.
 
 use crate::random::Random;
-use rsp_laws::assembled_listing;
+use rsp_listings::assembled_listing;
 use std::alloc::{AllocError, Global};
 use std::test::Fail;
 

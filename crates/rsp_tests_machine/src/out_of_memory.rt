@@ -3,7 +3,7 @@
 
 use rsp_acc::PlaneAcc;
 use rsp_debug::Debugger;
-use rsp_laws::assembled_listing;
+use rsp_listings::assembled_listing;
 use rsp_machine::{Machine, StepEnd};
 use rsp_memory::{Bank, Rdram};
 use std::test::Fail;

@@ -3,7 +3,7 @@
 
 ghost use Rattle.std.specs.Prelude.{◌≡◌, IfOk};
 
-use rsp_asm::{AsmFaultKind, Block, BlockFault, assemble, explain};
+use rsp_asm::{AsmFaultKind, Block, BlockFault, assemble, explain, labels_of};
 use rsp_bench::{BenchEnd, MemSink, MemSource, Session, Source, parse_line, run_bench};
 use rsp_feed::{Bench, BenchFault, run_pieces};
 use rsp_memory::Rdram;
@@ -70,6 +70,22 @@ fn a_text_is_explained_when_memory_is_there(rt: HostRuntime) -> Result<(), Fail>
         match explain(rt.alloc(), 0, "a: nop\nb: nop\nbeq $1, $2, c") {
             Ok(found) => assert!(rt; found.is_some_and(|operand| operand.number == 3)),
             Err(_) => println!(rt; "no memory for a label")?,
+        }
+    }
+    Ok(())
+}
+
+#[test]
+fn labels_are_listed_when_memory_is_there(rt: HostRuntime) -> Result<(), Fail> {
+    let text = "nop\na: nop\nb: j a";
+    for _ in 0..2 {
+        let Ok(_) = assemble(rt.alloc(), 8, text) else {
+            println!(rt; "no memory for a label")?;
+            continue;
+        };
+        match labels_of(rt.alloc(), 8, text) {
+            Ok(found) => assert!(rt; found.last().is_some_and(|label| label.address == 16)),
+            Err(_) => println!(rt; "no memory for the list")?,
         }
     }
     Ok(())

@@ -25,17 +25,17 @@ fn words_are_listed(rt: HostRuntime) -> Result<(), Fail> {
 }
 
 /// Words at 0x080, and their lines with labels: a jump back, a branch to itself, one ahead, one to the address after the last word,
-/// one before the first, a word whose ignored bits are set, and a reserved word.
+/// one before the first, a jump whose ignored bits are set, and a reserved word.
 const WITH_TARGETS: [u8; 32] = [
     0x08, 0x00, 0x00, 0x21, 0x10, 0x00, 0xff, 0xff, 0x14, 0x22, 0x00, 0x04, 0x04, 0x11, 0x00, 0x04,
     0x0c, 0x00, 0x00, 0x1f, 0x08, 0x00, 0x10, 0x20, 0x00, 0x20, 0x00, 0x48, 0x00, 0x00, 0x00, 0x0d,
 ];
 
 const LABELLED: &str =
-    "j L084\nL084:\nbeq $0, $0, L084\nbne $1, $2, L09c\nbgezal $0, 0x0a0\njal 0x07c\n.word 0x08001020\n.word 0x00200048\nL09c:\nbreak\n";
+    "j L084\nL084:\nbeq $0, $0, L084\nbne $1, $2, L09c\nbgezal $0, 0x0a0\njal 0x07c\n.word 0x08001020 # executes as j 0x080, which would be the word 0x08000020\n.word 0x00200048\nL09c:\nbreak\n";
 
 const LABELLED_WITH_ADDRESSES: &str =
-    "080 08000021 j L084\n084 L084:\n084 1000ffff beq $0, $0, L084\n088 14220004 bne $1, $2, L09c\n08c 04110004 bgezal $0, 0x0a0\n090 0c00001f jal 0x07c\n094 08001020 .word 0x08001020\n098 00200048 .word 0x00200048\n09c L09c:\n09c 0000000d break\n";
+    "080 08000021 j L084\n084 L084:\n084 1000ffff beq $0, $0, L084\n088 14220004 bne $1, $2, L09c\n08c 04110004 bgezal $0, 0x0a0\n090 0c00001f jal 0x07c\n094 08001020 .word 0x08001020 # executes as j 0x080, which would be the word 0x08000020\n098 00200048 .word 0x00200048\n09c L09c:\n09c 0000000d break\n";
 
 #[test]
 fn targets_are_labels(rt: HostRuntime) -> Result<(), Fail> {

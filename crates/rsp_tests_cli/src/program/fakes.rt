@@ -1,6 +1,6 @@
 use rsp_cli::{FileFault, FileStore};
 use std::alloc::Global;
-use std::io::{self, ErrorKind, Read};
+use std::io::{self, ErrorKind, Read, Write};
 
 /// Files in memory: one with the name `image` can be read, and one can be written.
 #[derive(Drop)]
@@ -97,5 +97,27 @@ impl Read for FakeReader<'_> {
                 Ok(buf.len())
             }
         }
+    }
+}
+
+/// A writer in memory that takes one byte a write.
+#[derive(Drop)]
+pub(super) struct NarrowWriter {
+    pub(super) bytes: Vec<u8>,
+}
+
+impl Write for NarrowWriter {
+    fn write(&mut self, buf: &[u8]) -> io::Result<usize> {
+        match buf.first() {
+            Some(&byte) => {
+                self.bytes.push(byte)?;
+                Ok(1)
+            }
+            None => Ok(0),
+        }
+    }
+
+    fn flush(&mut self) -> io::Result<()> {
+        Ok(())
     }
 }
