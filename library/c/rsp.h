@@ -4,9 +4,10 @@
  * docs/FAULTS.md the statuses beside the faults.
  *
  * Preconditions, which no call can check:
- *   - A handle is RSP_NONE before its first call, and after that as the last call left it. Never copy a
- *     handle that holds a machine, and never write its field. What it points to is the library's: nobody
- *     else reads, writes or frees it.
+ *   - A handle is RSP_NONE before its first call, and after that as the last call left it. Never write its
+ *     field. A handle may be moved: assigned to another one that holds nothing, after which only the other
+ *     one is used, and the first one is RSP_NONE again or is never used again. What it points to is the
+ *     library's: nobody else reads, writes or frees it.
  *   - One call at a time uses a handle. Between two calls it may go to another thread, handed over as any
  *     data is, by a mutex or a join: nothing in a machine is bound to a thread.
  *   - No pointer is null, not even that of an empty buffer. A buffer has as many elements as are said, and
@@ -17,10 +18,10 @@
  *   - A call has RSP_STACK bytes of stack.
  *
  * Postconditions of every call: it returns, for any numbers, with a status. If that isn't RSP_OK, no
- * machine has changed, and neither has anything that the call fills. rsp_assemble alone then says in `out`
- * why, and RSP_TOO_LONG alone ends a bench. Every call with a handle returns RSP_NO_MACHINE if the handle
- * holds nothing, but for those that make or free, and rsp_copy if `from` holds none. Below this status
- * isn't listed again, nor is RSP_OK. */
+ * machine has changed, and neither has anything that the call fills. Only rsp_assemble then says in `out`
+ * why, RSP_NO_ROOM of rsp_labels in `count` how many, and RSP_TOO_LONG ends a bench. Every call with a
+ * handle returns RSP_NO_MACHINE if the handle holds nothing, but for those that make or free, and rsp_copy
+ * if `from` holds none. Below this status isn't listed again, nor is RSP_OK. */
 #ifndef RSP_H
 #define RSP_H
 
@@ -33,8 +34,15 @@ extern "C" {
 
 typedef struct rsp {
     void *at;
+#ifdef __cplusplus
+    class machine; /* rsp.hpp has it, for C++17 */
+#endif
 } rsp;
+#ifdef __cplusplus
+#define RSP_NONE {}
+#else
 #define RSP_NONE { 0 }
+#endif
 
 /* How many bytes of stack a call needs at most. Measured, not proved. */
 #define RSP_STACK 131072
@@ -44,9 +52,9 @@ enum rsp_status {
     RSP_NO_MACHINE = 1,    /* the handle holds no machine, or no bench */
     RSP_NO_MEMORY = 2,     /* an allocation failed */
     RSP_OUT_OF_RANGE = 3,  /* a number, a length or a count is out of its range */
-    RSP_HALTED = 4,        /* rsp_step, rsp_pass: the machine is halted */
+    RSP_HALTED = 4,        /* rsp_step, rsp_pass, rsp_pass_dma: the machine is halted */
     RSP_RESERVED = 5,      /* rsp_step: the word at pc is reserved */
-    RSP_NO_MEANING = 6,    /* rsp_assemble: the text has a fault; `out` has its number and its line */
+    RSP_NO_MEANING = 6,    /* rsp_assemble, rsp_labels: the text has a fault, which rsp_assemble reports */
     RSP_TASK_PLACE = 7,    /* rsp_task: the address is no multiple of 8, or 64 bytes pass the image's end */
     RSP_TASK_SIZE = 8,     /* rsp_task: the size of the boot code isn't 1 to 4096 */
     RSP_BREAK_FULL = 9,    /* rsp_add_break: sixteen addresses have one */
@@ -55,7 +63,7 @@ enum rsp_status {
     RSP_WATCH_FULL = 12,   /* rsp_add_watch: there are eight watches */
     RSP_NO_WATCH = 13,     /* rsp_drop_watch: the number has no watch */
     RSP_SHORT_HISTORY = 14, /* rsp_back: the history holds fewer states */
-    RSP_NO_ROOM = 15,      /* rsp_assemble: there are more words than the buffer has; rsp_bench_take,
+    RSP_NO_ROOM = 15,      /* rsp_assemble, rsp_labels: there are more than the buffer has; rsp_bench_take,
                               rsp_bench_end: the buffer has fewer than RSP_REPLIES bytes */
     RSP_ENDED = 16,        /* rsp_bench_take, rsp_bench_end: the end of input was met */
     RSP_TOO_LONG = 17      /* rsp_bench_take, rsp_bench_end: the script has more than 1048576 bytes */
@@ -64,14 +72,15 @@ enum rsp_status {
 /* The three memories. DMEM and IMEM have 4096 bytes, RDRAM as many as its image. */
 enum rsp_bank { RSP_DMEM = 0, RSP_IMEM = 1, RSP_RDRAM = 2 };
 
-/* Why a run stopped: the first that holds, but a move comes before the limit. */
+/* Why a run stopped: the first that holds, but a move comes before the limit; not so of rsp_event. */
 enum rsp_reason {
     RSP_AT_RESERVED = 0, /* the machine isn't halted, and the word at pc is reserved */
     RSP_AT_HALT = 1,     /* it is halted, whatever the word is */
     RSP_AT_WATCH = 2,    /* the last step changed a byte of a watch */
     RSP_AT_BREAK = 3,    /* the last step came to a breakpoint */
     RSP_AT_LIMIT = 4,    /* all steps are made */
-    RSP_AT_MOVE = 5      /* of rsp_run_until_move: such a move is next */
+    RSP_AT_MOVE = 5,     /* of rsp_run_until_move and rsp_event: such a move is next */
+    RSP_AT_DMA = 6       /* of rsp_event: a DMA is next */
 };
 
 typedef struct rsp_stop {
@@ -82,7 +91,8 @@ typedef struct rsp_stop {
     uint32_t word;   /* at a reserved word the word, else 0 */
 } rsp_stop;
 
-/* Where rsp_run_until_move stopped. Unless it is before a move, all but `stop` is 0. */
+/* Where rsp_run_until_move stopped. Unless it is before a move, all but `stop` is 0. A DMA is such a move:
+ * an MTC0 to register 2 or 3. */
 typedef struct rsp_move {
     rsp_stop stop;   /* before a move its reason is RSP_AT_MOVE */
     uint32_t word;   /* the move: MFC0 or MTC0 */
@@ -90,6 +100,26 @@ typedef struct rsp_move {
     uint32_t writes; /* 1 of MTC0, 0 of MFC0 */
     uint32_t value;  /* what its scalar register rt holds: what an MTC0 would write */
 } rsp_move;
+
+/* A DMA: rows of bytes, one after the other in the bank, whose addresses wrap at 4096, and with `skip` bytes
+ * between two rows in RDRAM, whose addresses wrap at 2^24. Row by row and byte by byte is the order. */
+typedef struct rsp_dma {
+    uint32_t bank;     /* RSP_DMEM or RSP_IMEM */
+    uint32_t address;  /* the first address in the bank, a multiple of 8 below 4096 */
+    uint32_t rdram;    /* the first address in RDRAM, a multiple of 8 below 2^24, perhaps past its end */
+    uint32_t length;   /* how many bytes a row has, a multiple of 8 from 8 to 4096 */
+    uint32_t rows;     /* how many rows there are, 1 to 256 */
+    uint32_t skip;     /* a multiple of 8 below 4096 */
+    uint32_t to_rdram; /* 1 if the bytes go to RDRAM (SP_WR_LEN), 0 if they come from there (SP_RD_LEN) */
+} rsp_dma;
+
+/* What rsp_event reached. */
+typedef struct rsp_reached {
+    rsp_move at;        /* where it stopped, and the move; before a DMA its reason is RSP_AT_DMA */
+    rsp_dma dma;        /* the DMA that is next; unless it is before one, all of it is 0 */
+    uint32_t status;    /* SP_STATUS there */
+    uint32_t interrupt; /* 1 if the interrupt flag is set there, else 0 */
+} rsp_reached;
 
 /* An entry of a trace: what a step did. The struct has no padding: equal entries are equal for memcmp. */
 typedef struct rsp_traced {
@@ -178,6 +208,13 @@ typedef struct rsp_assembled {
     uint32_t fault; /* of a fault: its number, 10 to 17 (docs/FAULTS.md), 33 if it isn't UTF-8; else 0 */
 } rsp_assembled;
 
+/* A label of a text. */
+typedef struct rsp_label {
+    uint16_t address; /* its address in IMEM, at most 4096 */
+    uint16_t len;     /* how many bytes its name has, 1 to 32 */
+    char name[36];    /* the name, then zeros, at least four */
+} rsp_label;
+
 /* A word with its disassembly. */
 typedef struct rsp_line {
     uint32_t word;
@@ -262,6 +299,13 @@ uint32_t rsp_run(rsp *m, uint32_t n, rsp_stop *out);
  * RSP_OUT_OF_RANGE unless n is 1 to 1000000 and both are below 65536. */
 uint32_t rsp_run_until_move(rsp *m, uint32_t n, uint32_t reads, uint32_t writes, rsp_move *out);
 
+/* Runs to the next event, for a caller that owns RDRAM: as rsp_run_until_move, also up to each DMA, whatever
+ * `writes` is, and describes what is next. A move or a DMA is an event only if fewer than n steps are made:
+ * if all are, the reason is RSP_AT_LIMIT. So a caller that passes over it by rsp_pass, rsp_pass_dma or
+ * rsp_step has made `steps` + 1 of its n steps. Returns RSP_OUT_OF_RANGE unless n is 1 to 1000000 and both
+ * masks are below 65536. */
+uint32_t rsp_event(rsp *m, uint32_t n, uint32_t reads, uint32_t writes, rsp_reached *out);
+
 /* The same as rsp_run, with an entry for each step; the other entries stay. Returns RSP_OUT_OF_RANGE unless
  * n is 1 to 1000000. */
 uint32_t rsp_trace(rsp *m, rsp_traced *out, size_t n, rsp_stop *stop);
@@ -269,10 +313,23 @@ uint32_t rsp_trace(rsp *m, rsp_traced *out, size_t n, rsp_stop *stop);
 /* Undoes n steps. Returns RSP_OUT_OF_RANGE unless n is 1 to 1000000; else RSP_SHORT_HISTORY. */
 uint32_t rsp_back(rsp *m, uint32_t n);
 
+/* Gives how many steps can be undone: how many states the history has. */
+uint32_t rsp_history(rsp *m, size_t *out);
+
 /* Goes past the MFC0 or MTC0 at pc, for a caller that owns the SP registers. pc and npc go on, register rt
  * of an MFC0 becomes `value`, single step halts as after any instruction, and nothing else is done. Empties
- * the history. Returns RSP_HALTED; else RSP_OUT_OF_RANGE if another word is at pc. */
+ * the history. Returns RSP_HALTED; else RSP_OUT_OF_RANGE if another word is at pc.
+ *
+ * A caller that then sets SP registers by rsp_set_sp calls first rsp_pass, then rsp_sp, then rsp_set_sp:
+ * what rsp_sp gave before rsp_pass would take back the halt of single step. SP_STATUS is best left to the
+ * machine, because BREAK and single step change it too: rsp_step makes a move of register 4. */
 uint32_t rsp_pass(rsp *m, uint32_t value);
+
+/* Goes past the DMA at pc, for a caller that moves its bytes. All is as after rsp_step, the SP registers
+ * too, but the memories stay. Move the bytes afterwards, since they may overwrite the word at pc; the
+ * rsp_dma of rsp_event describes them. Empties the history. Returns RSP_HALTED; else RSP_OUT_OF_RANGE if
+ * the word at pc starts no DMA. */
+uint32_t rsp_pass_dma(rsp *m);
 
 /* ---- Breakpoints at addresses of IMEM, at most sixteen, and watches of DMEM, at most eight ---- */
 
@@ -339,6 +396,16 @@ uint32_t rsp_set_sp(rsp *m, const rsp_sp_words *given);
  *     fault, but perhaps an operand that needs the labels of all lines. */
 uint32_t rsp_assemble(uint32_t origin, const uint8_t *text, size_t len, uint32_t *words, size_t capacity,
                       rsp_assembled *out);
+
+/* Gives the labels of a text with their addresses, in the order of their lines. `origin` is that of
+ * rsp_assemble. `count` gets how many they are, at most one a line; what follows them in `labels` stays.
+ * Returns
+ *   - RSP_OUT_OF_RANGE for another origin;
+ *   - RSP_NO_MEANING if the text has a fault or isn't UTF-8: rsp_assemble says which;
+ *   - RSP_NO_ROOM if they are more than `capacity`: `count` has how many, so a capacity of 0 asks for it;
+ *   - RSP_NO_MEMORY. */
+uint32_t rsp_labels(uint32_t origin, const uint8_t *text, size_t len, rsp_label *labels, size_t capacity,
+                    size_t *count);
 
 /* Disassembles a word for an address of IMEM, a multiple of 4 below 4096. Returns RSP_OUT_OF_RANGE. */
 uint32_t rsp_text(uint32_t word, uint32_t address, rsp_line *out);
@@ -444,7 +511,7 @@ static inline const char *rsp_fault_name(uint32_t fault)
 /* The name of the reason of a stop. */
 static inline const char *rsp_reason_name(uint32_t reason)
 {
-    static const char *const names[] = { "RESERVED", "HALT", "WATCH", "BREAK", "LIMIT", "MOVE" };
+    static const char *const names[] = { "RESERVED", "HALT", "WATCH", "BREAK", "LIMIT", "MOVE", "DMA" };
     return reason < sizeof names / sizeof *names ? names[reason] : "unknown";
 }
 

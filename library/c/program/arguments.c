@@ -4,7 +4,7 @@
 
 /* How an argument is shown, and the commands that have it. An option begins with `--`, a file that has to be named with `<`. */
 static const struct { const char *shown; unsigned commands; } arguments[ARGUMENTS] = {
-    [RDRAM] = { "--rdram <FILE>", 1 << RUN }, [SAVE] = { "--save <FILE>", 1 << RUN },
+    [RDRAM] = { "--rdram <FILE>", 1 << RUN }, [SAVE] = { "--save <FILE>", 1 << RUN }, [STRICT] = { "--strict", 1 << RUN },
     [SOURCE] = { "<SRC>", 1 << ASM }, [OUT] = { "<OUT>", 1 << ASM }, [WORDS] = { "<FILE>", 1 << DIS },
     [AT] = { "--at <ADDR>", 1 << ASM | 1 << DIS }, [LISTING] = { "--listing", 1 << ASM }, [EXPLAIN] = { "--explain", 1 << ASM },
     [PLACES] = { "--places", 1 << DIS }, [LABELS] = { "--labels", 1 << DIS },
@@ -132,6 +132,6 @@ uint32_t origin_of(const request *asked)
     size_t len = strspn(digits, is_hexadecimal ? "0123456789abcdefABCDEF" : "0123456789");
     unsigned long long number = strtoull(digits, NULL, is_hexadecimal ? 16 : 10);
     if (!len || digits[len] || len > (is_hexadecimal ? 8 : 10) || number > 4092 || number % 4)
-        refuse("invalid value '%s' for '--at <ADDR>': not a multiple of 4 from 0 to 4092", text);
+        refuse("invalid value '%s' for '--at <ADDR>': not a multiple of 4 from 0 to 4092", escaped(text));
     return (uint32_t)number;
 }

@@ -5,14 +5,16 @@
 #include <string.h>
 #include <strings.h>
 
-enum { LONGEST_TEXT = 1048576, LONGEST_LINE = 256, BAD_OPERAND = 12, LABEL_MISSING = 15, OUT_OF_MEMORY = 17 };
+enum { LONGEST_TEXT = 1048576, LONGEST_LINE = TEXT_ROOM - 4, BAD_LINE = 10, UNKNOWN_NAME = 11, BAD_OPERAND = 12, OUT_OF_RANGE = 13, LABEL_MISSING = 15, OUT_OF_MEMORY = 17 };
 
 /* What may be in the place of an operand that can't be read; where nothing is said, a number. */
+#define VECTOR "a vector register, $v0 to $v31"
 static const char *const forms[] = {
-    [RSP_OPERAND_NOTHING] = "nothing", [RSP_OPERAND_SCALAR] = "a scalar register", [RSP_OPERAND_SP] = "an SP register, $c0 to $c15",
-    [RSP_OPERAND_CONTROL] = "$vco, $vcc or $vce", [RSP_OPERAND_VECTOR] = "a vector register",
-    [RSP_OPERAND_VECTOR_BYTE] = "a vector register, with a byte or none",
-    [RSP_OPERAND_VECTOR_ELEMENT] = "a vector register, with an element or none", [RSP_OPERAND_VECTOR_LANE] = "a vector register, with a lane"
+    [RSP_OPERAND_NOTHING] = "nothing", [RSP_OPERAND_SCALAR] = "a scalar register, $0 to $31 or as $t0, but not $v0 and $v1",
+    [RSP_OPERAND_SP] = "an SP register, $c0 to $c15", [RSP_OPERAND_CONTROL] = "$vco, $vcc or $vce", [RSP_OPERAND_VECTOR] = VECTOR,
+    [RSP_OPERAND_VECTOR_BYTE] = VECTOR ", with a byte, [0] to [15], or none",
+    [RSP_OPERAND_VECTOR_ELEMENT] = VECTOR ", with an element, [v], [0q], [1q], [0h] to [3h] or [0] to [7], or none",
+    [RSP_OPERAND_VECTOR_LANE] = VECTOR ", with a lane, [0] to [7]"
 };
 
 /* A source line as the assembler cuts it. */
@@ -101,24 +103,72 @@ static void print_listing(span text, const uint32_t *words, unsigned address)
 }
 
 /* Writes bytes as a terminal may show them, at most as many as a line may have. */
-static void visible(span text, char to[LONGEST_LINE + 4])
+static void visible(span text, char to[TEXT_ROOM])
 {
     size_t n = text.len < LONGEST_LINE ? text.len : LONGEST_LINE;
     for (size_t i = 0; i < n; i++) to[i] = text.at[i] == '\t' ? ' ' : text.at[i] < ' ' || text.at[i] > '~' ? '.' : (char)text.at[i];
     strcpy(to + n, n < text.len ? " .." : "");
 }
 
+/* The operand of a statement with this number, from 1; empty if it has fewer. Returns whether it is there. */
+static bool get_operand(const statement *it, size_t number, char to[TEXT_ROOM])
+{
+    span found = { 0 };
+    bool is_there = count_operands(it->operands, number, &found) == number;
+    visible(is_there ? found : (span){ 0 }, to);
+    return is_there;
+}
+
 /* What may be in the place of an operand: the form of one that can't be read, the range of one that can. */
-static void put_allowed(char *to, size_t room, const rsp_operand *found, uint32_t kind, span name)
+static void put_allowed(char *to, size_t room, const rsp_operand *found, uint32_t kind, bool has_halves)
 {
     char range[96] = "";
     int n = found->step ? snprintf(range, sizeof range, "%" PRId64 " to %" PRId64, found->low, found->high) : 0;
     if (found->step > 1) snprintf(range + n, sizeof range - (size_t)n, ", a multiple of %u", (unsigned)found->step);
     bool is_memory = found->kind == RSP_OPERAND_SCALAR_MEMORY || found->kind == RSP_OPERAND_VECTOR_MEMORY;
     const char *form = forms[found->kind] ? forms[found->kind] : "a number or a label, ";
-    if (found->kind == RSP_OPERAND_VECTOR_BYTE && (is_name(name, "lfv") || is_name(name, "sfv"))) form = "a vector register, with byte 0 or 8 or none";
+    if (found->kind == RSP_OPERAND_VECTOR_BYTE && has_halves) form = VECTOR ", with byte [0] or [8] or none";
     const char *first = kind == BAD_OPERAND ? form : kind == LABEL_MISSING ? "the label of a line, or " : "";
     snprintf(to, room, "%s%s%s", first, range, kind == BAD_OPERAND && is_memory ? ", and a scalar register in parentheses" : "");
+}
+
+/* The statement without its operands from this number on. */
+static void put_without(const statement *it, size_t number, char to[TEXT_ROOM])
+{
+    char one[TEXT_ROOM];
+    size_t n = (size_t)snprintf(to, TEXT_ROOM, "%.*s", (int)it->name.len, (const char *)it->name.at);
+    for (size_t before = 1; before < number; before++) {
+        get_operand(it, before, one);
+        n += (size_t)snprintf(to + n, TEXT_ROOM - n, "%s%s", before == 1 ? " " : ", ", one);
+    }
+}
+
+/* What to write in place of an operand; "" if there is nothing to say. */
+static void put_written(const statement *it, const rsp_operand *found, uint32_t kind, bool has_halves, char to[TEXT_ROOM])
+{
+    char text[TEXT_ROOM], next[TEXT_ROOM], last[TEXT_ROOM];
+    get_operand(it, found->number, text);
+    get_operand(it, found->number + 1, next);
+    get_operand(it, found->number + 2, last);
+    if (kind == BAD_OPERAND && found->kind == RSP_OPERAND_NOTHING && !has_comment(text)) {
+        put_without(it, found->number, to);
+        return;
+    }
+    if (kind == BAD_OPERAND && spell_operand(found, text, (const char *const[]){ next, last }, has_halves, to)) return;
+    if (kind == OUT_OF_RANGE && spell_in_range(found, text, to)) return;
+    snprintf(to, TEXT_ROOM, "%s", kind == BAD_OPERAND ? advice_of_operand(found, text) : "");
+}
+
+/* Ends with a fault of a line for another reason than an operand. */
+static void refuse_statement(const char *head, span line, uint32_t kind)
+{
+    statement it = cut(line);
+    char name[TEXT_ROOM], operand[TEXT_ROOM];
+    visible(it.name, name);
+    get_operand(&it, 1, operand);
+    const char *written = kind == UNKNOWN_NAME ? advice_of_statement(name, operand) : kind == BAD_LINE ? advice_of_line(line) : "";
+    const char *naming = kind == UNKNOWN_NAME ? "\n  name: " : "", *before = *written ? "\n  write: " : "";
+    fault("%s%s%s%s%s", head, naming, kind == UNKNOWN_NAME ? name : "", before, written);
 }
 
 /* Ends with the fault of a text and, if it is asked for and there is memory, with what is wrong in its line. */
@@ -129,15 +179,19 @@ static void refuse_text(span text, uint32_t origin, const rsp_assembled *made, b
     rsp_operand found;
     if (!at || number == OUT_OF_MEMORY) fault("fault %u %s", number, name);
     if (!is_explained || rsp_explain(origin, text.at, text.len, &found) == RSP_NO_MEMORY) fault("fault %u %s line %u", number, name, at);
-    span line = { 0 }, operand;
+    span line = { 0 };
     for (size_t i = 0; i < made->line; i++) next_line(&text, &line);
-    char shown[LONGEST_LINE + 4], part[LONGEST_LINE + 4] = "(none)", allowed[256];
+    char shown[TEXT_ROOM], head[TEXT_ROOM + 64], part[TEXT_ROOM], allowed[256], written[TEXT_ROOM];
     visible(trimmed(line), shown);
-    if (!found.number) fault("fault %u %s line %u\n  line: %s", number, name, at, shown);
+    snprintf(head, sizeof head, "fault %u %s line %u\n  line: %s", number, name, at, shown);
+    if (!found.number) refuse_statement(head, line, number);
     statement it = cut(line);
-    if (count_operands(it.operands, found.number, &operand) == found.number) visible(operand, part);
-    put_allowed(allowed, sizeof allowed, &found, number, it.name);
-    fault("fault %u %s line %u\n  line: %s\n  operand %u: %s\n  may be: %s", number, name, at, shown, (unsigned)found.number, part, allowed);
+    bool has_halves = is_name(it.name, "lfv") || is_name(it.name, "sfv");
+    if (!get_operand(&it, found.number, part)) strcpy(part, "(none)");
+    put_allowed(allowed, sizeof allowed, &found, number, has_halves);
+    put_written(&it, &found, number, has_halves, written);
+    const char *before = *written ? "\n  write: " : "";
+    fault("%s\n  operand %u: %s\n  may be: %s%s%s", head, (unsigned)found.number, part, allowed, before, written);
 }
 
 void assemble(const request *asked)

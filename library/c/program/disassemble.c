@@ -20,12 +20,24 @@ static void set_label(rsp_line *line, uint32_t origin, uint32_t end)
     last[1] = 'L';
 }
 
-static void print_word(const rsp_line *line, bool has_places)
+/* What a jump that is shown as .word executes as, for the end of its line: the bits of its target that are ignored are set, as code that was linked
+ * elsewhere has them. */
+static void set_comment(const rsp_line *line, char comment[128])
 {
-    char place[8] = "", word[16] = "";
+    rsp_line plain;
+    uint32_t word = line->word & 0xfc0003ff;
+    if ((word >> 26 != 2 && word >> 26 != 3) || word == line->word) return;
+    rsp_text(word, line->place, &plain);
+    snprintf(comment, 128, " # executes as %s, which would be the word 0x%08x", plain.text, (unsigned)word);
+}
+
+static void print_word(const rsp_line *line, bool has_places, bool has_comment)
+{
+    char place[8] = "", word[16] = "", comment[128] = "";
+    if (has_comment) set_comment(line, comment);
     if (has_places) snprintf(place, sizeof place, "%03x ", (unsigned)line->place), snprintf(word, sizeof word, "%08x ", (unsigned)line->word);
     if (is_labelled[line->place / 4]) print("%sL%03x:\n", place, (unsigned)line->place);
-    print("%s%s%s\n", place, word, line->text);
+    print("%s%s%s%s\n", place, word, line->text, comment);
 }
 
 void disassemble(const request *asked)
@@ -40,5 +52,5 @@ void disassemble(const request *asked)
         rsp_text(word, at, &lines[i]);
         if (asked->given[LABELS]) set_label(&lines[i], origin, end);
     }
-    for (size_t i = 0; i < len / 4; i++) print_word(&lines[i], asked->given[PLACES]);
+    for (size_t i = 0; i < len / 4; i++) print_word(&lines[i], asked->given[PLACES], asked->given[LABELS]);
 }

@@ -35,12 +35,12 @@ size_t read_file(const char *name, size_t limit, uint8_t **bytes)
 {
     int file = open_path(name, TO_READ);
     size_t len = 0;
-    if (file < 0) errno == ENOMEM ? fault("fault 17 OutOfMemory") : fault("cannot read %s", name);
+    if (file < 0) errno == ENOMEM ? fault("fault 17 OutOfMemory") : fault("cannot read %s", escaped(name));
     *bytes = malloc(limit);
     if (!*bytes) fault("fault 17 OutOfMemory");
     for (ptrdiff_t n = 1; n && len < limit; len += (size_t)n) {
         n = read_some(file, *bytes + len, limit - len);
-        if (n < 0) fault("cannot read %s", name);
+        if (n < 0) fault("cannot read %s", escaped(name));
     }
     close(file);
     return len;
@@ -89,5 +89,5 @@ void save_file(const char *name, span bytes)
     enum found found = find_target(name, &old);
     if (found == TO_REPLACE) found = replace(&old, name, bytes);
     if (found == IN_PLACE) found = fill(open_path(name, TO_WRITE), bytes, false) ? TO_REPLACE : CANNOT_WRITE;
-    if (found == CANNOT_WRITE) fault("cannot write %s", name);
+    if (found == CANNOT_WRITE) fault("cannot write %s", escaped(name));
 }

@@ -2,6 +2,17 @@
 #include "program.h"
 #include <string.h>
 
+/* The words as a message shows them. */
+static char **escaped_words(char **words)
+{
+    size_t count = 0;
+    while (words[count]) count++;
+    char **made = calloc(count + 1, sizeof *made);
+    if (!made) fault("fault 17 OutOfMemory");
+    for (size_t i = 0; i < count; i++) made[i] = escaped(words[i]);
+    return made;
+}
+
 int work(char **words)
 {
     rsp_operand found;
@@ -10,7 +21,9 @@ int work(char **words)
     /* A call that reads texts says whether a word is UTF-8. */
     for (char **it = words; *it; it++)
         if (rsp_explain(0, (const uint8_t *)*it, strlen(*it), &found) == RSP_NO_MEANING) say("error: an argument isn't UTF-8", "\n", ""), exit(REFUSED);
-    request asked = read_arguments(*words ? words + 1 : words);
+    words += *words != NULL;
+    read_arguments(escaped_words(words)); /* what is refused is named so */
+    request asked = read_arguments(words);
     asked.command == RUN ? run(&asked) : asked.command == ASM ? assemble(&asked) : disassemble(&asked);
     return DONE;
 }

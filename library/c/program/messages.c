@@ -17,6 +17,20 @@ void say(const char *before, const char *after, const char *format, ...)
     write_all(STANDARD_ERROR, message, strlen(message));
 }
 
+char *escaped(const char *text)
+{
+    char *made = malloc(4 * strlen(text) + 1), *to = made;
+    if (!made) fault("fault 17 OutOfMemory");
+    for (const unsigned char *at = (const unsigned char *)text; *at; at++) {
+        bool is_pair = *at == 0xc2 && at[1] >= 0x80 && at[1] < 0xa0; /* U+0080 to U+009F */
+        at += is_pair;
+        if (is_pair || *at < ' ' || *at == 0x7f) to += sprintf(to, "\\x%02x", *at);
+        else *to++ = (char)*at;
+    }
+    *to = 0;
+    return made;
+}
+
 void print(const char *format, ...)
 {
     char line[512];

@@ -28,9 +28,16 @@ bool flush(int file)
     return !fsync(file);
 }
 
+/* The new name is on the disk too when this ends, so that it outlasts a loss of power. A folder that can't be opened isn't waited for. */
 bool move(const char *from, const char *to)
 {
-    return !rename(from, to);
+    static char folder[PATH_ROOM];
+    if (rename(from, to)) return false;
+    const char *end = strrchr(to, '/');
+    snprintf(folder, sizeof folder, "%.*s", end ? (int)(end - to) + 1 : 1, end ? to : ".");
+    int opened = open(folder, O_RDONLY | O_DIRECTORY | O_CLOEXEC);
+    if (opened >= 0) fsync(opened), close(opened);
+    return true;
 }
 
 void drop(const char *path)
@@ -54,5 +61,6 @@ int main(int count, char **words)
 {
     (void)count;
     signal(SIGPIPE, SIG_IGN); /* a reader that has gone is a write that fails */
+    signal(SIGXFSZ, SIG_IGN); /* and so is a file that may not be so long */
     return work(words);
 }

@@ -25,9 +25,12 @@ enum { DONE = 0, FAULTED = 1, REFUSED = 2, LACKING = 127 };
 void say(const char *before, const char *after, const char *format, ...);
 void print(const char *format, ...);
 
+/* A text in which each control character is shown as `\x` and two digits. So a message that names a file stays one line, and a terminal obeys no name. */
+char *escaped(const char *text);
+
 /* arguments.c */
 enum command { NONE, RUN, ASM, DIS };
-enum argument { RDRAM, SAVE, SOURCE, OUT, WORDS, AT, LISTING, EXPLAIN, PLACES, LABELS, HELP, WHICH_VERSION, ARGUMENTS };
+enum argument { RDRAM, SAVE, STRICT, SOURCE, OUT, WORDS, AT, LISTING, EXPLAIN, PLACES, LABELS, HELP, WHICH_VERSION, ARGUMENTS };
 typedef struct request {
     enum command command;
     const char *given[ARGUMENTS]; /* the value of each argument, of a flag its name; NULL if it isn't given */
@@ -43,6 +46,19 @@ uint32_t origin_of(const request *asked);
 void run(const request *asked);
 void assemble(const request *asked);
 void disassemble(const request *asked);
+
+/* spelling.c: how an operand that can't be read, or is out of its range, is written here, if its text is one of another assembler's. `after` has the next
+ * two operands, "" if the line has fewer; `has_halves` is whether only the bytes 0 and 8 may be there. */
+enum { TEXT_ROOM = 260 };
+bool spell_operand(const rsp_operand *found, const char *text, const char *const after[2], bool has_halves, char to[TEXT_ROOM]);
+bool spell_in_range(const rsp_operand *found, const char *text, char to[TEXT_ROOM]);
+
+/* advice.c: what to write in place of a statement whose name is unknown, a line that is none, an operand that can't be read; "" if there is nothing to
+ * say. */
+const char *advice_of_statement(const char *name, const char *operand);
+const char *advice_of_line(span line);
+const char *advice_of_operand(const rsp_operand *found, const char *text);
+bool has_comment(const char *text); /* of another assembler */
 
 /* files.c. A path in UTF-8 with its 0 has at most PATH_ROOM bytes on each system. */
 enum { PATH_ROOM = 131072, STANDARD_INPUT = 0, STANDARD_OUTPUT = 1, STANDARD_ERROR = 2 };

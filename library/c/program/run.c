@@ -1,5 +1,6 @@
 /* `rsp run`: answers a script. */
 #include "program.h"
+#include <string.h>
 
 /* The length of the RDRAM if no file is named, and the longest one. */
 enum { DEFAULT_IMAGE = 4194304, LONGEST_IMAGE = 8388608, LONGEST_SCRIPT = 1048576 };
@@ -11,8 +12,23 @@ static void check(uint32_t status)
     if (status != RSP_OK) fault("fault 43 OutOfMemory");
 }
 
+/* How many replies were faults, and the first of them. */
+typedef struct faults {
+    unsigned count;
+    char first[64];
+} faults;
+
+/* Writes the reply to a line, and takes note of a fault. */
+static void write_reply(const uint8_t *reply, size_t len, faults *noted)
+{
+    write_output(reply, len);
+    if (len < 6 || memcmp(reply, "fault ", 6)) return;
+    size_t kept = len < sizeof noted->first ? len - 1 : sizeof noted->first - 1; /* without its LF */
+    if (!noted->count++) memcpy(noted->first, reply, kept);
+}
+
 /* Answers the script piece by piece, each line before the next read. No byte is read after the one that makes it too long. */
-static void answer(rsp_bench *bench)
+static void answer(rsp_bench *bench, faults *noted)
 {
     static uint8_t piece[4096], reply[RSP_REPLIES];
     size_t left = LONGEST_SCRIPT + 1, used, written;
@@ -20,17 +36,18 @@ static void answer(rsp_bench *bench)
         if (n < 0) fault("fault 40 ReadFault");
         for (size_t at = 0; at < (size_t)n; at += used) {
             check(rsp_bench_take(bench, piece + at, (size_t)n - at, &used, reply, sizeof reply, &written));
-            write_output(reply, written);
+            write_reply(reply, written, noted);
         }
     }
     check(rsp_bench_end(bench, reply, sizeof reply, &written));
-    write_output(reply, written);
+    write_reply(reply, written, noted);
 }
 
 void run(const request *asked)
 {
     rsp_bench bench = RSP_NONE;
     uint8_t *image = NULL;
+    faults noted = { 0 };
     /* Of a file that is too long one byte more is read. */
     size_t len = asked->given[RDRAM] ? read_file(asked->given[RDRAM], LONGEST_IMAGE + 1, &image) : DEFAULT_IMAGE;
     if (!image) image = calloc(DEFAULT_IMAGE, 1);
@@ -38,8 +55,10 @@ void run(const request *asked)
     uint32_t made = rsp_bench_new(&bench, image, len);
     if (made == RSP_OUT_OF_RANGE) fault("fault 7 SizeFault");
     check(made);
-    answer(&bench);
-    if (!asked->given[SAVE]) return;
-    rsp_bench_memory(&bench, RSP_RDRAM, 0, image, len);
-    save_file(asked->given[SAVE], (span){ image, len });
+    answer(&bench, &noted);
+    if (asked->given[SAVE]) {
+        rsp_bench_memory(&bench, RSP_RDRAM, 0, image, len);
+        save_file(asked->given[SAVE], (span){ image, len });
+    }
+    if (asked->given[STRICT] && noted.count) fault("faults in replies: %u, the first: %s", noted.count, noted.first);
 }

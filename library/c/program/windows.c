@@ -19,9 +19,29 @@ static const wchar_t *wide(const char *path, int place)
 
 const char separators[] = "\\/:";
 
+/* The devices whose bytes Windows may wait for. NUL isn't one: it has its end at once. */
+static const char *const devices[] = {
+    "CON", "CONIN$", "CONOUT$", "AUX", "PRN", "COM0", "COM1", "COM2", "COM3", "COM4", "COM5", "COM6", "COM7", "COM8", "COM9", "COM\xc2\xb9", "COM\xc2\xb2",
+    "COM\xc2\xb3", "LPT0", "LPT1", "LPT2", "LPT3", "LPT4", "LPT5", "LPT6", "LPT7", "LPT8", "LPT9", "LPT\xc2\xb9", "LPT\xc2\xb2", "LPT\xc2\xb3"
+};
+
+/* Whether a path names a device. Windows finds it in each folder, in either case, with any extension, and with spaces or a colon after it. */
+static bool is_device(const char *path)
+{
+    for (const char *at; (at = strpbrk(path, "\\/"));) path = at + 1;
+    if (*path && path[1] == ':') path += 2;
+    size_t len = strcspn(path, ".:");
+    while (len && path[len - 1] == ' ') len--;
+    for (size_t i = 0; i < sizeof devices / sizeof *devices; i++) {
+        if (len == strlen(devices[i]) && !_strnicmp(path, devices[i], len)) return true;
+    }
+    return false;
+}
+
 int open_path(const char *path, enum opening how)
 {
     static const int flags[] = { _O_RDONLY, _O_WRONLY | _O_CREAT | _O_TRUNC, _O_WRONLY | _O_CREAT | _O_EXCL };
+    if (is_device(path)) return errno = EACCES, -1;
     return _wopen(wide(path, 0), flags[how] | _O_BINARY | _O_NOINHERIT, _S_IREAD | _S_IWRITE);
 }
 
@@ -58,6 +78,7 @@ static bool put_path(HANDLE file, target *found)
 
 enum found find_target(const char *name, target *found)
 {
+    if (is_device(name)) return CANNOT_WRITE;
     const wchar_t *path = wide(name, 0);
     HANDLE file = CreateFileW(path, GENERIC_WRITE, FILE_SHARE_READ | FILE_SHARE_WRITE | FILE_SHARE_DELETE, NULL, OPEN_EXISTING, 0, NULL);
     found->is_old = file != INVALID_HANDLE_VALUE;
