@@ -1,12 +1,13 @@
-"""step_view.py SOURCE [STEPS [FROM]]: shows the code of microcode beside what each step changed.
+"""step_view.py SOURCE [STEPS [FROM]] [--task ADDR]: shows microcode beside what each step changed.
 
-It assembles a text, runs it from 0 on, and shows the steps FROM to STEPS. On the left is the code around the
-step, which is marked; on the right are the registers, the flags and the lines of DMEM that it changed.
+It assembles a text, runs it from 0 on, and shows the steps FROM to STEPS. With --task SOURCE is an image of
+RDRAM, and the task whose structure is at ADDR there runs. On the left is the code around the step, which is
+marked; on the right are the registers, the flags and the lines of DMEM that it changed.
 """
 
-import sys
+import argparse
 from pathlib import Path
-from typing import Iterator, List, Tuple
+from typing import Iterator, List, Optional, Tuple
 
 import rsp
 
@@ -42,17 +43,30 @@ def show(machine: rsp.Rsp, place: int, right: List[str]) -> None:
         print(f"{line}| {right[n] if n < len(right) else ''}".rstrip())
 
 
-def main(source: str, steps: str = "20", first: str = "1") -> None:
-    with rsp.Rsp() as machine:
-        machine.load_words(rsp.IMEM, 0, rsp.assemble(Path(source).read_text()))
-        machine.write(4, 1)
-        for number in range(1, int(steps) + 1):
+def started(source: Path, task: Optional[int]) -> rsp.Rsp:
+    """A machine that is about to run a text, or a task of an image."""
+    machine = rsp.Rsp(bytes(64) if task is None else source.read_bytes())
+    if task is None:
+        machine.load_words(rsp.IMEM, 0, rsp.assemble(source.read_text()))
+    else:
+        machine.start_task(task)
+    return machine
+
+
+def main(source: Path, steps: int, first: int, task: Optional[int]) -> None:
+    with started(source, task) as machine:
+        for number in range(1, steps + 1):
             before = seen(machine)
             if machine.step() is not rsp.Status.OK:
                 break
-            if number >= int(first):
+            if number >= first:
                 print(f"step {number}")
                 show(machine, before[0].pc, list(changes(before, seen(machine))))
 
 
-main(*sys.argv[1:])
+words = argparse.ArgumentParser(description=__doc__, formatter_class=argparse.RawDescriptionHelpFormatter)
+words.add_argument("source", type=Path)
+words.add_argument("steps", nargs="?", type=int, default=20)
+words.add_argument("first", nargs="?", type=int, default=1, metavar="from")
+words.add_argument("--task", type=lambda text: int(text, 0), metavar="ADDR")
+main(**vars(words.parse_args()))

@@ -11,6 +11,7 @@ which tests/install sees.
 import base64
 import hashlib
 import re
+import stat
 import zipfile
 from pathlib import Path
 from typing import Any, Dict, Sequence, Union
@@ -21,15 +22,25 @@ TEXT = (HERE / "pyproject.toml").read_text()
 PROJECT = dict(re.findall(r'(?m)^([a-z-]+) = (?:\{ text = )?"(.*)"(?: \})?$', TEXT))
 NAME = f"{PROJECT['name']}-{PROJECT['version']}"
 PLATFORMS = "manylinux_2_17_x86_64", "manylinux2014_x86_64"
-METADATA = f"""Metadata-Version: 2.1
-Name: {PROJECT["name"]}
-Version: {PROJECT["version"]}
-Summary: {PROJECT["description"]}
-License: {PROJECT["license"]}
-Requires-Python: {PROJECT["requires-python"]}
-"""
+LISTS = {key: re.findall('"(.*?)"', items) for key, items in re.findall(r"(?ms)^(\w+) = \[(.*?)\]$", TEXT)}
+METADATA = "\n".join(
+    [
+        "Metadata-Version: 2.1",
+        f"Name: {PROJECT['name']}",
+        f"Version: {PROJECT['version']}",
+        f"Summary: {PROJECT['description']}",
+        f"License: {PROJECT['license']}",
+        f"Keywords: {','.join(LISTS['keywords'])}",
+        *(f"Classifier: {it}" for it in LISTS["classifiers"]),
+        f"Requires-Python: {PROJECT['requires-python']}",
+        "Description-Content-Type: text/markdown",
+        "",
+        (HERE / PROJECT["readme"]).read_text(encoding="utf-8"),
+    ]
+)
 WHEEL = "Wheel-Version: 1.0\nGenerator: wheels\nRoot-Is-Purelib: false\n"
 DAY = (1980, 1, 1, 0, 0, 0)  # the first that a wheel can have
+COMMANDS = f"{NAME}.data/scripts/"  # what pip installs to be run, by its name
 
 
 def write(folder: Union[str, Path], files: Dict[str, bytes], platforms: Sequence[str] = PLATFORMS) -> str:
@@ -44,7 +55,8 @@ def write(folder: Union[str, Path], files: Dict[str, bytes], platforms: Sequence
     with zipfile.ZipFile(Path(folder, name), "w", zipfile.ZIP_DEFLATED) as wheel:
         for path, data in files.items():
             entry = zipfile.ZipInfo(path, DAY)
-            entry.compress_type, entry.external_attr = zipfile.ZIP_DEFLATED, 0o644 << 16
+            mode = stat.S_IFREG | (0o755 if path.startswith(COMMANDS) else 0o644)
+            entry.compress_type, entry.external_attr = zipfile.ZIP_DEFLATED, mode << 16
             wheel.writestr(entry, data)
     return name
 
@@ -55,6 +67,11 @@ def with_library(library: Path, name: str) -> Dict[str, bytes]:
     return {**{f"rsp/{it.name}": it.read_bytes() for it in paths}, f"rsp/{name}": library.read_bytes()}
 
 
+def with_command(name: str, program: bytes) -> Dict[str, bytes]:
+    """The file by which an install has a program as a command."""
+    return {f"{COMMANDS}{name}": program}
+
+
 def made() -> Path:
     """The library, if it is built."""
     if not MADE.is_file():
@@ -63,7 +80,7 @@ def made() -> Path:
 
 
 def build_wheel(wheel_directory: str, config_settings: Any = None, metadata_directory: Any = None) -> str:
-    """The wheel of an install and of the release: the module with its library."""
+    """The wheel of an install: the module with its library. That of the release has the program too."""
     return write(wheel_directory, with_library(made(), MADE.name))
 
 

@@ -9,20 +9,40 @@ The library that this package calls, librsp, is proved to follow the instruction
         stop = machine.run(100)
         print(stop.reason.name, hex(machine.reg(2)))
 
-A machine may go from thread to thread, as long as one call at a time uses it. docs/EMBEDDING.md says more.
+A machine may go from thread to thread. One call at a time uses it: a second one is refused. docs/EMBEDDING.md
+says more.
 """
 
 import ctypes
 import enum
+import operator
 import os
 import sys
-from ctypes import POINTER, Structure, byref, c_char_p, c_size_t, c_uint16, c_uint32, c_void_p
-from typing import Any, Iterable, Iterator, List, NamedTuple, Optional, Sequence, Tuple, TypeVar, Union
+import threading
+from array import array
+from ctypes import POINTER, Structure, addressof, byref, c_char_p, c_size_t, c_uint16, c_uint32, c_void_p
+from typing import (
+    Any,
+    Callable,
+    Dict,
+    Iterable,
+    Iterator,
+    List,
+    NamedTuple,
+    Optional,
+    Sequence,
+    Tuple,
+    TypeVar,
+    Union,
+)
 
 from . import arrays as _arrays
 from . import _explain
+from . import items as _items
 from . import words as _in_words
 from .compare import Emulator, FirstDifference, first_difference
+from .script import Ran, ScriptError
+from .script import strict_replies as _strict_replies
 from .shown import Difference, Part
 from .state import Accumulators, Changes, Divider, Flags, Scalars, SpWords, State, Traced, unset
 from .state import alike as _alike
@@ -31,13 +51,15 @@ from .words import FAULTS
 __version__ = "1.0.0"
 __all__ = [
     "DMEM", "FAULTS", "IMEM", "RDRAM", "VERSION", "Accumulators", "AssemblyError", "Bank", "Bench", "Changes",
-    "Difference", "Divider", "Emulator", "FirstDifference", "Flags", "Line", "Move", "Part", "Reason", "Rsp",
-    "RspError", "Scalars", "SpWords", "State", "Status", "Stop", "Traced", "assemble", "first_difference",
-    "run_script", "state_fault", "text",
+    "Difference", "Divider", "Dma", "Emulator", "FirstDifference", "Flags", "Line", "Move", "Part", "Ran",
+    "Reason", "Rsp", "RspError", "Scalars", "ScriptError", "SpWords", "State", "Status", "Stop", "Traced",
+    "Words", "assemble",
+    "first_difference", "run_script", "state_fault", "text",
 ]  # fmt: skip
 
 _S = TypeVar("_S", bound=Structure)
 _O = TypeVar("_O", bound="_Owner")
+_T = TypeVar("_T")
 
 
 def __getattr__(name: str) -> Any:
@@ -90,9 +112,12 @@ class Reason(enum.IntEnum):
     BREAK = 3
     LIMIT = 4
     MOVE = 5
+    DMA = 6
 
 
 DMEM, IMEM, RDRAM = Bank.DMEM, Bank.IMEM, Bank.RDRAM
+_REASONS = (*Reason,)  # by their numbers
+_STEP_ENDS = {it.value: it for it in (Status.OK, Status.HALTED, Status.RESERVED)}
 
 # The fields of a state that have values which no machine can have, by their numbers; sp[n] has 16 + n.
 _FIELDS = {
@@ -142,6 +167,20 @@ class Move(NamedTuple):
     value: int
 
 
+class Dma(NamedTuple):
+    """A DMA: `rows` rows of `length` bytes, one after the other in a bank from `address` on, and in RDRAM
+    from `rdram` on with `skip` bytes between two rows. Addresses wrap at 4096 and at 2^24. `to_rdram` says
+    whether the bytes go to RDRAM."""
+
+    bank: Bank
+    address: int
+    rdram: int
+    length: int
+    rows: int
+    skip: int
+    to_rdram: bool
+
+
 class _StopParts(NamedTuple):
     reason: Reason
     steps: int
@@ -154,11 +193,15 @@ class Stop(_StopParts):
     else None.
 
     `word`, which is no item of the tuple, is the reserved word at which it stopped, else None; `move` the
-    move before which `run_until_move` did.
+    move before which `run_until_move` or `event` did. `event` also fills `dma`, the DMA that is next, else
+    None, and `status` and `interrupt`, SP_STATUS and the interrupt flag there.
     """
 
     word: Optional[int] = None
     move: Optional[Move] = None
+    dma: Optional[Dma] = None
+    status: Optional[int] = None
+    interrupt: Optional[bool] = None
 
 
 class Line(NamedTuple):
@@ -191,12 +234,24 @@ class _Move(Structure):
     _fields_ = [("stop", _Stop), *_alike(c_uint32, "word", "number", "writes", "value")]
 
 
+class _Dma(Structure):
+    _fields_ = _alike(c_uint32, "bank", "address", "rdram", "length", "rows", "skip", "to_rdram")
+
+
+class _Reached(Structure):
+    _fields_ = [("at", _Move), ("dma", _Dma), *_alike(c_uint32, "status", "interrupt")]
+
+
 class _Assembled(Structure):
     _fields_ = [("count", c_size_t), ("line", c_size_t), ("fault", c_uint32)]
 
 
 class _Line(Structure):
     _fields_ = [("word", c_uint32), ("place", c_uint16), ("len", c_uint16), ("text", ctypes.c_char * 68)]
+
+
+class _Label(Structure):
+    _fields_ = [("address", c_uint16), ("len", c_uint16), ("name", ctypes.c_char * 36)]
 
 
 class _Lanes(Structure):
@@ -218,8 +273,12 @@ def _library() -> str:
     raise ImportError(text)
 
 
-_lib = ctypes.CDLL(_library())
-_M, _U, _Z, _B, _W = POINTER(_Handle), c_uint32, c_size_t, c_char_p, POINTER(c_uint32)
+# A call of _quick keeps the GIL, so no other one comes in between. One of _lib may take long, and lets it go.
+_lib, _quick = ctypes.CDLL(_library()), ctypes.PyDLL(_library())
+if not getattr(sys, "_is_gil_enabled", lambda: True)():
+    raise ImportError("rsp needs Python's GIL: the environment variable PYTHON_GIL=1 turns it on")
+# A handle is passed by its address: an integer costs a call less than a pointer does.
+_M, _U, _Z, _B, _W = c_void_p, c_uint32, c_size_t, c_char_p, POINTER(c_uint32)
 _CALLS = {
     "rsp_version": [], "rsp_new": [_M, _B, _Z, _U], "rsp_copy": [_M, _M],
     "rsp_get": [_M, POINTER(State)], "rsp_set": [_M, POINTER(State)],
@@ -227,8 +286,9 @@ _CALLS = {
     "rsp_load_words": [_M, _U, _U, _W, _Z], "rsp_memory": [_M, _U, _U, c_void_p, _Z],
     "rsp_memory_words": [_M, _U, _U, _W, _Z], "rsp_task": [_M, _U], "rsp_set_pc": [_M, _U],
     "rsp_step": [_M], "rsp_step_changes": [_M, POINTER(Changes)], "rsp_run": [_M, _U, POINTER(_Stop)],
-    "rsp_back": [_M, _U], "rsp_pass": [_M, _U],
+    "rsp_back": [_M, _U], "rsp_history": [_M, POINTER(_Z)], "rsp_pass": [_M, _U], "rsp_pass_dma": [_M],
     "rsp_run_until_move": [_M, _U, _U, _U, POINTER(_Move)],
+    "rsp_event": [_M, _U, _U, _U, POINTER(_Reached)],
     "rsp_trace": [_M, POINTER(Traced), _Z, POINTER(_Stop)], "rsp_add_break": [_M, _U],
     "rsp_drop_break": [_M, _U], "rsp_add_watch": [_M, _U, _U, POINTER(_Z)], "rsp_drop_watch": [_M, _U],
     "rsp_reg": [_M, _U, _W], "rsp_regs": [_M, POINTER(Scalars)], "rsp_vreg": [_M, _U, POINTER(_Lanes)],
@@ -236,16 +296,21 @@ _CALLS = {
     "rsp_divider": [_M, POINTER(Divider)], "rsp_read": [_M, _U, _W], "rsp_peek": [_M, _U, _W],
     "rsp_write": [_M, _U, _U], "rsp_sp": [_M, POINTER(SpWords)], "rsp_set_sp": [_M, POINTER(SpWords)],
     "rsp_assemble": [_U, _B, _Z, _W, _Z, POINTER(_Assembled)], "rsp_text": [_U, _U, POINTER(_Line)],
+    "rsp_labels": [_U, _B, _Z, POINTER(_Label), _Z, POINTER(_Z)],
     "rsp_listing": [_M, _U, POINTER(_Line), _Z], "rsp_explain": [_U, _B, _Z, POINTER(_explain.Operand)],
     "rsp_bench_new": [_M, _B, _Z],
-    "rsp_bench_take": [_M, c_void_p, _Z, POINTER(_Z), c_void_p, _Z, POINTER(_Z)],
-    "rsp_bench_end": [_M, c_void_p, _Z, POINTER(_Z)],
+    "rsp_bench_take": [_M, c_void_p, _Z, c_void_p, c_void_p, _Z, c_void_p],
+    "rsp_bench_end": [_M, c_void_p, _Z, c_void_p],
     "rsp_bench_memory": [_M, _U, _U, c_void_p, _Z],
 }  # fmt: skip
-for _name, _types in _CALLS.items():
-    getattr(_lib, _name).argtypes, getattr(_lib, _name).restype = _types, _U
-_lib.rsp_free.argtypes, _lib.rsp_free.restype = [_M], None
-_lib.rsp_bench_free.argtypes, _lib.rsp_bench_free.restype = [_M], None
+for _dll in _lib, _quick:
+    for _name, _types in _CALLS.items():
+        getattr(_dll, _name).argtypes, getattr(_dll, _name).restype = _types, _U
+    for _name in "rsp_free", "rsp_bench_free":
+        getattr(_dll, _name).argtypes, getattr(_dll, _name).restype = [_M], None
+
+_ZEROS = bytes(1 << 22)  # a bench's image if none is given; no page of it is written
+_REPLIES, _ROOM = 16384, 65536  # what the library asks for, and what a bench has
 
 VERSION = 1
 _found = _lib.rsp_version()
@@ -253,38 +318,69 @@ if _found != VERSION:
     raise ImportError(f"{_NAME} has version {_found} of the interface, and this module is for {VERSION}")
 
 
-def _ok(status: int, name: str = "", numbers: Sequence[int] = ()) -> None:
-    if status != Status.OK:
-        raise RspError(Status(status), _in_words.refusal(status, name, numbers) if name else "")
+def _ok(status: int, name: str = "", numbers: Sequence[int] = (), owner: str = "machine") -> None:
+    if status:
+        raise RspError(Status(status), _in_words.refusal(status, name, numbers, owner) if name else "")
 
 
 def _numbers(name: str, *given: Any, most: int = (1 << 32) - 1) -> Tuple[int, ...]:
     """The arguments of a call. It refuses what ctypes would cut, and a last one above `most`."""
     numbers = _in_words.integers(name, given)
-    if not all(0 <= it < 1 << 32 for it in numbers) or max(numbers[-1:], default=0) > most:
+    if numbers and (min(numbers) < 0 or max(numbers) >= 1 << 32 or numbers[-1] > most):
         _ok(Status.OUT_OF_RANGE, name, numbers)
     return numbers
 
 
 def _stop(out: Any) -> Stop:
-    reason = Reason(out.reason)
+    reason = _REASONS[out.reason]
     stop = Stop(reason, out.steps, out.pc, out.watch if reason == Reason.WATCH else None)
     stop.word = out.word if reason == Reason.RESERVED else None
     return stop
 
 
+def _move_stop(out: _Move) -> Stop:
+    """A stop, with the move before which it is."""
+    stop = _stop(out.stop)
+    if stop.reason in (Reason.MOVE, Reason.DMA):
+        stop.move = Move(out.word, out.number, bool(out.writes), out.value)
+    return stop
+
+
 def _words(call: str, words: Iterable[int]) -> Any:
-    numbers = _in_words.words_of(call, "words", words)
-    for n, number in enumerate(numbers):
-        if not 0 <= number < 1 << 32:
-            raise RspError(Status.OUT_OF_RANGE, f"{call}: words[{n}] is {number}, not 0 to 4294967295")
-    return (c_uint32 * len(numbers))(*numbers)
+    items = _in_words.items_of(call, "words", words)
+    try:
+        held = array("I", items)
+    except (OverflowError, TypeError):
+        for n, number in enumerate(_in_words.words_of(call, "words", items)):
+            if not 0 <= number < 1 << 32:
+                raise RspError(
+                    Status.OUT_OF_RANGE, f"{call}: words[{n}] is {number}, not 0 to 4294967295"
+                ) from None
+        raise
+    return (c_uint32 * len(held)).from_buffer(held)
 
 
-def assemble(text: str, origin: int = 0) -> List[int]:
+class Words(List[int]):
+    """The words of a text. `labels` has the address of each label by its name, in the order of the lines."""
+
+    def __init__(self, words: Iterable[int], source: bytes, origin: int) -> None:
+        super().__init__(words)
+        self._source, self._origin = source, origin
+
+    @property
+    def labels(self) -> Dict[str, int]:
+        """The address of each label by its name, in the order of the lines."""
+        found, count = (_Label * (self._source.count(b"\n") + 1))(), c_size_t()
+        raw = self._source
+        status = _lib.rsp_labels(self._origin, raw, len(raw), found, len(found), byref(count))
+        _ok(status, "assemble", [self._origin])
+        return {it.name.decode(): it.address for it in found[: count.value]}
+
+
+def assemble(text: str, origin: int = 0) -> Words:
     """The words of a text, at most 1024, the first one for the address `origin`, a multiple of 4 up to 4096.
 
-    AssemblyError if the text has a fault.
+    `assemble(text).labels["loop"]` is the address of a label. AssemblyError if the text has a fault.
     """
     (origin,) = _numbers("assemble", origin)
     if not isinstance(text, str):
@@ -298,7 +394,7 @@ def assemble(text: str, origin: int = 0) -> List[int]:
             out.line, out.fault, text.split("\n")[out.line - 1].strip(), _explain.allowed(found, out.fault)
         )
     _ok(status, "assemble", [origin])
-    return list(words[: out.count])
+    return Words(words[: out.count], raw, origin)
 
 
 def text(word: int, place: int = 0) -> str:
@@ -331,7 +427,44 @@ def _made(call: str, make: Any, handle: Structure, image: Any, *more: int) -> in
 
 
 class _Owner:
-    """Frees what its handle holds at the end of a block, or when it is dropped."""
+    """Has a handle, which one call at a time uses. It frees what that holds at the end of a block, or when it
+    is dropped."""
+
+    _owner, _refuses = "machine", "pickled"
+
+    def _hold(self) -> None:
+        self._handle, self._other, self._lock = _Handle(), _Handle(), threading.Lock()
+        self._at, self._other_at = addressof(self._handle), addressof(self._other)
+
+    def _see_free(self, name: str) -> None:
+        """RspError if a call that may take long is at work."""
+        if self._lock.locked():
+            told = f"{_in_words.call_name(name)}: another call is using the {self._owner}"
+            raise RspError(Status.NO_MACHINE, told)
+
+    def _alone(self, name: str, call: Callable[..., _T], *given: Any) -> _T:
+        """What a call gives that may take long and lets other threads go on, or that frees what is held.
+
+        It gets another handle, and the owner's is empty meanwhile, so a short call that has just passed
+        `_see_free` finds nothing. Of two of these calls that have passed it, one waits for the other.
+        """
+        self._see_free(name)
+        with self._lock:
+            self._other.at = self._handle.at
+            try:
+                self._handle.at = None
+                return call(self._other_at, *given)
+            finally:
+                self._handle.at = self._other.at
+
+    def _see_done(self, status: int, name: str, numbers: Sequence[int] = ()) -> None:
+        """RspError if a call of the handle was refused."""
+        if status == Status.NO_MACHINE:
+            self._see_free(name)
+        _ok(status, name, numbers, self._owner)
+
+    def __reduce__(self) -> Any:
+        raise TypeError(f"a {self._owner} can't be {self._refuses}")
 
     def close(self) -> None:
         """Frees it."""
@@ -344,7 +477,7 @@ class _Owner:
         self.close()
 
     def __del__(self) -> None:
-        if _lib is not None and "_handle" in self.__dict__:
+        if _lib is not None and "_at" in self.__dict__:
             self.close()
 
 
@@ -357,15 +490,16 @@ class Rsp(_Owner):
 
     def __init__(self, image: bytes = bytes(64), depth: int = 0) -> None:
         (depth,) = _numbers("Rsp", depth)
-        self._handle = _Handle()
+        self._hold()
         self.image_length = _made("Rsp", _lib.rsp_new, self._handle, image, depth)
 
     def copy(self) -> "Rsp":
         """A second machine in the same state, memories included, with as long a history, which is empty, and
         without breakpoints and watches."""
         made = Rsp.__new__(Rsp)
-        made._handle = _Handle()
-        _ok(_lib.rsp_copy(byref(made._handle), byref(self._handle)), "copy")
+        made._hold()
+        self._see_free("rsp_copy")
+        self._see_done(_quick.rsp_copy(made._at, self._at), "copy")
         made.image_length = self.image_length
         return made
 
@@ -377,21 +511,34 @@ class Rsp(_Owner):
 
     def close(self) -> None:
         """Frees the machine. Any later call is refused with NO_MACHINE."""
-        _lib.rsp_free(byref(self._handle))
+        self._alone("close", _lib.rsp_free)
 
     def _call(self, name: str, *given: int) -> None:
         numbers = _numbers(name, *given)
-        _ok(getattr(_lib, name)(byref(self._handle), *numbers), name, numbers)
+        self._see_free(name)
+        self._see_done(getattr(_quick, name)(self._at, *numbers), name, numbers)
 
     def _look(self, name: str, out: _S, *given: int) -> _S:
         numbers = _numbers(name, *given)
-        _ok(getattr(_lib, name)(byref(self._handle), *numbers, byref(out)), name, numbers)
+        self._see_free(name)
+        self._see_done(getattr(_quick, name)(self._at, *numbers, byref(out)), name, numbers)
         return out
 
-    def _word(self, name: str, *given: int) -> int:
-        numbers, out = _numbers(name, *given), c_uint32()
-        _ok(getattr(_lib, name)(byref(self._handle), *numbers, byref(out)), name, numbers)
+    def _word(self, name: str, number: int) -> int:
+        if type(number) is not int or not 0 <= number < 1 << 32:  # the test alone costs less than _numbers
+            (number,) = _numbers(name, number)
+        out = c_uint32()
+        self._see_free(name)
+        status = getattr(_quick, name)(self._at, number, byref(out))
+        if status:
+            self._see_done(status, name, (number,))
         return out.value
+
+    def _work(self, name: str, out: _S, *given: int) -> _S:
+        numbers = _numbers(name, *given)
+        status = self._alone(name, getattr(_lib, name), *numbers, byref(out))
+        self._see_done(status, name, numbers)
+        return out
 
     def get(self) -> State:
         """All registers."""
@@ -402,30 +549,36 @@ class Rsp(_Owner):
         machine can have."""
         if not isinstance(state, State):
             raise TypeError(f"set: state is of type {type(state).__name__}, not rsp.State")
-        status = _lib.rsp_set(byref(self._handle), byref(state))
+        self._see_free("rsp_set")
+        status = _quick.rsp_set(self._at, byref(state))
         if status == Status.OUT_OF_RANGE:
             raise RspError(Status(status), f"set: {_in_words.state_fault(state_fault(state) or '', state)}")
-        _ok(status, "set")
+        self._see_done(status, "set")
 
     def load(self, bank: int, address: int, data: bytes) -> None:
         """Writes the bytes of a buffer to a memory, and empties the history. A buffer of words goes in as its
         bytes are in this computer."""
         bank, address = _numbers("load", bank, address)
         raw = _in_words.bytes_of("load", "data", data)
-        _ok(_lib.rsp_load(byref(self._handle), bank, address, raw, len(raw)), "load", [bank, address])
+        self._see_free("rsp_load")
+        status = _quick.rsp_load(self._at, bank, address, raw, len(raw))
+        self._see_done(status, "load", [bank, address])
 
     def load_words(self, bank: int, address: int, words: Iterable[int]) -> None:
         """Writes words below 2**32, the high byte of each first, and empties the history."""
         bank, address = _numbers("load_words", bank, address)
-        array = _words("load_words", words)
-        status = _lib.rsp_load_words(byref(self._handle), bank, address, array, len(array))
-        _ok(status, "load_words", [bank, address])
+        held = _words("load_words", words)
+        self._see_free("rsp_load_words")
+        status = _quick.rsp_load_words(self._at, bank, address, held, len(held))
+        self._see_done(status, "load_words", [bank, address])
 
     def memory(self, bank: int, address: int, length: int) -> bytes:
         """A copy of `length` bytes of a memory: DMEM and IMEM have 4096, RDRAM as many as the image."""
         numbers = bank, address, length = _numbers("memory", bank, address, length, most=1 << 23)
         out = (ctypes.c_uint8 * length)()
-        _ok(_lib.rsp_memory(byref(self._handle), bank, address, out, length), "memory", numbers)
+        self._see_free("rsp_memory")
+        status = _quick.rsp_memory(self._at, bank, address, out, length)
+        self._see_done(status, "memory", numbers)
         return bytes(out)
 
     def memory_array(self, bank: int, address: int, length: int, dtype: Any = "u1") -> Any:
@@ -439,9 +592,12 @@ class Rsp(_Owner):
     def memory_words(self, bank: int, address: int, count: int) -> List[int]:
         """`count` words of a memory, the high byte of each first."""
         numbers = bank, address, count = _numbers("memory_words", bank, address, count, most=1 << 21)
-        out = (c_uint32 * count)()
-        _ok(_lib.rsp_memory_words(byref(self._handle), bank, address, out, count), "memory_words", numbers)
-        return list(out)
+        held = array("I", bytes(4 * count))
+        out = (c_uint32 * count).from_buffer(held)
+        self._see_free("rsp_memory_words")
+        status = _quick.rsp_memory_words(self._at, bank, address, out, count)
+        self._see_done(status, "memory_words", numbers)
+        return held.tolist()
 
     def start_task(self, address: int) -> None:
         """Starts the task whose structure of 64 bytes is at an address of RDRAM, a multiple of 8, and empties
@@ -454,23 +610,26 @@ class Rsp(_Owner):
 
     def step(self) -> Status:
         """Executes one instruction. OK, or HALTED or RESERVED if the machine can't."""
-        status = Status(_lib.rsp_step(byref(self._handle)))
-        if status in (Status.OK, Status.HALTED, Status.RESERVED):
-            return status
-        raise RspError(status, _in_words.refusal(status, "step"))
+        if self._lock.locked():
+            self._see_free("step")
+        status = _quick.rsp_step(self._at)
+        if status not in _STEP_ENDS:
+            self._see_done(status, "step")
+        return _STEP_ENDS[status]
 
     def step_changes(self) -> Optional[Changes]:
         """As `step`, and returns what the step changed; None if the machine can't make it."""
         out = unset(Changes)
-        status = Status(_lib.rsp_step_changes(byref(self._handle), byref(out)))
+        self._see_free("rsp_step_changes")
+        status = _quick.rsp_step_changes(self._at, byref(out))
         if status in (Status.HALTED, Status.RESERVED):
             return None
-        _ok(status, "step_changes")
+        self._see_done(status, "step_changes")
         return out
 
     def run(self, steps: int) -> Stop:
         """Makes 1 to 1000000 steps, up to the first reason to stop."""
-        return _stop(self._look("rsp_run", _Stop(), steps))
+        return _stop(self._work("rsp_run", _Stop(), steps))
 
     def run_until_move(self, steps: int, reads: int, writes: int) -> Stop:
         """As `run`, and also stops before an MFC0 whose SP register has its bit in `reads`, or an MTC0 whose
@@ -479,17 +638,29 @@ class Rsp(_Owner):
         It stops there before the first step too, with Reason.MOVE. `pass_move` goes past it, and `step`
         executes it.
         """
-        out = self._look("rsp_run_until_move", _Move(), steps, reads, writes)
-        stop = _stop(out.stop)
-        if stop.reason == Reason.MOVE:
-            stop.move = Move(out.word, out.number, bool(out.writes), out.value)
+        return _move_stop(self._work("rsp_run_until_move", _Move(), steps, reads, writes))
+
+    def event(self, steps: int, reads: int = 0, writes: int = 0) -> Stop:
+        """Runs to the next event, for a caller that owns RDRAM: as `run_until_move`, also up to each DMA,
+        with Reason.DMA.
+
+        A move or a DMA is an event only if steps are left, so going past it by `pass_move`, `pass_dma` or
+        `step` is one of them.
+        """
+        out = self._work("rsp_event", _Reached(), steps, reads, writes)
+        stop, dma = _move_stop(out.at), out.dma
+        if stop.reason == Reason.DMA:
+            places = dma.address, dma.rdram, dma.length, dma.rows, dma.skip
+            stop.dma = Dma(Bank(dma.bank), *places, bool(dma.to_rdram))
+        stop.status, stop.interrupt = out.status, bool(out.interrupt)
         return stop
 
     def trace(self, steps: int) -> Tuple[Stop, List[Traced]]:
         """As `run`, with an entry for each step that it made."""
         (steps,) = _numbers("trace", steps, most=1000000)
         out, stop = (Traced * steps)(), _Stop()
-        _ok(_lib.rsp_trace(byref(self._handle), out, steps, byref(stop)), "trace", [steps])
+        status = self._alone("trace", _lib.rsp_trace, out, steps, byref(stop))
+        self._see_done(status, "trace", [steps])
         return _stop(stop), out[: stop.steps]
 
     def iter_trace(self, limit: int = 1000000) -> "Iterator[Traced]":
@@ -512,10 +683,30 @@ class Rsp(_Owner):
         OK, or HALTED if the machine is halted. Of any other word it is refused.
         """
         (value,) = _numbers("pass_move", value)
-        status = Status(_lib.rsp_pass(byref(self._handle), value))
-        if status in (Status.OK, Status.HALTED):
-            return status
-        raise RspError(status, _in_words.refusal(status, "pass_move", [value]))
+        self._see_free("pass_move")
+        status = Status(_quick.rsp_pass(self._at, value))
+        if status != Status.HALTED:
+            self._see_done(status, "pass_move", [value])
+        return status
+
+    def pass_dma(self) -> Status:
+        """Goes past the DMA at pc, whose bytes the caller then moves: all is as after a step, the SP
+        registers too, but the memories stay. It empties the history.
+
+        OK, or HALTED if the machine is halted. Of any other word it is refused.
+        """
+        self._see_free("pass_dma")
+        status = Status(_quick.rsp_pass_dma(self._at))
+        if status != Status.HALTED:
+            self._see_done(status, "pass_dma")
+        return status
+
+    def history(self) -> int:
+        """How many steps can be undone."""
+        out = c_size_t()
+        self._see_free("history")
+        self._see_done(_quick.rsp_history(self._at, byref(out)), "history")
+        return out.value
 
     def add_break(self, place: int) -> None:
         """Sets a breakpoint at an address of IMEM, a multiple of 4 below 4096; at most sixteen."""
@@ -529,7 +720,9 @@ class Rsp(_Owner):
         """Watches 1 to 64 bytes of DMEM, and returns the watch's number, 0 to 7."""
         numbers = address, length = _numbers("add_watch", address, length)
         out = c_size_t()
-        _ok(_lib.rsp_add_watch(byref(self._handle), address, length, byref(out)), "add_watch", numbers)
+        self._see_free("rsp_add_watch")
+        status = _quick.rsp_add_watch(self._at, address, length, byref(out))
+        self._see_done(status, "add_watch", numbers)
         return out.value
 
     def drop_watch(self, number: int) -> None:
@@ -547,6 +740,34 @@ class Rsp(_Owner):
     def vreg(self, number: int) -> List[int]:
         """The eight lanes of vector register `number`, 0 to 31."""
         return list(self._look("rsp_vreg", _Lanes(), number).lanes)
+
+    def set_reg(self, number: int, value: int) -> None:
+        """Sets scalar register `number`, 0 to 31, to a value below 2**32, of register 0 to 0, and empties the
+        history."""
+        numbers = number, value = _numbers("set_reg", number, value)
+        if number > 31 or value and not number:
+            _ok(Status.OUT_OF_RANGE, "set_reg", numbers)
+        self._change("set_reg", lambda state: operator.setitem(state.words, number, value))
+
+    def set_vreg(self, number: int, lanes: Iterable[int]) -> None:
+        """Sets the eight lanes of vector register `number`, 0 to 31, to numbers below 65536, and empties the
+        history. ValueError for other lanes."""
+        numbers = (number,) = _numbers("set_vreg", number)
+        if number > 31:
+            _ok(Status.OUT_OF_RANGE, "set_vreg", numbers)
+        held = _items.taken(f"vectors[{number}]", _items.Lanes, lanes)
+        self._change("set_vreg", lambda state: operator.setitem(state.vectors, number, held))
+
+    def _change(self, name: str, change: Callable[[Any], object]) -> None:
+        """Changes the state. No other call comes in between."""
+        state = unset(State)
+
+        def _both(at: Any) -> int:
+            status: int = _lib.rsp_get(at, byref(state))
+            change(state)
+            return status or int(_lib.rsp_set(at, byref(state)))
+
+        self._see_done(self._alone(name, _both), name)
 
     def acc(self) -> Accumulators:
         """The accumulators."""
@@ -581,14 +802,23 @@ class Rsp(_Owner):
         """Sets all SP registers and the interrupt flag, without a DMA, and empties the history."""
         if not isinstance(given, SpWords):
             raise TypeError(f"set_sp: given is of type {type(given).__name__}, not rsp.SpWords")
-        _ok(_lib.rsp_set_sp(byref(self._handle), byref(given)), "set_sp")
+        self._see_free("rsp_set_sp")
+        status = _quick.rsp_set_sp(self._at, byref(given))
+        self._see_done(status, "set_sp")
 
     def listing(self, place: int, count: int) -> List[Line]:
         """At most 1024 words of IMEM from the address `place` on, a multiple of 4, with their disassembly."""
         numbers = place, count = _numbers("listing", place, count, most=1024)
         lines = (_Line * count)()
-        _ok(_lib.rsp_listing(byref(self._handle), place, lines, count), "listing", numbers)
+        self._see_free("rsp_listing")
+        status = _quick.rsp_listing(self._at, place, lines, count)
+        self._see_done(status, "listing", numbers)
         return [Line(it.place, it.word, it.text.decode()) for it in lines]
+
+
+def _address(data: bytes) -> int:
+    """Where bytes are in memory. They stay there as long as they are held."""
+    return ctypes.cast(c_char_p(data), c_void_p).value or 0
 
 
 class Bench(_Owner):
@@ -597,31 +827,58 @@ class Bench(_Owner):
     A script of more than 1048576 bytes raises RspError with TOO_LONG, as does any later `feed` or `end`.
     """
 
+    _owner, _refuses = "bench", "copied or pickled"
+
     def __init__(self, image: Optional[bytes] = None) -> None:
-        self._handle, self._reply = _Handle(), (ctypes.c_char * 16384)()
-        given = bytes(1 << 22) if image is None else image
-        self._length = _made("Bench", _lib.rsp_bench_new, self._handle, given)
+        self._hold()
+        self._length = _made("Bench", _lib.rsp_bench_new, self._handle, _ZEROS if image is None else image)
+        self._replies = (ctypes.c_char * _ROOM)()
 
     def close(self) -> None:
         """Frees the bench. Any later call is refused with NO_MACHINE."""
-        _lib.rsp_bench_free(byref(self._handle))
+        self._alone("close", _lib.rsp_bench_free)
 
-    def _answer(self, call: str, take: Any, *given: Any) -> bytes:
-        written, room = c_size_t(), len(self._reply)
-        _ok(take(byref(self._handle), *given, self._reply, room, byref(written)), call)
-        return bytes(memoryview(self._reply)[: written.value])
+    def _answer(self, name: str, call: Any, *given: Any) -> bytes:
+        def _told(at: Any) -> Tuple[int, bytes]:
+            written = c_size_t()
+            status = call(at, *given, self._replies, _ROOM, byref(written))
+            return status, ctypes.string_at(self._replies, written.value)
+
+        status, reply = self._alone(name, _told)
+        self._see_done(status, name)
+        return reply
+
+    def _take(self, at: int, script: bytes, parts: List[bytes]) -> int:
+        """Takes all lines of a script, and appends their replies in as many parts as there is room for."""
+        take, used, written, told = _lib.rsp_bench_take, c_size_t(), c_size_t(), 0
+        used_at, written_at, room = addressof(used), addressof(written), addressof(self._replies)
+        line = _address(script)
+        end = line + len(script)
+        while True:
+            status: int = take(at, line, end - line, used_at, room + told, _ROOM - told, written_at)
+            if status:
+                return status
+            line, told = line + used.value, told + written.value
+            if line == end or told > _ROOM - _REPLIES:
+                parts.append(ctypes.string_at(room, told))
+                told = 0
+                if line == end:
+                    return 0
 
     def feed(self, script: Union[str, bytes]) -> bytes:
         """The replies to the lines that end in these bytes of the script; what follows the last LF waits for
         more. If it raises, replies are lost that `iter_feed` would have given."""
-        return b"".join(self.iter_feed(script))
+        parts: List[bytes] = []
+        status = self._alone("feed", self._take, _in_words.script_of("feed", script), parts)
+        self._see_done(status, "feed")
+        return b"".join(parts)
 
     def iter_feed(self, script: Union[str, bytes]) -> Iterator[bytes]:
         """These replies one by one. The bench takes a line when its reply is asked for."""
-        raw = script.encode() if isinstance(script, str) else _in_words.bytes_of("feed", "script", script)
-        held, at, used = ctypes.create_string_buffer(raw, len(raw)), 0, c_size_t()
+        raw, at, used = _in_words.script_of("feed", script), 0, c_size_t()
+        begin = _address(raw)
         while True:
-            rest = byref(held, at), len(raw) - at
+            rest = begin + at, len(raw) - at
             reply = self._answer("feed", _lib.rsp_bench_take, *rest, byref(used))
             at += used.value
             if raw.endswith(b"\n", 0, at):
@@ -638,11 +895,18 @@ class Bench(_Owner):
     def rdram(self) -> bytes:
         """A copy of the image as it is."""
         out = ctypes.create_string_buffer(self._length)
-        _ok(_lib.rsp_bench_memory(byref(self._handle), Bank.RDRAM, 0, out, self._length), "rdram")
+        self._see_free("rdram")
+        status = _quick.rsp_bench_memory(self._at, Bank.RDRAM, 0, out, self._length)
+        self._see_done(status, "rdram")
         return out.raw
 
 
-def run_script(script: Union[str, bytes], image: Optional[bytes] = None) -> Tuple[bytes, bytes]:
-    """The replies of `rsp run` to a script, and the image as the script leaves it."""
-    with Bench(image) as bench:
-        return bench.feed(script) + bench.end(), bench.rdram
+def run_script(script: Union[str, bytes], image: Optional[bytes] = None, strict: bool = False) -> Ran:
+    """The replies of `rsp run` to a script, and the image as the script leaves it: a pair, whose second item
+    is copied when it is asked for.
+
+    With `strict` a reply that is a fault raises ScriptError, and the lines after it aren't run.
+    """
+    bench = Bench(image)
+    replies = _strict_replies(bench, script) if strict else bench.feed(script) + bench.end()
+    return Ran(replies, bench)

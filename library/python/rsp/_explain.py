@@ -13,18 +13,18 @@ class Operand(Structure):
 
 # By the numbers of RSP_OPERAND_ in rsp.h. A range follows what ends with a comma.
 _NUMBER = "a number or a label,"
-_VECTOR = "a vector register"
+_VECTOR = "a vector register, $v0 to $v31"
 _FORMS = (
     "nothing",
     _NUMBER,
-    "a scalar register",
+    "a scalar register, $0 to $31 or as $t0, but not $v0 and $v1",
     *[_NUMBER] * 6,
     "an SP register, $c0 to $c15",
     "$vco, $vcc or $vce",
     _VECTOR,
-    f"{_VECTOR}, with a byte or none",
-    f"{_VECTOR}, with an element or none",
-    f"{_VECTOR}, with a lane",
+    f"{_VECTOR}, with a byte, [0] to [15], or none",
+    f"{_VECTOR}, with an element, [v], [0q], [1q], [0h] to [3h] or [0] to [7], or none",
+    f"{_VECTOR}, with a lane, [0] to [7]",
 )
 _MEMORY = (7, 8)
 _BAD_OPERAND, _LABEL_MISSING = 12, 15

@@ -28,24 +28,42 @@ class Plain(Structure):
 
     def __init_subclass__(cls, **words: Any) -> None:
         super().__init_subclass__(**words)
-        cls._kinds = {name: kind for name, kind in cls.__dict__.get("_fields_", ()) if name != "zero"}
+        own = {name: kind for name, kind in cls.__dict__.get("_fields_", ()) if name != "zero"}
+        cls._kinds = {**cls._kinds, **own}
+
+    @classmethod
+    def _title(cls) -> str:
+        """Its name in messages."""
+        return f"rsp.{cls.__name__}" if cls.__module__ == __name__ else cls.__name__
+
+    @classmethod
+    def _unknown(cls, name: str) -> AttributeError:
+        return AttributeError(f"{cls._title()} has no field {name}; its fields are {', '.join(cls._kinds)}")
+
+    def _is_alike(self, other: object) -> bool:
+        """Whether the other one has the same fields: it may be of a subclass."""
+        return type(other) is type(self) or isinstance(other, Plain) and other._kinds == self._kinds
 
     def __init__(self, *values: Any, **fields: Any) -> None:
         super().__init__()
         for name, value in [*zip(self._kinds, values), *fields.items()]:
             setattr(self, name, value)
         if len(values) > len(self._kinds) or fields.keys() & [*self._kinds][: len(values)]:
-            raise TypeError(f"rsp.{type(self).__name__} takes each of {', '.join(self._kinds)} at most once")
+            raise TypeError(f"{self._title()} takes each of {', '.join(self._kinds)} at most once")
+
+    if not TYPE_CHECKING:
+
+        def __getattr__(self, name: str) -> Any:
+            raise self._unknown(name)
 
     def __setattr__(self, name: str, value: Any) -> None:
         kind = self._kinds.get(name)
         if kind is None:
-            known = f"its fields are {', '.join(self._kinds)}"
-            raise AttributeError(f"rsp.{type(self).__name__} has no field {name}; {known}")
+            raise self._unknown(name)
         super().__setattr__(name, taken(name, kind, value))
 
     def __eq__(self, other: object) -> bool:
-        if type(other) is not type(self):
+        if not self._is_alike(other):
             return NotImplemented
         both: List[Any] = [self, other]
         if bytes(both[0]) == bytes(both[1]):
@@ -71,8 +89,8 @@ class Plain(Structure):
 
     def diff(self: _P, other: _P) -> Difference:
         """The parts in which they differ, each with its name and both values."""
-        if type(other) is not type(self):
-            raise TypeError(f"diff: other is of type {type(other).__name__}, not rsp.{type(self).__name__}")
+        if not self._is_alike(other):
+            raise TypeError(f"diff: other is of type {type(other).__name__}, not {self._title()}")
         pairs = zip(self._parts(), other._parts())
         parts = (Part(name, mine, its, digits) for (name, mine, digits), (_, its, _) in pairs)
         return Difference(it for it in parts if it.value != it.other)
@@ -92,7 +110,7 @@ class Scalars(Plain):
         return shown.scalar_parts(self)
 
     def __repr__(self) -> str:
-        return f"<rsp.{type(self).__name__}: pc {self.pc:03x}, npc {self.npc:03x}>"
+        return f"<{self._title()}: pc {self.pc:03x}, npc {self.npc:03x}>"
 
     def __str__(self) -> str:
         return "\n".join(shown.regs(self))
@@ -273,7 +291,7 @@ class State(Plain):
         return shown.state_parts(self)
 
     def __repr__(self) -> str:
-        return f"<rsp.State: pc {self.pc:03x}, npc {self.npc:03x}>"
+        return f"<{self._title()}: pc {self.pc:03x}, npc {self.npc:03x}>"
 
     def __str__(self) -> str:
         return "\n".join([*shown.regs(self), *shown.vregs(self.vectors), f"{self.flags} {self.divider}"])

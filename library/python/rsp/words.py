@@ -1,7 +1,7 @@
 """Refusals in words: what a call was given, and what it takes."""
 
 import operator
-from typing import Any, Dict, Mapping, NamedTuple, Sequence, Tuple
+from typing import Any, Dict, List, Mapping, NamedTuple, Sequence, Tuple
 
 from .items import list_of
 from .shown import SP_NAMES
@@ -39,6 +39,7 @@ ARGUMENTS: Dict[str, Dict[str, Range]] = {
     "set_pc": {"pc": PLACE},
     "run": {"steps": COUNT},
     "run_until_move": {"steps": COUNT, "reads": MASK, "writes": MASK},
+    "event": {"steps": COUNT, "reads": MASK, "writes": MASK},
     "trace": {"steps": COUNT},
     "back": {"states": COUNT},
     "pass_move": {"value": WORD},
@@ -48,6 +49,8 @@ ARGUMENTS: Dict[str, Dict[str, Range]] = {
     "drop_watch": {"number": WORD},
     "reg": {"number": REGISTER},
     "vreg": {"number": REGISTER},
+    "set_reg": {"number": REGISTER, "value": WORD},
+    "set_vreg": {"number": REGISTER},
     "read": {"number": WORD},
     "peek": {"number": WORD},
     "write": {"number": WORD, "value": WORD},
@@ -55,6 +58,7 @@ ARGUMENTS: Dict[str, Dict[str, Range]] = {
     "text": {"word": WORD, "place": PLACE},
     "listing": {"place": PLACE, "count": Range(range(1025), "0 to 1024")},
     "first_difference": {"every": COUNT, "limit": WORD},
+    "missing": {"limit": WORD},
 }
 
 # What is wrong if each number is in its range.
@@ -64,14 +68,16 @@ TOGETHER = {
     "memory": "{length} bytes from {address} on pass the end of {bank}",
     "memory_words": "{count} words from {address} on pass the end of {bank}",
     "pass_move": "the word at pc is no MFC0 or MTC0",
+    "set_reg": "register 0 holds 0, and not {value}",
+    "pass_dma": "the word at pc starts no DMA",
     "set_sp": "a word can't be read from its SP register, or interrupt isn't 0 or 1",
     "listing": "{count} words from {place} on pass the end of IMEM",
     "add_watch": "{length} bytes from {address} on pass the end of DMEM",
 }
 
-# By status; {} is the first number that the call was given.
+# By status; {} is the first number that the call was given, {owner} what the handle is of.
 SENTENCES = {
-    1: "the machine is closed, or a call in another thread has it",
+    1: "the {owner} is closed",
     2: "an allocation failed",
     7: "{} isn't a multiple of 8, or the 64 bytes from there pass the image's end",
     8: "the size of the boot code, the word at offset 12 of the structure at {}, isn't 1 to 4096",
@@ -112,12 +118,12 @@ def out_of_range(call: str, numbers: Sequence[int]) -> str:
     return TOGETHER.get(call, "a number is out of its range").format(**words)
 
 
-def refusal(status: int, name: str, numbers: Sequence[int] = ()) -> str:
+def refusal(status: int, name: str, numbers: Sequence[int] = (), owner: str = "machine") -> str:
     """Why a call was refused, in a sentence."""
     call = call_name(name)
     if status == 3:
         return f"{call}: {out_of_range(call, numbers)}"
-    return f"{call}: {SENTENCES.get(status, 'refused').format(*numbers)}"
+    return f"{call}: {SENTENCES.get(status, 'refused').format(*numbers, owner=owner)}"
 
 
 def integers(name: str, numbers: Sequence[Any]) -> Tuple[int, ...]:
@@ -134,6 +140,8 @@ def integers(name: str, numbers: Sequence[Any]) -> Tuple[int, ...]:
 
 def bytes_of(call: str, name: str, data: Any) -> bytes:
     """The bytes of a buffer, as they are in memory."""
+    if type(data) is bytes:
+        return data
     try:
         return bytes(memoryview(data))
     except TypeError:
@@ -142,11 +150,21 @@ def bytes_of(call: str, name: str, data: Any) -> bytes:
         ) from None
 
 
-def words_of(call: str, name: str, words: Any) -> Tuple[int, ...]:
-    """Words from an iterable of integers."""
-    items = list_of(words)
+def script_of(call: str, script: Any) -> bytes:
+    """The bytes of a script, which a text may be."""
+    return script.encode() if isinstance(script, str) else bytes_of(call, "script", script)
+
+
+def items_of(call: str, name: str, words: Any) -> List[Any]:
+    """The items of an iterable."""
+    items: Any = words if type(words) is list else list_of(words)
     if items is None:
         raise TypeError(f"{call}: {name} is of type {type(words).__name__}, not a list of integers")
+    return list(items)
+
+
+def words_of(call: str, name: str, items: List[Any]) -> Tuple[int, ...]:
+    """Items as integers. TypeError names the first that is none."""
     try:
         return tuple(map(operator.index, items))
     except TypeError:

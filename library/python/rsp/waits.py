@@ -1,0 +1,211 @@
+"""Waits for a DMA that are missing.
+
+The machine's DMA is done at once, so a program without its wait runs well here, and fails on a console.
+
+    import rsp.waits
+
+    with rsp.Rsp(image) as machine:
+        machine.start_task(0x100)
+        for it in rsp.waits.missing(machine):
+            print(it)
+
+The rules are ours:
+
+- A transfer is under way from the MTC0 that orders it, until a read of SP_DMA_BUSY, SP_DMA_FULL or SP_STATUS
+  shows that it is done.
+- At such a read a console may answer that all transfers are done, that the last one is under way, or that the
+  last two are. The machine goes on as after the first answer. For each other one a copy goes on, and gets the
+  same answer wherever it reads. It has waited as soon as it reads again at an address where it has read; else
+  it is followed for AHEAD steps. What comes before the branch at which its way parts from the machine's
+  doesn't count, since the program tests the answer there.
+- While a transfer is under way, no instruction loads a byte that it brings, stores a byte that it brings or
+  takes, or is fetched from what it brings.
+- One more transfer may be ordered while one is under way. While two are, nothing writes SP registers 0 to 3.
+
+What the CPU orders, and a transfer that is under way when the program ends, are left out.
+"""
+
+from typing import Iterator, List, NamedTuple, Optional, Sequence, Set, Tuple
+
+from . import DMEM, IMEM, Move, Reason, Rsp, Status
+from . import words as _in_words
+
+__all__ = ["AHEAD", "Missing", "Transfer", "missing"]
+
+AHEAD = 1000  # steps after an answer that isn't the machine's
+_READS, _WRITES, _ORDERS = 0b1110000, 0b1111, 0b1100  # of SP registers, as masks
+_STATUS, _FULL = 4, 5
+_COP0 = 16
+_STORES = frozenset((40, 41, 43, 58))  # SB, SH, SW and the vector stores, by the six high bits of a word
+_TOUCHING = _STORES | frozenset((32, 33, 35, 36, 37, 39, 50))
+_INVERTED = bytes(255 - n for n in range(256))
+
+
+class Transfer(NamedTuple):
+    """A transfer: the address `place` of the MTC0 that orders it, and its `length` bytes of DMEM or IMEM from
+    `address` on, modulo 4096. `to_rdram` says that it takes them; else it brings them."""
+
+    place: int
+    bank: int
+    address: int
+    length: int
+    to_rdram: bool
+
+    def __str__(self) -> str:
+        last = (self.address + self.length - 1) % 4096
+        here = f"{_in_words.BANKS[self.bank]} {self.address:03x} to {last:03x}"
+        return f"the transfer of {self.place:03x}, {'from' if self.to_rdram else 'to'} {here}"
+
+    def turned(self, memory: bytes) -> bytes:
+        """A memory of 4096 bytes that begins with those of the transfer."""
+        return memory[self.address :] + memory[: self.address]
+
+    def inverted(self, memory: bytes) -> bytes:
+        """A memory of 4096 bytes with those of the transfer inverted."""
+        turned, back = self.turned(memory), 4096 - self.address
+        made = turned[: self.length].translate(_INVERTED) + turned[self.length :]
+        return made[back:] + made[:back]
+
+
+class Missing(NamedTuple):
+    """An instruction before which a wait is missing: the `transfer`, and the instruction by its address
+    `place` and its `text`. `what` it does is `loads`, `stores`, `is fetched` or `writes a DMA register`.
+
+    `read` is None, or the address of a read of an SP register after which it happens if a transfer is then
+    under way.
+    """
+
+    transfer: Transfer
+    place: int
+    text: str
+    what: str
+    read: Optional[int] = None
+
+    def __str__(self) -> str:
+        when = "" if self.read is None else f" if it is under way at the read of {self.read:03x}"
+        return f"{self.place:03x}: {self.text}: {self.what} before the end of {self.transfer}{when}"
+
+
+class _Walk:
+    """A machine on its way, and the transfers that are under way, in their order.
+
+    `read` is the address of the read after which this is a copy with another answer than the machine's. The
+    twin shows which bytes an instruction touches: it makes the same step over other bytes.
+    """
+
+    def __init__(self, machine: Rsp, twin: Rsp, transfers: Sequence[Transfer], read: Optional[int]) -> None:
+        self.machine, self.transfers = machine, [*transfers]
+        self._twin, self._read = twin, read
+        self._asked: Set[int] = set()
+        self._code = machine.memory_words(IMEM, 0, 1024)
+
+    def step(self) -> Tuple[List[Missing], bool]:
+        """Makes a step: what it lacks, and whether another one follows."""
+        pc = self.machine.regs().pc
+        word, found = self._code[pc // 4], self._fetched(pc)
+        if word >> 26 == _COP0:
+            stop = self.machine.run_until_move(1, _READS, _WRITES)
+            if stop.move and not stop.steps:  # after a step it is the move that comes next
+                more, goes_on = self._move(pc, stop.move)
+            else:
+                more, goes_on = [], stop.steps == 1
+        elif word >> 26 in _TOUCHING:
+            more, goes_on = self._touched(pc, word, word >> 26 in _STORES)
+        else:
+            more, goes_on = [], self.machine.step() is Status.OK
+        return found + more, goes_on
+
+    def _named(self, transfer: Transfer, pc: int, what: str) -> Missing:
+        return Missing(transfer, pc, self.machine.listing(pc, 1)[0].text, what, self._read)
+
+    def _fetched(self, pc: int) -> List[Missing]:
+        brought = [it for it in self.transfers if it.bank == IMEM and not it.to_rdram]
+        return [self._named(it, pc, "is fetched") for it in brought if (pc - it.address) % 4096 < it.length]
+
+    def _touched(self, pc: int, word: int, stores: bool) -> Tuple[List[Missing], bool]:
+        """Makes the step of a load or a store. A byte that is loaded shows in registers, if it is inverted in
+        the twin; one that is stored is the same in both, if it was inverted."""
+        before, dmem = self.machine.get(), self.machine.memory(DMEM, 0, 4096)
+        goes_on = self.machine.step() is Status.OK
+        after, stored = self.machine.get(), self.machine.memory(DMEM, 0, 4096)
+        found = []
+        for it in self.transfers:
+            if it.bank != DMEM or it.to_rdram and not stores:
+                continue
+            self._twin.set(before)
+            self._twin.load(DMEM, 0, it.inverted(dmem))
+            self._twin.load_words(IMEM, pc, [word])
+            self._twin.step()
+            pairs = zip(it.turned(stored)[: it.length], it.turned(self._twin.memory(DMEM, 0, 4096)))
+            if any(a == b for a, b in pairs) if stores else after != self._twin.get():
+                found.append(self._named(it, pc, "stores" if stores else "loads"))
+        return found, goes_on
+
+    def _move(self, pc: int, move: Move) -> Tuple[List[Missing], bool]:
+        """A write of one of the SP registers 0 to 3, or a read that says what is under way."""
+        if move.writes:
+            return self._written(pc, move), True
+        if self._read is None:
+            found = [it for count in range(len(self.transfers)) for it in self._followed(pc, count + 1)]
+            self.transfers.clear()
+            return found, self.machine.step() is Status.OK
+        if pc in self._asked:
+            return [], False
+        self._asked.add(pc)
+        is_full = len(self.transfers) > 1
+        status = self.machine.peek(_STATUS) | 4 | 8 * is_full
+        self.machine.pass_move({_STATUS: status, _FULL: is_full}.get(move.number, 1))
+        return [], True
+
+    def _followed(self, pc: int, count: int) -> List[Missing]:
+        """What is missing if the last `count` transfers are still under way at a read."""
+        copy = _Walk(self.machine.copy(), self._twin, self.transfers[-count:], pc)
+        found: List[Missing] = []
+        beside: Optional[Rsp] = self.machine.copy()  # until the ways part
+        for _ in range(AHEAD):
+            more, goes_on = copy.step()
+            found += more
+            if beside and beside.step() is Status.OK and beside.regs().pc != copy.machine.regs().pc:
+                found, beside = [], None
+            if not goes_on:
+                break
+        return found
+
+    def _written(self, pc: int, move: Move) -> List[Missing]:
+        full = self.transfers[1:]
+        found = [self._named(full[-1], pc, "writes a DMA register")] if full else []
+        at, length = self.machine.peek(0), (move.value & 0xFFF | 7) + 1
+        if 1 << move.number & _ORDERS:
+            size = min(4096, length * ((move.value >> 12 & 0xFF) + 1))
+            order = Transfer(pc, IMEM if at & 0x1000 else DMEM, at & 0xFFF, size, move.number == 3)
+            self.transfers.append(order)
+        self.machine.step()
+        self._code = self.machine.memory_words(IMEM, 0, 1024)
+        return found
+
+
+def missing(machine: Rsp, limit: int = 1000000) -> Iterator[Missing]:
+    """Makes up to `limit` steps, and yields each instruction before which a wait is missing, once for each
+    MTC0 that orders its transfer.
+
+    The end is a halt, or a reserved word; breakpoints and watches don't count. A step takes some microseconds
+    while a transfer is under way.
+    """
+    (left,) = _in_words.integers("missing", (limit,))
+    twin = Rsp()
+    told: Set[Tuple[int, int, str]] = set()
+    while left > 0:
+        stop = machine.run_until_move(min(left, 1000000), 0, _ORDERS)
+        left -= stop.steps
+        if stop.reason in (Reason.HALT, Reason.RESERVED):
+            return
+        walk, goes_on = _Walk(machine, twin, [], None), stop.reason is Reason.MOVE
+        while goes_on and left > 0:
+            found, goes_on = walk.step()
+            left -= 1
+            for it in found:
+                key = it.transfer.place, it.place, it.what
+                if key not in told:
+                    told.add(key)
+                    yield it
+            goes_on = goes_on and bool(walk.transfers)
