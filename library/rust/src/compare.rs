@@ -4,7 +4,7 @@ use crate::{Bank, Line, Machine, MoveEnd, Part, Refused, State, StepEnd};
 use std::fmt::{Display, Formatter};
 use std::ops::RangeInclusive;
 
-/// What [`first_difference`] calls of an emulator.
+/// What [`first_difference`] calls of an emulator, and a campaign by [`cases!`](crate::cases!).
 pub trait Emulator {
     /// Makes this many steps. The machine has made as many, so it isn't halted before any, and no word is reserved. BREAK is a step: it sets
     /// bits 0 and 1 of SP_STATUS, `sp[4]`.
@@ -17,6 +17,12 @@ pub trait Emulator {
     fn memory(&self, bank: Bank, bytes: &mut [u8]);
     /// Writes a memory from its beginning.
     fn load(&mut self, bank: Bank, bytes: &[u8]);
+    /// Executes the instruction of a campaign's case, and says how that ended. As it is here, by a step that is done. No case has a reserved
+    /// word, so an emulator answers [`StepEnd::Reserved`] to an instruction that it lacks: that is not there.
+    fn case(&mut self) -> StepEnd {
+        self.run(1);
+        StepEnd::Done
+    }
 }
 
 /// Sixteen bytes of a memory that differ.

@@ -17,6 +17,8 @@
 #![warn(missing_docs)]
 
 mod bench;
+#[doc(hidden)]
+pub mod cases;
 mod compare;
 mod difference;
 mod error;
@@ -25,6 +27,7 @@ mod machine;
 mod numbers;
 mod operand;
 mod raw;
+mod script;
 mod shapes;
 mod shown;
 mod texts;
@@ -37,7 +40,9 @@ pub use faults::Fault;
 pub use machine::Machine;
 pub use numbers::NoSuchNumber;
 pub use operand::Operand;
+pub use script::{run_script_strict, ScriptError};
 pub use shapes::{
-    Accumulators, Bank, Changes, DivideState, Field, FlagBits, Line, MoveEnd, Reason, Scalars, SpWords, State, StepEnd, Stop, Traced,
+    Accumulators, Bank, Changes, DivideState, Dma, Event, Field, FlagBits, Line, MoveEnd, Reason, Scalars, SpWords, State, StepEnd, Stop,
+    Traced,
 };
-pub use texts::{assemble, text, version};
+pub use texts::{assemble, labels, text, version};

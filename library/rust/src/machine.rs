@@ -3,7 +3,7 @@
 use crate::error::{done, right_version};
 use crate::raw;
 use crate::shapes::{
-    Accumulators, Bank, Changes, DivideState, FlagBits, Line, MoveEnd, Reason, Scalars, SpWords, State, StepEnd, Stop, Traced,
+    Accumulators, Bank, Changes, DivideState, Event, FlagBits, Line, MoveEnd, Reason, Scalars, SpWords, State, StepEnd, Stop, Traced,
 };
 use crate::texts::{seen, NO_LINE};
 use crate::Refused;
@@ -122,11 +122,17 @@ impl Machine {
     pub fn run_until_move(&mut self, steps: u32, reads: u16, writes: u16) -> Result<MoveEnd, Refused> {
         let mut out = raw::Move::default();
         done(unsafe { raw::rsp_run_until_move(self.at(), steps, reads.into(), writes.into(), &mut out) })?;
-        if out.stop.reason != AT_MOVE {
-            return Ok(MoveEnd::Stop(seen_stop(&out.stop)));
-        }
-        let (steps, pc) = (out.stop.steps, out.stop.pc);
-        Ok(MoveEnd::Move { steps, pc, word: out.word, number: out.number, writes: out.writes == 1, value: out.value })
+        Ok(seen_move(&out))
+    }
+
+    /// Runs to the next event, for a caller that owns RDRAM: as [`run_until_move`](Machine::run_until_move), also up to each DMA. A move or a
+    /// DMA is an event only if steps are left, so passing it is one of them: by [`pass`](Machine::pass), [`pass_dma`](Machine::pass_dma) or
+    /// [`step`](Machine::step).
+    pub fn event(&mut self, steps: u32, reads: u16, writes: u16) -> Result<Event, Refused> {
+        let mut out = raw::Reached::default();
+        done(unsafe { raw::rsp_event(self.at(), steps, reads.into(), writes.into(), &mut out) })?;
+        let dma = (out.at.stop.reason == AT_DMA).then_some(out.dma);
+        Ok(Event { at: seen_move(&out.at), dma, status: out.status, interrupt: out.interrupt == 1 })
     }
 
     /// As [`run`](Machine::run) of as many steps as there are entries, 1 to 1000000, and writes the entry of each; the others stay.
@@ -157,11 +163,20 @@ impl Machine {
     /// Goes past the MFC0 or MTC0 at pc without its meaning: register rt of an MFC0 becomes the value. It empties the history. It is refused
     /// if another word is at pc, and so never ends as Reserved.
     pub fn pass(&mut self, value: u32) -> Result<StepEnd, Refused> {
-        match unsafe { raw::rsp_pass(self.at(), value) } {
-            0 => Ok(StepEnd::Done),
-            4 => Ok(StepEnd::Halted),
-            other => Err(done(other).unwrap_err()),
-        }
+        passed(unsafe { raw::rsp_pass(self.at(), value) })
+    }
+
+    /// Goes past the DMA at pc, whose bytes the caller then moves: all is as after a step, the SP registers too, but the memories stay. It
+    /// empties the history, and is refused if the word at pc starts no DMA.
+    pub fn pass_dma(&mut self) -> Result<StepEnd, Refused> {
+        passed(unsafe { raw::rsp_pass_dma(self.at()) })
+    }
+
+    /// How many steps can be undone.
+    pub fn history(&self) -> Result<usize, Refused> {
+        let mut out = 0;
+        done(unsafe { raw::rsp_history(self.at(), &mut out) })?;
+        Ok(out)
     }
 
     /// Sets a breakpoint at an address of IMEM; at most sixteen.
@@ -205,6 +220,20 @@ impl Machine {
         let mut out = raw::Lanes::default();
         done(unsafe { raw::rsp_vreg(self.at(), n, &mut out) })?;
         Ok(out.lanes)
+    }
+
+    /// Sets scalar register `n`, below 32, and empties the history. Register 0 holds 0 alone.
+    pub fn set_reg(&mut self, n: u32, value: u32) -> Result<(), Refused> {
+        let mut state = self.get()?;
+        *state.words.get_mut(n as usize).ok_or(Refused::OutOfRange)? = value;
+        self.set(&state)
+    }
+
+    /// Sets the lanes of vector register `n`, below 32, and empties the history.
+    pub fn set_vreg(&mut self, n: u32, lanes: [u16; 8]) -> Result<(), Refused> {
+        let mut state = self.get()?;
+        *state.vectors.get_mut(n as usize).ok_or(Refused::OutOfRange)? = lanes;
+        self.set(&state)
     }
 
     /// The accumulators.
@@ -272,6 +301,8 @@ impl Machine {
 
 /// The reason of a run that stopped before a move.
 const AT_MOVE: u32 = 5;
+/// The reason of a stop before a DMA.
+const AT_DMA: u32 = 6;
 
 fn step_end(status: u32) -> Result<StepEnd, Refused> {
     match status {
@@ -280,6 +311,23 @@ fn step_end(status: u32) -> Result<StepEnd, Refused> {
         5 => Ok(StepEnd::Reserved),
         other => Err(Refused::Unknown(other)),
     }
+}
+
+/// The end of a pass, which is never at a reserved word.
+fn passed(status: u32) -> Result<StepEnd, Refused> {
+    match status {
+        0 => Ok(StepEnd::Done),
+        4 => Ok(StepEnd::Halted),
+        other => Err(done(other).unwrap_err()),
+    }
+}
+
+fn seen_move(out: &raw::Move) -> MoveEnd {
+    if out.stop.reason < AT_MOVE {
+        return MoveEnd::Stop(seen_stop(&out.stop));
+    }
+    let (steps, pc) = (out.stop.steps, out.stop.pc);
+    MoveEnd::Move { steps, pc, word: out.word, number: out.number, writes: out.writes == 1, value: out.value }
 }
 
 fn seen_stop(out: &raw::Stop) -> Stop {

@@ -18,7 +18,7 @@ pub struct Operand {
 const FORMS: [&str; 15] = [
     "nothing",
     "a number or a label,",
-    "a scalar register",
+    "a scalar register, $0 to $31 or as $t0, but not $v0 and $v1",
     "a number or a label,",
     "a number or a label,",
     "a number or a label,",
@@ -27,10 +27,10 @@ const FORMS: [&str; 15] = [
     "a number or a label,",
     "an SP register, $c0 to $c15",
     "$vco, $vcc or $vce",
-    "a vector register",
-    "a vector register, with a byte or none",
-    "a vector register, with an element or none",
-    "a vector register, with a lane",
+    "a vector register, $v0 to $v31",
+    "a vector register, $v0 to $v31, with a byte, [0] to [15], or none",
+    "a vector register, $v0 to $v31, with an element, [v], [0q], [1q], [0h] to [3h] or [0] to [7], or none",
+    "a vector register, $v0 to $v31, with a lane, [0] to [7]",
 ];
 const MEMORY: [u32; 2] = [7, 8];
 const BAD_OPERAND: u32 = 12;

@@ -1,6 +1,6 @@
 //! What library/c/rsp.h declares.
 
-use crate::shapes::{Accumulators, Changes, DivideState, FlagBits, Scalars, SpWords, State, Traced};
+use crate::shapes::{Accumulators, Changes, DivideState, Dma, FlagBits, Scalars, SpWords, State, Traced};
 
 #[repr(C)]
 pub struct Handle {
@@ -34,6 +34,15 @@ pub struct Move {
 
 #[repr(C)]
 #[derive(Default)]
+pub struct Reached {
+    pub at: Move,
+    pub dma: Dma,
+    pub status: u32,
+    pub interrupt: u32,
+}
+
+#[repr(C)]
+#[derive(Default)]
 pub struct Lanes {
     pub lanes: [u16; 8],
 }
@@ -54,6 +63,14 @@ pub struct Operand {
     pub number: usize,
     pub kind: u32,
     pub step: u32,
+}
+
+#[repr(C)]
+#[derive(Clone, Copy)]
+pub struct Label {
+    pub address: u16,
+    pub len: u16,
+    pub name: [u8; 36],
 }
 
 #[repr(C)]
@@ -83,9 +100,12 @@ extern "C" {
     pub fn rsp_step_changes(m: *mut Handle, out: *mut Changes) -> u32;
     pub fn rsp_run(m: *mut Handle, n: u32, out: *mut Stop) -> u32;
     pub fn rsp_run_until_move(m: *mut Handle, n: u32, reads: u32, writes: u32, out: *mut Move) -> u32;
+    pub fn rsp_event(m: *mut Handle, n: u32, reads: u32, writes: u32, out: *mut Reached) -> u32;
     pub fn rsp_trace(m: *mut Handle, out: *mut Traced, n: usize, stop: *mut Stop) -> u32;
     pub fn rsp_back(m: *mut Handle, n: u32) -> u32;
+    pub fn rsp_history(m: *mut Handle, out: *mut usize) -> u32;
     pub fn rsp_pass(m: *mut Handle, value: u32) -> u32;
+    pub fn rsp_pass_dma(m: *mut Handle) -> u32;
     pub fn rsp_add_break(m: *mut Handle, place: u32) -> u32;
     pub fn rsp_drop_break(m: *mut Handle, place: u32) -> u32;
     pub fn rsp_add_watch(m: *mut Handle, address: u32, len: u32, number: *mut usize) -> u32;
@@ -102,6 +122,7 @@ extern "C" {
     pub fn rsp_sp(m: *mut Handle, out: *mut SpWords) -> u32;
     pub fn rsp_set_sp(m: *mut Handle, given: *const SpWords) -> u32;
     pub fn rsp_assemble(origin: u32, text: *const u8, len: usize, words: *mut u32, capacity: usize, out: *mut Assembled) -> u32;
+    pub fn rsp_labels(origin: u32, text: *const u8, len: usize, labels: *mut Label, capacity: usize, count: *mut usize) -> u32;
     pub fn rsp_text(word: u32, place: u32, out: *mut Line) -> u32;
     pub fn rsp_listing(m: *mut Handle, place: u32, lines: *mut Line, len: usize) -> u32;
     pub fn rsp_explain(origin: u32, text: *const u8, len: usize, out: *mut Operand) -> u32;

@@ -2,6 +2,7 @@
 
 use crate::raw;
 use std::fmt;
+use std::mem::size_of;
 
 /// The scalar registers, and the addresses of the next instruction and of the one after it.
 #[repr(C)]
@@ -171,6 +172,21 @@ impl fmt::Display for Field {
 }
 
 impl State {
+    /// How many bytes a state has.
+    pub const SIZE: usize = size_of::<State>();
+
+    /// A state from its bytes, which are those of an `rsp_state` of C in this computer. None unless there are [`SIZE`](State::SIZE) of them.
+    pub fn from_bytes(bytes: &[u8]) -> Option<State> {
+        // SAFETY: there are as many bytes as a state has, and any bytes are one, since all its fields are numbers.
+        (bytes.len() == State::SIZE).then(|| unsafe { bytes.as_ptr().cast::<State>().read_unaligned() })
+    }
+
+    /// Its bytes, from which [`from_bytes`](State::from_bytes) makes it again.
+    pub fn as_bytes(&self) -> &[u8; State::SIZE] {
+        // SAFETY: a state has no padding: `zero` stands where it would be.
+        unsafe { &*(self as *const State).cast() }
+    }
+
     /// The first field for which [`Machine::set`](crate::Machine::set) refuses a state.
     pub fn fault(&self) -> Option<Field> {
         let mut out = 0;
@@ -268,6 +284,39 @@ pub enum MoveEnd {
         /// What its scalar register holds.
         value: u32,
     },
+}
+
+/// A DMA: rows of bytes, one after the other in a bank, and with `skip` bytes between two rows in RDRAM.
+#[repr(C)]
+#[derive(Clone, Copy, Debug, Default, PartialEq, Eq)]
+pub struct Dma {
+    /// The bank: 0 for DMEM, 1 for IMEM.
+    pub bank: u32,
+    /// The first address in the bank, a multiple of 8 below 4096. Addresses wrap there.
+    pub address: u32,
+    /// The first address in RDRAM, a multiple of 8 below 2^24. Addresses wrap there.
+    pub rdram: u32,
+    /// How many bytes a row has, a multiple of 8 from 8 to 4096.
+    pub length: u32,
+    /// How many rows there are, 1 to 256.
+    pub rows: u32,
+    /// How many bytes of RDRAM are between two rows, a multiple of 8 below 4096.
+    pub skip: u32,
+    /// 1 if the bytes go to RDRAM, 0 if they come from there.
+    pub to_rdram: u32,
+}
+
+/// What [`event`](crate::Machine::event) reached.
+#[derive(Clone, Copy, Debug, PartialEq, Eq)]
+pub struct Event {
+    /// Where the run stopped. A DMA is an MTC0 to register 2 or 3.
+    pub at: MoveEnd,
+    /// The DMA that is next.
+    pub dma: Option<Dma>,
+    /// SP_STATUS there.
+    pub status: u32,
+    /// Whether the interrupt flag is set there.
+    pub interrupt: bool,
 }
 
 impl fmt::Display for Reason {

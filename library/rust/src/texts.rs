@@ -28,6 +28,17 @@ pub fn assemble(text: &str, origin: u32) -> Result<Vec<u32>, Refused> {
     Ok(words)
 }
 
+/// The labels of a text with their addresses, in the order of their lines. `origin` is that of [`assemble`], which says why a text is refused.
+pub fn labels(text: &str, origin: u32) -> Result<Vec<(String, u16)>, Refused> {
+    assemble(text, origin)?;
+    let mut found = vec![raw::Label { address: 0, len: 0, name: [0; 36] }; text.lines().count()];
+    let mut count = 0;
+    // SAFETY: each pointer is of a borrow, with its own length.
+    done(unsafe { raw::rsp_labels(origin, text.as_ptr(), text.len(), found.as_mut_ptr(), found.len(), &mut count) })?;
+    let name = |it: &raw::Label| String::from_utf8_lossy(&it.name[..usize::from(it.len)]).into_owned();
+    Ok(found[..count].iter().map(|it| (name(it), it.address)).collect())
+}
+
 /// The disassembly of a word for the address `place`, a multiple of 4 below 4096.
 pub fn text(word: u32, place: u32) -> Result<String, Refused> {
     right_version()?;

@@ -1,6 +1,6 @@
 //! Benches: scripts in pieces, replies one by one, refusals; and the scripts of the repository, if they are there.
 
-use rsp::{run_script, Bench, Refused};
+use rsp::{run_script, run_script_strict, Bench, Refused, ScriptError};
 use std::fs;
 use std::path::Path;
 
@@ -41,6 +41,31 @@ fn refusals() {
     assert_eq!(bench.feed(script + "#"), Err(Refused::TooLong));
     assert_eq!((bench.feed(""), bench.end(), bench.rdram()), (Err(Refused::TooLong), Err(Refused::TooLong), Ok(vec![1; 64])));
     assert_eq!(Refused::TooLong.to_string(), "the script has more than 1048576 bytes");
+}
+
+/// The line, its text, the fault and the reply at which a strict run ends.
+#[test]
+fn strict_scripts() {
+    let run = |script: &str| run_script_strict(script, Some(&[0; 64]));
+    assert_eq!(run("asm 0\nnop\nend\nstep"), run_script("asm 0\nnop\nend\nstep", Some(&[0; 64])).map_err(ScriptError::Refused));
+    let faults = [
+        ("step\nbrek 0\nback 9\n", 2, "brek 0", 30, "fault 30 BadCommand"),
+        ("step\nback 9", 2, "back 9", 27, "fault 27 ShortHistory"),
+        ("step\n\tasm 0 # a block\nnop\n x: foo $1\r\nend\n", 4, "x: foo $1", 11, "fault 11 UnknownName line 2"),
+        ("asm 0\nasm 4\nend\n", 2, "asm 4", 11, "fault 11 UnknownName line 1"),
+        ("asm 0\nnop\nend\nasm 8\nj x\nend", 5, "j x", 15, "fault 15 LabelMissing line 1"),
+        ("step\nasm 0\nnop\n", 4, "", 10, "fault 10 BadLine line 2"),
+        ("asm 0", 2, "", 10, "fault 10 BadLine line 1"),
+        ("asm 2\n", 1, "asm 2", 31, "fault 31 BadNumber"),
+    ];
+    for (script, line, text, fault, reply) in faults {
+        let wanted = ScriptError::Fault { line, text: text.to_string(), fault, reply: reply.to_string() };
+        assert_eq!(run(script).err(), Some(wanted), "{script}");
+    }
+    assert_eq!(run("step\nbrek 0").unwrap_err().to_string(), "line 2: fault 30 BadCommand: brek 0");
+    assert_eq!(run("asm 0").unwrap_err().to_string(), "line 2: fault 10 BadLine line 1");
+    assert_eq!(run_script_strict("", Some(&[0; 3])).err(), Some(ScriptError::Refused(Refused::OutOfRange)));
+    assert_eq!(run("#".repeat(LONGEST + 1).as_str()).err(), Some(ScriptError::Refused(Refused::TooLong)));
 }
 
 /// The image that a file NAME.rdram describes: its length, and whether its bytes count up.

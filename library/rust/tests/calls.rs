@@ -219,6 +219,37 @@ fn states_and_memories() {
 }
 
 #[test]
+fn single_registers() {
+    let mut machine = loaded("nop\nnop\n", 4);
+    machine.step().unwrap();
+    let mut wanted = machine.get().unwrap();
+    (wanted.words[31], wanted.vectors[31]) = (u32::MAX, [1, 2, 3, 4, 5, 6, 7, 65535]);
+    assert_eq!(machine.set_reg(31, u32::MAX), Ok(()));
+    assert_eq!(machine.set_vreg(31, [1, 2, 3, 4, 5, 6, 7, 65535]), Ok(()));
+    assert_eq!((machine.set_reg(0, 0), machine.get()), (Ok(()), Ok(wanted)));
+    assert_eq!(machine.back(1), Err(Refused::ShortHistory));
+    for (n, value) in [(0, 1), (32, 0), (u32::MAX, 0)] {
+        assert_eq!(machine.set_reg(n, value), Err(Refused::OutOfRange));
+    }
+    assert_eq!(machine.set_vreg(32, [0; 8]), Err(Refused::OutOfRange));
+    assert_eq!(machine.get(), Ok(wanted));
+}
+
+#[test]
+fn bytes_of_states() {
+    let mut machine = loaded("nop\n", 0);
+    machine.set_reg(1, 0x0102_0304).unwrap();
+    machine.set_vreg(2, [0x0506; 8]).unwrap();
+    let state = machine.get().unwrap();
+    let bytes = state.as_bytes();
+    assert_eq!((bytes.len(), State::SIZE), (772, 772));
+    assert_eq!((&bytes[4..8], &bytes[128 + 32..][..2]), (&0x0102_0304u32.to_ne_bytes()[..], &0x0506u16.to_ne_bytes()[..]));
+    assert_eq!(State::from_bytes(bytes), Some(state));
+    assert_eq!(State::from_bytes(&[&[9], &bytes[..]].concat()[1..]), Some(state));
+    assert_eq!((State::from_bytes(&bytes[1..]), State::from_bytes(&[])), (None, None));
+}
+
+#[test]
 fn texts() {
     assert_eq!(assemble("nop\nfoo\n", 0), Err(Refused::NoMeaning { line: 2, fault: 11, operand: None }));
     let refused = assemble("nop\nlqv $v1[0], 0x460($0)\n", 0).unwrap_err();
@@ -231,7 +262,7 @@ fn texts() {
         "fault 12 BadOperand line 1; operand 2 may be a number or a label, -32768 to 65535, and a scalar register in parentheses"
     );
     let refused = assemble("vrcp $v1, $v2[0]\n", 0).unwrap_err();
-    assert_eq!(refused.to_string(), "fault 12 BadOperand line 1; operand 1 may be a vector register, with a lane");
+    assert_eq!(refused.to_string(), "fault 12 BadOperand line 1; operand 1 may be a vector register, $v0 to $v31, with a lane, [0] to [7]");
     assert_eq!(assemble("nop", 2), Err(Refused::OutOfRange));
     assert_eq!(text(0x4a63_1050, 4).as_deref(), Ok("vadd $v1, $v2, $v3[1q]"));
     assert_eq!(text(0, 4096), Err(Refused::OutOfRange));
