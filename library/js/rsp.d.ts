@@ -55,6 +55,7 @@ export enum Reason {
   BREAK = 3,
   LIMIT = 4,
   MOVE = 5,
+  DMA = 6,
 }
 
 export const DMEM: Bank.DMEM;
@@ -81,6 +82,17 @@ export class AssemblyError extends RspError {
   readonly fault: number;
   readonly source: string;
   readonly allowed: string;
+}
+
+/** A reply is a fault. `line` is the number of its line in the script, from 1, `text` that line, `fault` the fault's
+ * number, and `reply` the whole reply. A fault of an `asm` block has the line of the block that is at fault, and no text
+ * if the script ends before `end`. */
+export class ScriptError extends Error {
+  constructor(line: number, text: string, reply: string);
+  readonly line: number;
+  readonly text: string;
+  readonly fault: number;
+  readonly reply: string;
 }
 
 /** A part that differs: its name, such as `$3`, its value, the other's value, and how many hexadecimal digits it has.
@@ -243,6 +255,25 @@ export interface Stop {
   move: Move | null;
 }
 
+/** A DMA: `rows` rows of `length` bytes, one after the other in a bank from `address` on, and in RDRAM from `rdram` on
+ * with `skip` bytes between two rows. Addresses wrap at 4096 and at 2^24. */
+export interface Dma {
+  bank: Bank;
+  address: number;
+  rdram: number;
+  length: number;
+  rows: number;
+  skip: number;
+  to_rdram: boolean;
+}
+
+/** What `event` reached, with the DMA that is next, else null, and SP_STATUS and the interrupt flag there. */
+export interface Event extends Stop {
+  dma: Dma | null;
+  status: number;
+  interrupt: boolean;
+}
+
 /** A word of IMEM with its address and its disassembly. */
 export interface Line {
   place: number;
@@ -253,6 +284,9 @@ export interface Line {
 /** The words of a text, at most 1024, the first one for the address `origin`, a multiple of 4 up to 4096.
  * AssemblyError if the text has a fault. */
 export function assemble(text: string, origin?: number): Uint32Array;
+
+/** The address of each label of a text by its name. `origin` and the refusals are those of `assemble`. */
+export function labels(text: string, origin?: number): Record<string, number>;
 
 /** The disassembly of a word for the address `place`, a multiple of 4 below 4096. */
 export function text(word: number, place?: number): string;
@@ -301,6 +335,10 @@ export class Rsp {
   /** As `run`, and also stops before an MFC0 whose SP register has its bit in `reads`, or an MTC0 whose register has
    * it in `writes`. It stops there before the first step too. `pass_move` goes past it, and `step` executes it. */
   run_until_move(steps: number, reads: number, writes: number): Stop;
+  /** Runs to the next event, for a caller that owns RDRAM: as `run_until_move`, also up to each DMA, with Reason.DMA. A
+   * move or a DMA is an event only if steps are left, so going past it by `pass_move`, `pass_dma` or `step` is one of
+   * them. */
+  event(steps: number, reads?: number, writes?: number): Event;
   /** As `run`, with an entry for each step that it made. */
   trace(steps: number): [Stop, Traced[]];
   /** The entries of a trace one by one, up to a stop or `limit` steps. The machine makes up to 1024 steps ahead of
@@ -308,9 +346,14 @@ export class Rsp {
   iter_trace(limit?: number): Generator<Traced, void, undefined>;
   /** Undoes 1 to 1000000 steps. SHORT_HISTORY if the history holds fewer. */
   back(states: number): void;
+  /** How many steps can be undone. */
+  history(): number;
   /** Goes past the MFC0 or MTC0 at pc without its meaning: register rt of an MFC0 becomes the value. It empties the
    * history. OK, or HALTED if the machine is halted. Of any other word it is refused. */
   pass_move(value?: number): Status.OK | Status.HALTED;
+  /** Goes past the DMA at pc, whose bytes the caller then moves: all is as after a step, the SP registers too, but the
+   * memories stay. It empties the history. OK, or HALTED if the machine is halted. Of any other word it is refused. */
+  pass_dma(): Status.OK | Status.HALTED;
   /** Sets a breakpoint at an address of IMEM, a multiple of 4 below 4096; at most sixteen. */
   add_break(place: number): void;
   /** Removes the breakpoint at an address. */
@@ -325,6 +368,11 @@ export class Rsp {
   regs(): Scalars;
   /** The eight lanes of vector register `number`, 0 to 31. */
   vreg(number: number): Uint16Array;
+  /** Sets scalar register `number`, 0 to 31, to a value below 2**32, of register 0 to 0, and empties the history. */
+  set_reg(number: number, value: number): void;
+  /** Sets the eight lanes of vector register `number`, 0 to 31, to numbers below 65536, and empties the history. A
+   * RangeError for other lanes. */
+  set_vreg(number: number, lanes: ArrayLike<number> & Iterable<number>): void;
   /** The accumulators. */
   acc(): Accumulators;
   /** The flags. */
@@ -366,9 +414,10 @@ export class Bench {
   readonly rdram: Uint8Array;
 }
 
-/** The replies of `rsp run` to a script, and the image as the script leaves it. */
+/** The replies of `rsp run` to a script, and the image as the script leaves it. With `strict` a reply that is a fault
+ * throws a ScriptError, and the lines after it aren't run. */
 export function run_script(
-  script: string | ArrayBuffer | ArrayBufferView, image?: ArrayBuffer | ArrayBufferView,
+  script: string | ArrayBuffer | ArrayBufferView, image?: ArrayBuffer | ArrayBufferView, strict?: boolean,
 ): [Uint8Array, Uint8Array];
 
 /** What `first_difference` calls of an emulator. A machine has all of it, so a second machine can be the emulator. */

@@ -2,42 +2,22 @@
  * module calls is proved to follow the instruction table; the module is tested. docs/EMBEDDING.md shows how it is used,
  * and rsp.d.ts has each call. */
 
+import { instantiated } from "./module.js";
 import { Accumulators, Bank, Changes, Divider, FIELDS, Flags, Reason, Scalars, SpWords, State, Status, Traced, layout,
   read } from "./shapes.js";
+import { strict_replies } from "./strict.js";
 import { AssemblyError, RspError, allowed, bytes_of, numbers, refusal, state_refusal, words_of } from "./words.js";
 
 export { Accumulators, Bank, Changes, Difference, Divider, FAULTS, Flags, Part, Reason, Scalars, SpWords, State, Status,
   Traced } from "./shapes.js";
-export { AssemblyError, RspError } from "./words.js";
+export { AssemblyError, RspError, ScriptError } from "./words.js";
 export { first_difference } from "./compare.js";
 
 export const { DMEM, IMEM, RDRAM } = Bank;
 export const VERSION = 1;
 
-const NEEDED = "rsp needs WebAssembly with 64-bit memories: Chrome and Edge have them since 133, Firefox since 134, "
-  + "Node since 24; Safari hasn't";
-
-/** The bytes of rsp.wasm, beside this file: from the disk in Node, else as it is served. */
-async function compiled() {
-  const url = new URL("./rsp.wasm", import.meta.url);
-  const files = url.protocol === "file:" && globalThis.process?.getBuiltinModule?.("node:fs");
-  if (files) return files.readFileSync(url);
-  const answer = await fetch(url);
-  if (!answer.ok) throw new Error(`rsp.wasm isn't served: ${answer.status} ${answer.statusText}`);
-  return answer.arrayBuffer();
-}
-
 /** The calls of rsp.h. */
-async function instantiated() {
-  const bytes = await compiled();
-  try {
-    return (await WebAssembly.instantiate(bytes, {})).instance.exports;
-  } catch (cause) {
-    throw new Error(NEEDED, { cause });
-  }
-}
-
-const wasm = await instantiated();
+const wasm = await instantiated(new URL("./rsp.wasm", import.meta.url));
 if (wasm.rsp_version() !== VERSION) {
   throw new Error(`rsp.wasm has version ${wasm.rsp_version()} of the interface, and this module is for ${VERSION}`);
 }
@@ -108,6 +88,12 @@ function stop_of({ reason, steps, pc, watch, word }) {
   return { reason, steps, pc, watch: of(Reason.WATCH, watch), word: of(Reason.RESERVED, word), move: null };
 }
 
+/** The same with the move before which it is. */
+function move_stop_of({ stop, word, number, writes, value }) {
+  const is_move = stop.reason === Reason.MOVE || stop.reason === Reason.DMA;
+  return { ...stop_of(stop), move: is_move ? { word, number, writes: writes !== 0, value } : null };
+}
+
 function bytes_of_words(words) { return new Uint8Array(words.buffer); }
 
 function text_of(bytes) { return new TextDecoder().decode(bytes); }
@@ -134,6 +120,18 @@ export function assemble(text, origin = 0) {
     if (status === Status.NO_MEANING) throw assembly_error(origin, text, at, length);
     ok(status, "assemble", [origin]);
     return new Uint32Array(copied(words, 4 * struct("RspAssembled").count).buffer);
+  }));
+}
+
+export function labels(text, origin = 0) {
+  assemble(text, origin);
+  const raw = new TextEncoder().encode(text), most = text.split("\n").length, { size, fields } = layout("RspLabel");
+  return given_to("labels", raw, (at) => lent("labels", most * size, (to) => {
+    ok(wasm.rsp_labels(origin, at, BigInt(raw.length), to, BigInt(most), HERE), "labels");
+    return Object.fromEntries(Array.from({ length: length_at(HERE) }, (_, n) => {
+      const it = to + BigInt(n * size), { address, len } = struct("RspLabel", it);
+      return [text_of(copied(it + BigInt(fields.at(-1).offset), len)), address];
+    }));
   }));
 }
 
@@ -289,9 +287,14 @@ export class Rsp {
 
   run_until_move(steps, reads, writes) {
     this.#fill("run_until_move", [steps, reads, writes]);
-    const { stop, word, number, writes: is_write, value } = struct("RspMove");
-    const move = stop.reason === Reason.MOVE ? { word, number, writes: is_write !== 0, value } : null;
-    return { ...stop_of(stop), move };
+    return move_stop_of(struct("RspMove"));
+  }
+
+  event(steps, reads = 0, writes = 0) {
+    this.#fill("event", [steps, reads, writes]);
+    const { at, dma, status, interrupt } = struct("RspReached"), stop = move_stop_of(at);
+    const next = stop.reason === Reason.DMA ? { ...dma, to_rdram: dma.to_rdram !== 0 } : null;
+    return { ...stop, dma: next, status, interrupt: interrupt !== 0 };
   }
 
   trace(steps) {
@@ -321,6 +324,17 @@ export class Rsp {
     return status;
   }
 
+  pass_dma() {
+    const status = wasm.rsp_pass_dma(this.#at);
+    if (status !== Status.HALTED) ok(status, "pass_dma");
+    return status;
+  }
+
+  history() {
+    ok(wasm.rsp_history(this.#at, HERE), "history");
+    return length_at(HERE);
+  }
+
   add_break(place) { this.#call("add_break", [place]); }
 
   drop_break(place) { this.#call("drop_break", [place]); }
@@ -339,6 +353,27 @@ export class Rsp {
   vreg(number) {
     this.#fill("vreg", [number]);
     return new Uint16Array(copied(HERE, layout("RspLanes").size).buffer);
+  }
+
+  /** Sets what `change` does to the state. */
+  #change(call, change) {
+    this.#fill(call, [], "get");
+    const state = State.over(copied(HERE, State.size));
+    change(state);
+    put_here(call, "state", State, state);
+    ok(wasm.rsp_set(this.#at, HERE), call);
+  }
+
+  set_reg(number, value) {
+    const given = numbers("set_reg", [number, value]);
+    if (number > 31 || (value && !number)) throw refusal(Status.OUT_OF_RANGE, "set_reg", given);
+    this.#change("set_reg", (state) => { state.words[number] = value; });
+  }
+
+  set_vreg(number, lanes) {
+    const given = numbers("set_vreg", [number]);
+    if (number > 31) throw refusal(Status.OUT_OF_RANGE, "set_vreg", given);
+    this.#change("set_vreg", (state) => { state.vectors = state.vectors.map((it, n) => n === number ? lanes : it); });
   }
 
   acc() { return this.#registers(Accumulators, "acc"); }
@@ -367,6 +402,11 @@ export class Rsp {
       return Array.from({ length: count }, (_, n) => line_at(at + BigInt(n * size)));
     });
   }
+}
+
+/** The bytes of a script, which a text may be. */
+function script_of(call, script) {
+  return typeof script === "string" ? new TextEncoder().encode(script) : bytes_of(call, "script", script);
 }
 
 function joined(parts) {
@@ -412,7 +452,7 @@ export class Bench {
   feed(script) { return joined([...this.iter_feed(script)]); }
 
   * iter_feed(script) {
-    const raw = typeof script === "string" ? new TextEncoder().encode(script) : bytes_of("feed", "script", script);
+    const raw = script_of("feed", script);
     const used = HERE + CELL, lf = 10;
     let at = 0;
     do {
@@ -436,10 +476,10 @@ export class Bench {
   }
 }
 
-export function run_script(script, image) {
-  const bench = new Bench(image);
+export function run_script(script, image, strict = false) {
+  const bench = new Bench(image), raw = script_of("run_script", script);
   try {
-    return [joined([bench.feed(script), bench.end()]), bench.rdram];
+    return [joined(strict ? strict_replies(bench, raw) : [bench.feed(raw), bench.end()]), bench.rdram];
   } finally {
     bench.free();
   }

@@ -14,7 +14,7 @@ export const Status = Object.freeze(numbered(0, "OK", "NO_MACHINE", "NO_MEMORY",
   "NO_MEANING", "TASK_PLACE", "TASK_SIZE", "BREAK_FULL", "BREAK_TWICE", "NO_BREAK", "WATCH_FULL", "NO_WATCH",
   "SHORT_HISTORY", "NO_ROOM", "ENDED", "TOO_LONG"));
 export const Bank = Object.freeze(numbered(0, "DMEM", "IMEM", "RDRAM"));
-export const Reason = Object.freeze(numbered(0, "RESERVED", "HALT", "WATCH", "BREAK", "LIMIT", "MOVE"));
+export const Reason = Object.freeze(numbered(0, "RESERVED", "HALT", "WATCH", "BREAK", "LIMIT", "MOVE", "DMA"));
 export const FAULTS = Object.freeze({
   10: "BadLine", 11: "UnknownName", 12: "BadOperand", 13: "OutOfRange", 14: "LabelTwice", 15: "LabelMissing",
   16: "PastEnd", 17: "OutOfMemory", 33: "NotText",
@@ -27,6 +27,9 @@ export const FIELDS = Object.freeze({ 1: "words[0]", 2: "divider.loaded", 3: "pc
 export const STRUCTS = {
   RspStop: [["reason", "u32"], ["steps", "u32"], ["watch", "u64"], ["pc", "u16"], ["word", "u32"]],
   RspMove: [["stop", "RspStop"], ["word", "u32"], ["number", "u32"], ["writes", "u32"], ["value", "u32"]],
+  RspDma: [["bank", "u32"], ["address", "u32"], ["rdram", "u32"], ["length", "u32"], ["rows", "u32"], ["skip", "u32"],
+    ["to_rdram", "u32"]],
+  RspReached: [["at", "RspMove"], ["dma", "RspDma"], ["status", "u32"], ["interrupt", "u32"]],
   RspTraced: [["word", "u32"], ["value", "u32"], ["pc", "u16"], ["address", "u16"], ["vco", "u16"], ["vcc", "u16"],
     ["vce", "u8"], ["scalar", "u8"], ["vector", "u8"], ["stored", "u8"], ["lanes", "u16", 8]],
   RspScalars: [["words", "u32", 32], ["pc", "u16"], ["npc", "u16"]],
@@ -40,6 +43,7 @@ export const STRUCTS = {
   RspSpWords: [["words", "u32", 16], ["interrupt", "u32"]],
   RspChanges: [["traced", "RspTraced"], ["pc", "u16"], ["npc", "u16"], ["divider", "RspDivideState"],
     ["quadword", "u16"], ["accumulators", "RspAccumulators"], ["bytes", "u8", 32]],
+  RspLabel: [["address", "u16"], ["len", "u16"], ["name", "u8", 36]],
   RspAssembled: [["count", "u64"], ["line", "u64"], ["fault", "u32"]],
   RspLine: [["word", "u32"], ["place", "u16"], ["len", "u16"], ["text", "u8", 68]],
   RspOperand: [["low", "i64"], ["high", "i64"], ["number", "u64"], ["kind", "u32"], ["step", "u32"]],

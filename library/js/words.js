@@ -21,6 +21,7 @@ export const ARGUMENTS = {
   set_pc: { pc: PLACE },
   run: { steps: COUNT },
   run_until_move: { steps: COUNT, reads: MASK, writes: MASK },
+  event: { steps: COUNT, reads: MASK, writes: MASK },
   trace: { steps: COUNT },
   iter_trace: { limit: WORD },
   back: { states: COUNT },
@@ -31,6 +32,8 @@ export const ARGUMENTS = {
   drop_watch: { number: WORD },
   reg: { number: REGISTER },
   vreg: { number: REGISTER },
+  set_reg: { number: REGISTER, value: WORD },
+  set_vreg: { number: REGISTER },
   read: { number: WORD },
   peek: { number: WORD },
   write: { number: WORD, value: WORD },
@@ -46,15 +49,19 @@ const TOGETHER = {
   load_words: (bank, address) => `the words from ${address} on pass the end of ${Bank[bank]}`,
   memory: (bank, address, length) => `${length} bytes from ${address} on pass the end of ${Bank[bank]}`,
   memory_words: (bank, address, count) => `${count} words from ${address} on pass the end of ${Bank[bank]}`,
+  pass_dma: () => "the word at pc starts no DMA",
   pass_move: () => "the word at pc is no MFC0 or MTC0",
+  set_reg: (number, value) => `register 0 holds 0, and not ${value}`,
   set_sp: () => "a word can't be read from its SP register, or interrupt isn't 0 or 1",
   listing: (place, count) => `${count} words from ${place} on pass the end of IMEM`,
   add_watch: (address, length) => `${length} bytes from ${address} on pass the end of DMEM`,
 };
 
+/** The calls of a bench: all others are of a machine. */
+const OF_BENCH = ["feed", "end", "rdram"];
+
 /** By status, of the first number that the call was given. */
 const SENTENCES = {
-  1: () => "the machine is freed",
   2: () => "an allocation failed",
   7: (n) => `${n} isn't a multiple of 8, or the 64 bytes from there pass the image's end`,
   8: (n) => `the size of the boot code, the word at offset 12 of the structure at ${n}, isn't 1 to 4096`,
@@ -90,6 +97,16 @@ export class AssemblyError extends RspError {
   }
 }
 
+/** A reply is a fault. */
+export class ScriptError extends Error {
+  name = "ScriptError";
+
+  constructor(line, text, reply) {
+    super(`line ${line}: ${reply}${text && `: ${text.slice(0, 80)}`}`);
+    Object.assign(this, { line, text, reply, fault: Number(reply.split(" ")[1]) });
+  }
+}
+
 function out_of_range(call, given) {
   const names = Object.entries(ARGUMENTS[call] ?? {});
   const at = names.findIndex(([, allowed], n) => n < given.length && !allowed.has(given[n]));
@@ -99,7 +116,9 @@ function out_of_range(call, given) {
 
 /** The error of a status, of a call with these numbers. */
 export function refusal(status, call, given = []) {
-  const why = status === Status.OUT_OF_RANGE ? out_of_range(call, given) : SENTENCES[status]?.(...given) ?? "refused";
+  const gone = `the ${OF_BENCH.includes(call) ? "bench" : "machine"} is freed`;
+  const why = status === Status.OUT_OF_RANGE ? out_of_range(call, given)
+    : status === Status.NO_MACHINE ? gone : SENTENCES[status]?.(...given) ?? "refused";
   return new RspError(status, `${call}: ${why}`);
 }
 
@@ -147,11 +166,11 @@ export function state_refusal(field, state) {
   return `${field} is 0x${hex(state.sp[number], 0)}, which ${SP_NAMES[number]} can't hold`;
 }
 
-const NUMBER = "a number or a label,", VECTOR = "a vector register";
+const NUMBER = "a number or a label,", VECTOR = "a vector register, $v0 to $v31";
 /** By the numbers of RSP_OPERAND_ in rsp.h. A range follows what ends with a comma. */
-const FORMS = ["nothing", NUMBER, "a scalar register", ...Array(6).fill(NUMBER), "an SP register, $c0 to $c15",
-  "$vco, $vcc or $vce", VECTOR, `${VECTOR}, with a byte or none`, `${VECTOR}, with an element or none`,
-  `${VECTOR}, with a lane`];
+const FORMS = ["nothing", NUMBER, "a scalar register, $0 to $31 or as $t0, but not $v0 and $v1", ...Array(6).fill(NUMBER),
+  "an SP register, $c0 to $c15", "$vco, $vcc or $vce", VECTOR, `${VECTOR}, with a byte, [0] to [15], or none`,
+  `${VECTOR}, with an element, [v], [0q], [1q], [0h] to [3h] or [0] to [7], or none`, `${VECTOR}, with a lane, [0] to [7]`];
 
 /** Which operand is at fault, and what it may be; nothing if none is. */
 export function allowed(found, fault) {
