@@ -135,8 +135,9 @@ static int registers_differ(void)
 /* After the machine has run the task, for so many steps. A task that waits for the CPU has no end to compare, so it runs in steps alone. */
 void check_end(uint32_t steps)
 {
-    int found = 1, has_ended = (*ours->sp[SP_STATUS] & HALTED) != 0;
+    int found = 1, has_ended;
     if (!is_open) return;
+    has_ended = (*ours->sp[SP_STATUS] & HALTED) != 0;
     begin_other(&start);
     if (!begin_lock_step(&start, steps)) tell(M64_WARNING, "check: task %lu: there is no process for single steps", start.task);
     if (has_ended) {

@@ -45,8 +45,8 @@ static int restart(const task_start *start)
 static void begin_script_here(unsigned long step)
 {
     rsp_get(&mine.machine, &found.from);
-    rsp_memory_words(&mine.machine, RSP_DMEM, 0, found.from_memory[RSP_DMEM], MEMORY_WORDS);
-    rsp_memory_words(&mine.machine, RSP_IMEM, 0, found.from_memory[RSP_IMEM], MEMORY_WORDS);
+    memcpy(found.from_memory[RSP_DMEM], memories[RSP_DMEM], sizeof memories[RSP_DMEM]);
+    memcpy(found.from_memory[RSP_IMEM], memories[RSP_IMEM], sizeof memories[RSP_IMEM]);
     found.from_step = step;
 }
 

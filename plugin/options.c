@@ -6,7 +6,7 @@
 #include <stdio.h>
 
 __asm__(".symver dlsym, dlsym@GLIBC_2.2.5"); /* by the version that it had when it was in libdl, the plugin loads with an older glibc too */
-plugin_options options = { .wait_reads = 512, .check_folder = ".", .check_addresses = 1 };
+plugin_options options = { .check_folder = ".", .check_addresses = 1 };
 static m64p_message *message;
 static void *message_context;
 
@@ -33,9 +33,9 @@ static struct core_calls {
     m64p_save_section *save;
     m64p_get *get;
     m64p_default_float *default_float;
-    m64p_default_int *default_int, *default_bool;
+    m64p_default_int *default_bool;
     m64p_default_text *default_text;
-    m64p_get_int *get_int, *get_bool;
+    m64p_get_int *get_bool;
     m64p_get_text *get_text;
     m64p_do_command *do_command;
 } core_calls;
@@ -46,8 +46,7 @@ static int find_calls(void *core)
     static const struct { const char *name; void *call; } calls[] = {
         { "CoreGetAPIVersions", &core_calls.versions }, { "ConfigOpenSection", &core_calls.open },
         { "ConfigSaveSection", &core_calls.save }, { "ConfigGetParameter", &core_calls.get }, { "ConfigSetDefaultFloat", &core_calls.default_float },
-        { "ConfigSetDefaultInt", &core_calls.default_int }, { "ConfigSetDefaultBool", &core_calls.default_bool },
-        { "ConfigSetDefaultString", &core_calls.default_text }, { "ConfigGetParamInt", &core_calls.get_int },
+        { "ConfigSetDefaultBool", &core_calls.default_bool }, { "ConfigSetDefaultString", &core_calls.default_text },
         { "ConfigGetParamBool", &core_calls.get_bool }, { "ConfigGetParamString", &core_calls.get_text },
         { "CoreDoCommand", &core_calls.do_command }
     };
@@ -82,8 +81,6 @@ static void read_section(void *section)
     core_calls.default_float(section, "Version", 1, "Version of this section's options");
     options.graphics_by_plugin = read_bool(section, "DisplayListToGraphicsPlugin", 0, "Send display lists to the graphics plugin instead of executing them");
     options.audio_by_plugin = read_bool(section, "AudioListToAudioPlugin", 0, "Send audio lists to the audio plugin instead of executing them");
-    core_calls.default_int(section, "WaitReads", 512, "Reads of SP_STATUS or the semaphore after which a task waits for the CPU");
-    options.wait_reads = core_calls.get_int(section, "WaitReads");
     read_text(options.check_against, sizeof options.check_against, section, "CheckAgainst", "", "File of another RSP plugin to be checked task by task; empty for none");
     read_text(options.check_folder, sizeof options.check_folder, section, "CheckFolder", ".", "Folder for the reports of differences");
     options.check_addresses = read_bool(section, "CheckAddresses", 1, "Whether SP_MEM_ADDR and SP_DRAM_ADDR are compared");

@@ -86,7 +86,7 @@ static int is_sent_on(void)
     return 1;
 }
 
-/* Executes the RSP from SP_PC to its halt, for at most so many instructions, or until it seems to wait for the CPU. Returns the instructions. */
+/* Executes the RSP from SP_PC to its halt, for at most so many instructions, or until it waits for the CPU. Returns the instructions. */
 EXPORTED unsigned DoRspCycles(unsigned cycles)
 {
     uint32_t steps, most = cycles < LONGEST_CALL ? cycles : LONGEST_CALL;

@@ -3,12 +3,13 @@
 #include "plugin.h"
 #include <stdlib.h>
 
-/* Before an MTC0 of these: a DMA begins, or the RDP gets a list. Before an MFC0 of these: the task may be waiting for the CPU. */
+/* Before an MTC0 of these: a DMA begins, or the RDP gets a list. Before any MFC0, while it is searched whether the task waits for the CPU. */
 enum {
     STOP_AT_WRITES = 1 << SP_RD_LEN | 1 << SP_WR_LEN | 0xff00,
-    STOP_AT_READS = 1 << SP_STATUS | 1 << SP_SEMAPHORE,
+    STOP_AT_READS = 0xffff,
     STEPS_AT_ONCE = 1000000
 };
+enum { BREAK = 0x0000000d };
 
 static int make_machine(rsp_unit *unit)
 {
@@ -16,7 +17,14 @@ static int make_machine(rsp_unit *unit)
     uint32_t status = zeros ? rsp_new(&unit->machine, zeros, unit->rdram_size, 0) : RSP_NO_MEMORY;
     free(zeros);
     unit->copy[RSP_DMEM] = unit->copy[RSP_IMEM] = (memory_copy){ 0 };
+    unit->next_pc = 0;
     return status == RSP_OK;
+}
+
+/* Whether the task's first word is a BREAK that the machine has in IMEM already. Such a task neither reads nor changes a memory, so none is carried. */
+static int is_break(const rsp_unit *unit, uint32_t pc)
+{
+    return unit->memory[RSP_IMEM][pc / 4] == BREAK && unit->copy[RSP_IMEM].words[pc / 4] == BREAK;
 }
 
 /* Gives the machine what the emulator has. The machine keeps npc if it goes on where it stopped, which may be a delay slot. Returns 0 if there is no
@@ -24,13 +32,15 @@ static int make_machine(rsp_unit *unit)
 int begin_task(rsp_unit *unit)
 {
     uint32_t pc = *unit->pc & 0xffc;
-    rsp_scalars now;
     if (!unit->machine.at && !make_machine(unit)) return 0;
-    carry_in(unit, RSP_DMEM);
-    carry_in(unit, RSP_IMEM);
+    unit->has_memories = !is_break(unit, pc);
+    if (unit->has_memories) {
+        carry_in(unit, RSP_DMEM);
+        carry_in(unit, RSP_IMEM);
+    }
     registers_in(unit);
-    rsp_regs(&unit->machine, &now);
-    if (pc != now.pc) rsp_set_pc(&unit->machine, pc);
+    if (pc != unit->next_pc) rsp_set_pc(&unit->machine, pc);
+    unit->next_pc = pc;
     unit->imem_moved = 0;
     return 1;
 }
@@ -38,13 +48,18 @@ int begin_task(rsp_unit *unit)
 /* Gives the emulator what the machine has. Returns whether the task raised an interrupt. */
 int end_task(rsp_unit *unit)
 {
-    rsp_scalars now;
     int interrupt = (int)registers_out(unit);
-    carry_out(unit, RSP_DMEM);
+    if (unit->has_memories) carry_out(unit, RSP_DMEM);
     if (unit->imem_moved) carry_out(unit, RSP_IMEM);
-    rsp_regs(&unit->machine, &now);
-    *unit->pc = now.pc;
+    *unit->pc = unit->next_pc;
     return interrupt;
+}
+
+static uint32_t pc_of(rsp_unit *unit)
+{
+    rsp_scalars now;
+    rsp_regs(&unit->machine, &now);
+    return now.pc;
 }
 
 uint32_t word_at(rsp_unit *unit, uint16_t pc)
@@ -69,12 +84,12 @@ static void make_dma(rsp_unit *unit, const rsp_move *at)
     }
 }
 
-/* Executes the move before which the machine has stopped. */
-static void make_move(rsp_unit *unit, const rsp_move *at)
+/* Executes the MTC0 before which the machine has stopped. */
+static void make_write(rsp_unit *unit, const rsp_move *at)
 {
-    if (at->writes && at->number < DPC_START) { make_dma(unit, at); return; }
+    if (at->number < DPC_START) { make_dma(unit, at); return; }
     rsp_step(&unit->machine);
-    if (at->writes) write_dpc(unit, at->number, at->value);
+    write_dpc(unit, at->number, at->value);
 }
 
 /* A reserved word, at which the machine doesn't go on, does nothing: NOP is executed in its place. */
@@ -88,22 +103,26 @@ static void pass_reserved(rsp_unit *unit, const rsp_stop *at)
     rsp_load_words(&unit->machine, RSP_IMEM, at->pc, &at->word, 1);
 }
 
-/* Runs the task to its halt, for at most so many steps, or until it seems to wait for the CPU. Returns the steps. */
+/* Runs the task to its halt, for at most so many steps, or until it waits for the CPU. Returns the steps. */
 uint32_t run_task(rsp_unit *unit, uint32_t most)
 {
     uint32_t steps = 0;
-    int waits = 0;
+    wait_search search;
     rsp_move at;
+    begin_search(&search, 0);
     while (steps < most) {
-        uint32_t left = most - steps;
-        rsp_run_until_move(&unit->machine, left < STEPS_AT_ONCE ? left : STEPS_AT_ONCE, STOP_AT_READS, STOP_AT_WRITES, &at);
+        int compares = steps >= search.begins;
+        uint32_t end = compares || most < search.begins ? most : search.begins, left = end - steps;
+        rsp_run_until_move(&unit->machine, left < STEPS_AT_ONCE ? left : STEPS_AT_ONCE, compares ? STOP_AT_READS : 0, STOP_AT_WRITES, &at);
         steps += at.stop.steps;
+        unit->next_pc = at.stop.pc;
         if (at.stop.reason == RSP_AT_HALT || steps == most) break;
         if (at.stop.reason == RSP_AT_LIMIT) continue;
-        if (at.stop.reason == RSP_AT_MOVE && !at.writes && waits++ == options.wait_reads) break;
-        if (at.stop.reason == RSP_AT_MOVE) make_move(unit, &at);
-        else pass_reserved(unit, &at.stop);
-        steps++;
+        if (at.stop.reason == RSP_AT_RESERVED) pass_reserved(unit, &at.stop);
+        else if (at.writes) make_write(unit, &at), begin_search(&search, steps);
+        else if (is_waiting(unit, &search, steps)) break;
+        else rsp_step(&unit->machine);
+        if (++steps == most) unit->next_pc = pc_of(unit);
     }
     return steps;
 }

@@ -6,6 +6,7 @@
  *   start, shutdown, initiate, close     the plugin's calls
  *   about                        what PluginGetVersion says
  *   cycles N                     DoRspCycles; `cycles! N` calls it in a thread of its own
+ *   ends N                       DoRspCycles, and how the task ends: halted, waiting after fewer than N instructions, or running
  *   tasks N                      N times: pc 0, status 0, DoRspCycles without a limit; the sum of the steps
  *   file BANK ADDRESS FILE       bytes of a file into a memory: rdram, dmem or imem
  *   put BANK ADDRESS WORD..      words into a memory
@@ -131,6 +132,12 @@ static unsigned cycles_in_thread(unsigned n)
     return n;
 }
 
+static const char *end_of(unsigned most)
+{
+    unsigned made = plugin.cycles(most);
+    return registers[5] & 1 ? "halted" : made < most ? "waiting" : "running";
+}
+
 static void run_tasks(unsigned long n)
 {
     unsigned long steps = 0;
@@ -212,6 +219,7 @@ static void obey(char (*w)[256], char *rest)
     else if (!strcmp(w[0], "close")) plugin.close();
     else if (!strcmp(w[0], "cycles")) printf("cycles %u\n", plugin.cycles((unsigned)strtoul(w[1], NULL, 10)));
     else if (!strcmp(w[0], "cycles!")) printf("cycles %u\n", cycles_in_thread((unsigned)strtoul(w[1], NULL, 10)));
+    else if (!strcmp(w[0], "ends")) printf("ends %s\n", end_of((unsigned)strtoul(w[1], NULL, 10)));
     else if (!strcmp(w[0], "tasks")) run_tasks(strtoul(w[1], NULL, 10));
     else if (!strcmp(w[0], "file")) read_file(memory(w[1]) + address / 4, strtok(rest, " \n"));
     else if (!strcmp(w[0], "put")) put_words(memory(w[1]) + address / 4, rest);

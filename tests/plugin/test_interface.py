@@ -1,5 +1,6 @@
 """Each call of the plugin's interface by an emulator that has nothing else (driver.c), bad input included."""
 
+import os
 import re
 import shutil
 from pathlib import Path
@@ -9,8 +10,9 @@ import pytest
 
 from lib import TOP
 from lib.pages import page
-from lib.plugin import HEADERS, HERE, Bench, begun
-from lib.processes import run, succeeds
+from lib.plugin import FLAGS, HEADERS, HERE, Bench, begun
+from lib.processes import compiled, run, succeeds
+from lib.sanitizers import sanitizers
 from lib.z64 import REGISTERS
 
 pytestmark = [pytest.mark.needs("cc"), pytest.mark.xdist_group("plugin")]
@@ -72,6 +74,19 @@ def test_under_valgrind(bench: Bench) -> None:
     got = bench.drive(lines, under=("valgrind", "-q", "--leak-check=full", "--error-exitcode=9"))
     assert len(got) > 100
     assert not [it for it in got if "==" in it or it.startswith("status")]
+
+
+def test_under_sanitizers(bench: Bench, folder: Path) -> None:
+    """All scripts again, one ROM after the other, by a plugin and a driver that gcc's sanitizers watch."""
+    words = sanitizers()
+    if not words:
+        pytest.skip("the sanitizers of gcc don't run here")
+    env = {**os.environ, "CFLAGS": " ".join(("-Werror", *words))}
+    succeeds(TOP / "plugin/build", folder / "plugin.so", env=env)
+    driver = compiled(folder / "driver", *FLAGS, *words, "-rdynamic", HERE / "driver.c", "-ldl", "-lpthread")
+    lines = [line for it in SCRIPTS for line in (*filled(bench, it.values[0]), "close", "shutdown")]
+    got = run(driver, folder / "plugin.so", input="".join(f"{it}\n" for it in lines), cwd=folder)
+    assert got.returncode == 0 and got.stdout.count("\n") > 100, got.stdout[-3000:]
 
 
 @pytest.mark.parametrize(
