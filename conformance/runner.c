@@ -57,27 +57,34 @@ static int run(rsp *m, rest *file)
     return is_wrong;
 }
 
-int main(int count, char **files)
+/* Runs the cases of a file, and counts them. Returns 0 if it is refused. */
+static int run_file(rsp *m, const char *name, uint32_t *cases, uint32_t *failed)
 {
     static uint8_t data[1 << 24];
-    rsp m = RSP_NONE;
-    uint32_t cases = 0, failed = 0, number;
-    if (rsp_new(&m, image, sizeof image, 0) != RSP_OK) return 2;
-    for (int i = 1; i < count; i++) {
-        FILE *file = fopen(files[i], "rb");
-        rest r = { data, data + (file ? fread(data, 1, sizeof data, file) : 0) };
-        char magic[12];
-        if (file) fclose(file);
-        if (!take(&r, magic, sizeof magic) || memcmp(magic, "RSPCASES\1\0\0", sizeof magic) != 0 || !take(&r, &number, sizeof number))
-            return fprintf(stderr, "%s has no flat vectors\n", files[i]), 2;
-        for (uint32_t k = 1; k <= number; k++, cases++) {
-            int is_wrong = run(&m, &r);
-            if (is_wrong < 0) return fprintf(stderr, "%s: case %u of %u isn't whole, or has a piece that no memory has\n", files[i], k, number), 2;
-            failed += (uint32_t)is_wrong;
-        }
-        if (r.at != r.end) return fprintf(stderr, "%s has bytes after its last case\n", files[i]), 2;
+    FILE *file = fopen(name, "rb");
+    rest r = { data, data + (file ? fread(data, 1, sizeof data, file) : 0) };
+    char magic[12];
+    uint32_t number;
+    if (file) fclose(file);
+    if (!take(&r, magic, sizeof magic) || memcmp(magic, "RSPCASES\1\0\0", sizeof magic) != 0 || !take(&r, &number, sizeof number))
+        return fprintf(stderr, "%s has no flat vectors\n", name), 0;
+    for (uint32_t k = 1; k <= number; k++, ++*cases) {
+        int is_wrong = run(m, &r);
+        if (is_wrong < 0) return fprintf(stderr, "%s: case %u of %u isn't whole, or has a piece that no memory has\n", name, k, number), 0;
+        *failed += (uint32_t)is_wrong;
     }
+    if (r.at != r.end) return fprintf(stderr, "%s has bytes after its last case\n", name), 0;
+    return 1;
+}
+
+int main(int count, char **files)
+{
+    rsp m = RSP_NONE;
+    uint32_t cases = 0, failed = 0;
+    int is_refused = rsp_new(&m, image, sizeof image, 0) != RSP_OK;
+    for (int i = 1; i < count && !is_refused; i++) is_refused = !run_file(&m, files[i], &cases, &failed);
     rsp_free(&m);
+    if (is_refused) return 2;
     printf("%u passed, %u failed\n", cases - failed, failed);
     return failed || !cases;
 }

@@ -10,7 +10,8 @@ extern "C" {
 /* A case: all registers, and the word at their pc. The memories before it are those of cases_open. */
 typedef struct rsp_case { rsp_state state; uint32_t word; } rsp_case;
 
-/* What it leaves. `status` is that of rsp_step, or UNSHOWN. `changed` is the digest of the memories, 0 if no byte has changed. */
+/* What it leaves. `status` is that of rsp_step, or UNSHOWN; RSP_RESERVED, of all cases of an instruction, says that the emulator lacks it.
+ * `changed` is the digest of the memories, 0 if no byte has changed. */
 typedef struct rsp_end { rsp_state state; uint32_t status; uint64_t changed; } rsp_end;
 #define UNSHOWN 0xFFFFFFFEu /* the emulator can't be given this case */
 

@@ -9,6 +9,7 @@ from rsp_conformance.bench import RspError, Script, joined, run_script
 from rsp_conformance.programs import MEMORY, Program, programs_of
 from rsp_conformance.steps import FLAG_NAMES
 from rsp_conformance.table import Row
+from rsp_conformance.vectors import memory_in
 
 Entry = Dict[str, Any]  # a program as a manifest has it
 
@@ -131,9 +132,9 @@ def run_manifest(program: str, manifest: Dict[str, Any], folder: Path) -> Iterat
     for number, entry in enumerate(entries):
         one = Script()
         bench.set_state(one, bench.DEFAULT, 0)
-        imem, dmem = ((folder / f"{entry['name']}.{kind}").read_bytes() for kind in ("imem", "dmem"))
+        imem, dmem = (memory_in(folder / f"{entry['name']}.{kind}") for kind in ("imem", "dmem"))
         run_images(one, imem, dmem)
         script.append(one, number)
     for entry, found in zip(entries, played(program, script, len(entries))):
-        after = (folder / f"{entry['name']}.after").read_bytes()
+        after = memory_in(folder / f"{entry['name']}.after")
         yield complaints(entry, after, bytes.fromhex(found["dmem"]))

@@ -133,6 +133,11 @@ def ignored_bits(row: Row) -> int:
     return ~known & 0xFFFFFFFF
 
 
+def row_of(word: int) -> Optional[Row]:
+    """The instruction of a word, also if bits of it that are ignored are set; None of a reserved word."""
+    return next((row for row in ROWS.values() if word & row.mask == row.value), None)
+
+
 def destination(row: Row) -> Optional[str]:
     """The field that names the scalar register which an instruction writes, or None."""
     if row.form in ("shift", "three", "link register"):

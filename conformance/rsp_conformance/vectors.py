@@ -40,6 +40,13 @@ def plain(path: Path) -> Path:
     return path
 
 
+def memory_in(path: Path) -> bytes:
+    """The bytes of a memory, of which no more are read than a memory has."""
+    if plain(path).stat().st_size != 4096:
+        raise VectorsFault(f"{path} hasn't the 4096 bytes of a memory")
+    return path.read_bytes()
+
+
 MEMORIES = ("dmem", "imem", "rdram")
 KEYS = {"before": {*bench.DEFAULT, "divided", *MEMORIES}, "after": {*bench.DEFAULT, *MEMORIES}}
 

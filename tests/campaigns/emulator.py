@@ -32,14 +32,18 @@ class Machine(rsp.Rsp):
     def memories(self) -> bytes:
         return b"".join(self.memory(bank, 0, length) for bank, _, length in BANKS.values())
 
+    def one(self) -> rsp.Status:
+        """A step."""
+        return super().step()
+
     def step(self, case: Any = None) -> Any:
         """A case, from the memories of the beginning; without one, a step."""
         if case is None:
-            return super().step()
+            return self.one()
         self.set(rsp.State.from_buffer_copy(case["state"].tobytes()))
         self.load_words(rsp.IMEM, int(case["state"]["pc"]), [int(case["word"])])
         before = self.memories()
-        status = super().step()
+        status = self.one()
         after, state = self.memories(), self.get()
         self.load_all(self.before)
         return state, int(status), {at: byte for at, byte in enumerate(after) if byte != before[at]}
@@ -48,8 +52,34 @@ class Machine(rsp.Rsp):
         """Makes steps up to a halt or a reserved word, and returns the last status."""
         status = rsp.Status.OK
         while steps and status == rsp.Status.OK:
-            status, steps = super().step(), steps - 1
+            status, steps = self.one(), steps - 1
         return int(status)
+
+
+class WrongShift(Machine):
+    """SRA changes the lowest bit of its result if its word has bits that are ignored."""
+
+    def one(self) -> rsp.Status:
+        (word,) = self.memory_words(rsp.IMEM, self.get().pc, 1)
+        status, number = super().one(), word >> 11 & 31
+        if word & 0xFC00003F == 3 and word >> 21 & 31 and number:
+            state = self.get()
+            state.words[number] ^= 1
+            self.set(state)
+        return status
+
+    def run(self, steps: int) -> Any:
+        self.go(steps)
+
+
+class Without(Machine):
+    """Lacks VADD, and takes every second SRA for a reserved word."""
+
+    def step(self, case: Any = None) -> Any:
+        word = int(case["word"])
+        is_lacking = word & 0xFE00003F == 0x4A000010 or (word & 0xFC00003F == 3 and word >> 16 & 1)
+        state, status, changed = super().step(case)
+        return (state, 5, {}) if is_lacking else (state, status, changed)
 
 
 class Forgets(Machine):
@@ -95,6 +125,8 @@ def misbehave(how: str) -> None:
     if how == "hang":
         time.sleep(3600)
     if how == "die":
+        sys.stderr.write("panicked:\n  \x1b]0;title\x07boom\n")
+        sys.stderr.flush()
         os._exit(3)
     if how == "garbage":
         print("no JSON", flush=True)

@@ -2,6 +2,7 @@
  * a bit if the instruction before it was LQV. FAULT=3: it dies after a batch that has a case of the word WORD. FAULT=4: VLT changes a bit after
  * a CTC2, unless the registers were read or set since. */
 #include "rsp.h"
+#include <stdio.h>
 static uint32_t faulty_step(rsp *m);
 static int is_spoilt;
 static uint32_t faulty_get(rsp *m, rsp_state *s) { is_spoilt = 0; return rsp_get(m, s); }
@@ -22,7 +23,7 @@ static uint32_t faulty_set(rsp *m, const rsp_state *s) { is_spoilt = 0; return r
 int cases_run(void *at, const rsp_case *in, rsp_end *out, size_t n)
 {
     int refused = library_run(at, in, out, n);
-    for (size_t i = 0; i < n; i++) if (FAULT == 3 && in[i].word == WORD) abort();
+    for (size_t i = 0; i < n; i++) if (FAULT == 3 && in[i].word == WORD) fputs("core: \033[31mboom\n", stderr), abort();
     return refused;
 }
 

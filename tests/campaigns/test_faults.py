@@ -18,8 +18,8 @@ pytestmark = [pytest.mark.needs("cc", "python:numpy"), pytest.mark.usefixtures("
 
 CASE_17, CASE_18, CASE_39 = (name_of("vadd", "1", number) for number in (17, 18, 39))
 WRONG = {
-    "hang": "no answer within 1 seconds",
-    "die": "the command ended with status 3",
+    "hang": "no answer within 1 second",
+    "die": "the command ended with status 3; it wrote: panicked: / \\x1b]0;title\\x07boom",
     "garbage": "the command answered b'no JSON",
 }
 
@@ -57,7 +57,8 @@ def test_answer_that_is_none(how: str, told: str) -> None:
 def test_fault_that_a_case_does_not_show(is_late: bool, folder: Path) -> None:
     """Its cause is named."""
     emulator = faulty(3, f"-DWORD=0x{word_17()}") if is_late else f"{EMULATOR} after {word_17()}"
-    what = f"{CASE_39}: ended by SIGABRT" if is_late else f"{CASE_18}: the command ended with status 3"
+    late = f"{CASE_39}: ended by SIGABRT; it wrote: core: \\x1b[31mboom"
+    what = late if is_late else f"{CASE_18}: {WRONG['die']}"
     said = forty(emulator, folder)
     assert f"{what}; the shortest run that shows it begins with {CASE_17}" in said
 

@@ -11,9 +11,9 @@ from typing import Any, Dict, List
 import pytest
 
 from rsp_conformance.campaign import CampaignFault
-from rsp_conformance.campaign.report import html_table, results_in
+from rsp_conformance.campaign.report import html_table, results_in, text_table
 from rsp_conformance.campaign.task import nothing
-from rsp_conformance.vectors import VectorsFault, entries_in, manifest_in
+from rsp_conformance.vectors import VectorsFault, entries_in, manifest_in, memory_in
 
 RESULT: Dict[str, Any] = {**nothing(), "instruction": "vadd", "start": 0, "size": 20}
 CASE: Dict[str, Any] = {
@@ -67,6 +67,15 @@ def test_result_is_escaped(folder: Path) -> None:
     assert "<script" not in page and page.count("&lt;script&gt;") == 6
 
 
+def test_result_is_shown_without_control_characters(folder: Path) -> None:
+    mark = "\x1b]0;title\x07 and \x9b31m\u202e\n"
+    result = {**RESULT, "unseen": [mark], "shown": [mark], "given up": mark}
+    (folder / "vadd-0-20.json").write_text(json.dumps(result))
+    told = text_table(results_in(folder))
+    assert told.count(r"\x1b]0;title\x07 and \x9b31m\u202e\n") == 3
+    assert all(line.isprintable() for line in told.split("\n")) and told.count("\n") == 2
+
+
 CASES = {
     "no case": "[]",
     "nested": NESTED,
@@ -104,3 +113,17 @@ def test_pipes_are_no_vectors(folder: Path) -> None:
     for read in (entries_in, manifest_in):
         with pytest.raises(VectorsFault, match="is no file"):
             read(folder, "ADD")
+
+
+@pytest.mark.parametrize("kind", ("pipe", "zeros without an end", "too long"))
+def test_no_memory(kind: str, folder: Path) -> None:
+    """The images of a program: a file of 4096 bytes, and nothing that has to be waited for."""
+    image = folder / "ADD-0.imem"
+    if kind == "pipe":
+        os.mkfifo(image)
+    elif kind == "too long":
+        image.write_bytes(bytes(4097))
+    else:
+        image.symlink_to("/dev/zero")
+    with pytest.raises(VectorsFault, match="ADD-0.imem (is no file|hasn't the 4096 bytes of a memory)"):
+        memory_in(image)

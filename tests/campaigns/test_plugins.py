@@ -76,5 +76,5 @@ def test_example_of_page(folder: Path) -> None:
     for command, printed in (shown[first : first + 2], shown[first + 2 : first + 4]):
         words = shlex.split(command.replace("\\\n", "").replace("/tmp/first", str(folder / "first")))
         wanted = re.sub("(?m)^    ", "", printed)
-        told, wanted = (re.sub(r"\d+ seconds", "", it) for it in (campaign(*words[1:]).stdout, wanted))
+        told, wanted = (re.sub(r"\d+ seconds?", "", it) for it in (campaign(*words[1:]).stdout, wanted))
         assert told == wanted

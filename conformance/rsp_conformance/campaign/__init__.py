@@ -1,5 +1,16 @@
 """What conformance/campaign is made of: numbered cases, random programs, emulators, tasks, and tables."""
 
+import shlex
+from typing import List
+
 
 class CampaignFault(Exception):
     """Why a campaign, or an emulator, can't begin or go on, as a sentence."""
+
+
+def words_of(command: str) -> List[str]:
+    """The words of an emulator's command, as a shell cuts them."""
+    try:
+        return shlex.split(command)
+    except ValueError as fault:
+        raise CampaignFault(f"{command} is no command: {fault}") from None

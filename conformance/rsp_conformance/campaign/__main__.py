@@ -3,8 +3,8 @@
 EMULATOR is FILE.so, plugin:FILE.so, python:MODULE:CLASS, or a command; docs/CAMPAIGN.md says what each has to
 be. OUT is the campaign's folder: a file for each task, table.txt, table.html, and in programs/ what differs,
 cut down. A campaign that was stopped goes on when it is started again: what OUT holds isn't done again. With
---case, OUT gives the instructions of a program. It fails if a task isn't done, or with a sentence if it can't
-begin.
+--case, OUT gives the instructions of a program. What an emulator writes to standard error is shown with its
+fault. It fails if a task isn't done, or with a sentence if it can't begin.
 """
 
 import argparse
@@ -20,7 +20,7 @@ from rsp_conformance.table import ROWS as INSTRUCTIONS
 from . import CampaignFault
 from .folder import Folder, given_in, write
 from .report import html_table, results_in, text_table
-from .shared import PROGRAM, VERSION, name_of
+from .shared import PROGRAM, VERSION, counted, name_of, printable
 from .task import check
 from .workers import options_of, results
 
@@ -36,31 +36,58 @@ NUMBERS = {
 }
 
 
+PROGRESS_SECONDS = 60  # between two lines of progress, if they go to a file
+
+
 def stop(sentence: object) -> NoReturn:
-    sys.exit(f"campaign: {sentence}")
+    sys.exit(printable(f"campaign: {sentence}"))
+
+
+class Progress:
+    """How far a campaign is: on a terminal one line that changes, elsewhere a line a minute."""
+
+    def __init__(self, done: int, tasks: int) -> None:
+        self.done, self.todo, self.tasks = done, tasks - done, tasks
+        self.began = self.told = time.time()
+        self.is_terminal = sys.stderr.isatty()
+
+    def tell(self, number: int, cases: int, differ: int) -> None:
+        """After so many tasks of those that were left."""
+        now = time.time()
+        if not self.is_terminal and now - self.told < PROGRESS_SECONDS:
+            return
+        self.told, passed = now, now - self.began
+        speed, left = cases / passed, passed / number * (self.todo - number)
+        tasks = f"{self.done + number} of {self.tasks} tasks"
+        said = f"{tasks}, {speed:.0f} cases/s, {differ} differ, {left:.0f} s left"
+        begin, end = ("\r", " ") if self.is_terminal else ("", "\n")
+        print(begin + said, end=end, file=sys.stderr, flush=True)
+
+    def end(self) -> None:
+        if self.is_terminal:
+            print(file=sys.stderr)
 
 
 def run(args: argparse.Namespace) -> None:
     """Does what is left of a campaign, and prints how far it is."""
     folder = Folder(args)
     folder.open()
-    todo, began = folder.left(), time.time()
+    todo = folder.left()
+    progress = Progress(len(folder.tasks) - len(todo), len(folder.tasks))
     done, differ, lost = 0, 0, None
     for number, result in enumerate(results(args, todo), 1):
         if isinstance(result, Exception):
             lost = result
             continue
         folder.keep(result)
-        done, differ, passed = done + result["count"], differ + result["differ"], time.time() - began
-        tasks = f"{number + len(folder.tasks) - len(todo)} of {len(folder.tasks)} tasks"
-        left = passed / number * (len(todo) - number)
-        said = f"\r{tasks}, {done / passed:.0f} cases/s, {differ} differ, {left:.0f} s left "
-        print(said, end="", file=sys.stderr, flush=True)
-    print(file=sys.stderr)
+        done, differ = done + result["count"], differ + result["differ"]
+        progress.tell(number, done, differ)
+    progress.end()
     report(args)
     if tasks_left := folder.left():
         why = lost or "-".join(map(str, tasks_left[0]))
-        stop(f"{len(tasks_left)} tasks aren't done ({why}); start it again")
+        are = "isn't" if len(tasks_left) == 1 else "aren't"
+        stop(f"{counted(len(tasks_left), 'task')} {are} done ({why}); start it again")
 
 
 def report(args: argparse.Namespace) -> None:
@@ -73,7 +100,7 @@ def report(args: argparse.Namespace) -> None:
 
 
 def show(args: argparse.Namespace) -> None:
-    """Cases, or programs of the instructions and steps of OUT, if it's given."""
+    """Cases, or programs of the instructions and steps of OUT."""
     name, seed, first, last = args.case
     if args.out:
         given = given_in(args.out)
@@ -83,9 +110,10 @@ def show(args: argparse.Namespace) -> None:
     if "given up" in result:
         stop(f"{name_of(name, seed, first)}: {result['given up']}")
     print(*result["shown"], sep="\n", end="\n" * bool(result["shown"]))
-    print(f"{result['count']} done, {result['differ']} differ, {result['unshown']} not shown")
+    missing = f", {result['missing']} not there" if result["missing"] else ""
+    print(f"{result['count']} done, {result['differ']} differ, {result['unshown']} not shown{missing}")
     for it in result["programs"]:
-        print(f"{it['name']} is cut down to {it['steps']} steps from {it['pc']:03x}:")
+        print(f"{it['name']} is cut down to {counted(it['steps'], 'step')} from {it['pc']:03x}:")
         print(*it["listing"], *(f"  {line}" for line in it["differs"]), sep="\n")
 
 
@@ -147,6 +175,10 @@ def arguments() -> argparse.Namespace:
     args: argparse.Namespace = parser.parse_intermixed_args()
     if not args.out and not args.case:
         stop("it needs a folder OUT")
+    if args.case and args.case[0] == PROGRAM and not args.out:
+        name = name_of(*args.case[:3])
+        why = "its instructions and steps are in OUT/campaign.json"
+        stop(f"{name} needs the campaign's folder OUT, too: {why}")
     return args
 
 

@@ -18,8 +18,8 @@ from . import CampaignFault, reads
 from .emulators import patched, word_of
 from .generator import BANKS, END, Array, cases_of, memories_of
 from .programs import check_programs
-from .shared import BATCH, PROGRAM, SHOWN, UNDONE, UNSHOWN, Result, name_of
-from .sides import Program, Sides, differences, in_brief, in_words, parts_that_differ
+from .shared import BATCH, PROGRAM, RESERVED, SHOWN, UNDONE, UNSHOWN, Result, name_of
+from .sides import Program, Sides, differences, in_brief, in_words, named, parts_that_differ
 from .task import end_with_parent
 
 
@@ -43,7 +43,7 @@ class Cases:
         """A case that differs, in a line or in whole."""
         word, state = int(case["word"]), rsp.State.from_buffer_copy(case["state"].tobytes())
         lines = differences(expected, got)
-        head = f"{name_of(self.name, self.seed, number)} ({rsp.text(word, state.pc)} at {state.pc:03x}"
+        head = f"{name_of(self.name, self.seed, number)} ({named(word, state.pc)} at {state.pc:03x}"
         if not whole:
             return f"{head}{reads.in_brief(self.name, word, state, lines[0])}): {in_brief(lines)}"
         before = reads.reads_of(self.name, word, state, self.memories)
@@ -55,10 +55,12 @@ class Cases:
         cases, choices = cases_of(self.name, self.seed, at, n)
         ends["status"] = UNDONE
         differ = self.sides.run(cases, self.expected[:n], ends[:n])
-        unshown = ends["status"][:n] == UNSHOWN
-        if (ends["status"][:n] == UNDONE).any():
+        statuses = ends["status"][:n]
+        if (statuses == UNDONE).any():
             raise CampaignFault("it answered too few cases")
-        differ &= ~unshown
+        unshown, missing = statuses == UNSHOWN, statuses == RESERVED
+        missing &= (missing | unshown).all() and not whole  # some cases alone are a fault of its decoder
+        differ &= ~unshown & ~missing
         found = np.nonzero(differ)[0]
         shown = [
             self.shown(at + i, cases[i], self.expected[i], ends[i], whole) for i in found[:room].tolist()
@@ -66,6 +68,7 @@ class Cases:
         return {
             "count": n,
             "unshown": int(unshown.sum()),
+            "missing": int(missing.sum()),
             "differ": len(found),
             "choices": int((differ & choices).sum()),
             "parts": parts_that_differ(self.expected[found], ends[found]),

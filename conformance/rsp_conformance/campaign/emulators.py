@@ -14,7 +14,6 @@ import functools
 import importlib
 import json
 import os
-import shlex
 import subprocess
 from typing import Any, Dict, Iterable, Tuple
 
@@ -22,7 +21,7 @@ import numpy as np
 import rsp
 from rsp_conformance.library_states import numbers_of, state_of
 
-from . import CampaignFault
+from . import CampaignFault, words_of
 from .build import built, microcode
 from .generator import BANKS, END, IMEM, MEMORIES, RDRAM, STATE, Array
 from .task import end_with_parent
@@ -166,7 +165,7 @@ class Command(Single):
 
     def __init__(self, command: str, memories: bytes) -> None:
         self.process = subprocess.Popen(
-            shlex.split(command),
+            words_of(command),
             stdin=subprocess.PIPE,
             stdout=subprocess.PIPE,
             preexec_fn=end_with_parent,

@@ -3,7 +3,6 @@
 import hashlib
 import importlib.util
 import os
-import shlex
 import shutil
 import sys
 from importlib.machinery import ModuleSpec, PathFinder
@@ -12,7 +11,7 @@ from typing import Dict, Iterable, List, Optional, Sequence
 
 from rsp_conformance import HERE, TOP
 
-from . import CampaignFault
+from . import CampaignFault, words_of
 
 SOURCES = HERE / "campaigns"
 # The repository has the library in library/c/, a release archive in include/ and lib/.
@@ -57,7 +56,7 @@ def files_of(spec: str) -> List[str]:
         return [module.origin] if module and module.origin else []
     if kind == "plugin" or spec.endswith(".so"):
         return [rest or spec]
-    found = (word if Path(word).is_file() else shutil.which(word) for word in shlex.split(spec))
+    found = (word if Path(word).is_file() else shutil.which(word) for word in words_of(spec))
     return [it for it in found if it]
 
 

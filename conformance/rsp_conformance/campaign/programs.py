@@ -4,6 +4,7 @@ Both sides are compared after each EVERY steps, whole states and memories.
 """
 
 import functools
+import re
 from typing import Iterator, List, Sequence, Set, Tuple
 
 import numpy as np
@@ -13,7 +14,7 @@ from .generator import EDGE, FIRST_EDGE, IMEM, INSTRUCTIONS, MEMORIES
 from .generator import Array, Draw, cases_of, generator, registers
 from .shared import PROGRAM, SHOWN, Result, name_of
 from .shrink import cut_down, settable
-from .sides import Program, Sides, in_brief, in_words
+from .sides import Program, Sides, in_brief, in_words, named
 
 EVERY, LENGTH, WORDS = 100, 1024, 1024
 NEVER = ("break",)
@@ -57,13 +58,19 @@ def program_of(names: Sequence[str], seed: str, number: int) -> Program:
     return settable(Program(state.tobytes(), memories))
 
 
+def name_in(text: str) -> str:
+    """The instruction's name in a text of `named`."""
+    in_brackets = re.match(r"\.word \w+ \((\w+)", text)
+    return in_brackets[1].lower() if in_brackets else text.split()[0]
+
+
 def at_fault(texts: List[str], found: rsp.FirstDifference) -> str:
     """The word at fault, and what else of a program is left that was cut down.
 
     If no step alone differs, an earlier word has left the emulator in a state that it doesn't show: the first
     one is at fault.
     """
-    first = texts[0] if found.steps > 1 else found.text
+    first = texts[0] if found.steps > 1 else named(found.word, found.place)
     others = [text for text in texts if text != first]
     how = ", which shows at " if found.steps > 1 else ", after "
     return first + (how + ", ".join(others) if others else "")
@@ -86,11 +93,11 @@ def check_programs(
         if not found:
             yield {"count": 1}
             continue
-        text, made = found.text, {}  # type: str, Result
-        if found.step and len(cut) < SHOWN and (found.steps > 1 or text.split()[0] not in cut):
+        text, made = named(found.word, found.place), {}  # type: str, Result
+        if found.step and len(cut) < SHOWN and (found.steps > 1 or name_in(text) not in cut):
             made = cut_down(sides, program, found.step, found.steps > 1)
             text = at_fault(made["texts"], found)
-        what = text.split()[0]
+        what = name_in(text)
         cut.add(what)
         shown = f"{name}: step {found.step}, {text}: {in_brief(in_words(found.parts))}"
         programs = [{"name": name, "shown": shown, **made}] if made else []

@@ -8,7 +8,7 @@ from typing import Any, Dict, Iterator, List, Tuple
 from rsp_conformance.table import ROWS
 
 from . import CampaignFault
-from .shared import PROGRAM, Result
+from .shared import PROGRAM, Result, counted, printable
 from .task import LISTS, NUMBERS, add, nothing
 
 HEADS = ("", "cases", "not shown", "differ", "choices", "faults", "first difference")
@@ -73,8 +73,20 @@ def summary(results: List[Result]) -> Dict[str, Result]:
 def rows_of(lines: Dict[str, Result]) -> Iterator[Tuple[Any, ...]]:
     """The cells of each instruction, as HEADS names them."""
     for name, it in lines.items():
-        counts = (it["count"] - it["unshown"], it["unshown"], it["differ"], it["choices"], it["faults"])
-        yield name.upper(), *counts, it["first"] + it["given up"]
+        compared = it["count"] - it["unshown"] - it["missing"]
+        counts = (compared, it["unshown"], it["differ"], it["choices"], it["faults"])
+        yield name.upper(), *counts, printable(it["first"] + it["given up"])
+
+
+def not_there(results: List[Result]) -> str:
+    """The instructions that the emulator hasn't, in a line that comes before all others."""
+    lines = summary(results).items()
+    missing = [f"{name.upper()} {it['missing']} of {it['count']}" for name, it in lines if it["missing"]]
+    return (
+        f"Not there, since it answers that the word is reserved: {', '.join(missing)} cases."
+        if missing
+        else ""
+    )
 
 
 def last_words(results: List[Result]) -> str:
@@ -82,16 +94,17 @@ def last_words(results: List[Result]) -> str:
     lines = summary(results)
     count, differ, faults = (sum(it[key] for it in lines.values()) for key in ("count", "differ", "faults"))
     programs, used = lines.get(PROGRAM, {"count": 0})["count"], sum(it["processor"] for it in results)
-    unseen = ", ".join(dict.fromkeys(part for it in results for part in it["unseen"]))
-    done = f"{count - programs} cases and {programs} programs: {differ} differ, {faults} of them by faults"
+    unseen = printable(", ".join(dict.fromkeys(part for it in results for part in it["unseen"])))
+    done = f"{counted(count - programs, 'case')} and {counted(programs, 'program')}"
     more = f" Not compared, or not in all bits: {unseen}." if unseen else ""
-    return f"{done}; {used:.0f} seconds of processor.{more}"
+    seconds = counted(round(used), "second")
+    return f"{done}: {differ} differ, {faults} of them by faults; {seconds} of processor.{more}"
 
 
 def text_table(results: List[Result]) -> str:
     line = "{:10}{:>11}{:>11}{:>10}{:>9}{:>7}  {}".format
     rows = [line(*cells).rstrip() for cells in (HEADS, *rows_of(summary(results)))]
-    return "\n".join([*rows, last_words(results)])
+    return "\n".join(filter(None, [not_there(results), *rows, last_words(results)]))
 
 
 def html_row(cells: Tuple[Any, ...], it: Result) -> str:
@@ -112,4 +125,5 @@ def html_table(results: List[Result], title: str) -> str:
     rows = "".join(html_row(cells, it) for cells, it in zip(rows_of(lines), lines.values()))
     heads = "".join(f"<th>{it}" for it in (*HEADS[:-1], "share", "what differs", HEADS[-1]))
     head = f"<!doctype html><html lang=en><meta charset=utf-8><title>{title}</title><style>{STYLE}</style>"
-    return f"{head}<h1>{title}</h1><p>{html.escape(last_words(results))}</p><table><tr>{heads}{rows}</table>"
+    said = "".join(f"<p>{html.escape(it)}</p>" for it in (not_there(results), last_words(results)) if it)
+    return f"{head}<h1>{title}</h1>{said}<table><tr>{heads}{rows}</table>"

@@ -10,9 +10,20 @@ PROGRAM = "program"  # in place of an instruction, in a task of programs
 BATCH, SHOWN = 1024, 5  # the cases of a call, and the differences of a task that are shown
 # An end is a state, the status and a digest: the bytes of one, and where its status is.
 END_BYTES, STATUS_AT = 784, 772
-UNDONE, UNSHOWN = 0xFFFFFFFF, 0xFFFFFFFE  # a status: of a case that isn't done yet, or can't be given
+# A status: of a case that isn't done yet, that can't be given, or whose instruction the emulator hasn't.
+UNDONE, UNSHOWN, RESERVED = 0xFFFFFFFF, 0xFFFFFFFE, 5
 
 
 def name_of(what: str, seed: str, number: int) -> str:
     """The name of a case, or of a program: VADD-g2-7-000123, with the generator's version."""
     return f"{what.upper()}-g{VERSION}-{seed}-{number:06d}"
+
+
+def counted(number: int, what: str) -> str:
+    """A number of things: 1 step, 2 steps."""
+    return f"{number} {what}{'s' * (number != 1)}"
+
+
+def printable(text: str) -> str:
+    """A text of somebody else on one line, each character that controls a terminal as its escape: \\x1b."""
+    return "".join(it if it.isprintable() else it.encode("unicode_escape").decode() for it in text)

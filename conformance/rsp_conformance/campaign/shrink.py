@@ -66,8 +66,8 @@ def cut_down(sides: Sides, program: Program, steps: int, is_hidden: bool) -> Res
         "steps": found.step,
         "differs": in_words(found.parts)[:8],
         "pc": program.state.pc,
-        "listing": [f"{pc:03x}: {program.text(pc)}" for pc in words],
-        "texts": [program.text(pc) for pc in sorted(words, key=lambda pc: (pc - program.state.pc) % 4096)],
+        "listing": [f"{pc:03x}: {program.named(pc)}" for pc in words],
+        "texts": [program.named(pc) for pc in sorted(words, key=lambda pc: (pc - program.state.pc) % 4096)],
         "source": source_of(program, words),
         "script": script_of(program, found.step),
     }

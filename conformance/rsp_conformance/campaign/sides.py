@@ -4,6 +4,7 @@ from typing import Dict, Iterable, List, Optional, Union
 
 import numpy as np
 import rsp
+from rsp_conformance.table import ignored_bits, row_of
 
 from .build import built
 from .emulators import Object, emulator_of
@@ -17,6 +18,18 @@ PARTS = {"scalar registers": (0, 128), "vector registers": (128, 640), "accumula
          "memories": (776, 784)}  # fmt: skip
 
 
+def named(word: int, pc: int) -> str:
+    """The text of a word at an address. Where that is `.word`, the instruction is named, too.
+
+    The word then has ignored bits, or is a branch whose target wraps.
+    """
+    text, row = rsp.text(word, pc), row_of(word)
+    if not row or not text.startswith(".word"):
+        return text
+    more = ", with bits that are ignored" if word & ignored_bits(row) else ""
+    return f"{text} ({row.name.upper()}{more})"
+
+
 class Program:
     """What a run begins with: a state and all memories. Both are views of its bytes."""
 
@@ -28,7 +41,11 @@ class Program:
         return int.from_bytes(self.memories[IMEM + pc : IMEM + pc + 4], "big")
 
     def text(self, pc: int) -> str:
+        """The text that the assembler takes."""
         return rsp.text(self.word(pc), pc)
+
+    def named(self, pc: int) -> str:
+        return named(self.word(pc), pc)
 
 
 class Sides:

@@ -18,6 +18,7 @@ import re
 import signal
 import subprocess
 import sys
+import threading
 import time
 from collections import Counter
 from multiprocessing import Pipe
@@ -28,7 +29,7 @@ from rsp_conformance import TOP
 from . import CampaignFault
 from .hashes import hashes
 from .search import fewest
-from .shared import BATCH, END_BYTES, SHOWN, STATUS_AT, UNDONE, Options, Result, name_of
+from .shared import BATCH, END_BYTES, SHOWN, STATUS_AT, UNDONE, Options, Result, counted, name_of, printable
 
 # The emulator, the instruction, the seed, the first number, and how many.
 Task = Tuple[str, str, str, int, int]
@@ -41,8 +42,9 @@ KEEP = {
     "OMP_NUM_THREADS": "1",
 }
 FAULTS, SEARCH_SECONDS, BEGIN_SECONDS = 8, 60, 60
+WRITTEN = 500  # so many of the last bytes that an emulator wrote to standard error are shown with its fault
 PYTHON = TOP / "tools/python"
-NUMBERS = ("count", "unshown", "differ", "choices", "processor")
+NUMBERS = ("count", "unshown", "missing", "differ", "choices", "processor")
 LISTS = ("shown", "faults", "programs", "unseen")
 
 
@@ -63,6 +65,26 @@ def end_with_parent() -> None:
     ctypes.CDLL(None).prctl(1, signal.SIGKILL)
 
 
+class Written(threading.Thread):
+    """Reads what a process writes to a pipe, and keeps the end of it, so that the process never waits."""
+
+    def __init__(self, pipe: int) -> None:
+        super().__init__(daemon=True)
+        self.pipe, self.last = pipe, b""
+        self.start()
+
+    def run(self) -> None:
+        with open(self.pipe, "rb", buffering=0) as pipe:
+            while some := pipe.read(1 << 16):
+                self.last = (self.last + some)[-WRITTEN:]
+
+    def lines(self) -> str:
+        """The lines, when the process is dead."""
+        self.join(1)  # another process may still have the pipe
+        lines = self.last.decode(errors="backslashreplace").splitlines()
+        return " / ".join(printable(it.strip()) for it in lines if it.strip())
+
+
 class Child:
     """A child with a task.
 
@@ -78,15 +100,18 @@ class Child:
             self.statuses[at] = UNDONE
         self.answers, theirs = Pipe()
         numbers = os.getpid(), shared, theirs.fileno()
+        pipe, errors = os.pipe()
+        self.written = Written(pipe)
         self.process = subprocess.Popen(
             [PYTHON, "rsp_conformance.campaign.child", *map(str, numbers)],
             stdout=subprocess.DEVNULL,
-            stderr=subprocess.DEVNULL,
+            stderr=errors,
             pass_fds=numbers[1:],
             start_new_session=True,
             env={**os.environ, **KEEP},
         )
-        os.close(shared)
+        for end in shared, errors:
+            os.close(end)
         theirs.close()
         self.answers.send((task, options))
 
@@ -99,7 +124,7 @@ class Child:
         done, limit = -1, self.limit if self.is_begun else max(self.limit, BEGIN_SECONDS)
         while not self.answers.poll(limit):
             if done == (done := self.done()):
-                return {"fault": f"no answer within {limit:g} seconds"}
+                return {"fault": f"no answer within {counted(limit, 'second')}"}
         try:
             found: Result = self.answers.recv()
             return found
@@ -112,7 +137,9 @@ class Child:
         while "fault" not in (answer := self.answer()):
             self.is_begun = True
             yield answer
-        self.fault = answer["fault"]
+        self.process.kill()
+        written = self.written.lines()
+        self.fault = printable(answer["fault"]) + (f"; it wrote: {written}" if written else "")
 
     def close(self) -> None:
         self.process.kill()
