@@ -1,0 +1,71 @@
+/* texts: assembling, disassembling and explaining. The words of a text, disassembled, assemble to the same words; so do any words. A fault and its
+ * explanation agree, and a refused text fills no words. The first two bytes of an input are the origin; the others are the text, and then words. */
+#include "fuzz.h"
+
+enum { MOST_WORDS = 1024, MOST_LABELS = 40, FRESH = 0xa5a5a5a5u };
+
+/* A word's text assembles to that word alone. */
+static void see_round_trip(uint32_t word, uint32_t address)
+{
+    rsp_line line;
+    rsp_assembled made;
+    uint32_t again;
+    MUST(rsp_text(word, address, &line) == RSP_OK && line.word == word && line.place == address && line.len <= 64);
+    for (size_t i = 0; i < sizeof line.text; i++) MUST((line.text[i] != 0) == (i < line.len));
+    uint8_t *text = copy_of(line.text, line.len);
+    MUST(rsp_assemble(address, text, line.len, &again, 1, &made) == RSP_OK && made.count == 1 && again == word);
+    free(text);
+}
+
+/* What is said of a text that isn't taken. */
+static void see_fault(const rsp_assembled *made, uint32_t explained, const rsp_operand *operand)
+{
+    int is_text = made->fault != 33, has_operand = made->fault == 12 || made->fault == 13 || made->fault == 15;
+    MUST(!made->count && (is_text ? made->fault >= 10 && made->fault <= 16 && made->line : !made->line));
+    MUST(explained == (is_text ? RSP_OK : RSP_NO_MEANING));
+    MUST(!is_text || (operand->number != 0) == has_operand);
+    MUST(operand->kind <= RSP_OPERAND_VECTOR_LANE && (operand->step ? operand->low <= operand->high : !operand->low && !operand->high));
+}
+
+/* The labels of a text: there are some only if it has no fault, and none is filled if there is no room for all. */
+static void see_labels(uint32_t origin, const uint8_t *text, size_t len, uint32_t assembled)
+{
+    static const rsp_label fresh;
+    rsp_label labels[MOST_LABELS] = { fresh };
+    size_t count = 0, capacity = len % (MOST_LABELS + 1);
+    uint32_t status = rsp_labels(origin, text, len, labels, capacity, &count);
+    if (assembled == RSP_OUT_OF_RANGE || assembled == RSP_NO_MEANING) MUST(status == assembled && !count);
+    else MUST(status == (count > capacity ? RSP_NO_ROOM : RSP_OK));
+    for (size_t i = status == RSP_OK ? count : 0; i < MOST_LABELS; i++) MUST(!memcmp(&labels[i], &fresh, sizeof fresh));
+    for (size_t i = 0; status == RSP_OK && i < count; i++) MUST(labels[i].address >= origin && labels[i].address <= 4096);
+}
+
+static void see_text(uint32_t origin, const uint8_t *text, size_t len, size_t capacity)
+{
+    uint32_t *words = room(4 * capacity);
+    for (size_t i = 0; i < capacity; i++) words[i] = FRESH;
+    rsp_assembled made;
+    rsp_operand operand = { 0 };
+    uint32_t status = rsp_assemble(origin, text, len, words, capacity, &made), explained = rsp_explain(origin, text, len, &operand);
+    int is_origin = origin <= 4096 && origin % 4 == 0;
+    MUST((status == RSP_OUT_OF_RANGE) == !is_origin && (explained == RSP_OUT_OF_RANGE) == !is_origin);
+    MUST(status == RSP_OK || status == RSP_OUT_OF_RANGE || status == RSP_NO_MEANING || status == RSP_NO_ROOM);
+    if (status == RSP_NO_MEANING) see_fault(&made, explained, &operand);
+    if (status == RSP_NO_ROOM || status == RSP_OK) MUST((made.count > capacity) == (status == RSP_NO_ROOM) && !made.fault && !made.line && !operand.number);
+    see_labels(origin, text, len, status);
+    size_t count = status == RSP_OK ? made.count : 0;
+    for (size_t i = 0; i < count; i++) see_round_trip(words[i], origin + 4 * (uint32_t)i);
+    for (size_t i = count; i < capacity; i++) MUST(words[i] == FRESH);
+    free(words);
+}
+
+int LLVMFuzzerTestOneInput(const uint8_t *data, size_t size)
+{
+    input in = { data, size };
+    uint32_t origin = take_edge(&in), capacity = take_number(&in, 1) % 8 ? MOST_WORDS : take_number(&in, 1);
+    uint8_t *text = copy_of(in.at, in.left);
+    see_text(origin, text, in.left, capacity);
+    free(text);
+    for (uint32_t i = 0; in.left >= 4 && i < 16; i++) see_round_trip(take_number(&in, 4), 4 * (take_number(&in, 1) % MOST_WORDS));
+    return 0;
+}

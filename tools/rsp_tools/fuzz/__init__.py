@@ -1,0 +1,1 @@
+"""The fuzz targets of fuzz/: how they are built, their seeds and their dictionary."""
