@@ -9,6 +9,7 @@ import os
 import re
 import signal
 import tempfile
+from concurrent.futures import ThreadPoolExecutor
 from pathlib import Path
 from typing import Iterator, NamedTuple
 
@@ -16,6 +17,7 @@ import pytest
 
 from lib.install.tiny import C, RSP, Data, Ran, Tiny
 from lib.user import AS_NOBODY
+from rsp_tools.proof import PROCESSORS
 
 pytestmark = [pytest.mark.needs("rt"), pytest.mark.timeout(900)]
 # Those of one group are run by one process, which proves the tiny crates once.
@@ -29,9 +31,8 @@ NOTHING = Ran(0, "", [])
 
 
 class Phase(NamedTuple):
-    """A run that ends while it is about a crate, after it has proved others: by a kit, or by a signal."""
+    """A run that ends while it is about a crate, by a fault in it or by a signal, after it proved others."""
 
-    kit: str
     crate: str
     before: set[str]
     sent: int = 0
@@ -40,14 +41,19 @@ class Phase(NamedTuple):
 TERM, CTRL_C = signal.SIGTERM, signal.SIGINT
 # Each goes on where the one before it has ended.
 PHASES = {
-    "fails in the table": Phase("no lib", "rsp_decode", set()),
-    "stopped in the table": Phase("waits in rsp_decode", "rsp_decode", set(), TERM),
-    "fails side by side": Phase("no all", "rsp_laws", {"rsp_decode"}),
-    "stopped side by side": Phase("waits in rsp_above", "rsp_above", set(), CTRL_C),
-    "stopped one by one": Phase("waits in rsp_middle", "rsp_middle", {"rsp_above"}, TERM),
-    "fails in the program": Phase("no run", "rsp_main", {"rsp_middle"}),
-    "stopped in the program": Phase("waits in rsp_main", "rsp_main", set(), CTRL_C),
+    "fails at first": Phase("rsp_decode", set()),
+    "stopped at first": Phase("rsp_decode", set(), TERM),
+    "fails beside others": Phase("rsp_above", {"rsp_decode"}),
+    "stopped beside others": Phase("rsp_above", set(), CTRL_C),
+    "stopped alone": Phase("rsp_middle", {"rsp_above"}, TERM),
+    "fails in the program": Phase("rsp_main", {"rsp_middle"}),
+    "stopped in the program": Phase("rsp_main", set(), CTRL_C),
 }
+
+
+def faulty(source: bytes) -> bytes:
+    """With an index that is out of bounds, so that it can't be proved."""
+    return re.sub(rb"(from\(|    )(0|rsp_\w+::answer\(\))(?=\)?\n)", rb"\1[\2; 1][1]", source)
 
 
 @pytest.fixture(scope="session")
@@ -58,8 +64,12 @@ def program_tree() -> Iterator[Tiny]:
         for name, phase in PHASES.items():
             sent, send = phase.sent, os.killpg if phase.sent == CTRL_C else os.kill
             if sent:
-                run = tree.during(f"{phase.crate} begins", lambda it: send(it, sent), phase.kit)
-            tree.runs[name] = run if sent else tree.run(RSP, phase.kit)
+                run = tree.during(f"{phase.crate} begins", lambda it: send(it, sent))
+            else:
+                root = "main" if phase.crate == "rsp_main" else "lib"
+                with tree.changed(f"crates/{phase.crate}/src/{root}.rt", faulty):
+                    run = tree.run(RSP)
+            tree.runs[name] = run
         for name, kit in ("by another logic", "other"), ("by it again", "other"), ("by the right one", ""):
             tree.runs[name] = tree.run(RSP, kit)
         yield tree
@@ -112,16 +122,21 @@ def test_words_of_the_library(folder: Path, word: str, status: int) -> None:
 def test_ended_in_a_phase(program_tree: Tiny, name: str) -> None:
     """What is left is proved up to the crate, and nothing that an earlier run has proved.
 
-    A stopped run may have proved more of the crates that are proved side by side.
+    Others may be proved beside it.
     """
     phase, ran = PHASES[name], program_tree.runs[name]
-    assert phase.crate not in ran.proved
+    assert phase.crate in ran.begun - ran.proved and phase.before <= ran.proved and not ran.left
     if phase.sent:
         assert ran.status == 128 + phase.sent and ran.last.startswith("rsp: stopped")
-        assert phase.before <= ran.proved and not ran.left
     else:
-        assert ran.status == 1 and "out of luck" in ran.said and f"{phase.crate} isn't proved" in ran.last
-        assert ran.begun - {phase.crate} == ran.proved == phase.before
+        assert ran.status == 1 and f"{phase.crate} isn't proved" in ran.last
+        assert "logic=not-proved" in ran.said
+
+
+@of_program
+def test_proves_nothing_twice(program_tree: Tiny) -> None:
+    proved = [it for name in PHASES for it in program_tree.runs[name].proved]
+    assert len(proved) == len({*proved})
 
 
 @of_program
@@ -243,47 +258,36 @@ def test_edits_while_it_proves(program_tree: Tiny, folder: Path) -> None:
 
 
 @of_library
-@pytest.mark.parametrize("kit, far", [("slow", "3 of 8"), ("silent", "2")])
-def test_says_how_far_it_is(library_tree: Tiny, kit: str, far: str) -> None:
-    often = ("tools/rsp_tools/build.py", lambda it: it.replace(b"SILENCE = 30 ", b"SILENCE = 1 "))
+def test_says_how_far_it_is(library_tree: Tiny) -> None:
+    often = ("tools/rsp_tools/proof.py", lambda it: it.replace(b"SILENCE = 30 ", b"SILENCE = 1 "))
     with library_tree.changed(*often), library_tree.changed(OF_C, edited):
-        ran = library_tree.run(C, kit)
+        ran = library_tree.run(C, "silent")
     assert ran.status == 1
-    assert re.search(rf"(?m)^{C}: proving rsp_c, \d+ s: {far} functions$", ran.said)
+    assert re.search(rf"(?m)^{C}: proving rsp_c, \d+ s, 2 functions; about \d+ minutes to go$", ran.said)
     assert library_tree.run(C, "broken") == NOTHING
-
-
-# In place of /proc/stat: each processor is idle for a share of the time.
-STAT = """class STAT:
-    def read_text():
-        ticks = int(time.monotonic() * {share} * os.sysconf("SC_CLK_TCK"))
-        return "".join(f"cpu{{it}} 7 7 7 {{ticks}} 0 7 7 7 7 7\\n" for it in os.sched_getaffinity(0))
-"""
-BUSY, SLOW = "the processors have other work", "more would end no sooner"
 
 
 @of_library
-@pytest.mark.parametrize(
-    "share, gains, why",
-    [(0.1, 1, BUSY), (0.4, 1, BUSY), (0.6, 1, ""), (0.9, 1, ""), (0, 1, ""), (0.9, 1024, SLOW)],
-)
-def test_jobs(library_tree: Tiny, share: float, gains: int, why: str) -> None:
-    """A crate is proved by one job for each processor if most are idle and that ends sooner, else by one.
+def test_another_kit(library_tree: Tiny, folder: Path) -> None:
+    """Without the functions that tools/build calls, `rt` alone proves all, by a job for each processor."""
+    tree = library_tree.copied(folder)
+    tree.edit("crates/rsp_decode/src/lib.rt", "0", "1")
+    assert f"asked for lib --jobs {PROCESSORS}\n" in tree.run(C, "words").said
+    ran = tree.run(C, "alone")
+    assert ran.status == 0 and ran.begun == ran.proved == {"rsp_c"}
+    assert tree.run(C, "broken") == NOTHING
 
-    A share of 0 is a system that doesn't tell. `gains` is from how many processors on it ends sooner.
-    """
-    stat = STAT.format(share=share) if share else 'STAT = Path("/no/stat")'
 
-    def of_a_system(source: bytes) -> bytes:
-        text = source.decode().replace('STAT = Path("/proc/stat")', stat)
-        return text.replace("GAINS_FROM = {", f'GAINS_FROM = {{"rsp_c": {gains}, ').encode()
-
-    with library_tree.changed("tools/rsp_tools/build.py", of_a_system), library_tree.changed(OF_C, edited):
-        ran = library_tree.run(C, "words")
-    wanted = 1 if why else len(os.sched_getaffinity(0))
-    assert ran.status == 1 and f"asked for lib --jobs {wanted}\n" in ran.said
-    assert not why or f"one job proves rsp_c, as {why}" in ran.said
-    assert library_tree.run(C, "broken") == NOTHING
+@of_program
+def test_two_at_once(program_tree: Tiny, folder: Path) -> None:
+    """One proves each crate, and the other one waits for it."""
+    tree = program_tree.copied(folder)
+    tree.edit(MIDDLE, "rsp_above::answer()", "rsp_above::answer() & 7")
+    with ThreadPoolExecutor(2) as pool:
+        one, other = pool.map(tree.run, [RSP, RSP])
+    assert one.status == other.status == 0
+    assert len([it for it in (one, other) if "rsp_middle" in it.proved]) == 1
+    assert tree.run(RSP, "broken") == NOTHING
 
 
 @of_library

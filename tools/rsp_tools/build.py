@@ -12,64 +12,28 @@ import argparse
 import functools
 import hashlib
 import os
-import re
 import shutil
 import signal
 import subprocess
 import sys
 import time
 from pathlib import Path
-from typing import Dict, List, NoReturn, Set
+from typing import List, NoReturn, Optional
 
-from rsp_tools import TOOLS, TOP
+from rsp_tools import TOOLS
+from rsp_tools.crates import CRATES, library, uses, with_below
+from rsp_tools.proof import PROCESSORS, Proof
 
-CRATES = TOP / "crates"
 LOGIC = "logic dac8208d650f15bf"
-# Who speaks of a crate, the file that is built of it, and what `rt` is asked for.
-BUILT = {"rsp_main": ("rsp", "rsp_main", "run"), "rsp_c": ("library/c/build", "librsp_c.a", "lib")}
-# Most crates wait for the table, so it is proved first. rsp_laws is above all crates that don't wait for the
-# machine. They are proved side by side, each by one job. What is left is a chain, and is proved one crate
-# after the other.
-TABLE, PARTS = "rsp_decode", "rsp_laws"
-PROCESSORS = len(os.sched_getaffinity(0))
-# How many crates `rt` may have in hand at once. One that waits for another counts too, and each one that is
-# being proved takes 1 to 2 GB.
-AT_ONCE = min(2 * PROCESSORS, 16)
-TOOK = "15 minutes on four processors, 23 on two"
-# From how many idle processors on a job for each ends sooner than one job; 4 for a crate that isn't here.
-# Each job loads anew what the crates below state. So four jobs take 1.3 times the processor's time of one for
-# rsp_machine, and 1.5 to 2 times for those above it. rsp_main is mostly loading, and gains nothing.
-GAINS_FROM = {TABLE: 2, "rsp_machine": 2, "rsp_main": 1024}
-SILENCE = 30  # After so many seconds without a line it says how far it is.
-STAT = Path("/proc/stat")
-LINES = {
-    it.split()[0].rstrip(":"): it for it in re.findall(r"(?m)^\w.*:.*", (TOP / "crates.txt").read_text())
+# Whose functions proof.py calls.
+TRIED = f"rattle-kit-13f {LOGIC}"
+# Who speaks of a crate, the file that is built of it, what `rt` is asked for, and by how many jobs over the
+# crates below: a third of the program's time is its object file, which only one job makes.
+BUILT = {
+    "rsp_main": ("rsp", "rsp_main", "run", 1),
+    "rsp_c": ("library/c/build", "librsp_c.a", "lib", PROCESSORS),
 }
-
-
-def uses(name: str) -> List[str]:
-    return LINES[name].partition(":")[2].split()
-
-
-@functools.lru_cache(None)
-def with_below(name: str) -> List[str]:
-    """The crate and those that it uses, each after those that it uses; none for a library of the kit."""
-    if name not in LINES:
-        return []
-    return [*dict.fromkeys(below for it in uses(name) for below in with_below(it)), name]
-
-
-def stamp(name: str) -> Path:
-    """The file that `rt` writes when a crate is proved, into a folder that it makes when it begins."""
-    return CRATES / name / "out/rlib/stamp"
-
-
-def time_of(path: Path) -> float:
-    """When the file or folder was made; 0 if there is none."""
-    try:
-        return path.stat().st_ctime
-    except FileNotFoundError:
-        return 0
+TOOK = "13 minutes on four processors, 18 on two"
 
 
 def changed_at(name: str) -> float:
@@ -82,12 +46,6 @@ def sources(crate: str) -> str:
     """What the crate and those below it are made of."""
     words = [str(TOOLS / "sources"), *with_below(crate)]
     return subprocess.run(words, stdout=subprocess.PIPE, errors="surrogateescape", check=True).stdout
-
-
-def differing(one: str, other: str) -> Set[str]:
-    """The crates of which two texts of `sources` say different things."""
-    lines = "\n".join({*one.splitlines()} ^ {*other.splitlines()})
-    return {*re.findall(r"^(?:\\?[0-9a-f]{64}  )?(\w+)", lines, re.M)}
 
 
 @functools.lru_cache(None)
@@ -107,58 +65,39 @@ def over_libraries(verb: str, crate: str) -> List[str]:
     rt, ours = kit_folder(), with_below(crate)[:-1]
     words = [f"{rt}/bin/rattle", verb, "--crate-name", crate]
     for name in ["std", *uses(crate)]:
-        folder = stamp(name).parent if name in ours else rt / "rlibs"
+        folder = library(name) if name in ours else rt / "rlibs"
         words += ["--extern", f"{name}={folder}/{name}.rlib"]
-    for folder in [rt / "rlibs", *(stamp(it).parent for it in ours)]:
+    for folder in [rt / "rlibs", *map(library, ours)]:
         words += ["-L", f"dependency={folder}"]
     words += ["--antt-project", f"{rt}/rattle/logic/antt-project.json", "--logic-built", f"{rt}/logic_built"]
     return words
 
 
-def idle_ticks() -> int:
-    """How long our processors have had nothing to do, all together."""
-    ours = {f"cpu{number}" for number in os.sched_getaffinity(0)}
-    lines = [it.split() for it in STAT.read_text().splitlines()]
-    return sum(int(it[4]) + int(it[5]) for it in lines if it[0] in ours)
-
-
-def are_idle() -> bool:
-    """Whether most processors have nothing to do. They have, if the system doesn't tell."""
-    try:
-        since, before = time.monotonic(), idle_ticks()
-        time.sleep(1)
-        idle = (idle_ticks() - before) / os.sysconf("SC_CLK_TCK") / (time.monotonic() - since)
-    except OSError:
-        return True
-    return idle > PROCESSORS / 2
-
-
 class Build:
-    """A crate that is proved and built, with what is left to prove and what has been said of it."""
+    """A crate that is proved and built."""
 
     def __init__(self, crate: str) -> None:
-        self.crate, (self.speaker, file, self.verb) = crate, BUILT[crate]
+        self.crate, (self.speaker, file, self.verb, self.jobs) = crate, BUILT[crate]
         out = CRATES / crate / "out"
         self.file, self.object = out / file, out / f"{crate}.o"
         self.mark, self.log = out / "built", out / "built.log"
         # The system's clock of files is a little behind.
-        self.since = self.spoke = time.time() - 0.02
-        self.sources, self.is_one, self.logged, self.ran = sources(crate), True, 0, 0.0
-        self.begun: Dict[str, float] = {}
-        self.left: List[str] = []
-        self.marked = self.mark.read_text(errors="surrogateescape") if self.mark.exists() else ""
+        self.since = time.time() - 0.02
+        self.sources = sources(crate)
+        self.proof: Optional[Proof] = None
 
     def say(self, text: str) -> None:
         print(f"{self.speaker}: {text}", file=sys.stderr, flush=True)
-        self.spoke = time.time()
 
-    def fail(self, text: str) -> NoReturn:
+    def stop(self, number: int, _: object) -> NoReturn:
+        self.fail("stopped; the next run goes on from here", 128 + number)
+
+    def fail(self, text: str, status: int = 1) -> NoReturn:
+        """Ends at once, with all that the kit has going."""
         self.say(text)
-        sys.exit(1)
-
-    def stop(self, number: int, _: object) -> None:
-        self.say("stopped; the next run goes on from here")
-        sys.exit(128 + number)
+        if self.proof and self.proof.ran:
+            self.proof.ran.kill()
+        os._exit(status)
 
     def made_of(self) -> str:
         """What the mark says after the kit's version."""
@@ -167,123 +106,32 @@ class Build:
 
     def is_built(self) -> bool:
         """Whether the file is built of these sources, by a kit of the right logic or by the one here."""
-        version, _, made_of = self.marked.partition("\n")
+        marked = self.mark.read_text(errors="surrogateescape") if self.mark.exists() else ""
+        version, _, made_of = marked.partition("\n")
         is_same = self.file.exists() and made_of == self.made_of()
         return is_same and (version.endswith(LOGIC) or version == kit())
 
-    def find_left(self) -> None:
-        """Finds the crates that aren't proved, or were changed since, and those above. `rt` looks again."""
-        built, differ = time_of(self.mark), differing(self.marked.partition("\n")[2], self.sources)
-        for name in with_below(self.crate):
-            proved = time_of(stamp(name))
-            is_proved = proved > changed_at(name) or name not in differ and 0 < proved < built
-            if not is_proved or {*uses(name)} & {*self.left}:
-                self.left.append(name)
-
-    def watch(self) -> None:
-        """Says which crates have begun or are proved since it was last called.
-
-        The last crate has no stamp: it begins when all others are proved.
-        """
-        for name in [*self.left]:
-            is_last = name == self.crate
-            if name not in self.begun and (
-                self.left == [name] if is_last else time_of(stamp(name).parent) >= self.since
-            ):
-                self.begun[name] = time.time()
-                self.say(f"{name} begins")
-            if name in self.begun and not is_last and time_of(stamp(name)) >= self.since:
-                self.ends(name)
-        if time.time() - self.spoke > SILENCE:
-            self.tell_progress()
-
-    def tell_progress(self) -> None:
-        """Says how far the crates are that are being proved.
-
-        Of one alone, `rt` counts the functions, or keeps what it has checked of them.
-        """
-        going = [it for it in self.left if it in self.begun]
-        if not going:
-            self.say("`rt` looks what has changed")
-            return
-        told = "; ".join(f"{it}, {time.time() - self.begun[it]:.0f} s" for it in going)
-        counts = re.findall(r"^so far: (\d+ of \d+ functions) checked", self.said()[self.logged :], re.M)
-        far = counts[-1] if counts else self.kept(going[0])
-        self.say(f"proving {told}{f': {far}' if self.is_one and far else ''}")
-
-    def kept(self, name: str) -> str:
-        """Of how many functions `rt` has kept the module of their paths since it was called, if of any.
-
-        By one job it counts none. Over what `rt ci` proved it keeps none.
-        """
-        modules = (CRATES / name / "out/incremental").glob(f"*/Rattle-{name}-proofs.*.Lts.oantt")
-        count = sum(time_of(it) > self.ran for it in modules)
-        return f"{count} functions" if count else ""
-
-    def said(self) -> str:
-        """What the kit's commands have said."""
-        return self.log.read_text(errors="replace")
-
-    def ends(self, name: str) -> None:
-        self.say(f"{name} is proved after {time.time() - self.begun.get(name, self.since):.0f} s")
-        self.left.remove(name)
-        self.logged = len(self.said())
-
-    def run(self, name: str, *words: str) -> None:
-        """Runs a command of the kit's in the crate's folder. It ends when this program ends."""
-        self.is_one, self.logged, self.ran = "all" not in words, len(self.said()), time.time() - 0.02
-        with self.log.open("a") as log:
-            ran = subprocess.Popen(words, cwd=CRATES / name, stdin=subprocess.DEVNULL, stdout=log, stderr=log)
-        try:
-            while ran.poll() is None:
-                time.sleep(0.2)
-                self.watch()
-        finally:
-            ran.kill()
-        self.watch()
-        if ran.returncode:
-            said = self.said()
-            failed = re.findall(r"^(?:rt: the library )?(\w+)(?:: failed| did not build)", said, re.M)
-            name = failed[0] if failed else name
-            lines = said.rpartition(f"== {name}\n")[2].partition("\n== ")[0].splitlines()
-            print(*lines[-25:], sep="\n", file=sys.stderr)
-            how = f"since `rt` ended with status {ran.returncode}; all that it said is in {self.log}"
-            self.fail(f"{name} isn't proved, {how}")
-
     def prove(self) -> None:
-        """Proves what is left, and builds the file."""
-        self.find_left()
-        count = len(with_below(self.crate))
-        done = f"{count - len(self.left)} of {count} crates are proved"
-        self.say(f"{done}; proving the others (all took {TOOK})")
-        if TABLE in self.left:
-            self.prove_one(TABLE)
-        if len({*with_below(PARTS)} & {*self.left}) > 1:
-            self.run(PARTS, "rt", "all", "check", "--jobs", str(AT_ONCE))
-        # One by one: before a crate above several that aren't built, `rt` reads the sources of them all, for
-        # two minutes of a processor.
-        for name in [*self.left][:-1]:
-            self.prove_one(name)
-        more = ["--", "run"] * (self.verb == "run")
-        self.run(self.crate, "rt", self.verb, "--jobs", self.jobs(self.crate), *more)
-        self.ends(self.crate)
+        """Proves what isn't proved, and builds the file."""
+        is_tried = kit() == TRIED and (kit_folder() / "bin/rtlib.py").exists()
+        words = ["rt", self.verb, "--jobs", str(self.jobs if is_tried else PROCESSORS)]
+        self.run([*words, *["--", "run"] * (self.verb == "run")], is_tried)
         self.say(f"built after {time.time() - self.since:.0f} s in all")
 
-    def prove_one(self, name: str) -> None:
-        """Proves a library. It isn't left any more also if `rt` finds that nothing has changed."""
-        self.run(name, "rt", "lib", "--jobs", self.jobs(name))
-        self.left = [it for it in self.left if it != name]
-
-    def jobs(self, name: str) -> str:
-        """How many jobs prove a crate on which nothing else waits: one for each processor, or one."""
-        if PROCESSORS < GAINS_FROM.get(name, 4):
-            why = "more would end no sooner"
-        elif are_idle():
-            return str(PROCESSORS)
-        else:
-            why = "the processors have other work"
-        self.say(f"one job proves {name}, as {why}")
-        return "1"
+    def run(self, last: List[str], by_parts: bool = False) -> None:
+        """Runs the kit's command for the crate; if by parts, the crates below are proved before it."""
+        self.proof = Proof(self.crate, last, self.log, self.say)
+        if by_parts:
+            self.proof.find_left(kit_folder())
+            count, left = len(with_below(self.crate)), len(self.proof.left)
+            takes = f"takes {self.proof.to_go()} (all took {TOOK})"
+            self.say(f"{count - left} of {count} crates are proved; proving the others {takes}")
+        self.log.write_text("")
+        failed = self.proof.run()
+        if failed:
+            said = self.log.read_text(errors="replace").rpartition(f"== {failed}\n")[2].partition("\n== ")[0]
+            print(*said.splitlines()[-25:], sep="\n", file=sys.stderr)
+            self.fail(f"{failed} isn't proved, for the reason above; all that `rt` said is in {self.log}")
 
     def has_object(self) -> bool:
         """Whether the program's object file, which ./release links again, is there.
@@ -297,17 +145,16 @@ class Build:
 
         The libraries that it leaves have no stamps, so `rt lib` would prove them all again.
         """
-        self.left, self.begun[self.crate] = [self.crate], time.time()
-        words = f"{source} --backend llvm --jobs {self.jobs(self.crate)} -o {to}".split()
+        words = f"{source} --backend llvm --jobs {PROCESSORS} -o {to}".split()
         words += ["--toolchain", f"{kit_folder()}/toolchain"]
-        self.run(self.crate, *over_libraries("build", self.crate), *words)
+        self.run([*over_libraries("build", self.crate), *words])
 
     def build(self, is_proved: bool) -> None:
         version = self.wanted_kit()
         self.log.parent.mkdir(parents=True, exist_ok=True)
-        self.log.write_text("")
         is_library = self.crate == "rsp_c"
-        if not is_proved or is_library and any(stamp(it).exists() for it in with_below(self.crate)):
+        stamps = [library(it) / "stamp" for it in with_below(self.crate)]
+        if not is_proved or is_library and any(it.exists() for it in stamps):
             self.prove()
         elif is_library:
             self.compile("src/lib.rt --crate-type staticlib", self.file)

@@ -19,7 +19,6 @@ rsp_decode:
 rsp_above: rsp_decode
 rsp_side:
 rsp_beside:
-rsp_laws: rsp_above rsp_side rsp_beside
 rsp_middle: rsp_above
 rsp_main: rsp_middle rsp_side rsp_beside
 rsp_other: rsp_decode
@@ -28,7 +27,6 @@ rsp_c staticlib: rsp_decode
 LIBRARY = "#![tactic(auto)]\n\npub fn answer() -> u8 {\n    %s\n}\n"
 SOURCES = {
     "rsp_decode/src/lib.rt": LIBRARY % "0",
-    "rsp_laws/src/lib.rt": "#![tactic(auto)]\n",
     "rsp_side/src/lib.rt": LIBRARY % "0",
     "rsp_beside/src/lib.rt": LIBRARY % "0",
     "rsp_other/src/lib.rt": LIBRARY % "rsp_decode::answer()",
@@ -54,31 +52,17 @@ pub extern "C" fn rsp_answer() -> u32 {
 HEADER = "#define RSP_VERSION 1\nuint32_t rsp_answer(void);\n"
 COPIED = "rsp library/c/build library/c/rsp.map library/python/pyproject.toml"
 TOOLS = "sh env cat dirname readlink grep sed find head tr sort sha256sum"
-FAILS = '[ "$1" != %s ] || {{ echo "rt: out of luck"; exit 2; }}\nexec "{rt}" "$@"'
-# A kit that begins a crate by a command for another one or for itself, and then takes a minute.
-WAITS = """[ "$1" = %s ] && [ "${{PWD##*/}}" = %s ] && mkdir -p ../%s/out/rlib && exec sleep 60
-exec "{rt}" "$@"
-"""
-STOPPED = {
-    "rsp_decode": ("lib", "rsp_decode"),
-    "rsp_above": ("all", "rsp_laws"),
-    "rsp_middle": ("lib", "rsp_middle"),
-    "rsp_main": ("run", "rsp_main"),
-}
-# In place of `rt`: of another logic; failing in a phase (table, side by side, the program); waiting; slow;
-# telling its words; broken.
+# Programs in place of `rt`, without the rest of its kit: of another logic; of this one; silent; failing.
 RT = {
     "other": '[ "$1" != version ] || exec echo "rattle-kit-0 logic 0"\nexec "{rt}" "$@"',
-    **{f"no {it}": FAILS % it for it in ("lib", "all", "run")},
-    **{f"waits in {crate}": WAITS % (*how, crate) for crate, how in STOPPED.items()},
-    "slow": '[ "$1" = lib ] && echo so far: 3 of 8 functions checked && sleep 4 && exit 2\nexec {rt} "$@"',
+    "alone": 'exec "{rt}" "$@"',
+    "words": '[ "$1" = version ] || {{ echo asked for "$@"; exit 2; }}\nexec "{rt}" "$@"',
     # It keeps what it has checked of two functions, and says nothing.
     "silent": """[ "$1" = lib ] && mkdir out/incremental/new && cd out/incremental/new &&
     touch Rattle-rsp_c-proofs.one.Lts.oantt Rattle-rsp_c-proofs.two.Lts.oantt && sleep 4 &&
     rm -r "$PWD" && exit 2
 exec {rt} "$@"
 """,
-    "words": '[ "$1" = lib ] && echo asked for "$@" && exit 2\nexec {rt} "$@"',
     "broken": "exit 2",
 }
 RSP, C = "./rsp run", "library/c/build"
@@ -170,9 +154,9 @@ class Tiny:
             said = ran.communicate(timeout=LONGEST)[0]
         return Ran(ran.returncode, said, [])
 
-    def during(self, line: str, act: Callable[[int], object], kit: str = "") -> Ran:
+    def during(self, line: str, act: Callable[[int], object]) -> Ran:
         """A run of ./rsp, in which something is done once it says the line."""
-        with self.started(RSP.split(), kit) as ran:
+        with self.started(RSP.split(), "") as ran:
             assert ran.stdout
             said = ""
             for got in ran.stdout:

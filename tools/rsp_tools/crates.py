@@ -1,0 +1,49 @@
+"""The crates: what each uses, by crates.txt, and how long it usually takes to prove."""
+
+import functools
+import re
+from pathlib import Path
+from typing import List
+
+from rsp_tools import TOP
+
+CRATES = TOP / "crates"
+LINES = {
+    it.split()[0].rstrip(":"): it for it in re.findall(r"(?m)^\w.*:.*", (TOP / "crates.txt").read_text())
+}
+# The seconds of a processor by one job, for the order of the proofs and for what is said of the time to go.
+SECONDS = """
+rsp_numbers 8 rsp_memory 32 rsp_decode 171 rsp_scalar 28 rsp_lanes 45 rsp_acc 43 rsp_multiply 32
+rsp_compare 31 rsp_divide 22 rsp_loadstore 59 rsp_regs 38 rsp_machine 199 rsp_syntax 63 rsp_operands 59
+rsp_asm 88 rsp_dis 54 rsp_debug 180 rsp_script_io 79 rsp_commands 85 rsp_bench 153 rsp_feed 40
+rsp_cli_args 62 rsp_cli_files 157 rsp_cli 78 rsp_main 125 rsp_c 300
+"""
+
+
+def uses(name: str) -> List[str]:
+    return LINES[name].partition(":")[2].split()
+
+
+@functools.lru_cache(None)
+def with_below(name: str) -> List[str]:
+    """The crate and those that it uses, each after those that it uses; none for a library of the kit."""
+    if name not in LINES:
+        return []
+    return [*dict.fromkeys(below for it in uses(name) for below in with_below(it)), name]
+
+
+def library(name: str) -> Path:
+    """The folder of a proved crate's library, with the file `stamp` by which `rt` knows it."""
+    return CRATES / name / "out/rlib"
+
+
+def seconds(name: str) -> int:
+    found = re.search(rf"\b{name} (\d+)", SECONDS)
+    return int(found[1]) if found else 10
+
+
+@functools.lru_cache(None)
+def path_to(top: str, name: str) -> int:
+    """The seconds of the longest path by which the crate leads to the one on top, with those of both."""
+    above = [it for it in with_below(top) if name in uses(it)]
+    return seconds(name) + max((path_to(top, it) for it in above), default=0)
