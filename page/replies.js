@@ -1,82 +1,125 @@
 // @ts-check
-/** Each line of a script with its reply. */
+/** Shows replies: alone, as `rsp run` prints them, or each below its command. */
 
-/** How many lines, of script and replies together, are shown: all of them can have hundreds of megabytes. */
-const MOST = 20000;
-/** How much of a line is shown. Longer ones are refused. */
-const WIDTH = 256;
-const LF = 10;
+import { Answers } from "./answers.js";
+import { coloured } from "./colours.js";
+import { element } from "./elements.js";
+import { fault_page } from "./help.js";
+import { Lines } from "./lines.js";
+import { last_below } from "./search.js";
+import { grouped } from "./words.js";
+
+/** How many lines are shown: no browser has a page of many millions. All replies can have hundreds of megabytes. */
+const MOST = 400000;
+const LF = 10, TEXT = new TextDecoder();
 
 export class Replies {
   #list;
   #more;
-  #script = new Uint8Array();
-  /** Where its next line begins. */
-  #at = 0;
-  /** How many lines are shown. */
+  #lines;
+  /** Where each answer begins among the lines that are shown.
+   * @type {number[]} */
+  #begins = [];
   #shown = 0;
+  #is_alone = true;
 
-  /** How many lines of the script are answered. */
-  count = 0;
-  /** All replies, also those that aren't shown.
-   * @type {Uint8Array[]} */
-  bytes = [];
+  answers = new Answers();
 
-  /** @param {HTMLElement} list has the lines
+  /** @param {HTMLElement} scroller
+   * @param {HTMLElement} list has the lines
    * @param {HTMLElement} more says which aren't shown */
-  constructor(list, more) {
+  constructor(scroller, list, more) {
     this.#list = list;
     this.#more = more;
+    this.#lines = new Lines(scroller, list, (line) => this.#row(line));
   }
 
   /** Begins with another script.
    * @param {Uint8Array} script */
   begin(script) {
-    this.#script = script;
-    this.#at = this.#shown = this.count = 0;
-    this.bytes = [];
-    this.#list.replaceChildren();
+    this.answers = new Answers(script);
+    this.#again();
+  }
+
+  /** Shows the replies alone, or each below its command.
+   * @param {boolean} is_alone */
+  set_alone(is_alone) {
+    const line = last_below(this.#begins, this.#lines.top);
+    this.#is_alone = is_alone;
+    this.#list.classList.toggle("alone", is_alone);
+    this.#again();
+    this.go_to(line);
+  }
+
+  /** Shows all that is answered, from the first line on. */
+  #again() {
+    this.#begins = [];
+    this.#shown = 0;
     this.#more.textContent = "";
+    this.#count();
+    this.#lines.show(this.#shown);
   }
 
   /** Shows the replies to the next lines.
    * @param {Uint8Array[]} replies */
   add(replies) {
-    const rows = document.createDocumentFragment();
-    for (const reply of replies) {
-      const line = this.#next_line(), text = new TextDecoder().decode(reply);
-      this.bytes.push(reply);
-      if (line.length) this.count++;
-      else if (!text) continue; // the script's end, which has a reply only in a block
-      if (this.#shown < MOST) rows.append(row(line, text));
-      else this.#more.textContent ||= `Line ${this.count} and those after it aren't shown. Save replies saves all.`;
-      this.#shown += text.split("\n").length;
+    for (const reply of replies) this.answers.add(reply);
+    this.#count();
+    this.#list.style.setProperty("--digits", String(String(this.answers.count).length));
+    this.#lines.grow(this.#shown);
+  }
+
+  /** Brings the answer to a line into view.
+   * @param {number} line */
+  go_to(line) {
+    if (line < this.#begins.length) this.#lines.go_to(this.#begins[line]);
+  }
+
+  /** Counts the lines of the answers that are new. */
+  #count() {
+    const { replies } = this.answers;
+    while (this.#begins.length < replies.length && this.#shown < MOST) {
+      const reply = replies[this.#begins.length];
+      this.#begins.push(this.#shown);
+      this.#shown += (this.#is_alone ? 0 : 1) + lines_of(reply);
     }
-    this.#list.append(rows);
+    const line = this.#begins.length;
+    if (line < replies.length) {
+      this.#more.textContent ||= `Line ${grouped(line + 1)} and those after it aren't shown. Save replies saves all.`;
+    }
   }
 
-  #next_line() {
-    const end = this.#script.indexOf(LF, this.#at) + 1 || this.#script.length;
-    const line = this.#script.subarray(this.#at, end);
-    this.#at = end;
-    return line;
+  /** A line of the list. The first one of an answer has the number of the script's line.
+   * @param {number} shown */
+  #row(shown) {
+    const line = last_below(this.#begins, shown), at = shown - this.#begins[line], row = element("li", "");
+    row.setAttribute("aria-posinset", String(shown + 1));
+    row.setAttribute("aria-setsize", String(this.#shown));
+    if (!at && !this.answers.is_end(line)) row.dataset.line = String(line + 1);
+    if (this.#is_alone || at) row.append(reply_row(this.answers.replies[line], this.#is_alone ? at : at - 1));
+    else if (this.answers.is_end(line)) row.append(element("em", "the script's end"));
+    else row.append(coloured("code", this.answers.text(line), this.answers.is_source(line)));
+    return row;
   }
 }
 
-/** @param {string} name @param {string} text @param {string} kind */
-function element(name, text, kind = "") {
-  const made = document.createElement(name);
-  made.textContent = text;
-  made.className = kind;
-  return made;
+/** How many lines a reply has.
+ * @param {Uint8Array} reply */
+function lines_of(reply) {
+  let count = 0;
+  for (let at = reply.indexOf(LF); at >= 0; at = reply.indexOf(LF, at + 1)) count++;
+  return count;
 }
 
-/** A line of the list. Without bytes it is the script's end.
- * @param {Uint8Array} line
- * @param {string} reply */
-function row(line, reply) {
-  const made = document.createElement("li"), text = new TextDecoder().decode(line.subarray(0, WIDTH)).trimEnd();
-  made.append(line.length ? element("code", text) : element("em", "the script's end"));
-  if (reply) made.append(element("samp", reply, reply.startsWith("fault ") ? "fault" : ""));
-  return made;
+/** A line of a reply. A fault leads to what it means.
+ * @param {Uint8Array} reply
+ * @param {number} at the line's number in it */
+function reply_row(reply, at) {
+  const text = TEXT.decode(reply).split("\n")[at], page = fault_page(text), row = element("samp", page ? "" : text);
+  if (page) {
+    const link = /** @type {HTMLAnchorElement} */ (row.appendChild(element("a", text)));
+    [link.href, link.target] = [page, "help"];
+    row.className = "fault";
+  }
+  return row;
 }

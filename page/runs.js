@@ -1,6 +1,8 @@
 // @ts-check
 /** Runs scripts in a worker, one after the other. */
 
+const WORKER = new URL("worker.js", import.meta.url);
+
 /** What ended a run: its script's end, with the image that it left; a stop; or a fault, in a sentence.
  * @typedef {{ rdram?: Uint8Array, is_stopped?: boolean, fault?: string }} Ended */
 
@@ -36,13 +38,13 @@ export class Runs {
   async #answered(script, image, hear) {
     const under_way = new Promise((end) => {
       this.#end = end;
-      const worker = this.#worker ??= new Worker(new URL("worker.js", import.meta.url), { type: "module" });
+      const worker = this.#worker ??= new Worker(WORKER, { type: "module" });
       worker.onmessage = ({ data: { replies, ended } }) => {
         if (this.#end !== end) return; // the run is stopped, and this message was on its way
         if (replies) hear(replies);
         if (ended) end(ended);
       };
-      worker.onerror = ({ message }) => end({ fault: message || "worker.js couldn't be loaded" });
+      worker.onerror = async ({ message }) => end({ fault: message || await why_not(WORKER) }); // of why.js
       worker.postMessage({ script, image });
     });
     const ended = await under_way.catch((fault) => ({ fault: fault.message }));

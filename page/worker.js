@@ -2,11 +2,19 @@
 /** Answers scripts by the library: in a worker, so no run freezes the page. It gets a script and an image, and gives
  * replies as they come. Its last message has the image that the script leaves, or says why there is none. */
 
+import "./why.js";
+
 /** How long replies are gathered, in milliseconds. */
 const GATHERED = 50;
 
-/** A browser that can't have the library says why at each run. */
-const library = import("./rsp/rsp.js");
+/** What `rsp run` says where it refuses a script. */
+const REFUSED = { TOO_LONG: "rsp: fault 42 ScriptTooLong", NO_MEMORY: "rsp: fault 43 OutOfMemory" };
+
+const LIBRARY = new URL("rsp/rsp.js", import.meta.url);
+/** Each run says why the library isn't there, if it isn't. A browser that doesn't take a module says nothing of it. */
+const library = import("./rsp/rsp.js").catch(async (fault) => {
+  throw fault instanceof TypeError ? new Error(await why_not(LIBRARY)) : fault;
+});
 library.catch(() => {});
 
 /** The reply to each line, and to the script's end. */
@@ -17,7 +25,7 @@ function * replies_of(bench, script) {
 
 /** Answers a script. The image as it leaves it. */
 async function answered(script, image) {
-  const { Bench } = await library, bench = new Bench(image);
+  const { Bench, Status } = await library, bench = new Bench(image);
   let replies = [], since = performance.now();
   try {
     for (const reply of replies_of(bench, script)) {
@@ -27,6 +35,8 @@ async function answered(script, image) {
       [replies, since] = [[], performance.now()];
     }
     return bench.rdram;
+  } catch (fault) {
+    throw new Error(REFUSED[Status[fault.status]] ?? fault.message);
   } finally {
     postMessage({ replies });
     bench.free();

@@ -12,6 +12,7 @@ from lib.systems import chromium
 from lib.systems.kinds import KINDS
 from lib.systems.page import Host, Page
 from lib.systems.runners import Native, Runner
+from rsp_tools.systems import manual
 from rsp_tools.systems import page as pages
 from rsp_tools.systems import places
 
@@ -73,6 +74,7 @@ def native(library: Path, at: Path) -> Native:
 @pytest.fixture(scope="session")
 def host(at: Path) -> Iterator[Host]:
     """The page that answers scripts, on a server."""
+    need(manual.CONVERTER)
     folder_of("wasm64")
     pages.make(at / "page")
     host = Host(at / "page")
@@ -91,12 +93,22 @@ def driver(at: Path) -> Iterator[Any]:
 
 
 @pytest.fixture
+def forgetful(at: Path, folder: Path) -> Iterator[Page]:
+    """The tab of a browser that keeps no whole page for who goes back to it, only what was typed."""
+    need(*chromium.PROGRAMS)
+    page = Page(chromium.started(folder, "--disable-features=BackForwardCache"), folder)
+    yield page
+    page.driver.quit()
+
+
+@pytest.fixture
 def page(host: Host, driver: Any, at: Path) -> Iterator[Page]:
     """The page, which has just been opened in a tab. No dialog is left open."""
     from selenium.common.exceptions import NoAlertPresentException
 
     page = Page(driver, at / "saved")
     page.open(host.url)
+    page.ready()
     yield page
     with suppress(NoAlertPresentException):
         driver.switch_to.alert.accept()

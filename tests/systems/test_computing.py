@@ -18,7 +18,8 @@ import pytest
 import rsp
 from lib import TESTS, TOP
 from lib.systems.browser import Chromium
-from lib.systems.kinds import on
+from lib.systems.kinds import KINDS, on
+from lib.systems.node import Node
 from lib.systems.runners import Native, Runner
 from rsp_conformance import bench, library_states, steps
 from rsp_conformance.draws import Random
@@ -81,7 +82,7 @@ def results(runner: Runner) -> List[Tuple[Entry, bytes]]:
     """What a library makes of each case."""
     entries = [it for name in names_in(VECTORS, []) for it in entries_in(VECTORS, name)]
     (runner.at / "cases").write_bytes(b"".join(map(written, entries)))
-    if isinstance(runner, Chromium):
+    if isinstance(runner, (Chromium, Node)):
         found = runner.test("vectors.js", "/at/cases")
     else:
         ended = runner.run(runner.compile(DATA / "vectors.c"), "cases", "results")
@@ -91,7 +92,7 @@ def results(runner: Runner) -> List[Tuple[Entry, bytes]]:
     return [(it, found[n * RESULT : (n + 1) * RESULT]) for n, it in enumerate(entries)]
 
 
-@on()
+@on(*KINDS)
 def test_vectors(runner: Runner) -> None:
     """Spoilt copies of one case of each instruction have to be noticed."""
     found = results(runner)

@@ -9,6 +9,8 @@ from pathlib import Path
 
 import pytest
 
+from lib.hardening import check_elf
+from lib.processes import succeeds
 from lib.systems import macos
 from lib.systems.files import PLATFORMS, check_wheel, shown
 from lib.systems.kinds import of
@@ -59,6 +61,15 @@ def test_linux_needs(made: Path, name: str) -> None:
     assert versions and max(versions) <= OLDEST
     read = llvm("llvm-readobj", "--needed-libs", "--dynamic-table", made / name)
     assert re.findall(r"NEEDED\s+Shared library: \[(.*)\]", read) == ["libc.so.6"]
+    check_elf(made / name, is_program=name == "bin/rsp")
+
+
+@pytest.mark.needs("aarch64-linux-gnu-objdump")
+@of("linux-aarch64")
+def test_linux_signs_returns(made: Path) -> None:
+    """The C of the program begins with the instruction that signs the address of the return."""
+    listed = succeeds("aarch64-linux-gnu-objdump", "-d", "--no-show-raw-insn", made / "bin/rsp")
+    assert "\tpaciasp" in listed
 
 
 @of("wasm64")

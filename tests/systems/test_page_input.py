@@ -1,11 +1,13 @@
 """What the page that answers scripts refuses, each with a sentence, and what it says where it can't work."""
 
+import json
 import shutil
 from pathlib import Path
-from typing import Callable, Iterator, Tuple
+from typing import Callable
 
 import pytest
 
+from lib.systems.browser import Server
 from lib.systems.page import Host, Page, linked, the
 from rsp_tools.systems import page as pages
 from rsp_tools.systems.toolchain import Refused
@@ -24,7 +26,7 @@ def test_file_too_long(page: Page) -> None:
 def test_script_too_long(page: Page) -> None:
     page.type("step\n" + "#" * (LONGEST - 4))
     assert page.run() == "step Done pc 004\n"
-    assert page.text("said") == "feed: the script has more than 1048576 bytes. Answered: 1 line."
+    assert page.text("ran") == "rsp: fault 42 ScriptTooLong. Answered: 1 line."
     assert page.is_disabled("save-image")
 
 
@@ -56,6 +58,7 @@ def test_link(fragment: str, told: str, page: Page) -> None:
     top = page.address
     assert page.open_link(fragment) == told
     page.open(top + fragment)
+    page.ready()
     assert page.text("said") == told
 
 
@@ -87,53 +90,112 @@ def test_from_a_folder(page: Page, host: Host) -> None:
     assert "python3 -m http.server --bind 127.0.0.1" in page.text("absent")
 
 
-def sections(data: bytes) -> Iterator[Tuple[int, int]]:
-    """The number of each section of a module of WebAssembly, and where its content begins."""
-    at = 8
-    while at < len(data):
-        number, at, length, shift = data[at], at + 1, 0, 0
-        while True:
-            byte, at = data[at], at + 1
-            length, shift = length | (byte & 127) << shift, shift + 7
-            if byte < 128:
-                break
-        yield number, at
-        at += length
+def folder_in(page: Path) -> Path:
+    """The folder of the page's files beside index.html."""
+    (found,) = (it.parent for it in page.glob("*/page.js"))
+    return found
 
 
-def without_memories(folder: Path) -> None:
-    """Makes the library one whose memory has a kind that no browser has, as 64 bits are for older ones."""
-    path = folder / "rsp/rsp.wasm"
-    data = bytearray(path.read_bytes())
-    (memory,) = [at for number, at in sections(data) if number == 5]
-    data[memory + 1] |= 0x40
-    path.write_bytes(data)
+def changed(name: str, change: Callable[[bytes], bytes]) -> Callable[[Path], None]:
+    """A change of a file of the page."""
+
+    def change_it(page: Path) -> None:
+        path = folder_in(page) / name
+        path.write_bytes(change(path.read_bytes()))
+
+    return change_it
 
 
+def without_memories(page: Path) -> None:
+    """Asks the browser for a kind of memory that none has, as 64 bits are for older ones, and gives it a
+    library with such a memory."""
+    changed("rsp/module.js", lambda it: it.replace(b"[5, 3, 1, 4, 0]", b"[5, 3, 1, 68, 0]"))(page)
+    changed("rsp/rsp.wasm", lambda it: it[:8] + bytes([5, 3, 1, 68, 0]))(page)
+
+
+def absent(name: str) -> Callable[[Path], None]:
+    return lambda page: (folder_in(page) / name).unlink()
+
+
+PAGE_OF_HOST = b"<!doctype html>\n<title>Not here</title>\n"
 LACKING = {
     "memories": (
         without_memories,
         "rsp needs WebAssembly with 64-bit memories: Chrome and Edge have them since 133",
     ),
-    "rsp.wasm": (lambda it: (it / "rsp/rsp.wasm").unlink(), "rsp.wasm isn't served: 404"),
-    "worker.js": (lambda it: (it / "worker.js").unlink(), "worker.js couldn't be loaded"),
+    "rsp.wasm": (absent("rsp/rsp.wasm"), "rsp.wasm isn't served: 404"),
+    "half of rsp.wasm": (
+        changed("rsp/rsp.wasm", lambda it: it[:100000]),
+        "rsp.wasm isn't whole: 100000 bytes came, which are no module.",
+    ),
+    "HTML for rsp.wasm": (
+        changed("rsp/rsp.wasm", lambda _: PAGE_OF_HOST),
+        'rsp.wasm isn\'t a module of WebAssembly: it begins with "<!doctype html>\\n", so something else',
+    ),
+    "worker.js": (
+        absent("worker.js"),
+        "worker.js isn't served: 404 File not found. A newer page may be there: reload it.",
+    ),
+    "HTML for worker.js": (
+        changed("worker.js", lambda _: PAGE_OF_HOST),
+        "worker.js isn't served: the server has answered with HTML.",
+    ),
+    "rsp.js": (
+        absent("rsp/rsp.js"),
+        "rsp.js isn't served: 404 File not found. A newer page may be there: reload it.",
+    ),
+    "a module of the library": (
+        absent("rsp/words.js"),
+        "rsp.js is served, but the browser hasn't taken it, or a module that it imports.",
+    ),
 }
 
 
+@pytest.fixture
+def lacking(host: Host, folder: Path) -> Path:
+    """A copy of the page, to be changed."""
+    return Path(shutil.copytree(host.folder, folder / "page"))
+
+
 @pytest.mark.parametrize("change, told", LACKING.values(), ids=LACKING)
-def test_without(change: Callable[[Path], None], told: str, page: Page, host: Host, folder: Path) -> None:
+def test_without(change: Callable[[Path], None], told: str, page: Page, lacking: Path) -> None:
     """What the page says that lacks something: when it is opened, and when a script is run."""
-    shutil.copytree(host.folder, folder / "page")
-    change(folder / "page")
-    lacking = Host(folder / "page")
+    change(lacking)
+    odd = Host(lacking)
     try:
-        page.open(lacking.url)
-        page.until(f"{the('said')}.textContent")
-        assert page.text("said").startswith(told)
-        page.run()
-        assert page.text("said").startswith(told)
+        page.open(odd.url)
+        page.until(f"{the('ran')}.textContent.startsWith({json.dumps(told)})")
+        page.click("run")
+        assert page.ended().startswith(told)
+        page.open(odd.url + linked(b"step\n"))
+        page.until(f"{the('said')}.textContent.startsWith({json.dumps(told)})")
     finally:
-        lacking.stop()
+        odd.stop()
+
+
+@pytest.mark.parametrize("name", ("page.js", "worker.js", "rsp.js"))
+def test_wrong_type(name: str, page: Page, lacking: Path) -> None:
+    """A server that has no type for a module: what the page says."""
+    server = Server({"page": lacking}, {name: "text/plain"})
+    try:
+        page.open(f"http://127.0.0.1:{server.server_address[1]}/page/index.html")
+        told = f"{name} is served as text/plain, and browsers take modules as text/javascript: "
+        page.until(f"document.body.innerText.includes({json.dumps(told)})")
+    finally:
+        server.shutdown()
+        server.server_close()
+
+
+def test_wrong_type_of_the_library(page: Page, lacking: Path) -> None:
+    """rsp.wasm is taken with any type."""
+    server = Server({"page": lacking}, {"rsp.wasm": "text/plain"})
+    try:
+        page.open(f"http://127.0.0.1:{server.server_address[1]}/page/index.html")
+        page.ready()
+        assert page.text("ran") == "Ended: 14 lines."
+    finally:
+        server.shutdown()
+        server.server_close()
 
 
 def test_without_a_library(folder: Path) -> None:

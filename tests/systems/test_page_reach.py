@@ -1,13 +1,19 @@
 """Whom the page that answers scripts reaches: by keys, on a narrow screen, in light and dark, read aloud. And
 whom it asks."""
 
+import time
+from typing import Any
+
 import pytest
 
-from lib.systems.page import DOWN, ENTER, TAB, Host, Page, the
+from lib.systems.page import CONTROL, DOWN, ENTER, SHOWN, TAB, Host, Page, the
 
 pytestmark = pytest.mark.xdist_group("page")
-# Every control that is enabled when the page has been opened, in the order of the key Tab.
-CONTROLS = ["example", "open-script", "save-script", "link", "script", "open-image", "zeros", "run", "shown"]
+# Every control that is enabled when the page has been opened, in the order of the key Tab: links by their
+# words.
+LINKS = ["Commands", "Instructions", "Faults"]
+BEFORE = ["run", "example", "open-script", "save-script", "link", "script", "open-image", "zeros"]
+CONTROLS = [*LINKS, *BEFORE, "commands", "save-replies", "save-image", "shown"]
 ENDLESS = "asm 0\nj 0\nnop\nend\n" + 5000 * "run 1000000\n"
 # The least contrast of a text with its ground, of all that are shown.
 CONTRAST = """(() => {
@@ -31,7 +37,7 @@ CONTRAST = """(() => {
 
 
 def focus(page: Page) -> str:
-    return str(page.value("document.activeElement.id"))
+    return str(page.value("document.activeElement.id || document.activeElement.textContent"))
 
 
 def go_to(page: Page, name: str) -> None:
@@ -48,18 +54,18 @@ def test_order_of_controls(page: Page) -> None:
     order = []
     for _ in CONTROLS:
         page.press(TAB)
-        outline = page.value("getComputedStyle(document.activeElement).outlineStyle")
-        order.append((focus(page), outline))
+        seen = the("editor") if focus(page) == "script" else "document.activeElement"
+        order.append((focus(page), page.value(f"getComputedStyle({seen}).outlineStyle")))
     assert order == [(it, "solid") for it in CONTROLS]
 
 
 def test_run_by_keys(page: Page) -> None:
     go_to(page, "example")
     page.press(DOWN)
-    assert page.value(f"{the('example')}.value") == "0"
+    assert page.value(f"{the('example')}.value") == "1"
     go_to(page, "script")
     page.type("step\n")
-    page.press(ENTER, with_control=True)
+    page.press(ENTER, CONTROL)
     assert page.replies() == "step Done pc 004\n"
     page.type("step\nstep\n")
     go_to(page, "run")
@@ -73,11 +79,11 @@ def test_run_by_keys(page: Page) -> None:
 def test_stop_by_keys(page: Page) -> None:
     go_to(page, "script")
     page.type(ENDLESS)
-    page.press(ENTER, with_control=True)
+    page.press(ENTER, CONTROL)
     go_to(page, "stop")
     page.press(ENTER)
     page.replies()
-    assert page.text("said").startswith("Stopped after ")
+    assert page.text("ran").startswith("Stopped after ")
     assert focus(page) == "run"
 
 
@@ -96,42 +102,143 @@ def test_files_by_keys(name: str, page: Page) -> None:
 # Screens, and programs that read the screen aloud.
 
 
+# Each command with replies, a fault, and source text; the widest replies and lines.
+ALL = """# walk
+walk
+asm 0
+lqv $v1[0], 0($0) # a
+vadd $v3, $v1, $v2[0h]
+x: bne $1, $0, x
+sqv $v3[0], 16($0)
+end
+asm 4
+li $1, 5
+end
+regs
+vregs
+acc
+flags
+sp
+mem dmem 0 64
+dis 0 8
+"""
+
+# How many lines the script has with the one below, and how many its replies: three of one line, then those
+# from `regs` on.
+LINES, REPLIES = 19, 3 + 9 + 32 + 8 + 1 + 17 + 4 + 8
+
+
 @pytest.fixture
 def filled(page: Page) -> Page:
-    """The page with replies, and a long line."""
-    page.type("walk\nvregs\ndis 0 4\n" + "# " + 120 * "ab" + "\nflags\n")
+    """The page with replies of all kinds, and a long line."""
+    page.type(ALL + "# " + 120 * "ab" + "\n")
     page.run()
     return page
 
 
+@pytest.mark.parametrize("is_alone", (True, False), ids=("replies alone", "with commands"))
 @pytest.mark.parametrize("scheme", ("light", "dark"))
-def test_contrast(scheme: str, filled: Page) -> None:
+def test_contrast(scheme: str, is_alone: bool, filled: Page) -> None:
+    if not is_alone:
+        filled.click("commands")
     filled.call("Emulation.setEmulatedMedia", features=[{"name": "prefers-color-scheme", "value": scheme}])
+    filled.settle()
     contrast, ground = filled.value(CONTRAST), filled.value("getComputedStyle(document.body).backgroundColor")
+    parts = "[...document.querySelectorAll('#colours span, #numbers .fault')].map((it) => it.className)"
+    found = filled.value(f"new Set({parts}).size")
     filled.call("Emulation.setEmulatedMedia", features=[])
+    assert found == 6
     assert contrast >= 4.5
     assert (ground == "rgb(255, 255, 255)") == (scheme == "light")
 
 
-@pytest.mark.parametrize("width", (320, 480, 1280))
-def test_nothing_is_cut_off(width: int, filled: Page) -> None:
-    screen = {"width": width, "height": 640, "deviceScaleFactor": 1, "mobile": width < 1000}
+# The lines of the replies whose last letter can't be reached by scrolling: what is painted there is another
+# element, or it isn't on the screen.
+CUT_OFF = f"""(() => {{
+  const scroller = {the('shown')}, list = {the('replies')}, cut = [];
+  const is_scrolling = getComputedStyle(scroller).overflowX === "auto"; // what is hidden only scripts scroll
+  for (const row of list.children) {{
+    let text = row;
+    while (text.lastChild) text = text.lastChild;
+    if (!text.length) continue;
+    const last = document.createRange();
+    last.setStart(text, text.length - 1);
+    last.setEnd(text, text.length);
+    scroller.scrollTo(0, row.offsetTop - list.offsetTop);
+    const beyond = last.getBoundingClientRect().right - scroller.getBoundingClientRect().right;
+    if (is_scrolling) scroller.scrollTo(beyond + 50, scroller.scrollTop);
+    scrollBy(0, last.getBoundingClientRect().top - 0.7 * innerHeight);
+    const box = last.getBoundingClientRect();
+    const seen = document.elementFromPoint((box.left + box.right) / 2, (box.top + box.bottom) / 2);
+    if (!row.contains(seen) || seen === row) cut.push(row.textContent);
+  }}
+  return cut;
+}})()"""
+
+
+@pytest.mark.parametrize("is_alone", (True, False), ids=("replies alone", "with commands"))
+@pytest.mark.parametrize("text", (100, 200))
+@pytest.mark.parametrize("width", (320, 360, 412, 768, 960, 1280, 2560))
+def test_nothing_is_cut_off(width: int, text: int, is_alone: bool, filled: Page) -> None:
+    """Each reply's last letter can be reached, and the page itself isn't wider than the screen."""
+    height = {320: 568, 360: 740, 412: 915, 768: 1024}.get(width, 800)
+    screen = {"width": width, "height": height, "deviceScaleFactor": 1, "mobile": width < 900}
     filled.call("Emulation.setDeviceMetricsOverride", **screen)
-    wide = filled.value("document.documentElement.scrollWidth")
+    filled.value(f"(document.documentElement.style.fontSize = '{text}%')")
+    if not is_alone:
+        filled.click("commands")
+    filled.settle()
+    wide, cut = filled.value("document.documentElement.scrollWidth"), filled.value(CUT_OFF)
+    rows = filled.value(f"{the('replies')}.children.length")
+    filled.value("(document.documentElement.style.fontSize = '')")
     filled.call("Emulation.clearDeviceMetricsOverride")
     assert wide <= width
+    assert cut == []
+    assert rows == REPLIES + (0 if is_alone else LINES)
+
+
+def nodes(page: Page) -> Any:
+    """What a program gets that reads the page aloud."""
+    return [it for it in page.call("Accessibility.getFullAXTree")["nodes"] if not it["ignored"]]
 
 
 def test_names(filled: Page) -> None:
-    """Each control has a name, and there is a live region."""
-    roles = {"button", "combobox", "textbox", "region", "status", "heading"}
-    nodes = [it for it in filled.call("Accessibility.getFullAXTree")["nodes"] if not it["ignored"]]
-    named = [(it.get("role", {}).get("value"), it.get("name", {}).get("value", "")) for it in nodes]
-    named = [it for it in named if it[0] in roles]
+    """Each control has a name, and there are live regions."""
+    roles = {"button", "combobox", "textbox", "checkbox", "link", "region", "navigation", "status", "heading"}
+    found = [(it.get("role", {}).get("value"), it.get("name", {}).get("value", "")) for it in nodes(filled)]
+    named = [it for it in found if it[0] in roles]
     assert [role for role, name in named if not name and role != "status"] == []
-    controls = [it for it in named if it[0] in ("button", "combobox", "textbox")]
-    assert len(controls) == len(CONTROLS) + 2
-    assert "status" in [role for role, _ in named]
+    controls = [it for it in named if it[0] in ("button", "combobox", "textbox", "checkbox")]
+    absent = ["stop", "undo"]
+    assert len(controls) == len(CONTROLS) - len([*LINKS, "shown"]) + len([*absent, "faults"])
+    assert [role for role, _ in named].count("status") == 2
+    assert ("button", "2 faults of 19 lines") in named
+
+
+def test_script_is_read_aloud(filled: Page) -> None:
+    """The script is a text area with its text; what is drawn below it isn't read."""
+    (box,) = (it for it in nodes(filled) if it["role"]["value"] == "textbox")
+    assert box["value"]["value"] == filled.script
+    texts = [it["name"]["value"] for it in nodes(filled) if it["role"]["value"] == "StaticText"]
+    drawn = filled.value(f"{the('colours')}.textContent")
+    assert "lqv" in drawn and texts.count("lqv") == 0
+
+
+@pytest.mark.parametrize("count", (5, 18000))
+def test_many_lines_are_read_aloud(count: int, page: Page) -> None:
+    """With a program that reads the page aloud a run of 162,000 lines takes no minute, and what isn't
+    near the view isn't in its tree."""
+    page.call("Accessibility.enable")
+    page.type("regs\n" * count)
+    begun = time.monotonic()
+    page.click("run")
+    page.ended()
+    took = time.monotonic() - begun
+    items = [it for it in nodes(page) if it["role"]["value"] == "listitem"]
+    page.call("Accessibility.disable")
+    assert page.value(SHOWN) == 9 * count
+    assert len(items) == 9 * count if count == 5 else 200 <= len(items) <= 500
+    assert took < 20
 
 
 def test_sources(page: Page, host: Host) -> None:
@@ -142,6 +249,31 @@ def test_sources(page: Page, host: Host) -> None:
     page.run()
     urls = {it["request"]["url"] for it in page.events("Network.requestWillBeSent")}
     assert [it for it in urls if not it.startswith((host.url, "data:", "blob:", "about:"))] == []
-    assert f"{host.url}page.js" in urls
-    rules = page.value("document.querySelector('meta[http-equiv]').content.split(/;\\s+/)")
-    assert {"default-src 'none'", "script-src 'self'"} <= {*rules}
+    (folder,) = (it.name for it in host.folder.iterdir() if it.is_dir())
+    assert f"{host.url}{folder}/page.js" in urls
+
+
+# What the page's rules refuse of things that the page doesn't need.
+REFUSED = """(async () => {
+  const refused = [];
+  document.addEventListener("securitypolicyviolation", (it) => refused.push(it.effectiveDirective));
+  const put = (name, values) => document.body.append(Object.assign(document.createElement(name), values));
+  put("script", { textContent: "document.title = 'changed'" });
+  put("script", { src: "data:text/javascript,1" });
+  put("style", { textContent: "body { color: red }" });
+  put("img", { src: "http://localhost:1/" });
+  put("iframe", { src: "https://localhost:1/" });
+  put("base", { href: "http://localhost:1/" });
+  await fetch("http://localhost:1/").catch(() => {});
+  try { new Worker("data:text/javascript,1"); } catch {}
+  await new Promise((done) => setTimeout(done, 300));
+  return [document.title, ...new Set(refused)].sort();
+})()"""
+
+
+def test_rules(page: Page) -> None:
+    """The page's rules refuse what it doesn't need. That they allow what it needs all other tests show."""
+    title, *refused = page.value(REFUSED)
+    wanted = {*"script-src-elem style-src-elem img-src frame-src base-uri connect-src worker-src".split()}
+    assert {*refused, title} - wanted == {"rsp: scripts for the Nintendo 64's RSP"}
+    assert wanted <= {*refused, title}

@@ -11,11 +11,12 @@ import pytest
 
 import rsp
 from lib.stored import Stored, stored
-from lib.systems.page import ENTER, LINKED, ROWS, Host, Page, linked, the, way_of
+from lib.systems.page import ENTER, FIRST, LINKED, SHOWN, Host, Page, linked, the, way_of
 from rsp_tools.systems import places
 
 pytestmark = pytest.mark.xdist_group("page")
-SHOWN = 20000  # lines that are shown
+MOST = 400000  # lines that are shown
+BLOCK = 3  # lines of ENDLESS that have no reply
 ENDLESS = "asm 0\nj 0\nnop\nend\n" + 5000 * "run 1000000\n"
 ANSWERED = [it for it in stored() if not it.wanted[0]]
 GIVEN = sorted(((way_of(n, it.script), it) for n, it in enumerate(ANSWERED)), key=lambda it: it[0])
@@ -31,6 +32,7 @@ def opened(host: Host, driver: Any, at: Path, request: pytest.FixtureRequest) ->
     """The page, opened once for all scripts that are given in one way, and the way."""
     page = Page(driver, at / "saved")
     page.open(host.url)
+    page.ready()
     return page, request.param
 
 
@@ -51,14 +53,14 @@ def test_stored(opened: Tuple[Page, str], script: Stored) -> None:
 
 
 def test_examples(page: Page) -> None:
-    """Each example that can be chosen is a script of the repository, or assembles."""
+    """Each example is a script of the repository, or assembles; the first one is the README's."""
     options = "[...document.querySelectorAll('#example option')].slice(1).map((it) => it.textContent)"
     held, found = {it.script for it in stored()}, []
     for number, name in enumerate(page.value(options)):
         page.choose(number)
         script = page.saved("save-script", "script.rsp")
         found.append(script)
-        if script not in held:
+        if name != FIRST and script not in held:
             words = len(script.splitlines()) - len(["a comment", "asm", "end", "dis"])
             first, *listed = page.run().splitlines()
             assert (first, len(listed)) == (f"ok {words} words", words), name
@@ -69,14 +71,17 @@ def test_examples(page: Page) -> None:
 
 def test_many_replies(page: Page) -> None:
     """Of many replies some are shown, and all are saved."""
-    script = "vregs\n" * 2000
+    script = "vregs\n" * 13000
     page.type(script)
-    shown, wanted = page.run(), replies_to(script.encode())
-    is_first = wanted.startswith(shown)
-    assert is_first and shown.count("\n") < SHOWN
-    line = shown.count("\n") // 32 + 1
-    told = f"Line {line} and those after it aren't shown. Save replies saves all."
+    page.click("run")
+    page.ended()
+    shown, wanted = page.value(SHOWN), replies_to(script.encode())
+    assert shown == MOST
+    told = f"Line {MOST // 32 + 1:,} and those after it aren't shown. Save replies saves all."
     assert page.text("more") == told
+    page.value(f"({the('shown')}.scrollTo(0, 1e9), 0)")
+    page.until(f"{the('replies')}.lastElementChild?.getAttribute('aria-posinset') === '{MOST}'")
+    assert page.value(f"{the('replies')}.lastElementChild.textContent") == wanted.splitlines()[MOST - 1]
     is_whole = page.saved("save-replies", "replies.txt").decode() == wanted
     assert is_whole, "not all replies are saved"
 
@@ -85,17 +90,18 @@ def test_stop(page: Page) -> None:
     """A run is stopped; the page is alive meanwhile, and the next run has a new bench."""
     page.type(ENDLESS)
     page.click("run")
-    page.until(f"{ROWS} > 6")
+    page.until(f"{SHOWN} > 6")
+    assert page.text("ran") == "Running. Stop ends it."
     assert not page.is_disabled("stop")
     page.type("step\n")
     assert page.script == "step\n"
     page.click("stop")
-    replies, count = page.replies(), page.value(ROWS)
-    told = f"Stopped after {count:,} lines. The bench of this run is gone: there is no RDRAM to save."
-    assert page.text("said") == told
-    assert 6 < count < 5004
+    replies, count = page.replies(), page.value(SHOWN)
+    told = f"Stopped after {count + BLOCK:,} lines. The bench of this run is gone: there is no RDRAM to save."
+    assert page.text("ran") == told
+    assert 6 < count < 5001
     assert page.is_disabled("save-image")
-    assert replies == "ok 2 words\n" + (count - 4) * "stop Limit steps 1000000 pc 000\n"
+    assert replies == "ok 2 words\n" + (count - 1) * "stop Limit steps 1000000 pc 000\n"
     assert page.run() == "step Done pc 004\n"
     is_new = page.saved("save-image", "rdram.bin") == bytes(1 << 22)
     assert is_new, "the bench isn't new"
@@ -110,8 +116,9 @@ def test_link(script: bytes, page: Page) -> None:
     assert page.told(lambda: page.click("link")).startswith(carried)
     assert page.address == top + linked(script)
     page.open(page.address)
+    page.ready()
     assert page.text("said") == "This script came by a link. Read it before you run it."
-    assert page.value(ROWS) == 0
+    assert page.text("ran") == "" and page.text("replies") == ""
     assert page.saved("save-script", "script.rsp") == script
     assert page.run() == replies_to(script)
     page.type("step\n")

@@ -24,6 +24,23 @@ def test_command_lines(runner: Any, program: Path, folder: Path) -> None:
     see_lines(started(runner, folder), program, folder / "lines")
 
 
+# Names of devices whose bytes Windows may wait for. A file can have the last four under wine.
+DEVICES = [
+    "PRN .x",
+    *"CON con.txt no\\COM1 COM9: C:aux CONOUT$ COM0 lpt0.a.b Com\u00b9 LPT\u00b3.bin".split(),
+]
+
+
+@on("windows-x86_64")
+@pytest.mark.parametrize("name", DEVICES)
+def test_device(name: str, runner: Any) -> None:
+    if name in DEVICES[-4:]:
+        (runner.at / name).write_bytes(bytes(64))
+    for words, told in (("run --rdram", "read"), ("dis", "read"), ("run --save", "write")):
+        ended = runner.run(runner.folder / "bin/rsp.exe", *words.split(), name)
+        assert (ended.stdout, ended.returncode) == (f"rsp: cannot {told} {name}\n", 1)
+
+
 @on("windows-x86_64")
 def test_argument_that_is_no_text(runner: Any) -> None:
     made = runner.compile(TESTS / "systems/half_pair_windows.c", library=[])

@@ -1,5 +1,5 @@
-"""The library in WebAssembly, and the ES module over it, in Debian's Chromium; and what npm and Node make of
-its folder."""
+"""The library in WebAssembly, and the ES module over it, in Debian's Chromium and in Node; and what npm makes
+of its folder."""
 
 import base64
 import json
@@ -16,7 +16,7 @@ from lib.pages import page
 from lib.processes import compiled, succeeds
 from lib.stored import Stored, stored
 from lib.systems import node
-from lib.systems.kinds import of, on
+from lib.systems.kinds import JAVASCRIPT, of, on
 from lib.systems.runners import see_passed
 from rsp_tools.systems import header, places, wasm
 from rsp_tools.systems.modules import Module
@@ -93,7 +93,7 @@ def test_another_version(folder: Path, monkeypatch: pytest.MonkeyPatch) -> None:
 # What the module exports and needs, and its declarations.
 
 
-@on("wasm64")
+@on(*JAVASCRIPT)
 def test_names(runner: Any) -> None:
     shown = json.loads(runner.test("module.js"))
     assert shown["imports"] == []
@@ -110,19 +110,17 @@ def test_names(runner: Any) -> None:
 @of("wasm64")
 @pytest.mark.parametrize("kind", ([], ["--install-links"]), ids=("a link", "a copy of what it packs"))
 def test_npm(made: Path, kind: List[str], folder: Path) -> None:
-    """npm takes the folder. A Node that is new enough runs it, and an older one says which are."""
+    """npm takes the folder, and Node runs it."""
     project = node.installed(folder, made, *kind)
     held = {it.name for it in (project / "node_modules/rsp").glob("*")}
     assert held == {it.name for it in made.iterdir()}
-    why = node.check_use(project)
-    if why:
-        pytest.skip(why)
+    node.check_use(project)
 
 
 # The ES module.
 
 
-@on("wasm64")
+@on(*JAVASCRIPT)
 def test_lockstep(runner: Any) -> None:
     text = (TOP / "examples/js/lockstep.js").read_text()
     assert runner.says("lockstep.js", text) == LOCKSTEP
@@ -135,7 +133,7 @@ def page_code() -> List[Tuple[str, str]]:
     return [(re.sub(r"(?m)^    ", "", code), told) for code, told in found]
 
 
-@on("wasm64")
+@on(*JAVASCRIPT)
 @pytest.mark.parametrize("code, told", page_code(), ids=lambda it: it.strip()[:20])
 def test_code_of_page(runner: Any, code: str, told: str) -> None:
     assert runner.says("page.js", code) == f"{told}\n"
@@ -148,7 +146,7 @@ def as_case(script: Stored) -> Dict[str, Any]:
     return {"script": text, **about}
 
 
-@on("wasm64")
+@on(*JAVASCRIPT)
 def test_scripts(runner: Any) -> None:
     """The replies to the scripts of the repository, and the images that must be left as they were."""
     scripts = stored()
@@ -159,7 +157,7 @@ def test_scripts(runner: Any) -> None:
     assert [it for it in zip(map(str, scripts), found, wanted) if it[1] != it[2]] == []
 
 
-@on("wasm64")
+@on(*JAVASCRIPT)
 @pytest.mark.parametrize("name", ("calls", "limits"))
 def test_in_javascript(runner: Any, name: str) -> None:
     """Each call in its range and out of it; memory that is given back, the stack, dropped machines."""

@@ -1,25 +1,40 @@
 """What the library for Windows shows and needs, and how programs are linked with it: by CMake, and by
 lld-link for MSVC."""
 
+import os
 import re
 import shutil
 from pathlib import Path
 from typing import Any, Set
+from xml.etree import ElementTree
 
 import pytest
 
 from lib import TESTS
+from lib.cmake import EXAMPLE
+from lib.hardening import SMASHED, check_pe
+from lib.processes import succeeds
 from lib.systems.files import shown
 from lib.systems.kinds import of, on
 from lib.systems.windows import link_for_msvc
-from rsp_tools.systems import header, modules, objects
+from rsp_tools import hardening
+from rsp_tools.systems import header, modules, objects, places
 from rsp_tools.systems.toolchain import llvm
 from rsp_tools.systems.windows import GNU
 
 CALLS = {*header.calls()}
+WINDOWS = "x86_64-w64-mingw32-gcc"
 # What the library takes of the C library, and for each compiler how it grows the stack.
 TAKEN = {"free", "malloc", "memcpy", "memmove", "memset", "realloc"}
 STATIC = {"librsp.a": TAKEN | {"___chkstk_ms"}, "rsp_static.lib": TAKEN | {"__chkstk"}}
+NEEDED = {
+    "rsp.dll": ["KERNEL32.dll", "msvcrt.dll"],
+    "rsp.exe": [
+        "ADVAPI32.dll",
+        "KERNEL32.dll",
+        "msvcrt.dll",
+    ],  # the first gives the stack protector its number
+}
 # These call nothing, and take no room on the stack.
 FRAMELESS = {"rsp_state_fault", "rsp_version"}
 
@@ -34,13 +49,66 @@ def framed(library: Path) -> Set[str]:
 
 
 @of("windows-x86_64")
-@pytest.mark.parametrize("name", ("rsp.dll", "rsp.exe"))
+@pytest.mark.parametrize("name", NEEDED)
 def test_needs(made: Path, name: str) -> None:
     """A library or a program needs what each Windows has, and may be loaded anywhere."""
-    read = llvm("llvm-readobj", "--file-headers", "--needed-libs", made / "bin" / name)
-    assert re.findall(r"(?m)^  (\S+\.dll)$", read) == ["KERNEL32.dll", "msvcrt.dll"]
-    for it in ("DYNAMIC_BASE", "HIGH_ENTROPY_VA", "NX_COMPAT"):
-        assert f"IMAGE_DLL_CHARACTERISTICS_{it} " in read
+    read = llvm("llvm-readobj", "--needed-libs", made / "bin" / name)
+    assert re.findall(r"(?m)^  (\S+\.dll)$", read) == NEEDED[name]
+    check_pe(made / "bin" / name)
+
+
+@of("windows-x86_64")
+def test_program_checks_its_stack(made: Path) -> None:
+    is_checked = SMASHED in (made / "bin/rsp.exe").read_bytes()
+    assert is_checked
+
+
+@pytest.mark.needs(WINDOWS)
+def test_program_checks_its_buffers(folder: Path) -> None:
+    """By the words that rsp.exe is compiled with, a file of it calls what checks buffers."""
+    words = [*hardening.words("windows-x86_64", "compile"), "-O2", f"-I{places.HEADER.parent}"]
+    succeeds(WINDOWS, *words, "-c", "-o", folder / "made.o", places.PROGRAM / "messages.c")
+    assert re.search(r"(?m) U __\w+_chk$", succeeds("x86_64-w64-mingw32-nm", folder / "made.o"))
+
+
+@on("windows-x86_64")
+@pytest.mark.parametrize("name", NEEDED)
+def test_properties(runner: Any, name: str) -> None:
+    """What Windows shows of the file, as wine reads it."""
+    wanted = {
+        "OriginalFilename": name,
+        "FileVersion": header.version(),
+        "ProductName": "rsp",
+        "Comments": "none",
+    }
+    reader = runner.compile(TESTS / "systems/properties_windows.c", "-lversion", library=[])
+    ended = runner.run(reader, runner.folder / "bin" / name, *wanted)
+    told, manifest = ended.stdout.rpartition("manifest: ")[::2]
+    assert told.splitlines() == [f"{property}: {text}" for property, text in wanted.items()]
+    assert (int(manifest) > 0) == (name == "rsp.exe")
+
+
+@of("windows-x86_64")
+def test_manifest(made: Path) -> None:
+    """It requests no rights, and names the program's version."""
+    text = re.findall(rb"(?s)<\?xml.*</assembly>", (made / "bin/rsp.exe").read_bytes())
+    root, names = ElementTree.fromstring(text[0]), "{urn:schemas-microsoft-com:asm.%s}"
+    (asked,) = root.iter(names % "v3" + "requestedExecutionLevel")
+    assert asked.attrib == {"level": "asInvoker", "uiAccess": "false"}
+    (identity,) = root.iter(names % "v1" + "assemblyIdentity")
+    assert identity.get("version") == f"{header.version()}.0"
+
+
+@pytest.mark.needs("pkg-config")
+@on("windows-x86_64")
+def test_pkg_config(runner: Any) -> None:
+    """As in a shell of MSYS2: shared, and static by the word of the linker."""
+    where = {**os.environ, "PKG_CONFIG_PATH": f"{runner.folder}/lib/pkgconfig"}
+    found = succeeds("pkg-config", "--cflags", "--libs", "rsp", env=where).split()
+    shutil.copy(runner.folder / runner.dll, runner.at)
+    for words, is_shared in ((), True), (("-static",), False):
+        made = runner.compile(EXAMPLE, *words, name=f"pkg-config {is_shared}", library=found)
+        runner.check_lockstep(made, is_shared)
 
 
 @of("windows-x86_64")

@@ -30,6 +30,9 @@ class Handler(SimpleHTTPRequestHandler):
     def log_message(self, *_: Any) -> None:
         """Says nothing."""
 
+    def guess_type(self, path: Any) -> str:
+        return self.server.types.get(Path(path).name) or super().guess_type(path)
+
     def end_headers(self) -> None:
         self.send_header("Cache-Control", "no-store")
         super().end_headers()
@@ -41,13 +44,13 @@ class Handler(SimpleHTTPRequestHandler):
 
 
 class Server(ThreadingHTTPServer):
-    """Serves some folders, and has what the page said last."""
+    """Serves some folders, files of some names with other types, and has what the page said last."""
 
     daemon_threads = True
 
-    def __init__(self, folders: Dict[str, Path]) -> None:
+    def __init__(self, folders: Dict[str, Path], types: Optional[Dict[str, str]] = None) -> None:
         super().__init__(("127.0.0.1", 0), Handler)
-        self.folders, self.said = folders, b""
+        self.folders, self.types, self.said = folders, types or {}, b""
         threading.Thread(target=self.serve_forever, daemon=True).start()
 
     def handle_error(self, *_: Any) -> None:

@@ -14,15 +14,15 @@ WORDS = """
 LONGEST = 1800  # seconds that a script in a page may take
 
 
-def started(saved: Path) -> Any:
-    """A Chromium of its own, whose downloads go to a folder. It leaves dialogs to the tests, and logs what a
-    page requests and opens. `quit()` ends it."""
+def started(saved: Path, *words: str) -> Any:
+    """A Chromium of its own, with more words, whose downloads go to a folder. It leaves dialogs to the tests,
+    and logs what a page requests and opens. `quit()` ends it."""
     from selenium import webdriver
     from selenium.webdriver.chrome.service import Service
 
     options = webdriver.ChromeOptions()
     options.binary_location = str(shutil.which("chromium"))
-    for word in WORDS:
+    for word in (*WORDS, *words):
         options.add_argument(word)
     # Chromium asks before it saves file after file, and where nobody answers it saves none.
     several = "profile.default_content_setting_values.automatic_downloads"

@@ -2,10 +2,12 @@
 
 import base64
 import hashlib
+import json
 import re
 import sys
 import tempfile
 import zipfile
+from email import message_from_string
 from pathlib import Path
 from typing import Dict, List, Set
 
@@ -18,6 +20,7 @@ PLATFORMS: Dict[str, List[str]] = {
     "windows-x86_64": ["win_amd64"],
     "macos": ["macosx_11_0_universal2"],
 }
+COMMANDS = {"linux-aarch64": "rsp", "windows-x86_64": "rsp.exe"}  # what the wheel installs to be typed
 LIBRARIES = {
     "linux-aarch64": "lib/librsp.so",
     "windows-x86_64": "bin/rsp.dll",
@@ -50,6 +53,21 @@ def check_record(text: str, files: Dict[str, bytes]) -> None:
     assert recorded == {it: ("", "") if it.endswith("/RECORD") else wanted[it] for it in files}
 
 
+def check_metadata(text: str) -> None:
+    """What a wheel says of itself: by the rules of Python's core metadata, of which a mail has the form."""
+    found, project = message_from_string(text), (places.PYTHON / "pyproject.toml").read_text()
+    assert (found["Name"], found["Version"]) == ("rsp", header.version())
+    for key, name in ("Summary", "description"), ("Requires-Python", "requires-python"):
+        assert f'\n{name} = "{found[key]}"\n' in project
+    lists = {"classifiers": found.get_all("Classifier"), "keywords": found["Keywords"].split(",")}
+    for name, items in lists.items():
+        (wanted,) = re.findall(rf"(?ms)^{name} = (\[.*?\])$", project)
+        assert json.loads(wanted.replace(",\n]", "\n]")) == items
+    assert "Topic :: System :: Emulators" in lists["classifiers"]
+    assert found["Description-Content-Type"] == "text/markdown"
+    assert found.get_payload() == (places.PYTHON / "README.md").read_text()
+
+
 def check_wheel(system: str, folder: Path) -> None:
     """The wheel's tags, its files, its record, and that its library is the one beside it."""
     info = f"rsp-{header.version()}.dist-info"
@@ -63,8 +81,12 @@ def check_wheel(system: str, folder: Path) -> None:
         wheel.extractall(at)
         said = run(sys.executable, "-c", IMPORTED, PYTHONS[system], cwd=at).stdout
         assert said == f"loads {Path(at).resolve()}/{library}\n"
-    wanted = modules | {library} | {f"{info}/{it}" for it in ("METADATA", "WHEEL", "RECORD")}
+    commands = {f"rsp-{header.version()}.data/scripts/{it}": it for it in [COMMANDS.get(system)] if it}
+    wanted = modules | {library} | {f"{info}/{it}" for it in ("METADATA", "WHEEL", "RECORD")} | {*commands}
     assert {*files} == wanted
+    are_same = [files[it] == (folder / "bin" / name).read_bytes() for it, name in commands.items()]
+    assert all(are_same), "the wheel has another program"
+    check_metadata(files[f"{info}/METADATA"].decode())
     is_same = files[library] == (folder / LIBRARIES[system]).read_bytes()
     assert is_same, "the wheel has another library"
     assert re.findall(r"(?m)^Tag: py3-none-(.*)$", files[f"{info}/WHEEL"].decode()) == PLATFORMS[system]

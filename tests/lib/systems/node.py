@@ -1,13 +1,39 @@
-"""The ES module in Node."""
+"""The ES module in Node: what npm installs, and the tests in JavaScript that Chromium runs too."""
 
+import functools
 import os
+import re
+import shutil
 from pathlib import Path
+from typing import List
 
-from lib.processes import run, succeeds
+import pytest
 
-OLDEST = 24  # the Node that has 64-bit memories with tables
+from lib.processes import bytes_of, run, succeeds
+from lib.systems.runners import LONGEST, Runner
+from rsp_tools.systems import places
+
+OLDEST, PLAIN = (
+    20,
+    24,
+)  # the Node that has 64-bit memories with tables by a flag, and that which has them without
+FLAG = "--experimental-wasm-memory64"
 WITHOUT = "rsp needs WebAssembly with 64-bit memories: Chrome and Edge have them since 133, Firefox since 134"
 USE = 'import { Reason, Rsp } from "rsp"; console.log(Reason[new Rsp().run(5).reason]);'
+PAGES = places.TOP / "tests/systems/wasm"
+
+
+@functools.lru_cache(None)
+def version() -> int:
+    """The first number of this machine's Node."""
+    return int(re.findall(r"^v(\d+)\.", succeeds("node", "--version"))[0])
+
+
+def command() -> List[str]:
+    """The words that start this machine's Node with 64-bit memories. An older one skips the test."""
+    if version() < OLDEST:
+        pytest.skip(f"this is Node {version()}, and 64-bit memories need {OLDEST} (Debian's package nodejs)")
+    return ["node", *[FLAG] * (version() < PLAIN)]
 
 
 def installed(folder: Path, package: Path, *kind: str) -> Path:
@@ -19,13 +45,44 @@ def installed(folder: Path, package: Path, *kind: str) -> Path:
     return folder / "project"
 
 
-def check_use(project: Path) -> str:
-    """A Node that is new enough runs the package that npm has installed, and an older one says which are. Of
-    an older one: why the package isn't run."""
+def check_use(project: Path) -> None:
+    """Node runs the package that npm has installed. Without the flag an older one names the flag."""
     (project / "use.mjs").write_text(USE)
-    said, version = run("node", "use.mjs", cwd=project).stdout, succeeds("node", "--version").strip()
-    if int(version[1:].split(".")[0]) >= OLDEST:
-        assert said == "LIMIT\n"
-        return ""
-    assert WITHOUT in said
-    return f"this is Node {version}, and {OLDEST} has 64-bit memories"
+    assert succeeds(*command(), "use.mjs", cwd=project).splitlines()[-1] == "LIMIT"
+    if version() < PLAIN:
+        said = run("node", "use.mjs", cwd=project)
+        # V8's own error, which follows, names the flag too.
+        assert said.returncode == 1 and WITHOUT in said.stdout and f"or since 20 with {FLAG};" in said.stdout
+
+
+class Node(Runner):
+    """This machine's Node. The paths of tests are those of the server for Chromium: `/library` is the folder
+    of the library, `/at` that of a test's files."""
+
+    system = "wasm64"
+    programs = ("node",)
+
+    def __init__(self, folder: Path, at: Path) -> None:
+        super().__init__(folder, at)
+        shutil.copytree(PAGES, at / "tests")
+        (at / "package.json").write_text('{ "type": "module" }')
+
+    def url(self, word: object) -> str:
+        """A word of a test, or the address of the file that it names."""
+        places_of = {"/library": self.folder, "/at": self.at}
+        top, slash, rest = str(word)[1:].partition("/")
+        place = places_of.get(f"/{top}")
+        return (place / rest).as_uri() if place and str(word).startswith("/") else str(word)
+
+    def test(self, name: str, *words: object, library: str = "/library") -> bytes:
+        """What a test in JavaScript says, which has to end well."""
+        given = [*command(), "--expose-gc", "node.mjs", name, *map(self.url, (library, *words))]
+        ended = bytes_of(given[0], given[1:], cwd=self.at / "tests", timeout=LONGEST)
+        assert ended.returncode == 0, f"{name}: {ended.stdout[-1000:]!r}{ended.stderr[-2000:]!r}"
+        return ended.stdout
+
+    def says(self, name: str, text: str) -> str:
+        """What code that imports the package says."""
+        rsp = self.url("/library/rsp.js")
+        (self.at / name).write_text(text.replace('from "rsp"', f'from "{rsp}"'))
+        return self.test("code.js", f"/at/{name}").decode()

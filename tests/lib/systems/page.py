@@ -12,13 +12,33 @@ from typing import Any, Callable, List
 LINKED = 24000  # bytes of a script that a link carries
 TYPED = 4000  # bytes that are typed: Chromium takes long for more
 LONGEST = 60  # seconds that the page may take
-TAB, ENTER, CONTROL, DOWN = "\ue004", "\ue007", "\ue009", "\ue015"  # what Selenium calls these keys
-ROWS = "document.querySelectorAll('#replies li').length"  # how many lines of a script are shown
+# What Selenium calls these keys.
+TAB, ENTER, SHIFT, CONTROL, DOWN, F1 = "\ue004", "\ue007", "\ue008", "\ue009", "\ue015", "\ue031"
+FIRST = "Eight sums at once. Which instruction writes them to memory?"  # the example that is there at first
 
 
 def the(name: str) -> str:
     """An element of the page, as JavaScript."""
     return f"document.getElementById('{name}')"
+
+
+SHOWN = f"Number({the('replies')}.style.getPropertyValue('--count'))"  # how many lines of replies are shown
+# The texts of all lines of replies, which are brought into the document in turn.
+ALL_SHOWN = f"""(async () => {{
+  const scroller = {the('shown')}, list = {the('replies')}, count = {SHOWN}, found = [];
+  const painted = () => new Promise((done) => requestAnimationFrame(() => requestAnimationFrame(done)));
+  const height = list.getBoundingClientRect().height / count;
+  for (let line = 0; line < count; line += 100) {{
+    if (list.children.length < count) {{
+      scroller.scrollTo(0, line * height);
+      await painted();
+    }}
+    for (const it of list.children) found[it.getAttribute("aria-posinset") - 1] = it.textContent;
+    if (list.children.length === count) break;
+  }}
+  for (let line = 0; line < count; line++) if (found[line] === undefined) return `line ${{line}} isn't shown`;
+  return found.map((it) => it + "\\n").join("");
+}})()"""
 
 
 def linked(script: bytes) -> str:
@@ -89,6 +109,19 @@ class Page:
             self.driver.get("about:blank")
         self.driver.get(url)
 
+    def leave_and_come_back(self) -> None:
+        """Leaves the page without a question, and goes back to it."""
+        self.value("(onbeforeunload = null)")
+        self.driver.get("about:blank")
+        self.driver.back()
+        self.until(f"document.readyState === 'complete' && !{the('absent')}")
+
+    def ready(self) -> None:
+        """Waits until the page has begun, and its first example is answered."""
+        begun = f"({the('ran')}.textContent || {the('said')}.textContent || {the('script')}.value)"
+        is_running = f"{the('run')}.getAttribute('aria-disabled') === 'true'"
+        self.until(f"document.readyState === 'complete' && !{the('absent')} && !({is_running}) && {begun}")
+
     def text(self, name: str) -> str:
         return str(self.value(f"{the(name)}.textContent"))
 
@@ -116,14 +149,17 @@ class Page:
             self.value(f"({the('script')}.value = {json.dumps(script)}, 0)")
             self.value(f"{the('script')}.dispatchEvent(new Event('input'))")
 
-    def press(self, key: str, with_control: bool = False) -> None:
-        """Presses a key, and lets it go."""
+    def press(self, key: str, *held: str) -> None:
+        """Presses a key while others are held, and lets them go."""
         from selenium.webdriver import ActionChains
 
         keys = ActionChains(self.driver, duration=0)
-        (
-            keys.key_down(CONTROL).send_keys(key).key_up(CONTROL) if with_control else keys.send_keys(key)
-        ).perform()
+        for it in held:
+            keys.key_down(it)
+        keys.send_keys(key)
+        for it in held:
+            keys.key_up(it)
+        keys.perform()
 
     def choose(self, number: int) -> None:
         """Chooses an example."""
@@ -179,9 +215,13 @@ class Page:
 
     def replies(self) -> str:
         """The replies that are shown when no run is under way."""
+        self.ended()
+        return str(self.value(ALL_SHOWN))
+
+    def ended(self) -> str:
+        """What the page says of a run that has ended."""
         self.until(f"{the('run')}.getAttribute('aria-disabled') !== 'true'")
-        shown = "[...document.querySelectorAll('#replies samp')].map((it) => it.textContent).join('')"
-        return str(self.value(shown))
+        return self.text("ran")
 
     def saved(self, button: str, name: str) -> bytes:
         """What a button saves, in a file of this name. Chromium drops all above ten a second."""

@@ -22,9 +22,10 @@ FILES = ("scripts", "bad_input", "saves", "texts")
 WORDS = """
 run asm dis help a b c -- - -h -V -x -hV -Vh -4 -\u00fc --help --help=x --version --version=x --foo --foo=bar
 --at --at= --at=4 --at=x --at=4096 0 4 --listing --listing=x --explain --places --labels --rdram --rdram=
---rdram=a --save --save=c --save= \u00fc =
+--rdram=a --save --save=c --save= --strict --strict=x \u00fc = \x1b[31m -\x1b --\x7f --at=\x9b
 """.split() + [
-    ""
+    "",
+    "a\nb",
 ]
 LINES = 400
 GIVEN = {"a": b"x: j x\nnop\n", "b": bytes(64)}
@@ -42,10 +43,10 @@ def started(runner: Runner, folder: Path) -> Path:
     return to
 
 
-def see_tests(program: Path, system: str, seconds: int) -> None:
+def see_tests(program: Path, system: str, seconds: int, *more: str) -> None:
     """The proved program's tests, on a program for a system. It must have ended after so many seconds."""
     files = [TESTS / f"program/test_{it}.py" for it in FILES]
-    words = ("-q", f"--program={program}", f"--left-out={system}", f"--timeout={seconds}")
+    words = ("-q", f"--program={program}", f"--left-out={system}", f"--timeout={seconds}", *more)
     ended = run(sys.executable, "-B", "-m", "pytest", *words, *files, timeout=seconds)
     assert ended.returncode == 0, ended.stdout[-8000:]
 

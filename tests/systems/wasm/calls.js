@@ -33,7 +33,8 @@ function lives() {
     read: [4], peek: [4], run: [4], back: [4], trace: [4], add_break: [4], drop_break: [4], set_pc: [4],
     memory: [0, 0, 4], memory_words: [0, 0, 4], load: [0, 0, new Uint8Array(4)], load_words: [0, 0, [1]], write: [0, 8],
     set: [new rsp.State()], set_sp: [new rsp.SpWords()], run_until_move: [1, 0, 0], add_watch: [0, 4], drop_watch: [0],
-    listing: [0, 1], start_task: [8], step_changes: [],
+    event: [4], pass_dma: [], history: [],
+    listing: [0, 1], start_task: [8], step_changes: [], set_reg: [1, 1], set_vreg: [1, new Uint16Array(8)],
   };
   for (const [name, given] of Object.entries(calls)) {
     refused(Status.NO_MACHINE, () => machine[name](...given), `${name}: the machine is freed`);
@@ -136,6 +137,25 @@ function moves() {
   same("to the halt", [end.reason, end.steps, end.move, machine.reg(3)], [Reason.HALT, 2, null, 5]);
 }
 
+function events() {
+  const text = "start: ori $1, $0, 0x1f80\nmtc0 $1, $c0\nlui $3, 0x0180\nori $3, $3, 0x1007\nend: mtc0 $3, $c3\nbreak\n";
+  const machine = loaded(text, 4);
+  for (const given of [[0], [1000001], [1, 65536], [1, 0, -1]]) refused(OUT, () => machine.event(...given));
+  const at = machine.event(4);
+  same("the limit", [at.reason, at.steps, at.move, at.dma, at.status, at.interrupt], [Reason.LIMIT, 4, null, null, 0, false]);
+  same("its history", machine.history(), 4);
+  const next = machine.event(1);
+  same("a DMA", [next.reason, next.steps, next.move.number, next.move.value], [Reason.DMA, 0, 3, 0x01801007]);
+  const dma = { bank: rsp.IMEM, address: 0xf80, rdram: 0, length: 8, rows: 2, skip: 24, to_rdram: true };
+  same("its parts", next.dma, dma);
+  same("past it", [machine.pass_dma(), machine.peek(0), machine.peek(1)], [Status.OK, 0x1f90, 40]);
+  refused(OUT, () => machine.pass_dma(), "pass_dma: the word at pc starts no DMA");
+  machine.step();
+  same("none that is halted", machine.pass_dma(), Status.HALTED);
+  same("labels", rsp.labels(text, 8), { start: 8, end: 24 });
+  refused(Status.NO_MEANING, () => rsp.labels("j x"));
+}
+
 function traces() {
   const machine = loaded(TRACED, 4);
   for (const count of [0, 1000001, -1, 2 ** 40]) refused(OUT, () => machine.trace(count));
@@ -191,7 +211,9 @@ function benches() {
   same("its image", bench.rdram, new Uint8Array(64));
   bench.free();
   bench.free();
-  for (const call of [() => bench.end(), () => bench.feed(""), () => bench.rdram]) refused(Status.NO_MACHINE, call);
+  for (const call of [() => bench.end(), () => bench.feed(""), () => bench.rdram]) {
+    refused(Status.NO_MACHINE, call, "the bench is freed");
+  }
   const replies = [...new Bench(new Uint8Array(64)).iter_feed("step\n#\nasm 0\nnop\nend\nste")].map(decoded);
   same("replies one by one", replies, ["step Done pc 004\n", "", "", "", "ok 1 words\n"]);
   const [said, image] = run_script("load rdram 1 0102", new Uint8Array(64).buffer);
@@ -201,6 +223,42 @@ function benches() {
   same("the longest script", decoded(run_script(longest)[0]), "step Done pc 004\nfault 32 LineTooLong\n");
   refused(Status.TOO_LONG, () => long.feed(`${longest}#`), "the script has more than 1048576 bytes");
   for (const call of [() => long.end(), () => long.feed("")]) refused(Status.TOO_LONG, call);
+}
+
+function strict_scripts() {
+  const { ScriptError, run_script } = rsp, small = new Uint8Array(64), strict = (it) => run_script(it, small, true);
+  same("no fault", new TextDecoder().decode(strict("asm 0\nnop\nend\nstep")[0]), "ok 1 words\nstep Done pc 004\n");
+  const faults = {
+    "step\nbrek 0\nstep\n": [2, "brek 0", 30, "fault 30 BadCommand"],
+    "step\nasm 0 # a block\nnop\nx: foo $1\nend\n": [4, "x: foo $1", 11, "fault 11 UnknownName line 2"],
+    "asm 0\nfoo\nend": [2, "foo", 11, "fault 11 UnknownName line 1"],
+    "asm 0\nnop\n": [3, "", 10, "fault 10 BadLine line 2"],
+    "step\nback 9": [2, "back 9", 27, "fault 27 ShortHistory"],
+  };
+  for (const [script, wanted] of Object.entries(faults)) {
+    let found = null;
+    try { strict(script); } catch (fault) { found = fault; }
+    see(`${script} is refused`, found instanceof ScriptError);
+    same(script, [found?.line, found?.text, found?.fault, found?.reply], wanted);
+  }
+}
+
+function single_registers() {
+  const machine = new Rsp(new Uint8Array(64), 4);
+  machine.step();
+  machine.set_reg(31, 0xffffffff);
+  machine.set_vreg(31, [1, 2, 3, 4, 5, 6, 7, 65535]);
+  same("a register", [machine.reg(31), machine.regs().pc], [0xffffffff, 4]);
+  same("lanes", [...machine.vreg(31)], [1, 2, 3, 4, 5, 6, 7, 65535]);
+  refused(Status.SHORT_HISTORY, () => machine.back(1));
+  machine.set_reg(0, 0);
+  refused(OUT, () => machine.set_reg(0, 1), "set_reg: register 0 holds 0, and not 1");
+  refused(OUT, () => machine.set_reg(32, 1), "set_reg: number is 32, not 0 to 31");
+  refused(OUT, () => machine.set_reg(1, -1), "set_reg: value is -1");
+  refused(OUT, () => machine.set_vreg(32, new Uint16Array(8)), "set_vreg: number is 32");
+  refused(RangeError, () => machine.set_vreg(1, [1, 2]), "vectors[1] has 2 items, not 8");
+  refused(RangeError, () => machine.set_vreg(1, [0, 0, 65536, 0, 0, 0, 0, 0]), "vectors[1][2] is 65536");
+  same("refused ones change nothing", [machine.reg(1), ...machine.vreg(1)], Array(9).fill(0));
 }
 
 function sp_registers() {
@@ -320,7 +378,7 @@ const EXPLAINED = [
   ["lqv $v1[0], 0x460($0)", "13 OutOfRange", 2, "-1024 to 1008, a multiple of 16"],
   ["j nowhere", "15 LabelMissing", 1, "the label of a line, or 0 to 4092, a multiple of 4"],
   ["lw $1, $2", "12 BadOperand", 2, "a number or a label, -32768 to 65535, and a scalar register in parentheses"],
-  ["vrcp $v1, $v2[0]", "12 BadOperand", 1, "a vector register, with a lane"],
+  ["vrcp $v1, $v2[0]", "12 BadOperand", 1, "a vector register, $v0 to $v31, with a lane, [0] to [7]"],
   ["nop $1", "12 BadOperand", 1, "nothing"],
 ];
 
@@ -393,7 +451,8 @@ export async function run(library) {
   see = report.see.bind(report);
   same = report.same.bind(report);
   refused = report.refused.bind(report);
-  const parts = [lives, copies, runs, stops, passes, moves, traces, changes, benches, sp_registers, states, memories,
+  const parts = [lives, copies, runs, stops, passes, moves, events, traces, changes, benches, strict_scripts,
+    single_registers, sp_registers, states, memories,
     texts, differences];
   parts.forEach((part) => part());
   return report.end();

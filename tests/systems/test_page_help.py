@@ -1,0 +1,96 @@
+"""The pages beside the page that answers scripts: made of the repository's Markdown, each link leads
+somewhere, and nothing is cut off."""
+
+import re
+from pathlib import Path
+from typing import Iterator, Set, Tuple
+
+import pytest
+
+from lib.pages import page as text_of
+from lib.systems.page import Host, Page
+from rsp_tools.pages import data
+from rsp_tools.systems import manual
+
+pytestmark = pytest.mark.xdist_group("page")
+# What of Markdown isn't shown: pictures have no words in the page's text, and links are their words.
+PLAIN = (r"!\[[^\]]*\]\([^)]*\)", ""), (r"\[([^\]]*)\]\([^)]*\)", r"\1"), (r"(?m)^\|[-|]+\|$", ""), ("`", "")
+
+
+@pytest.fixture
+def pages(host: Host) -> Path:
+    """The folder of the pages."""
+    (found,) = host.folder.glob("*/help")
+    return found
+
+
+def anchors(path: Path) -> Set[str]:
+    return {*re.findall(r'\bid="([^"]+)"', path.read_text())}
+
+
+def links(path: Path) -> Iterator[Tuple[Path, str]]:
+    """The files to which a page's links lead, each with its anchor."""
+    for target in re.findall(r'\b(?:href|src)="([^"]+)"', path.read_text()):
+        name, _, anchor = target.partition("#")
+        if not target.startswith("data:"):
+            yield path.parent / name if name else path, anchor
+
+
+def test_links(pages: Path) -> None:
+    """Each leads to a file that is there, and to an anchor of it; none to another server."""
+    count = 0
+    for path in pages.glob("*.html"):
+        for file, anchor in links(path):
+            count += 1
+            assert file.is_file(), f"{path.name}: {file.name}"
+            assert not anchor or anchor in anchors(file), f"{path.name}: {file.name}#{anchor}"
+    assert count > 250
+
+
+def test_rows(pages: Path) -> None:
+    """Each command and each fault has an anchor, and each instruction's section one."""
+    commands = {f"command-{it['Command'].split()[0]}" for it in data("commands")}
+    faults = {f"fault-{it['Fault'].split()[0]}" for it in data("faults")}
+    assert len(commands) > 20 and len(faults) > 25
+    assert commands <= anchors(pages / "SCRIPT.html")
+    assert faults <= anchors(pages / "FAULTS.html")
+    names = (pages.parent / "names.js").read_text()
+    sections = {*re.findall(r'"[a-z0-9]+": "([a-z-]+)"', names)}
+    assert len(sections) > 5 and sections <= anchors(pages / "INSTRUCTIONS.html")
+
+
+@pytest.mark.parametrize("name", ("SCRIPT", "FAULTS", "INSTRUCTIONS"))
+def test_words(name: str, page: Page, host: Host, pages: Path) -> None:
+    """All words of the Markdown are on the page, in order, and the blocks of code as they are."""
+    page.open(f"{host.url}{pages.parent.name}/help/{name}.html")
+    shown = page.value("document.querySelector('main').textContent")
+    text = text_of(f"docs/{name}.md")
+    blocks = re.findall(r"(?m)(?:^    .*\n)+", text)
+    code = page.value("[...document.querySelectorAll('pre')].map((it) => it.textContent)")
+    assert "".join(code).split() == re.sub(r"\s+", " ", "".join(blocks)).split()
+    for form, instead in PLAIN:
+        text = re.sub(form, instead, text)
+    wanted, found = (re.findall(r"[A-Za-z0-9]+", it) for it in (text, shown))
+    assert len(wanted) > 1000 and found == wanted
+
+
+@pytest.mark.parametrize("width", (320, 360, 1280))
+@pytest.mark.parametrize("name", manual.PAGES)
+def test_nothing_is_cut_off(name: str, width: int, page: Page, host: Host, pages: Path) -> None:
+    """The page isn't wider than the screen: tables and code scroll."""
+    page.open(f"{host.url}{pages.parent.name}/help/{name}.html")
+    screen = {"width": width, "height": 740, "deviceScaleFactor": 1, "mobile": width < 1000}
+    page.call("Emulation.setDeviceMetricsOverride", **screen)
+    page.settle()
+    wide = page.value("document.documentElement.scrollWidth")
+    page.call("Emulation.clearDeviceMetricsOverride")
+    assert wide <= width
+
+
+def test_no_error(page: Page, host: Host, pages: Path) -> None:
+    """The pages' rules take what the pages have: styles, and pictures."""
+    page.open(f"{host.url}{pages.parent.name}/help/INSTRUCTIONS.html")
+    page.until("document.readyState === 'complete'")
+    assert page.value("[...document.images].length") > 3
+    assert page.value("[...document.images].filter((it) => !it.naturalWidth).length") == 0
+    assert page.value("getComputedStyle(document.querySelector('.wide')).overflowX") == "auto"
