@@ -1,7 +1,9 @@
-"""The archive for Linux on x86-64: that of --archive, or the one that ./release makes of HEAD in a clone."""
+"""The archives for Linux on x86-64 and of the test vectors: those of --archive, or those that ./release makes
+of HEAD in a clone."""
 
 import fcntl
 import os
+import re
 import shutil
 import tempfile
 from pathlib import Path
@@ -19,11 +21,11 @@ RELEASES = ("first", "second")
 
 
 def release(into: Path) -> None:
-    """The folder dist of two runs of ./release."""
+    """The folder dist of two runs of ./release, in a folder with a blank in its name."""
     if not (TOP / "crates/rsp_main/out/rsp_main.o").is_file():  # `rt ci` keeps none
         succeeds("rt", "run", "--", "--version", cwd=TOP / "crates/rsp_main")
     with tempfile.TemporaryDirectory() as folder:
-        clone = cloned(Path(folder, "rsp"))
+        clone = cloned(Path(folder, "a clone"))
         for name in RELEASES:
             succeeds("./release", "--untested", cwd=clone)
             shutil.copytree(clone / "dist", into / name)
@@ -34,7 +36,7 @@ def released(request: pytest.FixtureRequest, tmp_path_factory: pytest.TempPathFa
     """A folder with both, which one of xdist's workers makes for all."""
     if request.config.getoption("--archive"):
         pytest.skip("the archives are given by --archive")
-    need("rt", "cc", "ar", "objdump", "clean-tree")
+    need("rt", "cc", "ar", "objdump", "dpkg-deb", "clean-tree")
     for name in "program", "library":
         request.getfixturevalue(name)
     root = tmp_path_factory.getbasetemp()
@@ -49,21 +51,49 @@ def released(request: pytest.FixtureRequest, tmp_path_factory: pytest.TempPathFa
     return made
 
 
+def found(request: pytest.FixtureRequest, system: str) -> Path:
+    """An archive, by what it is for."""
+    paths = given(request.config, system)
+    if request.config.getoption("--archive") and not paths:
+        pytest.skip(f"--archive names none for {system}")
+    if not paths:
+        paths = [*(request.getfixturevalue("released") / "first").glob(f"*-{system}.tar.gz")]
+    return paths[0]
+
+
 @pytest.fixture(scope="session")
 def packed(request: pytest.FixtureRequest) -> Path:
-    """The archive."""
-    found = given(request.config, "linux-x86_64")
-    if request.config.getoption("--archive") and not found:
-        pytest.skip("--archive names none for Linux on x86-64")
-    if not found:
-        found = [*(request.getfixturevalue("released") / "first").glob("*.tar.gz")]
-    return found[0]
+    """The archive for Linux on x86-64."""
+    return found(request, "linux-x86_64")
 
 
 @pytest.fixture(scope="session")
 def archive(packed: Path) -> Iterator[Path]:
-    """The unpacked archive. Tests change nothing there."""
+    """The same, unpacked. Tests change nothing there."""
     with tempfile.TemporaryDirectory() as folder:
         top = unpacked(packed, Path(folder))
         assert top.name.endswith("-linux-x86_64")
         yield top
+
+
+@pytest.fixture(scope="session")
+def vectors(request: pytest.FixtureRequest) -> Path:
+    """The archive of the test vectors."""
+    return found(request, "conformance")
+
+
+@pytest.fixture(scope="session")
+def suite(vectors: Path) -> Iterator[Path]:
+    """The same, unpacked. Tests change nothing there."""
+    with tempfile.TemporaryDirectory() as folder:
+        yield unpacked(vectors, Path(folder))
+
+
+@pytest.fixture(scope="session")
+def joined(archive: Path, suite: Path) -> Iterator[Path]:
+    """The archive for Linux with the vectors in it, by the line of their README. Tests leave it as it is."""
+    (line,) = re.findall(r"`(cp -R .*?)`", (suite / "README.md").read_text())
+    with tempfile.TemporaryDirectory() as folder:
+        to = Path(shutil.copytree(archive, f"{folder}/{archive.name}", symlinks=True))
+        succeeds("sh", "-c", line, cwd=shutil.copytree(suite, f"{folder}/{suite.name}"))
+        yield to

@@ -1,21 +1,24 @@
-"""The archive for Linux on x86-64, used as one who has nothing else uses it, in an empty environment.
+"""The archives for Linux on x86-64, of the test vectors and of the source, used as one who has nothing else
+uses them, in an empty environment.
 
-It fails if something in it does otherwise than its pages say, or needs more than the C library.
+It fails if something in them does otherwise than their pages say, or needs more than the C library.
 """
 
 import os
 import re
 import shutil
 import sys
+import tarfile
 import tempfile
 import zipfile
 from pathlib import Path
+from textwrap import dedent
 
 import pytest
 
 from lib import TESTS, TOP
 from lib.cmake import check_cmake
-from lib.install.unpacked import BARE, check_pack, check_sums, unpacked
+from lib.install.unpacked import BARE, check_common, check_pack, unpacked
 from lib.install.ways import LOOP_CODE, LOOP_TEXT, LOOP_WORDS
 from lib.library import LOCKSTEP
 from lib.links import broken
@@ -27,13 +30,30 @@ from lib.symbols import check_needs
 pytestmark = pytest.mark.timeout(900)  # conformance/check takes all processors, of which others have few
 PLUGIN = "plugin/mupen64plus-rsp-proved.so"
 PLUGIN_CALLS = "DoRspCycles InitiateRSP PluginGetVersion PluginShutdown PluginStartup RomClosed".split()
+DESCRIBED = TOP / "library/python/README.md"  # which the wheel's METADATA has
 VERSION = r"rsp [\d.]+ \([\d-]+\), commit [0-9a-f]{40}\nproved and built by \S+"
 
 
+KINDS = ("linux-x86_64", "conformance", "source")
+
+
 def test_sums_of_dist(released: Path) -> None:
-    (path,) = (released / "first").glob("*.tar.gz")
+    names = sorted(it.name for it in (released / "first").iterdir() if it.name != "SHA256SUMS")
+    assert len(names) == 4
     told = succeeds("sha256sum", "--strict", "-c", "SHA256SUMS", cwd=released / "first")
-    assert told == f"{path.name}: OK\n"
+    assert told == "".join(f"{it}: OK\n" for it in names)
+
+
+def test_sum_of_one_archive(released: Path, folder: Path) -> None:
+    """The line in SHA256SUMS checks one archive where the others aren't, and finds a byte that differs."""
+    (path,) = (released / "first").glob("*-source.tar.gz")
+    for it in path, path.with_name("SHA256SUMS"):
+        shutil.copy(it, folder)
+    (line,) = re.findall("(?m)^# (sha256sum .*? SHA256SUMS) ", (folder / "SHA256SUMS").read_text())
+    assert succeeds(*line.split(), cwd=folder) == f"{path.name}: OK\n"
+    with (folder / path.name).open("r+b") as file:
+        file.write(b"x")
+    assert run(*line.split(), cwd=folder).returncode == 1
 
 
 def test_two_runs_give_the_same_bytes(released: Path) -> None:
@@ -44,16 +64,63 @@ def test_two_runs_give_the_same_bytes(released: Path) -> None:
     assert [it for it in first if first[it] != second[it]] == []
 
 
-def test_names_and_times(packed: Path) -> None:
+@pytest.mark.parametrize("kind", KINDS)
+def test_each_archive(released: Path, folder: Path, kind: str) -> None:
+    """Its names, times and sums, and the files that all have. Its time is that of the commit."""
+    (path,) = (released / "first").glob(f"*-{kind}.tar.gz")
+    check_pack(path)
+    with tarfile.open(path) as tar:
+        assert f"{tar.getmembers()[0].mtime}\n" == succeeds("git", "log", "-1", "--format=%ct")
+    check_common(unpacked(path, folder), kind)
+
+
+def test_archive(packed: Path, folder: Path) -> None:
     check_pack(packed)
+    check_common(unpacked(packed, folder), "linux-x86_64")
 
 
-def test_sums(packed: Path, folder: Path) -> None:
-    check_sums(unpacked(packed, folder))
+def test_source(released: Path, folder: Path) -> None:
+    """It has all files of the commit, and ./rsp and the tools work where there is no git."""
+    (path,) = (released / "first").glob("*-source.tar.gz")
+    top = unpacked(path, folder)
+    listed = set(succeeds("git", "ls-files").splitlines())
+    there = {str(it.relative_to(top)) for it in top.rglob("*") if it.is_file()}
+    assert there == listed | {"SHA256SUMS", "rsp.spdx.json"}
+    same = {it for it in listed if (top / it).read_bytes() == (TOP / it).read_bytes()}
+    assert listed == same
+    assert {it for it in listed if os.access(TOP / it, os.X_OK)} == {
+        it for it in listed if os.access(top / it, os.X_OK)
+    }
+    assert succeeds("./rsp", "--version", cwd=top, env=BARE).endswith("\nnot built yet\n")
+    assert succeeds("tools/sources", "rsp_main", cwd=top) == succeeds("tools/sources", "rsp_main")
 
 
-def test_links(archive: Path) -> None:
-    assert broken(archive, 21) == []
+@pytest.mark.needs("dpkg-deb")
+def test_package(released: Path, folder: Path) -> None:
+    """The package of Debian: what it says of itself, its sums, whose its files are; its program runs."""
+    (path,) = (released / "first").glob("*.deb")
+    said = succeeds("dpkg-deb", "--field", path, "Package", "Version", "Architecture", "Depends")
+    fields = dict(it.split(": ") for it in said.splitlines())
+    (version,) = re.findall(r"^rsp_([\d.]+)_amd64\.deb$", path.name)
+    assert fields == {
+        "Package": "rsp",
+        "Version": version,
+        "Architecture": "amd64",
+        "Depends": "libc6 (>= 2.17)",
+    }
+    listed = succeeds("dpkg-deb", "--contents", path).splitlines()
+    assert len(listed) > 50 and {it.split()[1] for it in listed} == {"root/root"}
+    assert {it[:10] for it in listed} == {"drwxr-xr-x", "-rw-r--r--", "-rwxr-xr-x", "lrwxrwxrwx"}
+    succeeds("dpkg-deb", "--raw-extract", path, folder / "root")
+    told = succeeds("md5sum", "--strict", "-c", "DEBIAN/md5sums", cwd=folder / "root")
+    there = [it for it in (folder / "root/usr").rglob("*") if it.is_file() and not it.is_symlink()]
+    assert len(told.splitlines()) == len(there)
+    script = page("examples/first.rsp")
+    assert succeeds("usr/bin/rsp", "run", input=script, cwd=folder / "root") == page("examples/first.out")
+
+
+def test_links(archive: Path, suite: Path) -> None:
+    assert broken(archive, 21) == [] and broken(suite, 5) == []
 
 
 def test_man_page(archive: Path) -> None:
@@ -94,7 +161,13 @@ def test_passes_the_tests_of_the_program(archive: Path, name: str) -> None:
     passes(f"--program={archive}/bin/rsp", path)
 
 
+def test_passes_the_tests_of_saves(archive: Path) -> None:
+    """It also ignores the signal of a file's limit."""
+    passes(f"--program={archive}/bin/rsp", "--left-out=archive", "tests/program/test_saves.py")
+
+
 def test_passes_the_check_of_vectors(archive: Path) -> None:
+    """That of the repository, whose vectors the archive of vectors has."""
     told = succeeds("conformance/check", archive / "bin/rsp", env=BARE, timeout=800)
     assert re.fullmatch(r"[1-9]\d* passed, 0 failed", told.splitlines()[-1])
 
@@ -160,6 +233,10 @@ def test_wheel(archive: Path, folder: Path) -> None:
     pip = ("own/bin/pip", "install", "--no-index", "--disable-pip-version-check")
     succeeds(*pip, *(archive / "python").glob("*.whl"), **where)
     assert succeeds("own/bin/python", archive / "examples/python/lockstep.py", **where) == LOCKSTEP
+    code, told = re.findall(r"(?s)\n\n((?:    .*?\n|\n)+)This prints `(.*?)`", DESCRIBED.read_text())[0]
+    assert succeeds("own/bin/python", "-c", dedent(code), **where) == f"{told}\n"
+    first = succeeds("own/bin/rsp", "run", input=page("examples/first.rsp"), **where)
+    assert first == page("examples/first.out")
 
 
 @pytest.mark.needs("objdump")
@@ -180,8 +257,15 @@ def test_library_of_the_wheel(archive: Path) -> None:
 @pytest.mark.parametrize(
     "words", [("conformance/run", "--program", "./rsp"), ("conformance/library",)], ids=str
 )
-def test_vectors(archive: Path, words: tuple[str, ...]) -> None:
-    told = succeeds(*words, "conformance/vectors", "VADD", cwd=archive, env=BARE)
+def test_vectors(joined: Path, words: tuple[str, ...]) -> None:
+    told = succeeds(*words, "conformance/vectors", "VADD", cwd=joined, env=BARE)
+    assert re.search(r"(?m)^[1-9]\d* passed, 0 failed$", told)
+
+
+def test_vectors_alone(archive: Path, suite: Path) -> None:
+    """Where their archive was unpacked, on the program of the other one."""
+    words = ("conformance/run", "--program", archive / "bin/rsp", "conformance/vectors", "MTC0")
+    told = succeeds(*words, cwd=suite, env=BARE)
     assert re.search(r"(?m)^[1-9]\d* passed, 0 failed$", told)
 
 

@@ -40,20 +40,23 @@ class Desk(NamedTuple):
     path: str
 
 
-def in_pages(at: Path) -> Iterator[Block]:
-    """The blocks of all pages, and the README's table of commands."""
+def in_pages(at: Path, suite: Path) -> Iterator[Block]:
+    """The blocks of all pages, and the README's table of commands. The page of campaigns is in the vectors'
+    archive."""
     for path in sorted(at.rglob("*.md")):
         page, text = str(path.relative_to(at)), path.read_text()
         yield from blocks_in(page, text)
         yield from in_table(page, text) if page == "README.md" else ()
+    yield from blocks_in("docs/CAMPAIGN.md", (suite / "docs/CAMPAIGN.md").read_text())
 
 
 @pytest.fixture(scope="session")
-def desk(archive: Path) -> Iterator[Desk]:
+def desk(joined: Path, suite: Path) -> Iterator[Desk]:
+    """The folder of the archive is in one with a blank in its name."""
     with tempfile.TemporaryDirectory() as folder:
         os.chmod(folder, 0o755)
-        mine = Path(shutil.copytree(archive, f"{folder}/{archive.name}", symlinks=True))
-        blocks = [*with_ways(in_pages(mine), WAYS)]
+        mine = Path(shutil.copytree(joined, f"{folder}/a b/{joined.name}", symlinks=True))
+        blocks = [*with_ways(in_pages(mine, suite), WAYS)]
         (path,) = (it.lines for it, _ in blocks if it.lines.startswith("export PATH="))
         yield Desk(User(mine, Path(folder, "home")), blocks, path)
 

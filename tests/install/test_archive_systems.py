@@ -8,13 +8,13 @@ import json
 import os
 import re
 import shutil
+import sys
 from pathlib import Path
 from typing import Iterator
 
 import pytest
 
-from lib import TOP
-from lib.install.unpacked import BARE, check_pack, check_sums, given, unpacked
+from lib.install.unpacked import BARE, check_common, check_pack, date, given, unpacked
 from lib.install.ways import LOOP_CODE, LOOP_TEXT, LOOP_WORDS
 from lib.library import LOCKSTEP
 from lib.library.typescript import OPTIONS, USE
@@ -25,45 +25,49 @@ from lib.processes import Ended, bytes_of, run, succeeds
 from lib.systems import browser, files, macos, node, rust
 from lib.systems.kinds import KINDS
 from lib.systems.runners import Runner
-from rsp_tools.packaging import installed, systems
+from rsp_tools.packaging import archives, installed, systems
+from rsp_tools.packaging.about import About
 from rsp_tools.systems import packages
 from rsp_tools.systems.toolchain import llvm
 
 # What an archive for C, Python and Rust has on each system.
 COMMON = """
-README.md CHANGELOG.md SHA256SUMS include/rsp.h include/rsp_compare.h lib/cmake/rsp/rspConfig.cmake
-lib/cmake/rsp/rspConfigVersion.cmake python/rsp/__init__.py rust/Cargo.toml rust/build.rs rust/src/lib.rs
-docs/README.md docs/SYSTEMS.md examples/first.rsp examples/c/lockstep.c microcode/README.md microcode/copy.s
-conformance/README.md conformance/run conformance/runner.c conformance/vectors/steps/VADD.jsonl
-conformance/vectors/programs/VADD.json tools/python
+README.md CHANGELOG.md SHA256SUMS include/rsp.h include/rsp.hpp include/rsp_compare.h
+lib/cmake/rsp/rspConfig.cmake lib/cmake/rsp/rspConfigVersion.cmake python/rsp/__init__.py
+rust/Cargo.toml rust/build.rs rust/src/lib.rs docs/README.md docs/SYSTEMS.md examples/first.rsp
+examples/c/lockstep.c microcode/README.md microcode/copy.s
+"""
+# What one with the program has for shells and for `man`.
+SHELLS = """
+share/man/man1/rsp.1 share/bash-completion/completions/rsp share/zsh/site-functions/_rsp
+share/fish/vendor_completions.d/rsp.fish
 """
 # What more each archive has. The first are those that tools/systems makes.
 MADE = {
     "linux-aarch64": "lib/librsp.a lib/librsp.so lib/librsp.so.1 lib/pkgconfig/rsp.pc bin/rsp",
     "macos": "lib/librsp.a lib/librsp.dylib lib/pkgconfig/rsp.pc",
-    "windows-x86_64": "lib/librsp.a lib/librsp.dll.a lib/rsp.lib lib/rsp_static.lib bin/rsp.dll bin/rsp.exe",
+    "windows-x86_64": "lib/librsp.a lib/librsp.dll.a lib/rsp.lib lib/rsp_static.lib bin/rsp.dll bin/rsp.exe "
+    "lib/pkgconfig/rsp.pc",
     "wasm64": "package.json rsp.js rsp.d.ts rsp.wasm",
-    "page": "index.html rsp/rsp.js rsp/rsp.wasm",
+    "page": "index.html",
 }
 MORE = {
-    "linux-aarch64": f"{COMMON} rsp share/man/man1/rsp.1 rust/lib/aarch64-unknown-linux-gnu/librsp.a",
+    "linux-aarch64": f"{COMMON} {SHELLS} rsp rust/lib/aarch64-unknown-linux-gnu/librsp.a",
     "macos": f"{COMMON} rust/lib/aarch64-apple-darwin/librsp.a rust/lib/x86_64-apple-darwin/librsp.a",
-    "windows-x86_64": f"{COMMON} rust/lib/x86_64-pc-windows-gnu/librsp.a "
+    "windows-x86_64": f"{COMMON} {SHELLS} rust/lib/x86_64-pc-windows-gnu/librsp.a "
     "rust/lib/x86_64-pc-windows-msvc/rsp_static.lib",
     "wasm64": "README.md CHANGELOG.md SHA256SUMS docs/EMBEDDING.md examples/js/lockstep.js microcode/copy.s",
-    "page": "README.md SHA256SUMS",
+    "page": "README.md CHANGELOG.md SHA256SUMS",
 }
-# What none of them has, since it was never run there.
-ABSENT = """
-plugin docs/PLUGIN.md docs/CAMPAIGN.md conformance/campaign conformance/rsp_conformance/campaign
-""".split()
-LINES = "rsp 1.0.0 (2000-01-01), commit 0123", "proved and built by no logic"
+# What none of them has, since it was never run there, or is in an archive of its own.
+ABSENT = "plugin docs/PLUGIN.md docs/CAMPAIGN.md conformance".split()
+ABOUT = About(installed.version()[0], "2000-01-01", "0123", 946684800, "no logic")
 outside = pytest.mark.outside("it tests archives of other systems: `--archive dist`")
 
 
 def check_files(top: Path, system: str) -> None:
     """The files that it has and hasn't, those that its README names, and the links of its pages."""
-    check_sums(top)
+    check_common(top, system)
     assert broken(top, 0 if system == "page" else 21) == []
     assert [it for it in f"{MADE[system]} {MORE[system]}".split() if not (top / it).exists()] == []
     assert [it for it in ABSENT if (top / it).exists()] == []
@@ -89,42 +93,18 @@ def stand_in(system: str, folder: Path) -> None:
 
 @pytest.mark.parametrize("system", MADE)
 def test_stand_in(folder: Path, library: Path, system: str) -> None:
-    """Its files, links and sums, and that two archives are alike."""
+    """Its files, links and sums, the time of the commit, and that two archives are alike."""
     stand_in(system, folder / "made")
-    first, second = (
-        systems.archive(system, folder / "made", LINES, lambda library, processor: processor.encode())
-        for _ in range(2)
-    )
-    is_alike = first == second
+    made = archives.of_system(system, folder / "made", ABOUT, lambda library, processor: processor.encode())
+    is_alike = made.packed() == made.packed()
     assert is_alike
-    packed = folder / systems.name_of(system, "1.0.0")
-    packed.write_bytes(first)
+    packed = folder / made.name
+    packed.write_bytes(made.packed())
     check_pack(packed)
+    committed = int(succeeds("git", "log", "-1", "--format=%ct"))
+    assert 0 <= committed - date(packed) < 2
     (folder / "into").mkdir()
     check_files(unpacked(packed, folder / "into"), system)
-
-
-def refused(*words: str, path: str) -> str:
-    """What ./release says that fails with these words and this PATH, and writes nothing."""
-    before = sorted((it, it.stat().st_mtime_ns) for it in (TOP / "dist").glob("**/*"))
-    ended = run("./release", "--untested", *words, env={"PATH": path})
-    assert ended.returncode == 1
-    assert sorted((it, it.stat().st_mtime_ns) for it in (TOP / "dist").glob("**/*")) == before
-    return ended.stdout
-
-
-def test_unknown_system() -> None:
-    said = refused("--systems", "macos", "linux-arm", path="/usr/bin:/bin")
-    assert (
-        said.startswith("release: there is no system linux-arm: the systems are ") and said.count("\n") == 1
-    )
-
-
-def test_missing_package(folder: Path) -> None:
-    for name in ("sh", "dirname", "readlink", "python3"):
-        (folder / name).symlink_to(f"/usr/bin/{name}")
-    said = refused("--systems", "windows-x86_64", path=str(folder))
-    assert said == "release: windows-x86_64 needs packages of Debian: apt-get install gcc-mingw-w64-x86-64\n"
 
 
 @pytest.fixture
@@ -178,6 +158,7 @@ def test_crate(top: Path, folder: Path, system: str) -> None:
 # Programs are compiled by Debian's cross compilers, and run under qemu and wine.
 CROSS = ("linux-aarch64", "windows-x86_64")
 EXAMPLE = "examples/c/lockstep.c"
+FIRST = page("examples/first.rsp").encode()
 
 
 @pytest.fixture
@@ -195,6 +176,20 @@ def test_c(top: Path, runner: Runner, system: str) -> None:
     for how, library in runner.libraries().items():
         made = runner.compile(top / EXAMPLE, name=f"lockstep {how}", library=library)
         runner.check_lockstep(made, how != "static")
+
+
+@pytest.mark.needs("python:pip")
+@of(*CROSS)
+def test_wheel_installed(top: Path, runner: Runner, system: str) -> None:
+    """By this machine's pip, for the other system, whose Python isn't here. Its command is run."""
+    to, tag = runner.at / "installed", files.PLATFORMS[system][0]
+    (wheel,) = (top / "python").glob("*.whl")
+    words = ("--no-index", "--disable-pip-version-check", "--only-binary=:all:", "--platform", tag)
+    succeeds(sys.executable, "-m", "pip", "install", "-q", *words, "--target", to, wheel)
+    assert (to / "rsp/__init__.py").is_file()
+    command = [*runner.start, to / "bin" / files.COMMANDS[system], "run"]
+    ended = bytes_of(command[0], command[1:], FIRST, env=runner.env)
+    assert ended.stdout == page("examples/first.out").encode()
 
 
 @pytest.mark.needs("pkg-config")
@@ -229,7 +224,7 @@ def of_archive(runner: Runner, *words: str, given: bytes = b"") -> "Ended[bytes]
 def test_program(top: Path, runner: Runner, system: str) -> None:
     """The first script, an assembly and a disassembly, and a file that isn't there."""
     program = f"bin/rsp{runner.ending}"
-    first = of_archive(runner, program, "run", given=page("examples/first.rsp").encode())
+    first = of_archive(runner, program, "run", given=FIRST)
     assert first.stdout == page("examples/first.out").encode()
     (top / "loop.s").write_text(LOOP_TEXT)
     assert of_archive(runner, program, "asm", "loop.s", "loop.bin").stdout == b"ok 4 words\n"
@@ -241,14 +236,15 @@ def test_program(top: Path, runner: Runner, system: str) -> None:
 
 @of(*CROSS)
 @pytest.mark.parametrize("name", ["VADD", "MTC0"])
-def test_vectors(top: Path, runner: Runner, system: str, name: str) -> None:
-    """The archive's runner, by this machine's Python, which starts the program by a script of the shell."""
+def test_vectors(top: Path, runner: Runner, suite: Path, system: str, name: str) -> None:
+    """By the tools of the vectors' archive and this machine's Python, which starts the program by a script of
+    the shell."""
     script = top / "program"
-    script.write_text(f'#!/bin/sh\nexec {" ".join(runner.start)} bin/rsp{runner.ending} "$@"\n')
+    script.write_text(f'#!/bin/sh\nexec {" ".join(runner.start)} {top}/bin/rsp{runner.ending} "$@"\n')
     script.chmod(0o755)
-    where = {**BARE, **runner.env, "PYTHONPATH": f"conformance{os.pathsep}python"}
+    where = {**BARE, **runner.env, "PYTHONPATH": "conformance"}
     words = ("-B", "-m", "rsp_conformance.run", "--program", script, "conformance/vectors", name)
-    told = succeeds("python3", *words, cwd=top, env=where)
+    told = succeeds("python3", *words, cwd=suite, env=where)
     assert re.fullmatch(r"[1-9]\d* passed, 0 failed", told.splitlines()[-1])
 
 
@@ -287,14 +283,12 @@ def project(packed_for: Path, folder: Path) -> Path:
 
 @of("wasm64")
 def test_npm(top: Path, project: Path) -> None:
-    """What it installs, and that Node runs it, or says what it lacks."""
+    """What it installs, and that Node runs it."""
     held, wanted = (
         {str(it.relative_to(at)) for it in at.rglob("*")} for at in (project / "node_modules/rsp", top)
     )
     assert held == wanted
-    left = node.check_use(project)
-    if left:
-        pytest.skip(left)
+    node.check_use(project)
 
 
 @pytest.mark.needs("tsc")
@@ -320,6 +314,8 @@ LOADED = (
     r'|\bURL\("([^"]+)", import\.meta\.url\)'
 )
 ADDRESS = r"\b(?:https?|wss?)://[^\s\"'<>)]+"
+# What the archive has beside the page.
+BESIDE = "README.md CHANGELOG.md SHA256SUMS rsp.spdx.json".split()
 # The name of SVG, which is no file, and this machine.
 NEAR = ("http://www.w3.org/", "http://127.0.0.1:", "http://localhost:")
 
@@ -341,9 +337,14 @@ def test_page(top: Path) -> None:
         assert path.is_file()
         seen.add(path)
         waiting += {*loaded(path)} - seen - {*waiting}
-    assert len(seen) > 3 and {top / "rsp/rsp.js", top / "rsp/rsp.wasm"} <= seen
-    there = {it for it in top.rglob("*") if it.is_file() and it.name not in ("README.md", "SHA256SUMS")}
+    (folder,) = (it for it in top.iterdir() if it.is_dir())
+    assert re.fullmatch("[0-9a-f]{16}", folder.name)
+    needed = (
+        "page.js worker.js rsp/rsp.js rsp/rsp.wasm help/SCRIPT.html help/FAULTS.html help/INSTRUCTIONS.html"
+    )
+    assert {folder / it for it in needed.split()} <= seen
+    there = {it for it in top.rglob("*") if it.is_file() and it.name not in BESIDE}
     assert there <= seen
-    texts = [it.read_text() for it in there - {top / "rsp/rsp.wasm"}]
+    texts = [it.read_text() for it in there - {folder / "rsp/rsp.wasm"}]
     addresses = {it for text in texts for it in re.findall(ADDRESS, text)}
     assert {it for it in addresses if not it.startswith(NEAR)} == set()

@@ -27,9 +27,17 @@ CALLS = sorted(re.findall(r"^(?:uint32_t|void) (rsp_\w+)\(", HEADER, re.M))
 SONAME = "librsp.so." + re.findall(r"^#define RSP_VERSION (\d+)$", HEADER, re.M)[0]
 VERSION = re.findall(r'^version = "(.*)"$', page("library/rust/Cargo.toml"), re.M)[0]
 FILES = {
-    *("lib/pkgconfig/rsp.pc", "share/man/man1/rsp.1", "include/rsp.h", "include/rsp_compare.h"),
+    *(
+        "lib/pkgconfig/rsp.pc",
+        "share/man/man1/rsp.1",
+        "include/rsp.h",
+        "include/rsp.hpp",
+        "include/rsp_compare.h",
+    ),
     *("lib/cmake/rsp/rspConfig.cmake", "lib/cmake/rsp/rspConfigVersion.cmake"),
     *("lib/librsp.a", "lib/librsp.so", f"lib/{SONAME}"),
+    *("share/bash-completion/completions/rsp", "share/zsh/site-functions/_rsp"),
+    "share/fish/vendor_completions.d/rsp.fish",
 }
 FULL_DISK = """
 mount -t tmpfs -o size=64k none "$1" || exit 9
@@ -194,7 +202,7 @@ def test_man_page_has_all_words(prefix: Path) -> None:
     commands = re.findall(r"^\| `([a-z]+)", table, re.M)
     helps = "".join(it.read_text() for it in (TOP / "docs/help").glob("*.txt"))
     options = {*re.findall(r"--[a-z]+", helps)} - {"--version"}
-    assert (len(commands), len(options)) == (21, 8)
+    assert (len(commands), len(options)) == (21, 9)
     assert not [it for it in commands if f"\n\\fB{it}" not in text]
     assert not [it for it in options if it.replace("-", "\\-") not in text]
 

@@ -5,18 +5,19 @@ HEAD is copied into the clone. All runs there with an empty HOME, and with the s
 on its PATH; if root starts it, as the user nobody.
 """
 
+import re
 import shutil
 import tempfile
 from pathlib import Path
-from typing import Iterator
+from typing import Callable, Iterator
 
 import pytest
 
 from lib import TOP
 from lib.install.clone import cloned
-from lib.install.commands import Block, blocks_in, check, in_text, with_ways
-from lib.install.ways import IN_A_CLONE, WAYS, Way
-from lib.pages import page
+from lib.install.commands import Block, check
+from lib.install.newcomer import shown
+from lib.install.ways import Way
 from lib.user import User
 
 pytestmark = [
@@ -24,10 +25,6 @@ pytestmark = [
     pytest.mark.xdist_group("newcomer"),
     pytest.mark.timeout(3700),
 ]
-PAGES = """
-README.md docs/TUTORIAL.md docs/EMBEDDING.md docs/CAMPAIGN.md docs/PLUGIN.md
-conformance/README.md microcode/README.md CONTRIBUTING.md
-""".split()
 # These tests read neither names nor paths nor git.
 OF_NO_PLACE = """
 tests/mathematics tests/program/test_vectors.py tests/program/test_bad_input.py
@@ -36,15 +33,6 @@ tests/program/test_failing_allocations.py tests/docs/test_drawings.py tests/inst
 # This would prove all crates in the clone if its program isn't built here.
 OTHER_COMPILER = "tests/program/test_second_compiler.py", "crates/rsp_main/out/rsp_main.by-rattle"
 LEFT_BEHIND = "my.c a.out mine.c mine.so mine.s renamed.s"
-
-
-def shown() -> list[tuple[Block, Way]]:
-    """Each command of the pages, once."""
-    found: dict[str, Block] = {}
-    for name in PAGES:
-        for block in (*blocks_in(name, page(name)), *in_text(name, page(name))):
-            found.setdefault(block.lines, block)
-    return [*with_ways(found.values(), (*WAYS, *IN_A_CLONE))]
 
 
 @pytest.fixture(scope="session")
@@ -57,12 +45,15 @@ def stranger() -> Iterator[User]:
         yield User(cloned(base / "a b/rsp"), base / "home", base, path=path)
 
 
-def test_suite(stranger: User) -> None:
-    """The tests outside the crates, except those that would do the same anywhere."""
+def test_suite(stranger: User, record_property: Callable[[str, object], None]) -> None:
+    """The tests outside the crates, except those that would do the same anywhere. The report of this test has
+    those that were skipped, for ./release."""
     left = OF_NO_PLACE + [OTHER_COMPILER[0]] * (not (stranger.at / OTHER_COMPILER[1]).exists())
     assert [it for it in left if not (TOP / it).exists()] == []
     got = stranger.types(f"tests/all -k 'not valgrind' {' '.join(f'--ignore={it}' for it in left)}")
     assert got.returncode == 0, f"{got.stdout[-5000:]}{got.stderr[-1000:]}"
+    for skipped in re.findall(r"(?m)^SKIPPED \[\d+\] (.*)$", got.stdout):
+        record_property("left out", skipped)
 
 
 @pytest.mark.parametrize("block, way", [pytest.param(*it, id=str(it[0])) for it in shown()])

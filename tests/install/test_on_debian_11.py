@@ -22,7 +22,7 @@ PACKAGES = "python3,python3-venv,gcc,libc6-dev,make,pkg-config,cmake,binutils"
 # The test makes a mount namespace, for which the root has to be a mount.
 ENTER = """
 mount --bind "$0" "$0" && mount -t proc proc "$0/proc" &&
-exec chroot "$0" /srv/rsp/tests/all "--archive=$1" "$2/test_archive.py" "$2/test_archive_pages.py"
+exec chroot "$0" /srv/rsp/tests/all --archive=/srv/rsp "$1/test_archive.py" "$1/test_archive_pages.py"
 """
 
 
@@ -34,7 +34,7 @@ def made(root: Path) -> Path:
     return root
 
 
-def test_archive_on_debian_11(packed: Path, folder: Path) -> None:
+def test_archive_on_debian_11(packed: Path, vectors: Path, folder: Path) -> None:
     if os.getuid():
         pytest.skip("only root can do it")
     root = made(Path(os.environ.get("DEBIAN_11") or folder / "root").resolve())
@@ -42,8 +42,9 @@ def test_archive_on_debian_11(packed: Path, folder: Path) -> None:
     shutil.rmtree(inside, ignore_errors=True)
     inside.mkdir(parents=True)
     succeeds("sh", "-c", 'git archive HEAD | tar x -C "$0"', inside)
-    shutil.copy(packed, inside)
+    for it in packed, vectors:
+        shutil.copy(it, inside)
     where = {"PATH": "/usr/sbin:/usr/bin:/sbin:/bin", "HOME": "/root"}
-    words = ("unshare", "--mount", "sh", "-c", ENTER, root, f"/srv/rsp/{packed.name}", "tests/install")
+    words = ("unshare", "--mount", "sh", "-c", ENTER, root, "tests/install")
     got = run(*words, env=where, timeout=1800)
     assert got.returncode == 0, got.stdout[-5000:]

@@ -15,17 +15,14 @@ from rsp_tools.systems import toolchain
 PACKAGES = {
     **toolchain.PACKAGES,
     "c++": "g++",
-    "cc": "gcc",
     "clang++": "clang",
     "man": "man-db",
     "mips-linux-gnu-gcc": "gcc-mips-linux-gnu",
     "qemu-mips": "qemu-user",
     "qemu-x86_64": "qemu-user",
     "cargo-clippy": "rust-clippy",
-    "ar": "binutils",
     "nm": "binutils",
     "objdump": "binutils",
-    "objcopy": "binutils",
     "readelf": "binutils",
     "dot": "graphviz",
     "Xvfb": "xvfb",
@@ -34,6 +31,7 @@ PACKAGES = {
     "/usr/bin/man": "man-db",
     "/usr/bin/mips-linux-gnu-gcc": "gcc-mips-linux-gnu",
     "/usr/include/stdio.h": "libc6-dev",
+    "/usr/lib/llvm-*/lib/clang/*/lib/linux/libclang_rt.fuzzer-x86_64.a": "libclang-rt-14-dev",
     "/usr/lib/python3*/ensurepip": "python3-venv",
     "/usr/lib/python3/dist-packages/numpy": "python3-numpy",
     "python:ensurepip": "python3-venv",
@@ -60,6 +58,13 @@ def is_here(tool: str) -> bool:
     if tool.startswith("python:"):
         return importlib.util.find_spec(tool[7:]) is not None
     return bool(glob.glob(tool)) if "/" in tool else shutil.which(tool) is not None
+
+
+def packages(*tools: str) -> list[str]:
+    """Debian's packages of those of these tools that aren't here, each once."""
+    absent = (it for it in tools if it not in OTHERS and not is_here(it))
+    named = " ".join(PACKAGES.get(it, os.path.basename(it)) for it in absent)
+    return [*dict.fromkeys(named.split())]
 
 
 def without(tool: str) -> str:

@@ -3,6 +3,7 @@
  * Today's start files call __libc_start_main of glibc 2.34, and the processor is asked by a call of glibc 2.33. The older __libc_start_main
  * is still in every glibc. It wants the functions that run before main, which today's glibc finds by itself. */
 #include <cpuid.h>
+#include <signal.h>
 #include <stddef.h>
 #include <sys/syscall.h>
 #include <unistd.h>
@@ -16,6 +17,7 @@ __asm__(".symver __libc_start_main, __libc_start_main@GLIBC_2.2.5");
 __attribute__((visibility("hidden"))) void rsp_before_main(int count, char **words, char **environment)
 {
     for (constructor **it = __init_array_start; it != __init_array_end; it++) (*it)(count, words, environment);
+    signal(SIGXFSZ, SIG_IGN); /* a file that may not be so long is a write that fails */
 }
 
 /* The entry, as the x86-64 ABI has it: argc is on the stack, and rdx holds what the loader wants to run at the end. */

@@ -3,7 +3,8 @@
 library/c/build builds it first, if it isn't built. If a file can't be written, none is replaced, and it
 fails.
 
-  PREFIX/include/rsp.h             and rsp_compare.h, the first difference from another emulator
+  PREFIX/include/rsp.h             and rsp.hpp, a class for C++17
+  PREFIX/include/rsp_compare.h     the first difference from another emulator
   PREFIX/lib/librsp.so.1           and librsp.so, a link to it
   PREFIX/lib/librsp.a
   PREFIX/lib/pkgconfig/rsp.pc      for cc my.c $(pkg-config --cflags --libs rsp)
@@ -42,16 +43,6 @@ def program() -> Optional[bytes]:
     return linked_program(made) if made.is_file() and "proved and built by" in about else None
 
 
-def write(path: Path, file: File) -> None:
-    path.parent.mkdir(parents=True, exist_ok=True)
-    path.unlink(missing_ok=True)
-    if isinstance(file.data, str):
-        path.symlink_to(file.data)
-    else:
-        path.write_bytes(file.data)
-        path.chmod(0o755 if file.can_run else 0o644)
-
-
 def install(prefix: Path, files: List[File]) -> None:
     """Writes all files beside their places, and only then puts them there."""
     made = [
@@ -62,7 +53,7 @@ def install(prefix: Path, files: List[File]) -> None:
         for path, new, file in made:
             if path.is_dir():
                 fail(f"{path} is a folder")
-            write(new, file)
+            file.write(new)
         for path, new, _ in made:
             os.replace(new, path)
     except OSError as fault:

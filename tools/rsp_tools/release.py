@@ -1,47 +1,55 @@
-"""./release: makes dist/rsp-VERSION-linux-x86_64.tar.gz, which a user downloads and runs without the kit.
+"""./release: makes the release archives in dist/, which a user downloads and runs without the kit.
 
-It packs what ./rsp and library/c/build build: the program, linked again for any Linux since 2014; what
-library/c/install installs; the Python wheel, the Rust crate, the plugin of mupen64plus, the pages, the
-examples, the routines of microcode and the test vectors.
+It packs what ./rsp and library/c/build build:
+
+  linux-x86_64     .tar.gz: the program, linked again for any Linux since 2014, what library/c/install
+                   installs, the Python wheel, the Rust crate, the plugin of mupen64plus, pages, examples,
+                   microcode
+  conformance      .tar.gz: the test vectors with their tools, for all systems
+  source           .tar.gz: the repository
+  rsp_VERSION_amd64.deb, the package of Debian with what the first one installs
 
 With --systems it also makes the archives for other systems, after tools/systems has made their libraries:
 
-  linux-aarch64    .tar.gz, with the program
+  linux-aarch64    .tar.gz, with the program; and rsp_VERSION_arm64.deb
   macos            .tar.gz
   windows-x86_64   .zip, with the program
   wasm64           .tgz, which npm installs
   page             .zip, a folder for a web server: the machine in a browser. Its library is that of wasm64
 
-dist/SHA256SUMS has the sums of the archives that this run made. Two runs from one commit give the same
-bytes. It fails if the work tree isn't clean, a version differs, the newcomer's tests fail, or a system isn't
-made. Then it leaves what was in dist.
+Each archive has its README.md, CHANGELOG.md, SHA256SUMS of its files, and rsp.spdx.json, a list of what it
+is made of. dist/SHA256SUMS has the sums of what this run made. Two runs from one commit give the same bytes.
+Before it makes anything it names the packages of Debian that are missing, in one line of apt-get. It fails
+if the work tree isn't clean, a version differs, the newcomer's tests fail, or a system isn't made. Then it
+leaves what was in dist. The last lines say what was left out, and why.
 """
 
 import argparse
 import os
+import shutil
 import subprocess
 import sys
 import tempfile
 from pathlib import Path
-from typing import Dict, Iterator, List, NoReturn, Tuple
+from typing import Dict, Iterator, List, NoReturn
+from xml.etree import ElementTree
 
-import wheels
-from rsp_tools import TOOLS, TOP
-from rsp_tools.packaging import installed, packed, pages, repository, systems
-from rsp_tools.packaging.installed import File
+from rsp_tools import TOP
+from rsp_tools.packaging import about, archives, deb, installed, packed
+from rsp_tools.packaging.about import About
+from rsp_tools.packaging.archives import Archive
 from rsp_tools.packaging.link import linked_program
 from rsp_tools.packaging.repository import said
 from rsp_tools.systems import header, places
 from rsp_tools.systems.__main__ import SYSTEMS
 from rsp_tools.systems.toolchain import missing
 
-SYSTEM = "linux-x86_64"
 OTHERS = [*SYSTEMS, "page"]
 OBJECT = TOP / "crates/rsp_main/out/rsp_main.o"
-PACKED = (
-    "library/python/rsp library/rust docs examples microcode conformance plugin tools/python CHANGELOG.md"
-).split()
 NEWCOMER = "tests/install/test_newcomer.py"
+# What links and packs, for any system.
+PROGRAMS = "git cc ar ld objcopy dpkg-deb".split()
+HOW = b"# sha256sum --ignore-missing -c SHA256SUMS checks those of these files that are here\n"
 # Where the packages of other languages and the list of changes name the version.
 VERSIONS = {
     "CHANGELOG.md": r"^## ([\d.]+)",
@@ -68,64 +76,81 @@ def check_versions(version: str) -> None:
             fail(f"{name} says version {named}, not {version}")
 
 
-def check_systems(names: List[str]) -> None:
-    """Ends if one is unknown, or a package that makes it isn't there."""
+def check_names(names: List[str]) -> None:
+    """Ends if there is no such system."""
     for name in names:
         if name not in OTHERS:
             fail(f"there is no system {name}: the systems are {', '.join(OTHERS)}")
-        absent = missing(*SYSTEMS[name].programs) if name in SYSTEMS else ""
-        if absent:
-            fail(f"{name} needs packages of Debian: apt-get install {absent}")
 
 
-def wheel() -> File:
-    """The Python package as a wheel."""
+def check_packages(names: List[str], is_tested: bool) -> None:
+    """Ends if the kit or a package is missing that makes an archive, or that the newcomer's commands need."""
+    if not shutil.which("rt"):
+        fail("there is no `rt`, the command of the Rattle kit (README.md names its version)")
+    needed = (program for it in names if it in SYSTEMS for program in SYSTEMS[it].programs)
+    packages = missing(*PROGRAMS, *needed)
+    if packages:
+        fail(f"packages of Debian are missing: apt-get install {packages}")
+    more = said("tools/python", "lib.install.newcomer") if is_tested else ""
+    if more:
+        fail(f"the newcomer's commands need packages of Debian (or --untested): apt-get install {more}")
+
+
+def left_out(report: Path) -> List[str]:
+    """What pytest's report says of tests that were skipped, and of those that a test started."""
+    cases = [*ElementTree.parse(report).iter("testcase")]
+    skipped = [f"{it.get('name')}: {why.get('message')}" for it in cases for why in it.iter("skipped")]
+    inside = [str(it.get("value")) for case in cases for it in case.iter("property")]
+    return [*dict.fromkeys([*skipped, *inside])]
+
+
+def tested() -> List[str]:
+    """Runs the newcomer's tests. What they left out."""
     with tempfile.TemporaryDirectory() as folder:
-        name = wheels.build_wheel(folder)
-        return File(f"python/{name}", Path(folder, name).read_bytes())
+        report = Path(folder, "report.xml")
+        failed = f"tests/all {NEWCOMER} failed, so nothing is made"
+        succeed(failed, "tests/all", NEWCOMER, f"--junitxml={report}")
+        return left_out(report)
 
 
-def plugin() -> File:
+def plugin() -> bytes:
     """The plugin of mupen64plus."""
     with tempfile.TemporaryDirectory() as folder:
         succeed("plugin/build has built nothing", "plugin/build", f"{folder}/plugin.so")
-        return File("plugin/mupen64plus-rsp-proved.so", Path(folder, "plugin.so").read_bytes(), True)
+        return Path(folder, "plugin.so").read_bytes()
 
 
-def contents(program: bytes, version: str, about: Tuple[str, str]) -> Iterator[File]:
-    """Each file of the archive for Linux on x86-64."""
-    yield installed.starter(about)
-    yield from installed.contents("${pcfiledir}/../..", program)
-    yield wheel()
-    yield plugin()
-    yield from repository.tracked(PACKED)
-    yield File("rust/lib/librsp.a", (TOP / "library/c/librsp.a").read_bytes())
-    readme = (TOOLS / "packaging/README.md").read_text()
-    yield File("README.md", readme.replace("VERSION", version).encode())
-
-
-def linux(given: Path, version: str, about: Tuple[str, str]) -> bytes:
-    """The archive for Linux on x86-64, of an object file of the program."""
-    folder = f"rsp-{version}-{SYSTEM}"
-    files = pages.in_archive(contents(linked_program(given), version, about), folder)
-    return packed.tarred(folder, packed.with_sums(files))
-
-
-def others(names: List[str], version: str, about: Tuple[str, str]) -> Dict[str, bytes]:
-    """The archives of other systems, by their names. The page is made with the library for WebAssembly."""
+def every(given: Path, names: List[str], release: About) -> Iterator[Archive]:
+    """The archives, of an object file of the program, and of these other systems. The page is made with the
+    library for WebAssembly."""
     libraries = [it for it in SYSTEMS if it in names or (it == "wasm64" and "page" in names)]
     if libraries:
         succeed("tools/systems failed, so nothing is made", "tools/systems", *libraries)
-    return {systems.name_of(it, version): systems.archive(it, places.MADE / it, about) for it in names}
+    yield archives.of_native(linked_program(given), plugin(), release)
+    yield archives.of_conformance(release)
+    yield archives.of_source(release)
+    for it in names:
+        yield archives.of_system(it, places.MADE / it, release)
 
 
-def put(archives: Dict[str, bytes]) -> None:
+def packages(made: List[Archive], release: About) -> Dict[str, bytes]:
+    """The packages of Debian, of the archives for Linux."""
+    files = {it.name: it.files for it in made}
+    names = {it: archives.name_of(it, release.version) for it in deb.ARCHITECTURES}
+    return {
+        deb.name_of(system, release.version): deb.package(system, files[name], release)
+        for system, name in names.items()
+        if name in files
+    }
+
+
+def put(made: Dict[str, bytes]) -> None:
     """Writes all archives with their sums beside their places, and only then puts them there."""
     dist, path = TOP / "dist", TOP / "dist"
     try:
         dist.mkdir(exist_ok=True)
         with tempfile.TemporaryDirectory(dir=dist, prefix=".new-") as beside:
-            for name, data in {**archives, "SHA256SUMS": packed.sums(archives)}.items():
+            for name, data in {**made, "SHA256SUMS": HOW + packed.sums(made)}.items():
                 path = dist / name
                 Path(beside, name).write_bytes(data)
             for it in sorted(Path(beside).iterdir()):
@@ -148,24 +173,27 @@ def words() -> argparse.ArgumentParser:
 def main() -> None:
     asked = words().parse_args()
     names = [] if asked.systems is None else [*dict.fromkeys(asked.systems)] or OTHERS
-    check_systems(names)
+    check_names(names)
+    check_packages(names, not asked.untested)
+    if said("git", "status", "--porcelain"):
+        fail("the work tree differs from its commit")
+    version = installed.version()[0]
+    check_versions(version)
     if asked.object == OBJECT:
         succeed("./rsp has built nothing", "./rsp", "run")
     succeed("library/c/build has built nothing", "library/c/build")
     if not asked.object.is_file():
         fail(f"{asked.object} isn't there: run `rt run -- run` in crates/rsp_main")
-    if said("git", "status", "--porcelain"):
-        fail("the work tree differs from its commit")
-    if not asked.untested:
-        succeed(f"tests/all {NEWCOMER} failed, so nothing is made", "tests/all", NEWCOMER)
-    (version, day), commit = installed.version(), said("git", "rev-parse", "HEAD")
-    check_versions(version)
-    about = f"rsp {version} ({day}), commit {commit}", f"proved and built by {said('rt', 'version')}"
-    archives = {f"rsp-{version}-{SYSTEM}.tar.gz": linux(asked.object, version, about)}
-    archives.update(others(names, version, about))
-    put(archives)
-    for name, data in archives.items():
-        print(f"dist/{name}: {len(data)} bytes, version {version}, commit {commit[:12]}")
+    left = [f"{NEWCOMER}: --untested"] if asked.untested else tested()
+    release = about.of_head()
+    listed = [*every(asked.object, names, release)]
+    made = {it.name: it.packed() for it in listed}
+    made.update(packages(listed, release))
+    put(made)
+    for name, data in made.items():
+        print(f"dist/{name}: {len(data)} bytes, version {version}, commit {release.commit[:12]}")
+    for it in left:
+        print(f"left out: {it}")
 
 
 if __name__ == "__main__":

@@ -9,8 +9,6 @@ import os
 import re
 from typing import Iterable, Iterator, NamedTuple
 
-import pytest
-
 from lib import TOP
 from lib.install.ways import LEFT, NEEDS, Way
 from lib.packages import need
@@ -19,9 +17,9 @@ from lib.user import User
 
 # Programs that a line of commands begins with. A file of the repository that can be run is one, too.
 PROGRAMS = frozenset(
-    "apt-get awk bash c++ cargo cat cc cd cmake cp cpp curl dask echo eval export g++ gcc git ldconfig make "
-    "man mkdir mupen64plus mv npm od pip pkg-config printf python python3 rm rsp rt rustc sed sh sha256sum "
-    "sudo tar wget".split()
+    "apt-get awk bash c++ cargo cat cc cd cmake cp cpp curl dask echo eval export g++ gcc git ldconfig "
+    "make man mkdir mupen64plus mv npm od pip pkg-config printf python python3 rm rsp rt rustc sed sh "
+    "sha256sum source sudo tar wget".split()
 )
 
 
@@ -78,28 +76,35 @@ def with_ways(blocks: Iterable[Block], ways: Iterable[Way]) -> Iterator[tuple[Bl
 
 
 def lines_of(block: Block, way: Way) -> tuple[str, str]:
-    """The lines that are typed, with their words put in, and why others aren't."""
+    """The lines that are typed, with their words put in, or the reasons why none is: a line needs what those
+    before it have done, so a block is typed whole or not at all."""
     text = re.sub(r"\\\n\s*", "", block.lines)
     for words, typed in way.instead:
         text = text.replace(words, typed)
     if way.begins:
         return ("", way.left_out) if way.left_out else (text, "")
-    lines: dict[str, list[str]] = {}
-    for it in text.splitlines():
-        lines[it] = [why for form, why in LEFT if re.search(form, it.split("  #")[0].strip())][:1]
-    left = dict.fromkeys(why for reasons in lines.values() for why in reasons)
-    return "\n".join(it for it in text.splitlines() if not lines[it]), "; ".join(left)
+    bare = [it.split("  #")[0].strip() for it in text.splitlines()]
+    reasons = [next((why for form, why in LEFT if re.search(form, it)), "") for it in bare]
+    left = dict.fromkeys(filter(None, reasons))
+    return ("", "; ".join(left)) if left else (text, "")
+
+
+def needs(lines: str) -> list[str]:
+    """What lines need besides the repository, as lib.packages names it."""
+    return [tool for form, *tools in NEEDS for tool in tools if re.search(form, lines)]
 
 
 def check(user: User, block: Block, way: Way, before: str) -> None:
     """Types a block, which has to end well and to print what its way says."""
+    import pytest  # here, because a release looks for what blocks need by a Python that may have no pytest
+
     lines, reasons = lines_of(block, way)
     if not lines:
         pytest.skip(f"{block}: {reasons}")
-    need(*(tool for form, *tools in NEEDS for tool in tools if re.search(form, lines)))
+    need(*needs(lines))
     got = user.types("\n".join((before, way.first, lines, way.then)))
     assert got.returncode == 0, f"{block}: status {got.returncode}: {got.stdout[-1500:]}{got.stderr[-1500:]}"
     shown = {"below": block.below, "below..": f"{block.below}\n..", "after": block.after}
     texts = got.stdout, shown.get(way.prints, way.prints)
-    told, wanted = (re.sub(r"\d+ seconds", "seconds", it).strip("\n").splitlines() for it in texts)
+    told, wanted = (re.sub(r"\d+ seconds?", "seconds", it).strip("\n").splitlines() for it in texts)
     assert matches(told, wanted), f"{block} prints {got.stdout}, and {wanted} is wanted"

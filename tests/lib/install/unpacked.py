@@ -1,6 +1,9 @@
 """Archives of ./release, unpacked into empty folders, and what is true of each: names, times, sums."""
 
+import calendar
 import hashlib
+import json
+import re
 import shutil
 import stat
 import tarfile
@@ -8,6 +11,8 @@ import zipfile
 from pathlib import Path
 
 import pytest
+
+from lib.pages import page
 
 BARE = {"PATH": "/usr/bin:/bin", "LC_ALL": "C"}  # the environment of one who has nothing else
 
@@ -20,7 +25,8 @@ def given(config: pytest.Config, system: str) -> list[Path]:
 
 
 def check_pack(archive: Path) -> None:
-    """The names are sorted, and nothing tells when and by whom it was made. A zip file has no links."""
+    """The names are sorted, all have one time, and nothing tells by whom it was made. A zip file has no
+    links."""
     if archive.suffix == ".zip":
         with zipfile.ZipFile(archive) as pack:
             names, entries = pack.namelist(), pack.infolist()
@@ -32,6 +38,15 @@ def check_pack(archive: Path) -> None:
             about = {str((it.mtime, it.uid, it.gid, it.uname, it.gname)) for it in tar.getmembers()}
     assert names == sorted(names)
     assert len(about) == 1
+
+
+def date(archive: Path) -> int:
+    """The time of an archive's files, in seconds since 1970. A zip file has times of UTC, even seconds."""
+    if archive.suffix == ".zip":
+        with zipfile.ZipFile(archive) as pack:
+            return calendar.timegm((*pack.infolist()[0].date_time, 0, 0, 0))
+    with tarfile.open(archive) as tar:
+        return int(tar.getmembers()[0].mtime)
 
 
 def unpacked(archive: Path, into: Path) -> Path:
@@ -48,3 +63,46 @@ def check_sums(top: Path) -> None:
     del there["SHA256SUMS"]
     assert {*there} ^ {*sums} == set(), "SHA256SUMS doesn't name each file"
     assert [it for it in there if there[it] != sums[it]] == []
+
+
+# What SPDX 2.3 asks of a document and of a package in it.
+OF_DOCUMENT = {
+    "spdxVersion",
+    "dataLicense",
+    "SPDXID",
+    "name",
+    "documentNamespace",
+    "creationInfo",
+    "packages",
+}
+OF_PACKAGE = {"SPDXID", "name", "versionInfo", "downloadLocation", "filesAnalyzed"}
+RELATIONS = {"STATIC_LINK", "DYNAMIC_LINK", "BUILD_TOOL_OF"}
+# The systems whose archives have the code of the crates.
+BUILT = ("linux-x86_64", "linux-aarch64", "windows-x86_64", "macos", "wasm64", "page")
+
+
+def check_spdx(top: Path, system: str) -> None:
+    """The list of what it is made of has what SPDX requires, and the libraries that GUARANTEES names."""
+    made = json.loads((top / "rsp.spdx.json").read_text())
+    assert OF_DOCUMENT <= {*made} and (made["spdxVersion"], made["dataLicense"]) == ("SPDX-2.3", "CC0-1.0")
+    assert re.fullmatch(r"urn:uuid:[0-9a-f]{8}(-[0-9a-f]{4}){3}-[0-9a-f]{12}", made["documentNamespace"])
+    assert re.fullmatch(r"\d{4}-\d\d-\d\dT\d\d:\d\d:\d\dZ", made["creationInfo"]["created"])
+    assert made["name"].endswith(f"-{system}") and all(OF_PACKAGE <= {*it} for it in made["packages"])
+    ids = [it["SPDXID"] for it in made["packages"]]
+    assert len({*ids}) == len(ids) and all(re.fullmatch(r"SPDXRef-[\w.-]+", it) for it in ids)
+    for it in made["relationships"]:
+        assert it["relationshipType"] in RELATIONS
+        assert {it["spdxElementId"], it["relatedSpdxElement"]} <= {*ids}
+    names = {it["name"].rpartition("/")[2] for it in made["packages"] if it["versionInfo"] != "NOASSERTION"}
+    (said,) = re.findall(r"(?s)\*\*The kit's libraries\*\*(.*?) and `anyhow`", page("docs/GUARANTEES.md"))
+    libraries = {*re.findall(r"`(\w+)`", said), "std"} if system in BUILT else set()
+    if not system.startswith("linux-"):
+        libraries.discard("clap")  # the proved program alone reads a command line by it
+    assert names & {*libraries, "byteorder", "clap"} == libraries
+
+
+def check_common(top: Path, system: str) -> None:
+    """What each archive has."""
+    check_sums(top)
+    check_spdx(top, system)
+    assert (top / "README.md").is_file() and (top / "CHANGELOG.md").read_text().startswith("# Changes\n")

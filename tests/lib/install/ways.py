@@ -20,7 +20,7 @@ class Way(NamedTuple):
 
 # Commands that aren't typed, each with the reason. The first that fits counts.
 LEFT = (
-    (r"^apt-get|^cp .* /usr/l|^ldconfig", "it changes the system"),
+    (r"^(sudo )?apt-get|^cp .* /usr/l|^ldconfig", "it changes the system"),
     (
         r"\[--|(?<![$/])\b(NAME|SCRIPT|WORD|F|PATH|FILE|ROM|OTHER|PART|PROGRAM)\b(?!=)",
         "a word in capitals is the reader's own",
@@ -89,7 +89,13 @@ LOST_JUMP = "j 0x7f0\nnop\n"
 
 # Those of the archive, and where a clone has the same block, of a clone.
 WAYS = (
-    Way("README.md", "./rsp run < ", prints=page("examples/first.out")),
+    # In a clone all tests follow, which are a test of their own there.
+    Way(
+        "README.md",
+        "./rsp run < ",
+        instead=(("\ntests/all ", "\n# tests/all "),),
+        prints=page("examples/first.out"),
+    ),
     Way(
         "README.md",
         "./rsp asm SRC OUT\n./rsp dis FILE",
@@ -99,6 +105,12 @@ WAYS = (
     ),
     Way("README.md", "./rsp --help", instead=(("--help", "--help || [ $? = 2 ]"),)),
     Way("README.md", "export PATH=", then="cd /\necho 'mem dmem 0 4' | rsp run", prints="000000: 00000000"),
+    Way(
+        "README.md",
+        "source share/bash-completion",
+        then="complete -p rsp",
+        prints="complete -o bashdefault -o default -F _rsp rsp",
+    ),
     Way("README.md", "export PKG_CONFIG_PATH=", first=MY_C, then="./a.out", prints=MY_C_PRINTS),
     Way(
         "README.md",
@@ -120,6 +132,13 @@ WAYS = (
         "docs/ASSEMBLY.md",
         "rsp asm mine.s",
         first=file_of("mine.s", "nop\nlqv $v30[0], 0x460($0)\n"),
+        instead=(("--explain", "--explain 2>&1 || [ $? = 1 ]"),),
+        prints="below",
+    ),
+    Way(
+        "docs/ASSEMBLY.md",
+        "rsp asm theirs.s",
+        first=file_of("theirs.s", "vmov $v07.e1, $v08.e3"),
         instead=(("--explain", "--explain 2>&1 || [ $? = 1 ]"),),
         prints="below",
     ),
@@ -146,6 +165,7 @@ WAYS = (
     ),
     Way(CAMPAIGN, "conformance/campaign plugin:", instead=(("/tmp/first", "~/first"),), prints="after"),
     Way(CAMPAIGN, "conformance/campaign plugin:", prints="below"),
+    Way(CAMPAIGN, "cargo build", left_out="it is for the repository, where tests/library/rust does it"),
     Way(
         CAMPAIGN,
         "cc -O2 -shared",

@@ -4,7 +4,7 @@ from pathlib import Path
 from typing import Iterator, NamedTuple, Optional, Tuple, Union
 
 from rsp_tools import TOOLS, TOP
-from rsp_tools.packaging import manpage
+from rsp_tools.packaging import completions, manpage
 from rsp_tools.systems import header
 
 # The script `rsp` of an archive.
@@ -23,13 +23,26 @@ class File(NamedTuple):
     data: Union[bytes, str]
     can_run: bool = False
 
+    def write(self, path: Path) -> None:
+        """Puts it there, in the place of another one."""
+        path.parent.mkdir(parents=True, exist_ok=True)
+        path.unlink(missing_ok=True)
+        if isinstance(self.data, str):
+            path.symlink_to(self.data)
+        else:
+            path.write_bytes(self.data)
+            path.chmod(0o755 if self.can_run else 0o644)
+
 
 def file(name: str, path: Path) -> File:
     return File(name, path.read_bytes(), bool(path.stat().st_mode & 0o100))
 
 
-def man_page() -> File:
-    return File("share/man/man1/rsp.1", manpage.page(*version()).encode())
+def shared() -> Iterator[File]:
+    """What is below share/ wherever the program is: the man page, and what completes its words in shells."""
+    yield File("share/man/man1/rsp.1", manpage.page(*version()).encode())
+    for name, text in completions.files().items():
+        yield File(name, text.encode())
 
 
 def starter(about: Tuple[str, str]) -> File:
@@ -57,7 +70,7 @@ def filled(name: str, prefix: str) -> bytes:
 def contents(prefix: str, program: Optional[bytes]) -> Iterator[File]:
     """Each file. `prefix` is what rsp.pc says, and `program` the bytes of the program, if there is one."""
     library = TOP / "library/c"
-    for name in "rsp.h", "rsp_compare.h":
+    for name in "rsp.h", "rsp.hpp", "rsp_compare.h":
         yield File(f"include/{name}", (library / name).read_bytes())
     yield File("lib/librsp.a", (library / "librsp.a").read_bytes())
     yield File(f"lib/{soname()}", (library / soname()).read_bytes(), True)
@@ -65,6 +78,6 @@ def contents(prefix: str, program: Optional[bytes]) -> Iterator[File]:
     yield File("lib/pkgconfig/rsp.pc", filled("rsp.pc.in", prefix))
     for name in "rspConfig.cmake", "rspConfigVersion.cmake":
         yield File(f"lib/cmake/rsp/{name}", filled(f"{name}.in", prefix))
-    yield man_page()
+    yield from shared()
     if program:
         yield File("bin/rsp", program, True)

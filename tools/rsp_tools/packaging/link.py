@@ -17,13 +17,14 @@ import tempfile
 from pathlib import Path
 from typing import List, NoReturn
 
-from rsp_tools import TOOLS, TOP
+from rsp_tools import TOOLS, TOP, hardening
 from rsp_tools.packaging import installed
 from rsp_tools.systems import header
 
 NAME = "tools/python rsp_tools.packaging.link"
 C = TOP / "library/c"
-HARDENED = ["-Wl,-z,relro,-z,now,--gc-sections"]
+SYSTEM = "linux-x86_64"
+SMALL = "-Wl,--gc-sections"
 
 
 def fail(text: str) -> NoReturn:
@@ -60,8 +61,8 @@ def link_library(archives: List[str]) -> None:
         call("ld", "-r", "-o", at / "all.o", "--whole-archive", *archives)
         call("objcopy", *keep, at / "all.o", at / "rsp.o")
         call("ar", "rcsD", at / "librsp.a", at / "rsp.o")
-        words = [f"-Wl,-soname,{name}", f"-Wl,--version-script={C}/rsp.map", "-Wl,-z,defs", *HARDENED]
-        call("cc", "-shared", "-o", at / name, *words, at / "rsp.o")
+        words = [f"-Wl,-soname,{name}", f"-Wl,--version-script={C}/rsp.map", "-Wl,-z,defs", SMALL]
+        call("cc", "-shared", *hardening.words(SYSTEM, "link"), "-o", at / name, *words, at / "rsp.o")
         shutil.copy(at / name, at / "librsp.so")  # a link would do, but `rt ci` refuses links
         for made in "librsp.a", name, "librsp.so":
             put(at, made)
@@ -70,7 +71,8 @@ def link_library(archives: List[str]) -> None:
 def link_program(made: str, out: str) -> None:
     kit = Path(call("rt", "doc")).parent
     parts = [TOOLS / "packaging/start.c", made, kit / "c/libos_c.a", kit / "c/liblibc_c.a"]
-    call("cc", "-O2", "-fPIE", "-pie", "-nostartfiles", *HARDENED, "-o", out, *parts)
+    words = ["-O2", "-fPIE", "-pie", "-nostartfiles", *hardening.words(SYSTEM), SMALL]
+    call("cc", *words, "-o", out, *parts)
 
 
 def linked_program(made: Path) -> bytes:

@@ -1,13 +1,15 @@
 """The man page rsp.1: the texts of --help, and the table of commands in docs/SCRIPT.md."""
 
 import re
-from typing import Iterator, List, NamedTuple, Tuple
+from typing import Iterator, Tuple
 
 from rsp_tools import TOP
+from rsp_tools.packaging.helps import COMMANDS, help_of
 
 STATUS = {
-    "0": "It is done. Faults in replies do not change it.",
-    "1": "A file cannot be read or written, or its text has a fault. One line on standard error says which.",
+    "0": "It is done. Faults in replies do not change it, except with --strict.",
+    "1": "A file cannot be read or written, its text has a fault, or a strict run has faults in its replies. "
+    "One line on standard error says which.",
     "2": "The command line is refused. Standard error says why; --help has this status too.",
 }
 HEAD = """.TH RSP 1 "{day}" "rsp {version}" "User Commands"
@@ -23,14 +25,6 @@ Each line of a script is one command. A line that is refused is answered by a fa
 END = """.SH SEE ALSO
 The pages docs/SCRIPT.md, docs/ASSEMBLY.md and docs/EMBEDDING.md of the source or of the release archive.
 """
-
-
-class Help(NamedTuple):
-    """What --help says of a command: its purpose, its usage, and its words with what they mean."""
-
-    about: str
-    usage: str
-    words: List[Tuple[str, str]]
 
 
 def plain(text: str) -> str:
@@ -50,12 +44,6 @@ def item(name: str, text: str) -> str:
     return f".TP\n{name}\n{text}\n"
 
 
-def help_of(command: str) -> Help:
-    text = (TOP / f"docs/help/{command}.txt").read_text()
-    usage = re.findall(r"(?m)^Usage: (.*)$", text)[0]
-    return Help(text.split("\n", 1)[0], usage, re.findall(r"(?m)^ +((?:-|<).*?)  +(.*)$", text))
-
-
 def commands() -> Iterator[Tuple[str, str]]:
     """The commands of scripts with what docs/SCRIPT.md says of them."""
     text = (TOP / "docs/SCRIPT.md").read_text()
@@ -68,12 +56,12 @@ def commands() -> Iterator[Tuple[str, str]]:
 
 
 def page(version: str, day: str) -> str:
-    helps, about = [help_of(it) for it in ("run", "asm", "dis")], help_of("rsp").about
+    helps, about = [help_of(it) for it in COMMANDS], help_of("rsp").about
     usages = ".br\n".join(f".B {plain(it.usage)}\n" for it in helps)
     about = plain(about[0].lower() + about[1:])
     made = [HEAD.format(day=day, version=version, about=about, usages=usages)]
-    for purpose, usage, words in helps:
-        made.append(f".SS {plain(usage.split(' [')[0])}\n{plain(purpose)}.\n")
-        made += [item(f".B {plain(name)}", plain(text)) for name, text in words]
+    for it in helps:
+        made.append(f".SS {plain(it.usage.split(' [')[0])}\n{plain(it.about)}.\n")
+        made += [item(f".B {plain(name)}", plain(text)) for name, text in it.words]
     made += [SCRIPTS, *(item(*it) for it in commands()), ".SH EXIT STATUS\n"]
     return "".join([*made, *(item(f".B {it}", plain(text)) for it, text in STATUS.items()), END])

@@ -1,17 +1,18 @@
-"""Packs the files of an archive. The same files give the same bytes: there is no time and no owner."""
+"""Packs the files of an archive. The same files of the same commit give the same bytes: they have no owner,
+and the time of the commit, so a web server and a browser know which are newer."""
 
 import gzip
 import hashlib
 import io
 import stat
 import tarfile
+import time
 import zipfile
 from typing import Dict, Iterable, List
 
+from rsp_tools.packaging import repository
 from rsp_tools.packaging.installed import File
 
-TIME = 315532800  # 1980-01-01, the first that a zip file can hold
-DAY = (1980, 1, 1, 0, 0, 0)
 UNIX = 3  # the system of a zip file whose entries have rights
 
 
@@ -21,28 +22,28 @@ def rights(file: File) -> int:
 
 def tarred(folder: str, files: Iterable[File]) -> bytes:
     """A tar file of these files, below a folder, compressed."""
-    tar, out = io.BytesIO(), io.BytesIO()
+    tar, out, date = io.BytesIO(), io.BytesIO(), repository.committed()
     with tarfile.open(fileobj=tar, mode="w", format=tarfile.USTAR_FORMAT) as pack:
         for file in files:
             entry, data = tarfile.TarInfo(f"{folder}/{file.name}"), file.data
-            entry.mtime, entry.mode = TIME, rights(file)
+            entry.mtime, entry.mode = date, rights(file)
             if isinstance(data, str):
                 entry.type, entry.linkname, entry.mode, data = tarfile.SYMTYPE, data, 0o777, b""
             entry.size = len(data)
             pack.addfile(entry, io.BytesIO(data))
-    with gzip.GzipFile(fileobj=out, mode="wb", filename="", mtime=TIME, compresslevel=9) as pressed:
+    with gzip.GzipFile(fileobj=out, mode="wb", filename="", mtime=date, compresslevel=9) as pressed:
         pressed.write(tar.getvalue())
     return out.getvalue()
 
 
 def zipped(folder: str, files: Iterable[File]) -> bytes:
-    """A zip file of these files, below a folder. It takes no links."""
-    out = io.BytesIO()
+    """A zip file of these files, below a folder. It takes no links. Its times are those of UTC."""
+    out, date = io.BytesIO(), time.gmtime(repository.committed())
     with zipfile.ZipFile(out, "w") as pack:
         for file in files:
             if isinstance(file.data, str):
                 raise ValueError(f"{file.name} is a link, which not every unpacker of zip files makes")
-            entry = zipfile.ZipInfo(f"{folder}/{file.name}", DAY)
+            entry = zipfile.ZipInfo(f"{folder}/{file.name}", date[:6])
             entry.create_system, entry.compress_type = UNIX, zipfile.ZIP_DEFLATED
             entry.external_attr = (stat.S_IFREG | rights(file)) << 16
             pack.writestr(entry, file.data, compresslevel=9)

@@ -9,6 +9,7 @@ from rsp_tools.packaging.installed import File
 # Where the archive has a file or a folder of the repository.
 MOVED = {
     "library/c/rsp.h": "include/rsp.h",
+    "library/c/rsp.hpp": "include/rsp.hpp",
     "library/c/rsp_compare.h": "include/rsp_compare.h",
     "library/python": "python",
     "library/rust": "rust",

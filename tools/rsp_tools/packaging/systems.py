@@ -3,26 +3,16 @@ the parts of the repository that serve there."""
 
 import tempfile
 from pathlib import Path
-from typing import Callable, Dict, Iterator, List, Tuple
+from typing import Callable, Dict, Iterator
 
-from rsp_tools.packaging import installed, packed, pages, readme, repository
+from rsp_tools.packaging import installed, repository
+from rsp_tools.packaging.about import About
 from rsp_tools.packaging.installed import File
 from rsp_tools.systems.toolchain import llvm
 
-# What those for C, Python and Rust hold of the repository, and what was run on Linux on x86-64 alone.
-PARTS = (
-    "library/python/rsp library/rust docs examples microcode conformance tools/python CHANGELOG.md"
-).split()
-NOT_THERE = (
-    "docs/CAMPAIGN.md",
-    "docs/PLUGIN.md",
-    "conformance/campaign",
-    "conformance/differences",
-    "conformance/z64/",
-    "conformance/rsp_conformance/campaign/",
-    "conformance/rsp_conformance/differences.py",
-    "conformance/rsp_conformance/otherwise/",
-)
+# What those for C, Python and Rust hold of the repository; and what was run on Linux on x86-64 alone.
+PARTS = "library/python/rsp library/rust docs examples microcode CHANGELOG.md".split()
+NOT_THERE = "docs/PLUGIN.md"
 PARTS_OF_WASM = "docs examples microcode CHANGELOG.md".split()
 # The static library of a system's folder for each target of Rust, and the processors of those for macOS:
 # Rust 1.63 takes no library that is for two.
@@ -31,14 +21,9 @@ RUST: Dict[str, Dict[str, str]] = {
     "windows-x86_64": {"x86_64-pc-windows-gnu": "librsp.a", "x86_64-pc-windows-msvc": "rsp_static.lib"},
     "macos": {"aarch64-apple-darwin": "librsp.a", "x86_64-apple-darwin": "librsp.a"},
 }
+WITH_PROGRAM = ("linux-aarch64", "windows-x86_64")
 THIN = {"aarch64-apple-darwin": "arm64", "x86_64-apple-darwin": "x86_64"}
 Thin = Callable[[Path, str], bytes]
-ENDINGS = {"windows-x86_64": "zip", "page": "zip", "wasm64": "tgz"}  # all others are .tar.gz
-
-
-def of_repository(parts: List[str]) -> Iterator[File]:
-    """What these parts of the repository have for other systems, where an archive has it."""
-    yield from (it for it in repository.tracked(parts) if not it.name.startswith(NOT_THERE))
 
 
 def of_folder(folder: Path) -> Iterator[File]:
@@ -63,29 +48,14 @@ def of_rust(system: str, folder: Path, thin: Thin) -> Iterator[File]:
         yield File(f"rust/lib/{target}/{name}", data)
 
 
-def contents(system: str, folder: Path, about: Tuple[str, str], thin: Thin = thinned) -> Iterator[File]:
+def contents(system: str, folder: Path, about: About, thin: Thin = thinned) -> Iterator[File]:
     """Each file of a system's archive but its README."""
     yield from of_folder(folder)
-    if system == "wasm64":
-        yield from of_repository(PARTS_OF_WASM)
-    elif system != "page":
-        yield from of_repository(PARTS)
+    parts = {"wasm64": PARTS_OF_WASM, "page": ["CHANGELOG.md"]}.get(system, PARTS)
+    yield from (it for it in repository.of_systems(parts) if it.name != NOT_THERE)
+    if system in RUST:
         yield from of_rust(system, folder, thin)
+    if system in WITH_PROGRAM:
+        yield from installed.shared()
     if system == "linux-aarch64":
-        yield installed.starter(about)
-        yield installed.man_page()
-
-
-def name_of(system: str, version: str) -> str:
-    """The name of a system's archive."""
-    return f"rsp-{version}-{system}.{ENDINGS.get(system, 'tar.gz')}"
-
-
-def archive(system: str, folder: Path, about: Tuple[str, str], thin: Thin = thinned) -> bytes:
-    """The archive of a system, of the folder that was made for it. npm packs into a folder `package`."""
-    version = installed.version()[0]
-    top = "package" if system == "wasm64" else f"rsp-{version}-{system}"
-    files = list(contents(system, folder, about, thin))
-    files.append(File("README.md", readme.page(system, version, about)))
-    whole = packed.with_sums(pages.in_archive(files, top))
-    return (packed.zipped if ENDINGS.get(system) == "zip" else packed.tarred)(top, whole)
+        yield installed.starter(about.lines())

@@ -26,7 +26,7 @@ import tempfile
 from pathlib import Path
 from typing import Callable, Dict, Mapping, NamedTuple, Tuple
 
-from . import linux, macos, page, places, wasm, windows
+from . import linux, macos, manual, page, places, wasm, windows
 from .modules import Source, module
 from .toolchain import Refused, missing
 
@@ -44,7 +44,7 @@ SYSTEMS: Dict[str, System] = {
     "linux-aarch64": System(linux.make, ("aarch64-linux-gnu-gcc",)),
     "windows-x86_64": System(windows.make, ("x86_64-w64-mingw32-gcc",)),
     "macos": System(macos.make),
-    "wasm64": System(wasm.make, more={"page": page.make}),
+    "wasm64": System(wasm.make, (manual.CONVERTER,), more={"page": page.make}),
 }
 
 

@@ -139,11 +139,12 @@ void free(void *at)
 /* The block stays where it is if it, with the hole after it, is large enough. */
 void *realloc(void *at, size len)
 {
-    head *it = (head *)at - 1;
+    head *it;
     size total = total_for(len), n, kept;
     char *to;
     if (!at) return malloc(len);
     if (!total) return 0;
+    it = (head *)at - 1;
     if (size_of(it) < total && !is_used(after(it)) && size_of(it) + size_of(after(it)) >= total) {
         unlink(after(it));
         it->own += size_of(after(it));

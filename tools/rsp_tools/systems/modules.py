@@ -11,7 +11,8 @@ import tempfile
 from pathlib import Path
 from typing import Callable, Dict, List, NamedTuple
 
-from rsp_tools.build import over_libraries, with_below
+from rsp_tools.build import over_libraries
+from rsp_tools.crates import with_below
 
 from . import places
 from .toolchain import Refused, call, kit, llvm

@@ -11,16 +11,17 @@ from .header import filled
 
 
 def header(out: Path) -> None:
-    """Puts rsp.h beside a library, and what compares a machine with an emulator."""
+    """Puts rsp.h beside a library, its class for C++, and what compares a machine with an emulator."""
     (out / "include").mkdir(parents=True)
-    for it in (places.HEADER, places.HEADER.with_name("rsp_compare.h")):
+    for it in (places.HEADER, *map(places.HEADER.with_name, ("rsp.hpp", "rsp_compare.h"))):
         shutil.copyfile(it, out / "include" / it.name)
 
 
-def pkg_config(out: Path) -> None:
-    """Writes rsp.pc, which finds the folder that it lies in."""
+def pkg_config(out: Path, rpath: str = " -Wl,-rpath,${libdir}") -> None:
+    """Writes rsp.pc, which finds the folder that it lies in. By `rpath` a program finds the library there."""
     (out / "lib" / "pkgconfig").mkdir(parents=True)
-    (out / "lib" / "pkgconfig" / "rsp.pc").write_text(filled(places.PARTS / "rsp.pc.in"))
+    text = filled(places.PARTS / "rsp.pc.in", RPATH=rpath)
+    (out / "lib" / "pkgconfig" / "rsp.pc").write_text(text)
 
 
 def cmake(out: Path, kind: str, system: str, processors: str, **words: str) -> None:
@@ -31,7 +32,10 @@ def cmake(out: Path, kind: str, system: str, processors: str, **words: str) -> N
         (folder / f"{made}.cmake").write_text(filled(places.PARTS / f"{template}.cmake.in", **words))
 
 
-def wheel(out: Path, library: Path, name: str, platforms: Sequence[str]) -> None:
-    """Writes the Python package with a system's library as a wheel."""
+def wheel(out: Path, library: Path, name: str, platforms: Sequence[str], *programs: Path) -> None:
+    """Writes the Python package with a system's library as a wheel, and programs as its commands."""
     (out / "python").mkdir()
-    wheels.write(out / "python", wheels.with_library(library, name), platforms)
+    files = wheels.with_library(library, name)
+    for it in programs:
+        files.update(wheels.with_command(it.name, it.read_bytes()))
+    wheels.write(out / "python", files, platforms)

@@ -1,74 +1,77 @@
-"""The page that answers scripts in a browser: a folder of static files for any host, with the library for
-browsers in rsp/, and examples.js, which is made of the repository's scripts."""
+"""The page that answers scripts in a browser: a folder of static files for any host. Beside index.html all
+files are in one folder, which is named by their contents: a new version has other addresses, so no browser
+takes files of two versions together."""
 
+import hashlib
 import json
-import re
-import shutil
 from pathlib import Path
-from typing import Dict, Iterator, List
+from typing import Dict
 
-from . import places
+from rsp_tools.pages import anchor, data
+
+from . import examples, header, manual, places
 from .toolchain import Refused
 
 SOURCES = places.TOP / "page"
 LIBRARY = places.MADE / "wasm64"
-COOKBOOK = places.TOP / "docs" / "COOKBOOK.md"
-HEAD = "/** Scripts to choose from: made of examples/, microcode/ and docs/COOKBOOK.md by tools/systems. */"
-Example = Dict[str, str]
+START = "index.html"
+STATEMENTS = ("nop", ".word")  # what source text has beside instructions
+Files = Dict[str, bytes]
 
 
-def example(group: str, name: str, script: str) -> Example:
-    """An entry of examples.js. A script that isn't ASCII would have other bytes in the page."""
-    if not script.isascii() or "\r" in script:
-        raise Refused(f"the script {name} isn't ASCII text")
-    return {"group": group, "name": name, "script": script}
+def module(about: str, **values: str) -> bytes:
+    """A module of JavaScript that exports these values."""
+    lines = "".join(f"export const {name} = {value};\n" for name, value in values.items())
+    return f"/** {about}: made by tools/systems. */\n\n{lines}".encode()
 
 
-def scripts(page: str) -> Iterator[Example]:
-    """Those of examples/, in the order of the cookbook. Its table says what most of them do."""
-    told = dict(re.findall(r"(?m)^\| \[(\w+)\.rsp\]\(\S*\) \| ([^|]*) \|", page))
-    held = {it.stem: it.read_text() for it in sorted(places.TOP.glob("examples/*.rsp"))}
-    named = [it for it in dict.fromkeys(re.findall(r"/examples/(\w+)\.rsp", page)) if it in held]
-    order = [*dict.fromkeys([*named, *held])]
-    for name in (it for it in order if it not in told):
-        yield example("rsp run itself", name, held[name])
-    for name in (it for it in order if it in told):
-        yield example("Cookbook", f"{name}: {told[name]}", held[name])
+def scripts() -> bytes:
+    """The module with the scripts to choose from."""
+    lines = "".join(f"  {json.dumps(it)},\n" for it in examples.examples())
+    return module("Scripts to choose from", EXAMPLES=f"[\n{lines}]")
 
 
-def idioms(page: str) -> Iterator[Example]:
-    """The cookbook's blocks of text, by the heading or the bold words before each, assembled and listed."""
-    section = page[page.index("## Idioms") : page.index("## Macros")]
-    title = ""
-    for part in re.split(r"\n(?:[ \t]*\n)+", section):
-        bold = re.search(r"\*\*(.*?)\*\*", part, re.S)
-        if part.startswith("    "):
-            text = re.sub("(?m)^    ", "", part).rstrip("\n") + "\n"
-            script = f"# {title}\nasm 0\n{text}end\ndis 0 {len(text.splitlines())}\n"
-            yield example("Idioms of the cookbook", title, script)
-        elif part.startswith("### "):
-            title = part[len("### ") :]
-        elif bold:
-            title = " ".join(bold[1].split()).rstrip(".")
+def names() -> bytes:
+    """The module with the names of commands, and of instructions with the section that explains each."""
+    commands = json.dumps([it["Command"].split()[0] for it in data("commands")])
+    rules = {it["Instruction"].lower(): anchor(it["Rule"]) for it in data("instructions")}
+    return module(
+        "Names in scripts",
+        COMMANDS=f"new Set({commands})",
+        STATEMENTS=f"new Set({json.dumps(STATEMENTS)})",
+        INSTRUCTIONS=f"new Map(Object.entries({json.dumps(rules, indent=2)}))",
+    )
 
 
-def examples() -> List[Example]:
-    """All scripts to choose from."""
-    page = COOKBOOK.read_text()
-    routines = sorted(places.TOP.glob("microcode/*.rsp"))
-    pasted = [example("Routines of microcode", it.stem, it.read_text()) for it in routines]
-    return [*scripts(page), *idioms(page), *pasted]
-
-
-def make(folder: Path, library: Path = LIBRARY) -> None:
-    """Writes the whole folder, beside which the page needs nothing. Refused if the library, which
+def parts(library: Path) -> Files:
+    """All files but index.html, by their names in the folder. Refused if the library, which
     `tools/systems wasm64` makes, isn't there."""
     if not (library / "rsp.wasm").is_file():
         raise Refused(f"there is no {library / 'rsp.wasm'}: tools/systems wasm64 makes it")
-    (folder / "rsp").mkdir(parents=True)
-    for path in sorted(SOURCES.iterdir()):
-        shutil.copyfile(path, folder / path.name)
-    for path in sorted([*library.glob("*.js"), library / "rsp.wasm"]):
-        shutil.copyfile(path, folder / "rsp" / path.name)
-    lines = "".join(f"  {json.dumps(it)},\n" for it in examples())
-    (folder / "examples.js").write_text(f"{HEAD}\nexport const EXAMPLES = [\n{lines}];\n")
+    found: Files = {it.name: it.read_bytes() for it in [*SOURCES.glob("*.js"), SOURCES / "style.css"]}
+    for path in [*library.glob("*.js"), library / "rsp.wasm"]:
+        found[f"rsp/{path.name}"] = path.read_bytes()
+    for name, content in manual.made().items():
+        found[f"help/{name}"] = content
+    return {**found, "examples.js": scripts(), "names.js": names()}
+
+
+def name_of(files: Files) -> str:
+    """The name of the folder with these files: the same if, and only if, all of them are the same."""
+    sums = [f"{name} {hashlib.sha256(files[name]).hexdigest()}\n" for name in sorted(files)]
+    return hashlib.sha256("".join(sums).encode()).hexdigest()[:16]
+
+
+def write(folder: Path, files: Files) -> None:
+    """Writes these files below the folder that they name, and index.html beside that."""
+    name = name_of(files)
+    for path, content in files.items():
+        (folder / name / path).parent.mkdir(parents=True, exist_ok=True)
+        (folder / name / path).write_bytes(content)
+    text = header.filled(SOURCES / START, FOLDER=name, DATED=header.dated_version())
+    (folder / START).write_text(text)
+
+
+def make(folder: Path, library: Path = LIBRARY) -> None:
+    """Writes the whole folder, beside which the page needs nothing."""
+    write(folder, parts(library))

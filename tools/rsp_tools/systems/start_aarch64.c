@@ -3,6 +3,7 @@
  *
  * Today's start file calls __libc_start_main of glibc 2.34. The older one is still in every glibc. It wants a function that runs before main. */
 #include <errno.h>
+#include <signal.h>
 #include <string.h>
 #include <sys/syscall.h>
 #include <unistd.h>
@@ -15,6 +16,7 @@ __attribute__((visibility("hidden"))) void rsp_before_main(int given, char **the
 {
     count = given;
     words = them;
+    signal(SIGXFSZ, SIG_IGN); /* a file that may not be so long is a write that fails */
 }
 
 #ifdef __aarch64__

@@ -12,10 +12,18 @@ Word = Union[str, Path]
 # The rules on modules were written for what this version of the kit's clang reads and writes.
 CLANG = "22.1.8"
 PACKAGES: Dict[str, str] = {
+    "cc": "gcc",
+    "ar": "binutils",
+    "ld": "binutils",
+    "objcopy": "binutils",
+    "dpkg-deb": "dpkg",
     "aarch64-linux-gnu-gcc": "gcc-aarch64-linux-gnu libc6-dev-arm64-cross",
+    "aarch64-linux-gnu-objdump": "binutils-aarch64-linux-gnu",
+    "x86_64-w64-mingw32-objdump": "binutils-mingw-w64-x86-64",
     "qemu-aarch64": "qemu-user",
     "x86_64-w64-mingw32-gcc": "gcc-mingw-w64-x86-64",
     "wine": "wine wine64",
+    "cmark-gfm": "cmark-gfm",
     "node": "nodejs",
 }
 
@@ -29,13 +37,13 @@ def missing(*programs: str) -> str:
     return " ".join(dict.fromkeys(PACKAGES.get(it, it) for it in programs if not shutil.which(it)))
 
 
-def call(program: str, *words: Word, executable: str = "") -> str:
-    """What a program says. Refused, with its last lines, if it fails."""
+def call(program: str, *words: Word, executable: str = "", given: str = "") -> str:
+    """What a program says that is given a text. Refused, with its last lines, if it fails."""
     if not executable and not shutil.which(program):
         raise Refused(f"there is no {program}: Debian's package {missing(program)} has it")
-    given = [program, *map(str, words)]
+    command = [program, *map(str, words)]
     ended = subprocess.run(
-        given, executable=executable or None, capture_output=True, text=True, errors="replace"
+        command, executable=executable or None, input=given, capture_output=True, text=True, errors="replace"
     )
     if ended.returncode:
         last = "\n".join((ended.stdout + ended.stderr).strip().splitlines()[-20:])

@@ -3,7 +3,9 @@ MSVC. One rsp.dll is for both, and each has an import library and a static one. 
 
 from pathlib import Path
 
-from . import header, packages, program
+from rsp_tools import hardening
+
+from . import header, packages, places, program
 from .modules import Source, module
 from .objects import compiled
 from .rewriting import STACK_PROBES, UNWIND_TABLES
@@ -13,7 +15,37 @@ GNU, MSVC = "x86_64-w64-windows-gnu", "x86_64-pc-windows-msvc"
 # Two links give the same bytes without their time, and with an address that isn't made of the file's name.
 SAME = "-Wl,--no-insert-timestamp"
 BASE = "-Wl,--image-base,0x180000000"
-HARDENED = "-Wl,--dynamicbase,--nxcompat,--high-entropy-va,--gc-sections"
+SYSTEM = "windows-x86_64"
+SMALL = "-Wl,--gc-sections"
+
+
+def resources(at: Path, file: str, kind: str) -> Path:
+    """An object with the properties of a file of this kind, and of a program (VFT_APP) its manifest. `at`
+    is for files on the way."""
+    numbers, made = [*header.version().split("."), "0"], at / f"{file}.o"
+    given = {"NUMBERS": ",".join(numbers), "KIND": kind, "FILE": file}
+    text = header.filled(places.PARTS / "resources.rc.in", **given)
+    if kind == "VFT_APP":
+        manifest = at / f"{file}.manifest"
+        manifest.write_text(header.filled(places.PARTS / "rsp.manifest.in", DOTTED=".".join(numbers)))
+        text += f'\n1 24 "{manifest}"\n'
+    (at / f"{file}.rc").write_text(text)
+    call("x86_64-w64-mingw32-windres", at / f"{file}.rc", made)
+    return made
+
+
+def link_dll(to: Path, at: Path, made: Path, exports: Path) -> None:
+    """Links rsp.dll of an object of the library."""
+    words = ["-shared", "-static-libgcc", "-s", SAME, BASE, SMALL, *hardening.words(SYSTEM, "link")]
+    properties = resources(at, to.name, "VFT_DLL")
+    call("x86_64-w64-mingw32-gcc", *words, "-o", to, made, properties, exports)
+
+
+def link_program(to: Path, at: Path, library: Path) -> None:
+    """Links rsp.exe over the static library."""
+    properties = resources(at, to.name, "VFT_APP")
+    words = ["-municode", "-static", SAME, SMALL, *hardening.words(SYSTEM)]
+    program.link("x86_64-w64-mingw32-gcc", "windows.c", to, library, properties, *words)
 
 
 def make(out: Path, at: Path, source: Source = module) -> None:
@@ -25,17 +57,14 @@ def make(out: Path, at: Path, source: Source = module) -> None:
         (out / folder).mkdir(parents=True)
     exports = at / "rsp.def"
     exports.write_text("".join(f"{it}\n" for it in ("LIBRARY rsp.dll", "EXPORTS", *header.calls())))
-    words = ["-shared", "-static-libgcc", "-s", SAME, BASE, HARDENED]
-    call("x86_64-w64-mingw32-gcc", *words, "-o", out / "bin" / "rsp.dll", gnu, exports)
+    link_dll(out / "bin" / "rsp.dll", at, gnu, exports)
     words = ["-m", "i386:x86-64", "-D", "rsp.dll"]
     llvm("llvm-dlltool", *words, "-d", exports, "-l", out / "lib" / "librsp.dll.a")
     llvm("llvm-lib", "/machine:x64", f"/def:{exports}", f"/out:{out}/lib/rsp.lib")
     llvm("llvm-ar", "rcsD", out / "lib" / "librsp.a", gnu)
     llvm("llvm-ar", "rcsD", "--format=coff", out / "lib" / "rsp_static.lib", msvc)
-    words = ["-municode", "-static", SAME, HARDENED]
-    program.link(
-        "x86_64-w64-mingw32-gcc", "windows.c", out / "bin" / "rsp.exe", out / "lib" / "librsp.a", *words
-    )
+    link_program(out / "bin" / "rsp.exe", at, out / "lib" / "librsp.a")
     packages.header(out)
+    packages.pkg_config(out, rpath="")
     packages.cmake(out, "windows", "Windows", "AMD64|x86_64|x64")
-    packages.wheel(out, out / "bin" / "rsp.dll", "rsp.dll", ["win_amd64"])
+    packages.wheel(out, out / "bin" / "rsp.dll", "rsp.dll", ["win_amd64"], out / "bin" / "rsp.exe")

@@ -58,10 +58,10 @@ def check_name(name: str) -> None:
     known = {file.stem.lower(): file for file in files}
     for mine in name, module, f"{module}Runs":
         if other := known.get(mine.lower()):
-            stop(
-                f"`{name}` is too near to {other.relative_to(CRATE)}, from which a file of it would differ"
-                " at most in case: take another name"
-            )
+            file = other.relative_to(CRATE)
+            if other.stem == mine:
+                stop(f"`{name}` is used already, by {file}: take another name")
+            stop(f"`{name}` is too near to {file}: a file of it would differ from that in case alone")
     if re.search(rf"\b{name}\b", (CRATE / "src/lib.rt").read_text()):
         stop(f"lib.rt has the name `{name}` already")
 

@@ -1,0 +1,117 @@
+"""What ./release says before it makes anything, and what it says it has left out.
+
+It fails if something that is missing isn't named first, or if a line of a page's block is typed without those
+before it.
+"""
+
+import shutil
+import sys
+from pathlib import Path
+
+import pytest
+
+from lib import TOP, packages
+from lib.install import newcomer
+from lib.install.commands import Block, check, lines_of
+from lib.install.ways import Way
+from lib.processes import run, succeeds
+from lib.user import User
+from rsp_tools import release
+
+FEW = "sh dirname readlink python3".split()
+LINKERS = "git cc ar ld objcopy dpkg-deb".split()
+SKIPPED = """
+import pytest
+
+def test_one(record_property):
+    record_property("left out", "inside: no valgrind")
+
+@pytest.mark.parametrize("it", ["a page"])
+def test_other(it):
+    pytest.skip("its words are the reader's")
+
+def test_passes():
+    pass
+"""
+
+
+def refused(*words: str, path: str) -> str:
+    """What ./release says that fails with these words and this PATH, and writes nothing."""
+    before = sorted((it, it.stat().st_mtime_ns) for it in (TOP / "dist").glob("**/*"))
+    ended = run("./release", *words, env={"PATH": path})
+    assert ended.returncode == 1
+    assert sorted((it, it.stat().st_mtime_ns) for it in (TOP / "dist").glob("**/*")) == before
+    return ended.stdout
+
+
+def path_with(folder: Path, *names: str) -> str:
+    """A folder for PATH that has these programs alone, and a kit of which nothing is asked."""
+    for name in names:
+        (folder / name).symlink_to(str(shutil.which(name, path="/usr/bin:/bin")))
+    (folder / "rt").write_text("#!/bin/sh\nexit 9\n")
+    (folder / "rt").chmod(0o755)
+    return str(folder)
+
+
+def test_unknown_system(folder: Path) -> None:
+    said = refused("--systems", "macos", "linux-arm", path=path_with(folder, *FEW))
+    assert (
+        said.startswith("release: there is no system linux-arm: the systems are ") and said.count("\n") == 1
+    )
+
+
+def test_no_kit() -> None:
+    said = refused("--untested", path="/usr/bin:/bin")
+    assert said == "release: there is no `rt`, the command of the Rattle kit (README.md names its version)\n"
+
+
+def test_missing_packages(folder: Path) -> None:
+    """All of them are in one line: those that link, and those of each system."""
+    said = refused("--untested", "--systems", path=path_with(folder, *FEW))
+    named = "git gcc binutils dpkg gcc-aarch64-linux-gnu libc6-dev-arm64-cross gcc-mingw-w64-x86-64 cmark-gfm"
+    assert said == f"release: packages of Debian are missing: apt-get install {named}\n"
+
+
+@pytest.mark.needs(*LINKERS)
+def test_missing_package_of_one_system(folder: Path) -> None:
+    said = refused("--untested", "--systems", "windows-x86_64", path=path_with(folder, *FEW, *LINKERS))
+    assert said == "release: packages of Debian are missing: apt-get install gcc-mingw-w64-x86-64\n"
+
+
+def test_packages_of_the_newcomer(monkeypatch: pytest.MonkeyPatch) -> None:
+    """What the pages' commands need is looked for too, unless nobody types them."""
+    lost = "/usr/include/mupen64plus", "/usr/bin/pkg-config"
+    monkeypatch.setattr(packages, "is_here", lambda tool: tool not in lost)
+    assert sorted(newcomer.missing()) == ["libmupen64plus-dev", "pkg-config"]
+    monkeypatch.setattr(release, "said", lambda *_: "libmupen64plus-dev pkg-config")
+    monkeypatch.setattr(release, "missing", lambda *_: "")
+    monkeypatch.setattr(shutil, "which", str)
+    release.check_packages([], False)
+    with pytest.raises(SystemExit, match="--untested.*: apt-get install libmupen64plus-dev pkg-config$"):
+        release.check_packages([], True)
+
+
+def test_block_is_typed_whole_or_not_at_all() -> None:
+    whole = Block("page", "cp mine.c ~/mine.c  # a copy\ncd\ncat mine.c")
+    assert lines_of(whole, Way("page")) == (whole.lines, "")
+    left = Block("page", "cd /tmp\nsudo apt-get install gcc\ncc mine.c")
+    assert lines_of(left, Way("page")) == ("", "it changes the system")
+
+
+def test_block_without_its_package(monkeypatch: pytest.MonkeyPatch, folder: Path) -> None:
+    """Nothing of it is typed, and the skip names the package."""
+    monkeypatch.setattr(packages, "is_here", lambda _: False)
+    monkeypatch.delenv("CI", raising=False)
+    monkeypatch.setattr(User, "types", lambda *_: pytest.fail("it is typed"))
+    user = User(folder, folder / "home")
+    with pytest.raises(pytest.skip.Exception, match=r"Debian's package gcc\)"):
+        check(user, Block("page", "cd plugin\ncc mine.c\ncat mine.c"), Way("page"), "")
+
+
+def test_left_out(folder: Path) -> None:
+    """What a report of pytest says of skipped tests, and of what a test has started."""
+    (folder / "test_few.py").write_text(SKIPPED)
+    words = ("-q", "-p", "no:cacheprovider", f"--junitxml={folder}/report.xml")
+    succeeds(sys.executable, "-B", "-m", "pytest", *words, folder / "test_few.py", cwd=folder)
+    told = release.left_out(folder / "report.xml")
+    assert told == ["test_other[a page]: its words are the reader's", "inside: no valgrind"]

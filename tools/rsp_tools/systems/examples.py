@@ -1,0 +1,83 @@
+"""The scripts to choose from in the page that answers scripts: the repository's, each with what the pages say
+of it."""
+
+import re
+from pathlib import Path
+from typing import Dict, Iterator, List
+
+from . import places
+from .toolchain import Refused
+
+README = places.TOP / "README.md"
+COOKBOOK = places.TOP / "docs" / "COOKBOOK.md"
+Example = Dict[str, str]
+
+
+def example(group: str, name: str, script: str) -> Example:
+    """An entry. A script that isn't ASCII would have other bytes in the page."""
+    if not script.isascii() or "\r" in script:
+        raise Refused(f"the script {name} isn't ASCII text")
+    return {"group": group, "name": " ".join(name.split()), "script": script}
+
+
+def unindented(block: str) -> str:
+    """A block of a page without its indentation."""
+    return re.sub("(?m)^    ", "", block).rstrip("\n") + "\n"
+
+
+def first(page: str) -> Example:
+    """The README's example, by the words before it."""
+    found = re.search(r"(?m)^## Example\n\n((?:[^\s].*\n)+)\n((?:    .*\n)+)", page)
+    if not found:
+        raise Refused("README.md has no section Example with a script")
+    return example("README", found[1], unindented(found[2]))
+
+
+def named(page: str) -> Dict[str, str]:
+    """What the cookbook says of the scripts of examples/: in its table, and of those that show
+    `rsp run` itself in a sentence."""
+    table = re.findall(r"(?m)^\| \[(\w+)\.rsp\]\(\S*\) \| ([^|]*) \|", page)
+    sentence = re.findall(r"(?s)Smaller ones show `rsp run` itself:.*?\n\n", page)[0]
+    return dict(table + re.findall(r"\[(\w+)\.rsp\]\([^)]*\)\s+([^,.]*)", sentence))
+
+
+def scripts(page: str) -> Iterator[Example]:
+    """Those of examples/: first those that show `rsp run` itself, then those of the cookbook's table."""
+    said, table = named(page), {*re.findall(r"(?m)^\| \[(\w+)\.rsp\]", page)}
+    held = {it.stem: it.read_text() for it in sorted(places.TOP.glob("examples/*.rsp"))}
+    if missing := held.keys() - said.keys():
+        raise Refused(f"docs/COOKBOOK.md says nothing of examples/{min(missing)}.rsp")
+    for group, is_of in ("rsp run itself", False), ("Cookbook", True):
+        names = (it for it in said if (it in table) is is_of and it in held)
+        yield from (example(group, f"{it}: {said[it]}", held[it]) for it in names)
+
+
+def idioms(page: str) -> Iterator[Example]:
+    """The cookbook's blocks of text, by the heading or the bold words before each, assembled and listed."""
+    section = page[page.index("## Idioms") : page.index("## Macros")]
+    title = ""
+    for part in re.split(r"\n(?:[ \t]*\n)+", section):
+        bold = re.search(r"\*\*(.*?)\*\*", part, re.S)
+        if part.startswith("    "):
+            text = unindented(part)
+            script = f"# {title}\nasm 0\n{text}end\ndis 0 {len(text.splitlines())}\n"
+            yield example("Idioms of the cookbook", title, script)
+        elif part.startswith("### "):
+            title = part[len("### ") :]
+        elif bold:
+            title = " ".join(bold[1].split()).rstrip(".")
+
+
+def routine(path: Path) -> Example:
+    """A routine of microcode, by the first line of its text."""
+    head = re.match(r"# (\w+: .*)\.\n", path.with_suffix(".s").read_text())
+    if not head:
+        raise Refused(f"the first line of microcode/{path.stem}.s doesn't say what it does")
+    return example("Routines of microcode", head[1].partition(". ")[0], path.read_text())
+
+
+def examples() -> List[Example]:
+    """All scripts to choose from."""
+    page = COOKBOOK.read_text()
+    routines = map(routine, sorted(places.TOP.glob("microcode/*.rsp")))
+    return [first(README.read_text()), *scripts(page), *idioms(page), *routines]

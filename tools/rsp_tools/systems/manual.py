@@ -1,0 +1,75 @@
+"""The pages beside the page that answers scripts: those of docs/ that explain scripts, made to HTML by
+Debian's cmark-gfm, which reads Markdown as the usual viewers do."""
+
+import html
+import re
+from typing import Dict, Iterator, Match
+
+from rsp_tools.packaging.pages import with_live_links
+from rsp_tools.pages import anchor, data
+
+from . import places
+from .toolchain import call
+
+CONVERTER = "cmark-gfm"
+DOCS = places.TOP / "docs"
+TEMPLATE = places.TOP / "page" / "help.html"
+# The pages in the order in which each of them names all.
+PAGES = "SCRIPT INSTRUCTIONS FAULTS ASSEMBLY MACHINE ROWS COOKBOOK TUTORIAL GLOSSARY".split()
+
+
+def with_anchor(heading: Match[str]) -> str:
+    """A heading with the name by which links lead to it."""
+    level, text = heading.groups()
+    name = anchor(html.unescape(re.sub("<.*?>", "", text)))
+    return f'<h{level} id="{name}">{text}</h{level}>'
+
+
+def rows() -> Iterator[str]:
+    """The first cells of the tables of commands and faults, each with a name for its row."""
+    yield from (f"command-{it['Command'].split()[0]}\t{it['Command']}" for it in data("commands"))
+    yield from (f"fault-{it['Fault'].split()[0]}\t{it['Fault']}" for it in data("faults"))
+
+
+def with_rows(text: str) -> str:
+    """HTML in which the rows of commands and of faults have names."""
+    for name, cell in (it.split("\t") for it in rows()):
+        start = f"<td><code>{html.escape(cell)}</code></td>"
+        text = text.replace(f"<tr>\n{start}", f'<tr id="{name}">\n{start}', 1)
+    return text
+
+
+def converted(name: str, text: str) -> str:
+    """A page's Markdown as HTML. Links lead to pages that are here, and others are their words alone."""
+    pictures = {f"docs/pictures/{it.name}" for it in DOCS.glob("pictures/*.svg")}
+    live = with_live_links(f"docs/{name}.md", text, pictures | {f"docs/{it}.md" for it in PAGES})
+    made = call(CONVERTER, "--extension", "table", "--to", "html", given=live)
+    made = re.sub(r"<h([1-6])>(.*?)</h\1>", with_anchor, made)
+    made = re.sub(r'(<a href="\w+)\.md(?=["#])', r"\1.html", made)
+    return with_rows(
+        made.replace("<table>", '<div class="wide"><table>').replace("</table>", "</table></div>")
+    )
+
+
+def markdown(name: str) -> str:
+    return (DOCS / f"{name}.md").read_text()
+
+
+def title(name: str) -> str:
+    """A page's heading."""
+    return html.escape(markdown(name).splitlines()[0].lstrip("# "))
+
+
+def page(name: str) -> str:
+    """A whole page."""
+    links = "\n".join(f'    <a href="{it}.html">{title(it)}</a>' for it in PAGES)
+    words = {"TITLE": title(name), "LINKS": links, "BODY": converted(name, markdown(name))}
+    return re.sub(r"@([A-Z]+)@", lambda it: words[it[1]], TEMPLATE.read_text())
+
+
+def made() -> Dict[str, bytes]:
+    """All files, by their names in the folder."""
+    pages = {f"{it}.html": page(it).encode() for it in PAGES}
+    shown = {it for text in pages.values() for it in re.findall(r'"(pictures/[\w-]+\.svg)"', text.decode())}
+    style = TEMPLATE.with_suffix(".css")
+    return {**pages, style.name: style.read_bytes(), **{it: (DOCS / it).read_bytes() for it in sorted(shown)}}
