@@ -3,13 +3,11 @@
 For each it prints the processor's seconds, the least of three runs, and the status.
 """
 
-import resource
-import subprocess
 import tempfile
 from pathlib import Path
 from typing import Iterator, Tuple
 
-from measure import add_program, reader
+from measure import add_program, reader, timed
 
 LONGEST = 1_048_576
 
@@ -38,17 +36,17 @@ def shapes() -> Iterator[Tuple[str, str, bytes]]:
     yield "step lines", "run", filled(b"step\n")
     yield "back lines", "run", filled(b"step\nback 1\n")
     yield "watches", "run", filled(b"watch 0 64\nunwatch 0\n")
+    yield "the largest DMAs", "run", filled(b"write 2 4294967295\n", b"write 1 8388608\n")
     yield "tasks", "run", filled(b"task 0\n", b"load rdram 12 00001000\n")
 
 
-def seconds(program: Path, kind: str, source: Path) -> Tuple[float, int]:
+def seconds(program: Path, kind: str, data: bytes, folder: Path) -> Tuple[float, int]:
     """The processor time that one input takes, and how the program ended."""
-    before = resource.getrusage(resource.RUSAGE_CHILDREN)
-    words = [str(source), str(source.with_name("out"))] if kind == "asm" else []
-    with open(source, "rb") as script:
-        ran = subprocess.run([str(program), kind, *words], stdin=script, capture_output=True, timeout=120)
-    after = resource.getrusage(resource.RUSAGE_CHILDREN)
-    return after.ru_utime + after.ru_stime - before.ru_utime - before.ru_stime, ran.returncode
+    source = folder / "shape"
+    source.write_bytes(data)
+    words = [source, folder / "out"] if kind == "asm" else []
+    taken, ran = timed([program, kind, *words], data)
+    return taken, ran.returncode
 
 
 def main() -> None:
@@ -57,9 +55,7 @@ def main() -> None:
     program = words.parse_args().program
     with tempfile.TemporaryDirectory() as folder:
         for name, kind, data in shapes():
-            source = Path(folder) / "shape"
-            source.write_bytes(data)
-            taken, status = min(seconds(program, kind, source) for _ in range(3))
+            taken, status = min(seconds(program, kind, data, Path(folder)) for _ in range(3))
             print(f"{taken:7.2f} s  {len(data):8} bytes  status {status}  {name}", flush=True)
 
 

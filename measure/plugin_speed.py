@@ -46,7 +46,7 @@ def figure(
     found = []
     for count in counts:
         rounds = [f"put dmem ff0 {count if tasks else 3:x} 128000", f"tasks {tasks or count}"]
-        script = [*begun("WaitReads 2000000000", *options), *lines, *rounds]
+        script = [*begun(*options), *lines, *rounds]
         found.append(instructions(bench.driver, other, lines=script))
     return (found[1] - found[0]) / (counts[1] - counts[0])
 
