@@ -10,7 +10,7 @@ from typing import Any, List
 import pytest
 
 from lib.pages import block_with, blocks, listing, page, replies, see_reply, transcripts
-from lib.processes import succeeds
+from lib.processes import run, succeeds
 
 TUTORIAL, COOKBOOK = "docs/TUTORIAL.md", "docs/COOKBOOK.md"
 # The page and the heading from which on blocks have replies beside their commands.
@@ -84,6 +84,28 @@ def test_idiom(block: str, program: Path) -> None:
 
 def test_idioms() -> None:
     assert len(idioms()) > 10
+
+
+@pytest.mark.parametrize(
+    "script, wanted, told",
+    (
+        ("step", "step Done pc 004", ""),
+        ("step", "step Done pc 008", "> step Done pc 004"),
+        ("foo", "fault 30 BadCommand", "rsp: faults in replies: 1, the first: fault 30 BadCommand"),
+    ),
+    ids=("as expected", "another reply", "a fault"),
+)
+def test_scripts_in_ci(script: str, wanted: str, told: str, program: Path, folder: Path) -> None:
+    """The loop over scripts passes those that are answered as expected, and ends at another one."""
+    checks = folder / "checks"
+    checks.mkdir()
+    for name in "fir.rsp", "fir.out", "vch.rsp", "vch.out":
+        (checks / name).write_text(page(f"examples/{name}"))
+    (checks / "last.rsp").write_text(f"{script}\n")
+    (checks / "last.out").write_text(f"{wanted}\n")
+    loop = block_with(COOKBOOK, "for script in checks")
+    ended = run("sh", "-c", f'rsp() {{ "{program}" "$@"; }}\n{loop}', cwd=folder)
+    assert (ended.returncode, ended.stdout.splitlines()[-1:]) == ((1, [told]) if told else (0, []))
 
 
 # A text for cpp, and the statements that are left of it; those of the page's text for m4.

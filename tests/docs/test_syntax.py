@@ -6,7 +6,7 @@ of a line that means something else.
 
 import re
 from pathlib import Path
-from typing import Dict, List
+from typing import Any, Dict, List
 
 import pytest
 
@@ -37,3 +37,15 @@ def test_page(program: Path) -> None:
             told, seen = replies(program, f"asm 0\nx: {line}\nend\n"), seen + 1
             wrong += [] if told.startswith("ok" if line in own else "fault") else [(line, told)]
     assert seen > 20 and not wrong
+
+
+def test_explanations(rsp: Any, folder: Path) -> None:
+    """`rsp asm --explain` says what to write for each statement that the page says is refused."""
+    refused = [cells[0] for cells in tables(PAGE, HEADING) if len(cells) == 2]
+    theirs = [it for cell in refused for it in statements(cell) if not it[0].isdigit()]
+    silent = []
+    for line in theirs:
+        (folder / "text").write_text(f"x: {line}\n")
+        told = rsp("asm", "text", "made", "--explain").errors.decode()
+        silent += [] if "\n  write: " in told else [(line, told)]
+    assert len(theirs) > 20 and not silent

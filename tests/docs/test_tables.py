@@ -144,7 +144,9 @@ def test_faults_of_texts() -> None:
 def test_messages() -> None:
     """FAULTS lists the program's messages."""
     source = page("crates/rsp_cli_files/src/fault.rt")
-    messages = re.findall(r'#\[error\("(cannot .*|bad .*|fault .*)"\)\]', source)
+    messages = re.findall(r'"((?:cannot|bad|faults?) [^"]*)"', source)
+    shown = {"{}": "FILE", "{count}": "N", "{first}": "fault .."}
     listed = [cells[1] for cells in tables("docs/FAULTS.md", "## Exit statuses and messages")]
-    assert len(messages) > 9
-    assert not [it for it in messages if f"`rsp: {it.replace('{0}', 'FILE')}`" not in listed]
+    assert len(messages) == 11
+    for it in messages:
+        assert f"`rsp: {re.sub('{.*?}', lambda found: shown[str(found[0])], it)}`" in listed

@@ -9,7 +9,7 @@ from lib.processes import Ended, bytes_of, run
 
 
 def library(folder: Path, name: str) -> Path:
-    """Builds these calls: `allocations` or `writes`."""
+    """Builds these calls: `allocations`, `writes`, or `synced`, which fail none and tell what is done."""
     built = folder / f"{name}.so"
     words = ("-shared", "-fPIC", "-O1", "-U_FORTIFY_SOURCE", "-o", built)
     run("cc", *words, TESTS / f"program/failing/{name}.c", check=True)

@@ -20,7 +20,7 @@ from lib import TOP
 from lib.pages import blocks_of, page
 from lib.processes import Ended, run
 from rsp_conformance.table import FORMS, ROWS, word_of
-from rsp_tools import build
+from rsp_tools import build, crates
 from rsp_tools.theorem.instructions import instruction_of
 from rsp_tools.theorem.routine import module_of
 
@@ -37,7 +37,8 @@ REFUSED = (
     ("Add", "nop", "is no name like `add_lanes`"),
     ("loop", "nop", "is a word of the language"),
     ("run_multiply", "nop", "lib.rt has the name `run_multiply` already"),
-    ("add_lanes", "nop", "`add_lanes` is too near to src/add_lanes.rt"),
+    ("add_lanes", "nop", "`add_lanes` is used already, by src/add_lanes.rt"),
+    ("addlanes", "nop", "`addlanes` is too near to "),
     ("empty", "# nothing", "the text has no instruction"),
     ("wrong", "vadd $v1", "the text isn't assembled: rsp: fault"),
     ("halts", "break", "a BREAK halts the machine"),
@@ -88,7 +89,7 @@ class Copy:
     def check(self, only: Iterable[str]) -> str:
         """What the kit says of a check of these modules. `rt ci` leaves all libraries, but without stamps."""
         words = [word for it in only for word in ("--only", it)]
-        stamps = [build.stamp(it) for it in build.with_below("rsp_routines")[:-1]]
+        stamps = [crates.library(it) / "stamp" for it in crates.with_below("rsp_routines")[:-1]]
         is_of_gate = not any(it.exists() for it in stamps)
         if is_of_gate and all((it.parent / f"{it.parent.parent.parent.name}.rlib").exists() for it in stamps):
             whole = [*build.over_libraries("check", "rsp_routines"), "src/lib.rt", "--jobs", "1"]

@@ -149,6 +149,39 @@ def test_output_is_closed_early(program: Path) -> None:
         assert (ran.stderr.read(), ran.wait(20)) == (b"rsp: fault 41 WriteFault\n", 1)
 
 
+# Characters that a terminal would obey, or that would begin another line, and how a message shows them.
+CONTROLS = {
+    "\x1b[31m": "\\x1b[31m",
+    "a\nb\tc\r": "a\\x0ab\\x09c\\x0d",
+    "\x7f\x9b": "\\x7f\\x9b",
+    "\xa0\u00fc\\": "\xa0\u00fc\\",
+}
+# Commands with such a name, and their first line on standard error.
+NAMED = {
+    "run --rdram {}": "rsp: cannot read {}",
+    "run --save no/{}": "rsp: cannot write no/{}",
+    "asm {} words": "rsp: cannot read {}",
+    "asm source no/{}": "rsp: cannot write no/{}",
+    "dis {}": "rsp: cannot read {}",
+    "dis source --at {}": "error: invalid value '{}' for '--at <ADDR>': not a multiple of 4 from 0 to 4092",
+    "{}": "error: unrecognized subcommand '{}'",
+    "run {}": "error: unexpected argument '{}' found",
+    "run --{}": "error: unexpected argument '--{}' found",
+    "run --strict={}": "error: unexpected value '{}' for '--strict' found; no more were expected",
+}
+
+
+@pytest.mark.parametrize("name", CONTROLS, ids=ascii)
+@pytest.mark.parametrize("line", NAMED)
+def test_control_characters(line: str, name: str, rsp: Any, folder: Path) -> None:
+    (folder / "source").write_bytes(b"nop\n")
+    ran = rsp(*(it.format(name) for it in line.split()))
+    told = ran.errors.decode()
+    assert told.partition("\n")[0] == NAMED[line].format(CONTROLS[name])
+    assert (ran.status, told.count("\n") == 1) == ((1, True) if told.startswith("rsp: ") else (2, False))
+    assert not re.search(r"[\x00-\x09\x0b-\x1f\x7f-\x9f]", told)
+
+
 def test_script_that_never_ends(rsp: Any) -> None:
     with open("/dev/zero", "rb") as endless:
         assert rsp("run", stdin=endless) == (1, b"", TOO_LONG)

@@ -47,6 +47,9 @@ ANSWERS = {
             r"((no memory at line 2;)+(no memory at line ([1-4][02468]|[468]);)+){2}"
         ),
         "out_of_memory::a_text_is_explained_when_memory_is_there": r"(no memory for a label;)+",
+        "out_of_memory::labels_are_listed_when_memory_is_there": (
+            r"((no memory for a label;)+(no memory for the list;)+){2}"
+        ),
         "out_of_memory::labels_are_added_when_memory_is_there": (
             r"(no memory for a label at 0;)+(no memory for a label at 12;)*"
         ),

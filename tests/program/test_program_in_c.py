@@ -7,6 +7,7 @@ from pathlib import Path
 
 import pytest
 
+from lib.sanitizers import WITHOUT_LEAKS, sanitizers
 from lib.systems.program import see_lines, see_tests
 from rsp_tools.systems.program import link
 
@@ -22,6 +23,24 @@ def in_c(library: Path, folder: Path) -> Path:
 @pytest.mark.timeout(600)
 def test_tests_of_the_proved_program(in_c: Path) -> None:
     see_tests(in_c, "native", 580)
+
+
+@pytest.mark.timeout(900)
+def test_under_sanitizers(
+    program: Path, library: Path, folder: Path, monkeypatch: pytest.MonkeyPatch
+) -> None:
+    """The command lines and the tests again, by a program that gcc's sanitizers watch. It frees nothing.
+
+    qemu, which has an older processor, has no room for the sanitizer of addresses, and this one bears no
+    library that LD_PRELOAD puts before its own.
+    """
+    if not sanitizers():
+        pytest.skip("the sanitizers of gcc don't run here")
+    link("cc", "posix.c", folder / "bin/rsp", *sanitizers(), library / "librsp.a")
+    monkeypatch.setenv("ASAN_OPTIONS", WITHOUT_LEAKS["ASAN_OPTIONS"])
+    (folder / "lines").mkdir()
+    see_lines(folder / "bin/rsp", program, folder / "lines")
+    see_tests(folder / "bin/rsp", "native", 880, "-k", "not older_processor and not folder_is_synced")
 
 
 def test_command_lines(in_c: Path, program: Path, folder: Path) -> None:

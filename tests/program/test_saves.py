@@ -19,7 +19,7 @@ from typing import Any, Callable, Iterator, List, NamedTuple, Optional, Tuple
 
 import pytest
 
-from lib import devices, failing
+from lib import TOP, devices, failing
 from lib.program import Ran, need_binary, ran
 
 SIZE = 4096
@@ -126,6 +126,32 @@ def limited(is_ignored: bool = True) -> None:
 
 def test_no_room(new: New) -> None:
     new().run(setting=limited).refused().kept().names("file")
+
+
+@pytest.fixture
+def ignoring(new: New, program: Path, request: pytest.FixtureRequest) -> Trial:
+    """A trial with ./rsp in place of the program that rt links: that can't ignore a signal by itself."""
+    it = new()
+    if not request.config.getoption("--program"):
+        it.writer = it.writer._replace(words=(TOP / "rsp", *it.writer.words[1:]))
+    return it
+
+
+def test_limit_of_a_file(ignoring: Trial) -> None:
+    ignoring.run(setting=lambda: limited(False)).refused().kept().names("file")
+
+
+def test_limit_of_standard_output(ignoring: Trial) -> None:
+    """Of the replies there are as many bytes as the limit allows."""
+    replies, script = ignoring.folder / "replies", b"vregs\n"
+    program, given = ignoring.writer.words[0], {
+        "preexec_fn": lambda: limited(False),
+        "restore_signals": False,
+    }
+    with open(replies, "wb") as output:
+        ended = ran(program, ["run"], script, stdout=output, **given)
+    assert ended == (1, b"", b"rsp: fault 41 WriteFault\n")
+    assert replies.read_bytes() == ran(program, ["run"], script).output[:1024]
 
 
 def test_killed_by_the_limit(new: New) -> None:
@@ -356,6 +382,23 @@ def test_calls_of_the_system_fail(is_lasting: bool, new: New, folder: Path) -> N
             beside.unlink()
         it.file.write_bytes(OLD)
     assert count >= 6
+
+
+@pytest.mark.needs("cc")
+@pytest.mark.parametrize("is_new", (False, True), ids=("replaced", "new"))
+@pytest.mark.parametrize("is_far", (False, True), ids=("here", "elsewhere"))
+def test_folder_is_synced(is_new: bool, is_far: bool, new: New, folder: Path) -> None:
+    """The new file's bytes are on the disk before it takes the name, and its folder after that."""
+    it, calls = new(), failing.library(folder, "synced")
+    if is_new:
+        it.file.unlink()
+    reading, writing = os.pipe()
+    env = {**os.environ, "LD_PRELOAD": str(calls), "TOLD": str(writing)}
+    where = folder if is_far else it.folder
+    it.run(it.file if is_far else "file", cwd=where, env=env, pass_fds=(writing,)).saved()
+    os.close(writing)
+    with open(reading, "rb") as told:
+        assert told.read() == b"file synced, renamed, folder %d synced, " % it.folder.stat().st_ino
 
 
 # Runs that are killed while they write eight megabytes.

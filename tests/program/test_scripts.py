@@ -55,6 +55,17 @@ def test_stored(script: Stored, rsp: Any, folder: Path) -> None:
             see(f"{size} bytes a read", rsp(*words, stdin=pipe))
 
 
+@pytest.mark.parametrize("script", stored(), ids=str)
+def test_strict(script: Stored, rsp: Any, folder: Path) -> None:
+    """`--strict` changes the status and standard error, if a stored reply is a fault, and nothing else."""
+    wanted = script.wanted
+    faults = [it for it in wanted.output.splitlines() if it.startswith(b"fault ")]
+    if faults and not wanted.status:
+        wanted = Ran(1, wanted.output, b"rsp: %s\n" % strict(len(faults), faults[0]))
+    assert rsp(*script.words(folder), "--strict", script=script.script) == wanted
+    assert not script.is_saved or content(folder / "saved") == script.image()
+
+
 def test_example(program: Path) -> None:
     """A program that answers late hangs it."""
     words = (sys.executable, TOP / "examples/check_row.py", program)
@@ -94,11 +105,21 @@ PLACES_AT_FF8 = b"ff8 1000fffe beq $0, $0, 0xff4\nffc 00000000 nop\n"
 AT_80 = {"words": bytes.fromhex("08000022000000000000000d")}
 SAVED = {"saved": bytes(4194302) + b"\1\2"}
 ENDS = b"mem rdram 8388607 1\nmem rdram 8388608 1\n"
+FAULTY, REFUSED_TWICE = (
+    b"load rdram 0x3ffffe 0102\nfoo\nunbreak 0\n",
+    b"ok\nfault 30 BadCommand\nfault 22 NoBreak\n",
+)
+OPEN_BLOCK, LAST_LINE = b"fault 10 BadLine line 2", b"fault 30 BadCommand"
 OVER = {"image": bytes(60) + bytes([1, 2, 3, 4])}
 LINES_ALONE, LINE_ALONE = b"\n" * (LONGEST_SCRIPT + 1), b"x" * (LONGEST_SCRIPT + 1)
 TOO_LONG = b"step\n" + b"#" * (LONGEST_SCRIPT - 4)
 NO_SCRIPT = b"rsp: fault 42 ScriptTooLong\n"
 NOBODY_HEARS = b"rsp: fault 41 WriteFault\n"
+
+
+def strict(count: int, first: bytes) -> bytes:
+    """What a strict run says of so many faults among its replies."""
+    return b"faults in replies: %d, the first: %s" % (count, first)
 
 
 class Asked(NamedTuple):
@@ -132,6 +153,19 @@ ROWS = {
     "script of a line too long": Asked("run --save saved", b"", LINE_ALONE, NO_SCRIPT, {"saved": None}),
     "script too long": Asked("run --save saved", STEPPED, TOO_LONG, NO_SCRIPT, {"saved": None}),
     "longest script": Asked("run", STEPPED + b"fault 32 LineTooLong\n", TOO_LONG[:-1]),
+    # Runs that end with a fault if a reply is one, after the image is saved.
+    "strict run": fails(
+        "run --strict --save saved", strict(2, LAST_LINE), script=FAULTY, output=REFUSED_TWICE, left=SAVED
+    ),
+    "strict run can't save": fails(
+        "run --save no/saved --strict", b"cannot write no/saved", script=FAULTY, output=REFUSED_TWICE
+    ),
+    "strict run of an open block": fails(
+        "run --strict", strict(1, OPEN_BLOCK), script=b"asm 0\nnop", output=OPEN_BLOCK + b"\n"
+    ),
+    "strict run of a line without LF": fails(
+        "run --strict", strict(1, LAST_LINE), script=STEP + b"foo", output=STEPPED + LAST_LINE + b"\n"
+    ),
     # Source texts, and their files.
     "text at an address": Asked("asm --at 0x80 jump words", b"ok 3 words\n", left=AT_80),
     "text at an address in tens": Asked("asm jump words --at 128", b"ok 3 words\n", left=AT_80),
@@ -211,8 +245,8 @@ NO_COMMANDS = """
 walk|asm|asm a|asm a b c|asm a b --at|asm a b --at=|asm a b --at 0 --at 0|asm a b --places
 asm a b --listing --listing|asm a b --listing=yes|asm --help|dis|dis a b|dis a --places --places
 run a|run --fast|run --rdram|run --rdram=|run --rdram a --rdram b|run --save a --save b|run --at 0
-run --version|run --help|--help|help|help run|run --labels
-asm a b --labels|asm a b --explain --explain|asm a b --explain=yes
+run --version|run --help|--help|help|help run|run --labels|run --strict --strict|run --strict=yes
+asm a b --strict|dis a --strict|asm a b --labels|asm a b --explain --explain|asm a b --explain=yes
 dis a --labels --labels|dis a --labels=1|dis a --explain
 """
 NO_ADDRESSES = "3 4096 0xffe 0X10 x -4 +4 0x 0x000000004 00000000004 4#".split()

@@ -15,7 +15,7 @@ import pytest
 
 from lib.packages import need
 from lib.processes import succeeds
-from rsp_tools import build
+from rsp_tools import build, crates
 
 pytestmark = [pytest.mark.xdist_group("rt-rsp_main"), pytest.mark.timeout(1500)]
 
@@ -26,16 +26,16 @@ BETWEEN = 600
 @pytest.fixture(scope="module")
 def other(tmp_path_factory: pytest.TempPathFactory) -> Path:
     """The program of the other compiler."""
-    ours, below = build.Build("rsp_main").file, build.with_below("rsp_main")[:-1]
+    ours, below = build.Build("rsp_main").file, crates.with_below("rsp_main")[:-1]
     made, file = tmp_path_factory.mktemp("other") / "rsp", ours.with_suffix(".by-rattle")
     if not ours.exists():
         pytest.fail(f"there is no {ours}: type `./rsp run </dev/null`, which builds it")
     if file.exists() and file.stat().st_mtime > ours.stat().st_mtime - BETWEEN:
         return file
     need("rt")
-    if missing := [it for it in below if not (build.stamp(it).parent / f"{it}.rlib").exists()]:
+    if missing := [it for it in below if not (crates.library(it) / f"{it}.rlib").exists()]:
         pytest.skip(f"{file.name} isn't built here, and no library of {missing[0]}: `rt ci` builds both")
-    kit, crate = build.kit_folder(), build.CRATES / "rsp_main"
+    kit, crate = build.kit_folder(), crates.CRATES / "rsp_main"
     how = ["--toolchain", kit / "toolchain", "-o"]
     words = [*build.over_libraries("build", crate.name), "src/main.rt", "--backend", "rattle"]
     succeeds(*words, *how, f"{made}.o", cwd=crate, timeout=1200)

@@ -88,17 +88,25 @@ def files(rsp: Callable[..., Any], folder: Path, program: Path) -> Files:
 # `dis --labels`: the labels are those that are computed here from the words.
 
 
+def comment_of(word: int) -> str:
+    """What `--labels` says after a jump with bits above its target."""
+    plain, name = word & 0xFC0003FF, {2: "j", 3: "jal"}.get(word >> 26)
+    if not name or plain == word:
+        return ""
+    return f" # executes as {name} {4 * (word & 1023):#05x}, which would be the word {plain:#010x}"
+
+
 def labelled(words: Sequence[int], plain: List[str], origin: int, has_places: bool) -> List[str]:
     """The lines that `--labels` has to print, by the lines without it and by the targets of the words."""
     addresses = [origin + 4 * i for i in range(len(words))]
     targets = [target_of(word, at) for word, at in zip(words, addresses)]
     lines = []
-    for at, line, target in zip(addresses, plain, targets):
+    for word, at, line, target in zip(words, addresses, plain, targets):
         if at in targets:
             lines.append(f"{at:03x} " * has_places + f"L{at:03x}:")
         if target is not None and target in addresses:
             line = line.replace(f"0x{target:03x}", f"L{target:03x}")
-        lines.append(line)
+        lines.append(line + comment_of(word))
     return lines
 
 
@@ -133,7 +141,7 @@ def random_word(choose: random.Random) -> int:
     if opcode is None:
         return choose.randrange(1 << 32)
     if opcode in (2, 3):
-        return opcode << 26 | choose.randrange(1024)
+        return opcode << 26 | choose.randrange(1024) | choose.choice((0, 0, 1 << 10, 1 << 25))
     return opcode << 26 | choose.choice((0, 1, 17, 34)) << 16 | choose.randrange(-20, 20) % 65536
 
 
@@ -195,7 +203,9 @@ def test_linked_elsewhere(base: int, at: int, files: Files) -> None:
     texts = [line for line in files.text_of(linked, "--at", hex(at), "--labels") if line[0] != "L"]
     changed = [i for i, word in enumerate(linked) if word != words[i]]
     assert len(changed) == 2
-    assert [texts[i] for i in changed] == [f".word {linked[i]:#010x}" for i in changed]
+    for i in changed:
+        assert texts[i] == f".word {linked[i]:#010x}{comment_of(linked[i])}"
+        assert f"{words[i]:#010x}" in texts[i]
     (files.folder / "linked.bin").write_bytes(packed(linked))
     files.shell(block_with("docs/ASSEMBLY.md", "python3 -c 'code"))
     cleared = unpacked((files.folder / "ucode.bin").read_bytes())
@@ -204,7 +214,7 @@ def test_linked_elsewhere(base: int, at: int, files: Files) -> None:
 
 
 # `asm --explain`: lines that are refused, their faults, and the number and text of the operand with what may
-# be there, as docs/ASSEMBLY.md says; `-` where no operand is at fault.
+# be there and what to write, as docs/ASSEMBLY.md says. Of a name that is unknown, the text; `-` is nothing.
 REFUSED = [it.split("\t") for it in page("tests/program/explanations.tsv").splitlines()[1:]]
 SCALES = {
     1: "lbv sbv",
@@ -213,26 +223,38 @@ SCALES = {
     8: "ldv sdv lpv spv luv suv",
     16: "lqv sqv lrv srv lhv shv lfv sfv ltv stv swv",
 }
+
+
+def in_bytes(offset: int, scale: int) -> str:
+    """What --explain says to write for an offset that isn't a multiple of the scale, if it counts steps."""
+    small = scale > 1 and -64 <= offset <= 63
+    return f"{offset * scale}($2) if {offset} counts steps of {scale} bytes" if small else "-"
+
+
 # Each vector load and store with offsets next to its range, and one between its steps.
 for scale, names in SCALES.items():
     allowed = f"{-64 * scale} to {63 * scale}" + f", a multiple of {scale}" * (scale > 1)
     for offset in (-65 * scale, 64 * scale, *[scale + 1] * (scale > 1)):
         operand = f"{offset}($2)"
+        written = in_bytes(offset, scale)
         REFUSED += [
-            [f"{it} $v1[0], {operand}", "13 OutOfRange", "2", operand, allowed] for it in names.split()
+            [f"{it} $v1[0], {operand}", "13 OutOfRange", "2", operand, allowed, written]
+            for it in names.split()
         ]
 
 
 @pytest.mark.parametrize("refusal", REFUSED, ids=lambda it: it[0][:40])
 def test_explanation(refusal: List[str], rsp: Any, folder: Path) -> None:
-    line, fault, number, operand, allowed = refusal
+    line, fault, number, text, allowed, written = refusal
     first = "x: nop\n" if fault.startswith("14") else "nop # a comment\n"
     (folder / "text").write_text(first + f"\t{line}  # why not\r\n" + "nop\n")
     at = ["--at", "4000"] if fault.startswith("16") else []
     told = f"rsp: fault {fault} line 2\n"
     assert rsp("asm", "text", "made", *at) == (1, b"", told.encode())
     told += f"  line: {line}  # why not\n"
-    told += f"  operand {number}: {operand}\n  may be: {allowed}\n" * (number != "-")
+    told += f"  operand {number}: {text}\n  may be: {allowed}\n" if number != "-" else ""
+    told += f"  name: {text}\n" if number == "-" != text else ""
+    told += f"  write: {written}\n" if written != "-" else ""
     assert rsp("asm", "text", "made", *at, "--explain") == (1, b"", told.encode())
 
 
@@ -241,10 +263,21 @@ def test_nothing_to_explain(rsp: Any, folder: Path) -> None:
     assert rsp("asm", "text", "made", "--explain").output == b"ok 1 words\n"
 
 
-def test_explanation_of_no_text(rsp: Any, folder: Path) -> None:
-    (folder / "text").write_bytes(b"\x01bad \xc3\xbc\x1b[0m\n")
-    told = b"rsp: fault 10 BadLine line 1\n  line: .bad ...[0m\n"
-    assert rsp("asm", "text", "made", "--explain").errors == told
+BAD_LINE = "a line of at most 256 bytes, each a tab or 20 to 7e hexadecimal"
+
+
+@pytest.mark.parametrize(
+    "line, shown, written",
+    (
+        (b"\x01bad \xc3\xbc\x1b[0m", ".bad ...[0m", BAD_LINE),
+        (b"#" * 257, "#" * 256 + " ..", BAD_LINE),
+        (b"\xef\xbb\xbfnop", "...nop", "no byte-order mark before the first line"),
+    ),
+)
+def test_explanation_of_no_line(line: bytes, shown: str, written: str, rsp: Any, folder: Path) -> None:
+    (folder / "text").write_bytes(line + b"\n")
+    told = f"rsp: fault 10 BadLine line 1\n  line: {shown}\n  write: {written}\n"
+    assert rsp("asm", "text", "made", "--explain").errors == told.encode()
 
 
 # Blocks of pages.
@@ -257,11 +290,20 @@ def test_labels_of_page(files: Files) -> None:
     assert files.text_of(files.words_of(lines, *at), *at, "--labels") == lines
 
 
-def test_explanation_of_page(rsp: Any, folder: Path) -> None:
-    told = block_with("docs/ASSEMBLY.md", "rsp asm mine.s mine.bin --explain").partition("\n\n")[2]
-    assert told.count("\n") == 4
-    (folder / "mine.s").write_text("nop\nlqv $v30[0], 0x460($0)\n")
-    assert rsp("asm", "mine.s", "mine.bin", "--explain").errors.decode() == told
+@pytest.mark.parametrize(
+    "name, text", (("mine", "nop\nlqv $v30[0], 0x460($0)\n"), ("theirs", "vmov $v07.e1, $v08.e3\n"))
+)
+def test_explanation_of_page(name: str, text: str, rsp: Any, folder: Path) -> None:
+    block = block_with("docs/ASSEMBLY.md", f"rsp asm {name}.s {name}.bin --explain")
+    told = block.partition("\n\n")[2]
+    assert told.count("\n") in (4, 5)
+    (folder / f"{name}.s").write_text(text)
+    assert rsp("asm", f"{name}.s", f"{name}.bin", "--explain").errors.decode() == told
+
+
+def test_jump_of_page(files: Files) -> None:
+    line = block_with("docs/ASSEMBLY.md", ".word 0x09000402 #").rstrip("\n")
+    assert files.text_of([0x09000402], "--labels") == [line]
 
 
 def test_task_of_page(files: Files) -> None:

@@ -30,6 +30,12 @@ CLASSES = {
     "RspTraced": "Traced",
     "RspChanges": "Changes",
 }
+# The structs that crates below rsp_c have: a file, its name there, and its name in rsp_c.
+BELOW = (
+    ("rsp_debug/src/trace_entry.rt", "TraceEntry", "RspTraced"),
+    ("rsp_regs/src/dma.rt", "Dma", "RspDma"),
+    ("rsp_asm/src/labels.rt", "Label", "RspLabel"),
+)
 Call = Tuple[str, str, str]  # its name, its result, and its parameters as C has them, between bars
 Struct = Type[ctypes.Structure]
 Layout = Tuple[int, List[Tuple[str, int, int]]]  # its size, and name, offset and size of each field
@@ -111,7 +117,7 @@ FIELDS = constants("fault.rt", r"\w+")
 # The reasons of a stop, by their names in C, of which two aren't those of the debugger.
 STOPS = numbers("to_c.rt", r"Reason::(?P<name>\w+)(?:\(k\))? => \((?P<number>\d+),")
 REASONS = {{"Halted": "HALT", "Watched": "WATCH"}.get(it, it.upper()): n for it, n in STOPS.items()}
-REASONS["MOVE"] = constants("to_c.rt", "AT_MOVE").get("AT_MOVE", -1)
+REASONS.update({it[3:]: n for it, n in constants("to_c.rt", "AT_\\w+").items()})
 
 
 def structs_of(text: str, known: Optional[Mapping[str, Struct]] = None) -> Dict[str, Struct]:
@@ -136,10 +142,13 @@ def layout(struct: Struct) -> Layout:
 
 
 def structs() -> Dict[str, Struct]:
-    """The structs of rsp_c, with the entry of a trace, which the debugger has."""
-    entry = (TOP / "crates/rsp_debug/src/trace_entry.rt").read_text()
-    texts = [(SOURCE / name).read_text() for name in ("c_structs.rt", "explain.rt", "changes.rt")]
-    return structs_of("".join([entry.replace("struct TraceEntry", "struct RspTraced"), *texts]))
+    """The structs of rsp_c, with those of crates below it."""
+    texts = [
+        (TOP / "crates" / path).read_text().replace(f"struct {name}", f"struct {used}")
+        for path, name, used in BELOW
+    ]
+    own = ("c_structs.rt", "explain.rt", "changes.rt", "event.rt")
+    return structs_of("".join([*texts, *((SOURCE / name).read_text() for name in own)]))
 
 
 def layouts(made: Mapping[str, Struct]) -> Dict[str, Layout]:

@@ -42,6 +42,7 @@ static void without_machine(void)
     rsp_line line;
     rsp_sp_words sp;
     rsp_move move;
+    rsp_reached reached;
     rsp_traced traced;
     rsp_changes changed;
     rsp to = RSP_NONE;
@@ -70,6 +71,8 @@ static void without_machine(void)
         SEE(rsp_run(m, 0, &stop) == RSP_NO_MACHINE);
         SEE(rsp_run_until_move(m, 1, 0, 0, &move) == RSP_NO_MACHINE);
         SEE(rsp_run_until_move(m, 0, ANY, ANY, &move) == RSP_NO_MACHINE);
+        SEE(rsp_event(m, 1, 0, 0, &reached) == RSP_NO_MACHINE);
+        SEE(rsp_event(m, 0, ANY, ANY, &reached) == RSP_NO_MACHINE);
         SEE(rsp_trace(m, &traced, 1, &stop) == RSP_NO_MACHINE);
         SEE(rsp_trace(m, &traced, 0, &stop) == RSP_NO_MACHINE);
         SEE(rsp_back(m, 1) == RSP_NO_MACHINE);
@@ -92,6 +95,8 @@ static void without_machine(void)
         SEE(rsp_sp(m, &sp) == RSP_NO_MACHINE);
         SEE(rsp_set_sp(m, &sp) == RSP_NO_MACHINE);
         SEE(rsp_pass(m, 1) == RSP_NO_MACHINE);
+        SEE(rsp_pass_dma(m) == RSP_NO_MACHINE);
+        SEE(rsp_history(m, &number) == RSP_NO_MACHINE && number == 0);
         SEE(rsp_copy(&to, m) == RSP_NO_MACHINE && to.at == NULL);
         SEE(m->at == NULL);
     }
@@ -440,6 +445,63 @@ static void moves(void)
     SEE(rsp_load_words(&m, RSP_IMEM, 0, &word, 1) == RSP_OK && rsp_set_pc(&m, 0) == RSP_OK && rsp_write(&m, 4, 1) == RSP_OK);
     SEE(rsp_run_until_move(&m, 1, 1, 1, &at) == RSP_OK && at.stop.reason == RSP_AT_RESERVED && at.stop.word == word && at.word == 0);
     rsp_free(&m);
+}
+
+static void events(void)
+{
+    rsp m = RSP_NONE;
+    rsp_reached event, kept;
+    rsp_scalars scalars;
+    rsp_stop stop;
+    size_t number = 9;
+    uint32_t word = 0;
+    SEE(rsp_new(&m, image, 4096, 8) == RSP_OK);
+    load(&m, "ori $1, $0, 0x1f80\nmtc0 $1, $c0\nlui $2, 0xff\nmtc0 $2, $c1\nlui $3, 0x0180\nori $3, $3, 0x7007\nmfc0 $4, $c6\nmtc0 $3, $c3\nmtc0 $3, $c2\nbreak\n");
+    memset(&event, 0xa5, sizeof event);
+    memcpy(&kept, &event, sizeof event);
+    SEE(rsp_event(&m, 0, 0, 0, &event) == RSP_OUT_OF_RANGE && rsp_event(&m, 1000001, 0, 0, &event) == RSP_OUT_OF_RANGE);
+    SEE(rsp_event(&m, 1, 65536, 0, &event) == RSP_OUT_OF_RANGE && rsp_event(&m, 1, 0, 65536, &event) == RSP_OUT_OF_RANGE);
+    SEE(rsp_event(&m, ANY, ANY, ANY, &event) == RSP_OUT_OF_RANGE && !memcmp(&event, &kept, sizeof event));
+    SEE(rsp_pass_dma(&m) == RSP_OUT_OF_RANGE && rsp_history(&m, &number) == RSP_OK && number == 0);
+    SEE(rsp_event(&m, 7, 0, 0, &event) == RSP_OK && event.at.stop.reason == RSP_AT_LIMIT && event.at.stop.steps == 7 && event.at.stop.pc == 28); /* a DMA is next */
+    SEE(event.at.word == 0 && event.at.number == 0 && event.at.writes == 0 && event.at.value == 0 && event.dma.length == 0 && event.dma.rows == 0 && event.status == 0 && event.interrupt == 0);
+    SEE(rsp_history(&m, &number) == RSP_OK && number == 7 && rsp_back(&m, 7) == RSP_OK && rsp_history(&m, &number) == RSP_OK && number == 0);
+    SEE(rsp_event(&m, 8, 1 << 6, 0, &event) == RSP_OK && event.at.stop.reason == RSP_AT_MOVE && event.at.stop.steps == 6 && event.at.number == 6 && event.at.writes == 0 && event.dma.length == 0);
+    SEE(rsp_pass(&m, 77) == RSP_OK && rsp_event(&m, 1, 0, 0, &event) == RSP_OK && event.at.stop.reason == RSP_AT_DMA && event.at.stop.steps == 0 && event.at.stop.pc == 28);
+    SEE(event.at.word == 0x40831800u && event.at.number == 3 && event.at.writes == 1 && event.at.value == 0x01807007u && event.at.stop.watch == 0 && event.at.stop.word == 0);
+    SEE(event.dma.bank == RSP_IMEM && event.dma.address == 0xf80 && event.dma.rdram == 0xff0000 && event.dma.length == 8 && event.dma.rows == 8 && event.dma.skip == 24 && event.dma.to_rdram == 1);
+    SEE(rsp_write(&m, 4, 0x410) == RSP_OK && rsp_event(&m, 1, 0, ANY >> 16, &event) == RSP_OK && event.status == 0x80 && event.interrupt == 1);
+    SEE(rsp_pass_dma(&m) == RSP_OK && rsp_event(&m, 1, 0, 0, &event) == RSP_OK && event.at.stop.reason == RSP_AT_DMA && event.at.number == 2 && event.at.stop.pc == 32);
+    SEE(event.dma.address == 0xfc0 && event.dma.rdram == 0xff00e8 && event.dma.to_rdram == 0); /* eight rows, and seven skips of 24 */
+    SEE(rsp_peek(&m, 0, &word) == RSP_OK && word == 0x1fc0 && rsp_peek(&m, 1, &word) == RSP_OK && word == 0xff00e8);
+    SEE(rsp_peek(&m, 2, &word) == RSP_OK && word == 0x1800ff8 && rsp_peek(&m, 3, &word) == RSP_OK && word == 0x1800ff8);
+    SEE(rsp_write(&m, 4, 0x40) == RSP_OK && rsp_pass_dma(&m) == RSP_OK && rsp_pass_dma(&m) == RSP_HALTED); /* single step */
+    SEE(rsp_regs(&m, &scalars) == RSP_OK && scalars.pc == 36 && scalars.npc == 40 && scalars.words[4] == 77);
+    SEE(rsp_write(&m, 4, 0x21) == RSP_OK && rsp_pass_dma(&m) == RSP_OUT_OF_RANGE && rsp_run(&m, 5, &stop) == RSP_OK && stop.steps == 1);
+    SEE(rsp_history(&m, &number) == RSP_OK && number == 1 && rsp_event(&m, 5, 0, 0, &event) == RSP_OK && event.at.stop.reason == RSP_AT_HALT && event.status == 0x83);
+    rsp_free(&m);
+}
+
+static void labels(void)
+{
+    static const char text[] = "first: nop\nnop\n  a_name_that_has_thirty_two_bytes: beq $0, $0, last\nnop # here: none\nlast:\n";
+    static const char faulty[] = "a: j b\n";
+    rsp_label found[4], kept[4];
+    size_t count = 9;
+    const uint8_t *at = (const uint8_t *)text;
+    memset(found, 0xa5, sizeof found);
+    memcpy(kept, found, sizeof found);
+    SEE(rsp_labels(2, at, strlen(text), found, 4, &count) == RSP_OUT_OF_RANGE && rsp_labels(4100, at, strlen(text), found, 4, &count) == RSP_OUT_OF_RANGE);
+    SEE(rsp_labels(ANY, at, strlen(text), found, 4, &count) == RSP_OUT_OF_RANGE && rsp_labels(4084, at, strlen(text), found, 4, &count) == RSP_NO_MEANING);
+    SEE(rsp_labels(0, (const uint8_t *)faulty, strlen(faulty), found, 4, &count) == RSP_NO_MEANING);
+    SEE(rsp_labels(0, (const uint8_t *)"a:\xff", 3, found, 4, &count) == RSP_NO_MEANING && count == 9);
+    SEE(rsp_labels(8, at, strlen(text), found, 2, &count) == RSP_NO_ROOM && count == 3 && !memcmp(found, kept, sizeof found));
+    SEE(rsp_labels(8, at, strlen(text), found, 0, &count) == RSP_NO_ROOM && count == 3);
+    SEE(rsp_labels(8, at, strlen(text), found, 4, &count) == RSP_OK && count == 3 && !memcmp(found + 3, kept + 3, sizeof *kept));
+    SEE(found[0].address == 8 && found[0].len == 5 && !strcmp(found[0].name, "first"));
+    SEE(found[1].address == 16 && found[1].len == 32 && !strcmp(found[1].name, "a_name_that_has_thirty_two_bytes"));
+    SEE(found[2].address == 24 && found[2].len == 4 && !strcmp(found[2].name, "last") && found[2].name[35] == 0);
+    SEE(rsp_labels(0, at, 0, found, 4, &count) == RSP_OK && count == 0);
 }
 
 static int is_entry(const rsp_traced *t, uint16_t pc, uint8_t scalar, uint32_t value, uint8_t vector)
@@ -871,6 +933,8 @@ int main(void)
     sp_at_once();
     passes();
     moves();
+    events();
+    labels();
     traces();
     changes();
     tasks();

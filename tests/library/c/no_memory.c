@@ -1,5 +1,5 @@
 /* What the calls of rsp.h take of memory: linked with -Wl,--wrap=malloc,--wrap=realloc,--wrap=free.
- *   - rsp_new, rsp_copy, rsp_assemble and rsp_explain while the K-th call of malloc or realloc fails, for each K. A handle keeps what it held.
+ *   - rsp_new, rsp_copy, rsp_assemble, rsp_explain and rsp_labels while the K-th call of malloc or realloc fails, for each K. A handle keeps what it held.
  *   - rsp_bench_new the same, and a script with blocks: each refused call is made again, and the replies are those to the whole script.
  *   - What a handle held is freed when rsp_new or rsp_copy puts another machine into it.
  *   - No other call takes memory or frees any: accepted, refused, and of a handle that holds no machine.
@@ -123,6 +123,26 @@ static void failing_explain(void)
     see("rsp_explain takes memory", k, k > 0 && status == RSP_OK && out.number == 1 && out.kind == RSP_OPERAND_JUMP);
 }
 
+/* Labels without memory for one of them, or for the list, change nothing. */
+static void failing_labels(void)
+{
+    static const char text[] = "a: nop\nb: nop\nc: j b\n";
+    rsp_label found[4];
+    size_t count = 0;
+    uint32_t status = RSP_NO_MEMORY;
+    long k, blocks = held;
+    for (k = 0; k < 100; k++) {
+        left = k;
+        count = 99;
+        found[0].len = 77;
+        status = rsp_labels(0, (const uint8_t *)text, strlen(text), found, 4, &count);
+        left = -1;
+        if (status == RSP_OK) break;
+        see("rsp_labels", k, status == RSP_NO_MEMORY && count == 99 && found[0].len == 77 && held == blocks);
+    }
+    see("rsp_labels takes memory", k, k > 1 && status == RSP_OK && count == 3 && found[2].address == 8 && held == blocks);
+}
+
 static rsp_bench b = RSP_NONE;
 static uint8_t reply[RSP_REPLIES];
 static size_t used, written;
@@ -221,6 +241,7 @@ static void refused_calls(rsp *m)
     static rsp_state wrong;
     rsp_stop stop;
     rsp_move move;
+    rsp_reached reached;
     rsp_lanes lanes;
     rsp_sp_words sp;
     uint8_t byte = 0;
@@ -242,7 +263,9 @@ static void refused_calls(rsp *m)
     REFUSED(rsp_trace(m, &entry, 0, &stop));
     REFUSED(rsp_back(m, 0));
     REFUSED(rsp_back(m, 1000000));
+    REFUSED(rsp_event(m, 1, 65536, 0, &reached));
     REFUSED(rsp_pass(m, 1));
+    REFUSED(rsp_pass_dma(m));
     REFUSED(rsp_add_break(m, 4096));
     REFUSED(rsp_drop_break(m, 4));
     REFUSED(rsp_add_watch(m, 0, 65, &number));
@@ -265,6 +288,7 @@ static void other_calls(rsp *m)
     static rsp_traced entries[64];
     static rsp_changes changes;
     rsp_move move;
+    rsp_reached reached;
     rsp_stop stop;
     rsp_scalars scalars;
     rsp_lanes lanes;
@@ -294,7 +318,10 @@ static void other_calls(rsp *m)
     NONE(rsp_run_until_move(m, 1000, 0xffff, 0xffff, &move));
     NONE(rsp_trace(m, entries, 64, &stop));
     NONE(rsp_back(m, 50));
+    NONE(rsp_event(m, 1000, 0xffff, 0xffff, &reached));
     NONE(rsp_pass(m, 1));
+    NONE(rsp_pass_dma(m));
+    NONE(rsp_history(m, &number));
     for (k = 0; k < 17; k++) NONE(rsp_add_break(m, 4 * k));
     for (k = 0; k < 9; k++) NONE(rsp_add_watch(m, k, 64, &number));
     NONE(rsp_run(m, 1000, &stop));
@@ -371,6 +398,7 @@ int main(void)
     failing_assemble();
     refused_calls(&m);
     failing_explain();
+    failing_labels();
     other_calls(&m);
     without_machine();
     failing_bench_new();

@@ -1,6 +1,7 @@
-/* A program that owns the RDRAM and the SP registers runs a task on a machine whose image nobody reads: it answers each transfer by
- * rsp_run_until_move and rsp_pass, and moves the bytes of each DMA itself. It ends with the memories and the scalar registers of a machine
- * that has the RDRAM inside and runs alone. The last line is `N passed, M failed`. */
+/* A program that owns the RDRAM and the SP registers, except SP_STATUS, runs a task on a machine whose image nobody reads: it answers each
+ * transfer by rsp_run_until_move and rsp_pass, and moves the bytes of each DMA itself. It ends with the memories and the scalar registers of a
+ * machine that has the RDRAM inside and runs alone. SP_STATUS is the machine's, because BREAK and single step change it too.
+ * The last line is `N passed, M failed`. */
 #include "rsp.h"
 #include <stdio.h>
 #include <string.h>
@@ -13,6 +14,15 @@ static const char task[] =
     "ori $1, $0, 0x40\nmtc0 $1, $c0\nori $1, $0, 0x800\nmtc0 $1, $c1\nori $1, $0, 0x103f\nmtc0 $1, $c3\n" /* 2 rows of 64 bytes */
     "ori $1, $0, 0x1f80\nmtc0 $1, $c0\nori $1, $0, 0x100\nmtc0 $1, $c1\nori $1, $0, 0x3f\nmtc0 $1, $c2\n" /* into IMEM */
     "mtc0 $4, $c8\nmfc0 $11, $c8\nbreak\n";
+
+/* It halts itself, and goes through single steps; in comments is where it halts. */
+static const char halting[] =
+    "ori $1, $0, 0x400\nmtc0 $1, $c4\nmfc0 $2, $c4\n"   /* sets signal 0 */
+    "ori $1, $0, 0x102\nmtc0 $1, $c4\nmfc0 $3, $c4\n"   /* sets intbreak, and halts: next is 014 */
+    "ori $1, $0, 0x40\nmtc0 $1, $c4\nmfc0 $4, $c4\n"    /* sets single step: next is 020, 024 */
+    "ori $1, $0, 0x220\nmtc0 $1, $c4\nmfc0 $5, $c4\n"   /* 028; clears single step and signal 0, and so doesn't halt */
+    "break\n";                                           /* next is 034 */
+enum { SP_STATUS = 4, CLEAR_HALTED = 1 };
 
 static rsp m = RSP_NONE, alone = RSP_NONE;
 static uint8_t rdram[4096], kept[4096];
@@ -58,42 +68,103 @@ static uint32_t read_register(uint32_t number)
     return value;
 }
 
-static int run_task(void)
+/* Runs up to a halt, and returns how many transfers there were. The machine makes those of SP_STATUS itself. */
+static int run_to_halt(void)
 {
     rsp_move at;
     int transfers = 0;
     while (rsp_run_until_move(&m, 1000000, 0xffff, 0xffff, &at) == RSP_OK && at.stop.reason == RSP_AT_MOVE) {
         uint32_t value = at.writes ? 0 : read_register(at.number);
-        if (at.writes) write_register(at.number, at.value);
-        rsp_pass(&m, value);
+        if (at.number != SP_STATUS && at.writes) write_register(at.number, at.value);
+        if (at.number == SP_STATUS) rsp_step(&m);
+        else rsp_pass(&m, value);
         transfers++;
     }
     see("the task halts", at.stop.reason == RSP_AT_HALT);
     return transfers;
 }
 
+/* The words of a text, in both machines. */
+static void load_text(const char *text)
+{
+    uint32_t words[256];
+    rsp_assembled out;
+    see("the text", rsp_assemble(0, (const uint8_t *)text, strlen(text), words, 256, &out) == RSP_OK);
+    see("the words", rsp_load_words(&m, RSP_IMEM, 0, words, out.count) == RSP_OK && rsp_load_words(&alone, RSP_IMEM, 0, words, out.count) == RSP_OK);
+}
+
+static void see_same_registers(void)
+{
+    rsp_scalars here, there;
+    see("registers", rsp_regs(&m, &here) == RSP_OK && rsp_regs(&alone, &there) == RSP_OK && !memcmp(&here, &there, sizeof here));
+}
+
+static void test_task(void)
+{
+    static uint8_t one[4096], other[4096];
+    rsp_stop stop;
+    load_text(task);
+    see("18 transfers", run_to_halt() == 18);
+    see("the machine alone", rsp_run(&alone, 1000000, &stop) == RSP_OK && stop.reason == RSP_AT_HALT);
+    for (uint32_t bank = RSP_DMEM; bank <= RSP_IMEM; bank++) {
+        see("a memory", rsp_memory(&m, bank, 0, one, 4096) == RSP_OK && rsp_memory(&alone, bank, 0, other, 4096) == RSP_OK);
+        see(bank == RSP_DMEM ? "DMEM" : "IMEM", !memcmp(one, other, 4096));
+    }
+    see("RDRAM", rsp_memory(&alone, RSP_RDRAM, 0, other, 4096) == RSP_OK && !memcmp(rdram, other, 4096) && memcmp(rdram, kept, 4096));
+    see_same_registers();
+}
+
+/* Where microcode halts that writes SP_STATUS; the program clears halted each time. */
+static void test_halts(void)
+{
+    static const struct { uint32_t pc, status, interrupt; } halts[] = {
+        { 0x14, 0xc1, 0 }, { 0x20, 0xe1, 0 }, { 0x24, 0xe1, 0 }, { 0x28, 0xe1, 0 }, { 0x34, 0x43, 1 }
+    };
+    static const uint32_t read[] = { 0x80, 0xc0, 0xe0, 0x40 }; /* $2 to $5 */
+    rsp_scalars now;
+    rsp_stop stop;
+    load_text(halting);
+    see("the beginning", rsp_set_pc(&m, 0) == RSP_OK && rsp_set_pc(&alone, 0) == RSP_OK);
+    for (size_t i = 0; i < sizeof halts / sizeof *halts; i++) {
+        rsp_sp_words here, there;
+        see("halted is cleared", rsp_write(&m, SP_STATUS, CLEAR_HALTED | 4) == RSP_OK && rsp_write(&alone, SP_STATUS, CLEAR_HALTED | 4) == RSP_OK);
+        run_to_halt();
+        see("the machine alone", rsp_run(&alone, 1000000, &stop) == RSP_OK && stop.reason == RSP_AT_HALT);
+        rsp_sp(&m, &here);
+        rsp_sp(&alone, &there);
+        see("a halt", stop.pc == halts[i].pc && here.words[SP_STATUS] == halts[i].status && here.interrupt == halts[i].interrupt);
+        see("the same halt", here.words[SP_STATUS] == there.words[SP_STATUS] && here.interrupt == there.interrupt);
+        see_same_registers();
+    }
+    rsp_regs(&m, &now);
+    see("what the microcode read", !memcmp(now.words + 2, read, sizeof read));
+}
+
+/* A program that sets SP registers after a transfer: the halt of single step stays if rsp_sp comes after rsp_pass, and is lost otherwise. */
+static void test_order(void)
+{
+    rsp_sp_words words;
+    load_text("mtc0 $0, $c8\nmtc0 $0, $c8\n");
+    for (int is_right = 0; is_right < 2; is_right++) {
+        see("single step", rsp_set_pc(&m, 0) == RSP_OK && rsp_write(&m, SP_STATUS, CLEAR_HALTED | 0x40) == RSP_OK);
+        if (!is_right) rsp_sp(&m, &words);
+        see("the transfer", rsp_pass(&m, 0) == RSP_OK);
+        if (is_right) rsp_sp(&m, &words);
+        words.words[8] = 0x1000;
+        see("the registers", rsp_set_sp(&m, &words) == RSP_OK && rsp_sp(&m, &words) == RSP_OK && words.words[8] == 0x1000);
+        see("the halt", (words.words[SP_STATUS] & 1) == (uint32_t)is_right);
+    }
+}
+
 int main(void)
 {
     static const uint8_t none[64] = { 0 };
-    static uint8_t one[4096], other[4096];
-    uint32_t words[256];
-    rsp_assembled out;
-    rsp_scalars here, there;
-    rsp_stop stop;
-    int i;
-    for (i = 0; i < 4096; i++) rdram[i] = (uint8_t)(i * 11 + i / 256);
+    for (int i = 0; i < 4096; i++) rdram[i] = (uint8_t)(i * 11 + i / 256);
     memcpy(kept, rdram, sizeof rdram);
-    see("the text", rsp_assemble(0, (const uint8_t *)task, strlen(task), words, 256, &out) == RSP_OK);
     see("the machines", rsp_new(&m, none, sizeof none, 0) == RSP_OK && rsp_new(&alone, rdram, sizeof rdram, 0) == RSP_OK);
-    see("the words", rsp_load_words(&m, RSP_IMEM, 0, words, out.count) == RSP_OK && rsp_load_words(&alone, RSP_IMEM, 0, words, out.count) == RSP_OK);
-    see("18 transfers", run_task() == 18);
-    see("the machine alone", rsp_run(&alone, 1000000, &stop) == RSP_OK && stop.reason == RSP_AT_HALT);
-    for (i = RSP_DMEM; i <= RSP_IMEM; i++) {
-        see("a memory", rsp_memory(&m, (uint32_t)i, 0, one, 4096) == RSP_OK && rsp_memory(&alone, (uint32_t)i, 0, other, 4096) == RSP_OK);
-        see(i == RSP_DMEM ? "DMEM" : "IMEM", !memcmp(one, other, 4096));
-    }
-    see("RDRAM", rsp_memory(&alone, RSP_RDRAM, 0, other, 4096) == RSP_OK && !memcmp(rdram, other, 4096) && memcmp(rdram, kept, 4096));
-    see("registers", rsp_regs(&m, &here) == RSP_OK && rsp_regs(&alone, &there) == RSP_OK && !memcmp(here.words, there.words, sizeof here.words) && here.pc == there.pc);
+    test_task();
+    test_halts();
+    test_order();
     rsp_free(&m);
     rsp_free(&alone);
     printf("%d passed, %d failed\n", passed, failed);

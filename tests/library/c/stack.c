@@ -29,8 +29,10 @@ static rsp_flag_bits flags;
 static rsp_divide_state divider;
 static rsp_assembled assembled;
 static rsp_operand operand;
+static rsp_label found[4];
 static size_t number;
 static rsp_move move;
+static rsp_reached reached;
 static rsp_traced entries[256];
 static rsp_changes changes;
 
@@ -58,6 +60,9 @@ static void back(void) { word = rsp_back(&m, 1); }
 static void pass(void) { word = rsp_pass(&m, 1); }
 static void run(void) { word = rsp_run(&m, 100000, &stop); }
 static void run_until_move(void) { word = rsp_run_until_move(&m, 100000, 1, 0, &move); }
+static void event(void) { word = rsp_event(&m, 100000, 0xffff, 0xffff, &reached); }
+static void pass_dma(void) { word = rsp_pass_dma(&m); }
+static void history(void) { word = rsp_history(&m, &number); }
 static void traced(void) { word = rsp_trace(&m, entries, 256, &stop); }
 static void add_break(void) { word = rsp_add_break(&m, 4092); }
 static void add_watch(void) { word = rsp_add_watch(&m, 4032, 64, &number); }
@@ -76,6 +81,7 @@ static void sp_words(void) { word = rsp_sp(&m, &sp); }
 static void set_sp(void) { word = rsp_set_sp(&m, &sp); }
 static void assemble(void) { word = rsp_assemble(0, (const uint8_t *)text, strlen(text), words, 1024, &assembled); }
 static void explain(void) { word = rsp_explain(0, (const uint8_t *)text, strlen(text), &operand); }
+static void labels(void) { word = rsp_labels(0, (const uint8_t *)text, strlen(text), found, 4, &number); }
 static void disassemble(void) { word = rsp_text(0x4a631050u, 0, lines); }
 static void listing(void) { word = rsp_listing(&m, 0, lines, 1024); }
 static void bench(void) { word = rsp_bench_new(&b, image, sizeof image); }
@@ -98,10 +104,11 @@ static const struct {
     void (*made)(void);
 } calls[] = {
     { "nothing", nothing }, { "rsp_version", version }, { "rsp_new", make }, { "rsp_assemble", assemble }, { "rsp_load_words", load_words },
-    { "rsp_explain", explain },
+    { "rsp_explain", explain }, { "rsp_labels", labels },
     { "rsp_load", load }, { "rsp_memory", memory }, { "rsp_memory_words", memory_words }, { "rsp_step", step }, { "rsp_run", run },
     { "rsp_step_changes", changed },
-    { "rsp_run_until_move", run_until_move }, { "rsp_trace", traced },
+    { "rsp_run_until_move", run_until_move }, { "rsp_event", event }, { "rsp_pass_dma", pass_dma }, { "rsp_history", history },
+    { "rsp_trace", traced },
     { "rsp_back", back }, { "rsp_add_watch", add_watch }, { "rsp_add_break", add_break }, { "rsp_run with both", run },
     { "rsp_drop_break", drop_break }, { "rsp_drop_watch", drop_watch }, { "rsp_copy", copied }, { "rsp_free", freed }, { "rsp_get", get },
     { "rsp_set", set }, { "rsp_state_fault", fault }, { "rsp_set_pc", set_pc }, { "rsp_pass", pass }, { "rsp_reg", reg }, { "rsp_regs", regs },

@@ -3,7 +3,7 @@
 They fail if a call in its range or out of it does something else, also under valgrind and with each
 allocation failing; if a call uses more stack than rsp.h says (stack.c), or another takes memory than those
 that may (no_memory.c), or keeps some (balance.c); if a machine can't go from thread to thread (threads.c), or
-SP registers and RDRAM of a program's own differ (owner.c).
+SP registers and RDRAM of a program's own differ (owner.c, host.cpp).
 """
 
 import re
@@ -45,6 +45,15 @@ def test_page(compiler: str, folder: Path) -> None:
     begin += "if (rsp_new(&m, image, 64, 100) != RSP_OK) return 1;\n"
     program = main_of(begin + "\n".join(re.findall(r"(?m)^    (.*)", section)))
     assert said_by(folder, program, compiler).splitlines() == lines and len(lines) == 8
+
+
+@pytest.mark.needs("c++")
+def test_console(folder: Path) -> None:
+    """The console of EMBEDDING.md, which owns RDRAM, beside a machine that has all inside."""
+    text = block_with("docs/EMBEDDING.md", '#include "rsp.h"\n#include <algorithm>')
+    assert len(text.splitlines()) <= 60
+    (folder / "console.hpp").write_text(text)
+    passes(built(folder, HERE / "host.cpp", f"-I{folder}", compiler="c++"))
 
 
 @pytest.mark.parametrize("name", ("stack.c", "no_memory.c"))

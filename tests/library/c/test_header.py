@@ -57,7 +57,7 @@ def test_layouts(library: Path, folder: Path) -> None:
             lines.append(f'printf("{name}.{field} %zu %zu\\n", {numbers});')
             wanted.append(f"{name}.{field} {offset} {width}")
     assert said_by(folder, main_of("\n".join(lines))).splitlines() == wanted
-    assert len(layouts) == 14
+    assert len(layouts) == 17
 
 
 @pytest.mark.needs("cc")

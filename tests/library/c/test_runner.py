@@ -4,7 +4,6 @@ It fails if right vectors differ or a changed one doesn't, if a malformed file i
 sanitizers of addresses and of undefined behaviour find something.
 """
 
-import os
 import struct
 from pathlib import Path
 from typing import Dict, Tuple
@@ -13,9 +12,9 @@ import pytest
 
 from lib import TOP
 from lib.processes import compiled, run, succeeds
+from lib.sanitizers import sanitizers
 
 pytestmark = [pytest.mark.needs("cc"), pytest.mark.xdist_group("runner")]
-SANITIZED = ("-fsanitize=address,undefined", "-fno-sanitize-recover=all", "-g")
 HEAD, STATES = 16 + 32, 2 * 772  # the bytes of a file and of its first case before that case's states; those
 PIECE = HEAD + STATES  # where the first piece of the first case begins
 
@@ -25,10 +24,7 @@ def runner(library: Path, tmp_path_factory: pytest.TempPathFactory) -> Path:
     """The runner under the sanitizers, if they run here."""
     at = tmp_path_factory.mktemp("runner")
     source, words = TOP / "conformance/runner.c", ("-std=c99", "-Wall", "-Wextra", "-Werror", f"-I{library}")
-    empty = at / "empty.c"
-    empty.write_text("int main(void) { return 0; }\n")
-    has = not run("cc", *SANITIZED, "-o", at / "empty", empty).returncode and not run(at / "empty").returncode
-    return compiled(at / "runner", *words, *(SANITIZED if has else ()), source, library / "librsp.a")
+    return compiled(at / "runner", *words, *sanitizers(), source, library / "librsp.a")
 
 
 @pytest.fixture(scope="module")
@@ -40,9 +36,9 @@ def vectors(program: Path, tmp_path_factory: pytest.TempPathFactory) -> bytes:
 
 
 def refuses(runner: Path, file: Path, data: bytes) -> None:
-    """A file with these bytes is refused in a line that names it. The machine isn't freed then."""
+    """A file with these bytes is refused in a line that names it."""
     file.write_bytes(data)
-    ran = run(runner, file, timeout=60, env={**os.environ, "ASAN_OPTIONS": "detect_leaks=0"})
+    ran = run(runner, file, timeout=60)
     assert ran.returncode == 2 and ran.stdout.startswith(str(file)), (len(data), ran.stdout)
     assert ran.stdout.count("\n") == 1
 

@@ -5,10 +5,13 @@ or if a call is refused otherwise than its text says. A script comes whole by ru
 into calls of `feed`.
 """
 
+import copy
+import pickle
 import random
 import re
 from pathlib import Path
-from typing import Callable, Dict, Iterator, List, Tuple
+from typing import Callable, Dict, Iterator, List, Tuple, Union
+from unittest import mock
 
 import pytest
 
@@ -42,6 +45,10 @@ OF: Dict[str, Callable[[Chance], str]] = {
     "H": lambda c: bytes(c.randrange(256) for _ in range(c.randrange(1, 40))).hex(),
     "B": lambda c: c.choice(("dmem", "imem", "imem", "rdram")),
 }
+
+
+# The replies and the image: `run_script` copies that when it is asked for.
+Pair = Union[Tuple[bytes, bytes], rsp.Ran]
 
 
 def one_of(items: str, chance: Chance) -> bytes:
@@ -92,7 +99,7 @@ def by_program(program: Path, script: bytes, image: bytes, folder: Path) -> Tupl
     return got.output, content(saved) or b""
 
 
-def see_equal(what: str, got: Tuple[bytes, bytes], wanted: Tuple[bytes, bytes]) -> None:
+def see_equal(what: str, got: Pair, wanted: Pair) -> None:
     """That replies and image are the wanted ones; an image is too long to be shown."""
     assert got[0] == wanted[0], what
     is_equal = got[1] == wanted[1]
@@ -141,6 +148,71 @@ def test_feed() -> None:
     assert [*replies] == [b"step Done pc 004\n", b"", b"", b"", b"ok 1 words\n"], "one by one"
 
 
+def test_image_is_copied_when_it_is_asked_for() -> None:
+    with mock.patch.object(rsp.Bench, "rdram", property(lambda it: pytest.fail("it is copied"))):
+        ran = rsp.run_script("load rdram 0 0102\n", bytes(64))
+        assert (ran.replies, ran[0], ran[-2], len(ran)) == (b"ok\n", b"ok\n", b"ok\n", 2)
+        assert repr(ran) == "<rsp.Ran: 3 bytes of replies>"
+    replies, image = ran
+    assert (replies, image) == ran == (b"ok\n", b"\1\2" + bytes(62))
+    assert (ran.image, ran[1], ran[-1]) == (image,) * 3 and ran != (b"ok\n", bytes(64)) and ran != 3
+    raised(IndexError, "", ran.__getitem__, 2)
+    assert pickle.loads(pickle.dumps(ran)) == ran
+
+
+def test_long_replies() -> None:
+    """More replies than a bench has room for, in one call."""
+    script = b"mem rdram 0 256\n" * 300
+    replies, line = rsp.run_script(script, bytes(256)).replies, b"".join(
+        f"{at:06x}: {bytes(16).hex()}\n".encode() for at in range(0, 256, 16)
+    )
+    assert replies == line * 300
+
+
+# Scripts, and the line, its text, the fault and the reply at which a strict run ends.
+STRICT: Dict[str, Tuple[int, str, int, str]] = {
+    "step\nbrek 0\nback 9\n": (2, "brek 0", 30, "fault 30 BadCommand"),
+    "step\nback 9": (2, "back 9", 27, "fault 27 ShortHistory"),
+    "step\n\tasm 0 # a block\nnop\n x: foo $1\r\nend\n": (4, "x: foo $1", 11, "fault 11 UnknownName line 2"),
+    "asm 0\nasm 4\nend\n": (2, "asm 4", 11, "fault 11 UnknownName line 1"),
+    "asm 0\nnop\nend\nasm 8\nj x\nend": (5, "j x", 15, "fault 15 LabelMissing line 1"),
+    "step\nasm 0\nnop\n": (4, "", 10, "fault 10 BadLine line 2"),
+    "asm 0": (2, "", 10, "fault 10 BadLine line 1"),
+    "asm 2\n": (1, "asm 2", 31, "fault 31 BadNumber"),
+    "#\n\xff\n": (2, "\\xc3\\xbf", 33, "fault 33 NotText"),
+}
+
+
+@pytest.mark.parametrize("script", STRICT, ids=repr)
+def test_strict(script: str) -> None:
+    line, text, fault, reply = STRICT[script]
+    with pytest.raises(rsp.ScriptError) as caught:
+        rsp.run_script(script, bytes(64), strict=True)
+    error = caught.value
+    assert (error.line, error.text, error.fault, error.reply) == STRICT[script]
+    assert str(error) == f"line {line}: {reply}" + (f": {text}" if text else "")
+    assert str(pickle.loads(pickle.dumps(error))) == str(error)
+    assert reply.encode() in rsp.run_script(script, bytes(64)).replies, "without strict it is a reply"
+
+
+def test_strict_without_a_fault() -> None:
+    """The stored scripts, of which those that have a fault in a reply are refused at the first one."""
+    faults = 0
+    for script in stored():
+        wanted = script.wanted[1].decode().splitlines()
+        first = next((it for it in wanted if it.startswith("fault ")), None)
+        if script.wanted[0] or len(script.script) > 10000:
+            continue
+        try:
+            assert rsp.run_script(script.script, script.image(), strict=True).replies == script.wanted[1]
+            assert first is None, str(script)
+        except rsp.ScriptError as error:
+            assert error.reply == first, str(script)
+            faults += 1
+    assert faults > 20
+    raised(TypeError, "run_script: script is of type int", rsp.run_script, 3, bytes(64), True)
+
+
 def test_refused_calls() -> None:
     for length in (0, 63, 65, (1 << 23) + 8):
         refused(Status.OUT_OF_RANGE, rsp.Bench, bytes(length))
@@ -149,7 +221,10 @@ def test_refused_calls() -> None:
     raised(TypeError, "feed: script is of type int", bench.feed, 3)
     bench.close()
     for gone in (bench.end, lambda: bench.feed("step\n"), lambda: bench.rdram):
-        raised(RspError, "is closed", gone)
+        raised(RspError, "the bench is closed", gone)
+    copies: Tuple[Callable[..., object], ...] = (copy.copy, copy.deepcopy, pickle.dumps)
+    for copied in copies:
+        raised(TypeError, "a bench can't be copied or pickled", copied, rsp.Bench(bytes(64)))
 
 
 def test_longest_script() -> None:

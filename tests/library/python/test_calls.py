@@ -3,13 +3,19 @@
 They fail if a call does something else than docs/EMBEDDING.md says, or isn't refused with the right status.
 """
 
+import os
+import signal
+import sys
 import threading
-from typing import List
+from typing import Any, Dict, List, Set, Tuple
+from unittest import mock
 
 import pytest
 
 import rsp
-from lib.library.module import loaded, refused
+from lib import TOP
+from lib.library.module import loaded, raised, refused
+from lib.processes import succeeds
 from rsp import Reason, Status
 
 OUT = Status.OUT_OF_RANGE
@@ -21,7 +27,7 @@ TRACED = "ori $1, $0, 0x8001\nsw $1, 0x1044($0)\nmtc2 $1, $v1[2]\nvaddc $v2, $v1
 def test_closed_machine() -> None:
     with rsp.Rsp() as machine:
         assert machine.regs().npc == 4
-    for name in "get step regs acc flags divider sp copy pass_move".split():
+    for name in "get step regs acc flags divider sp copy pass_move step_changes".split():
         refused(Status.NO_MACHINE, getattr(machine, name))
     for name in "reg vreg read peek run back add_break set_pc trace".split():
         refused(Status.NO_MACHINE, getattr(machine, name), 4)
@@ -29,6 +35,10 @@ def test_closed_machine() -> None:
     refused(Status.NO_MACHINE, machine.memory_words, rsp.DMEM, 0, 4)
     refused(Status.NO_MACHINE, machine.set_sp, rsp.SpWords())
     refused(Status.NO_MACHINE, machine.run_until_move, 1, 0, 0)
+    refused(Status.NO_MACHINE, machine.set_reg, 1, 2)
+    refused(Status.NO_MACHINE, machine.set_vreg, 1, [0] * 8)
+    refused(Status.NO_MACHINE, machine.load_words, rsp.DMEM, 0, [])
+    refused(Status.NO_MACHINE, machine.set, rsp.State())
     refused(Status.NO_MACHINE, list, machine.iter_trace())
     machine.close()
 
@@ -63,6 +73,102 @@ def test_machine_in_four_threads() -> None:
         thread.join()
     assert found == [100]
     refused(Status.NO_MACHINE, held[0].reg, 1)
+
+
+# Each call of a machine and of a bench, with what it is given.
+CALLS: Dict[str, Tuple[Any, ...]] = {
+    "copy": (), "get": (), "set": (rsp.State(),), "load": (0, 0, b"abcd"), "load_words": (0, 0, [1]),
+    "memory": (0, 0, 4), "memory_words": (0, 0, 1), "start_task": (0,), "set_pc": (8,), "step": (),
+    "step_changes": (), "run": (1,), "run_until_move": (1, 0, 0), "trace": (1,), "back": (1,),
+    "pass_move": (), "add_break": (4,), "drop_break": (4,), "add_watch": (0, 4), "drop_watch": (0,),
+    "reg": (1,), "regs": (), "vreg": (1,), "set_reg": (1, 2), "set_vreg": (1, range(8)), "acc": (),
+    "flags": (), "divider": (), "read": (7,), "peek": (7,), "write": (4, 2), "sp": (),
+    "set_sp": (rsp.SpWords(),), "listing": (0, 1), "event": (1,), "pass_dma": (), "history": (), "close": (),
+}  # fmt: skip
+OF_A_BENCH: Dict[str, Tuple[Any, ...]] = {"feed": ("step\n",), "end": (), "close": ()}
+NO_CALL = {"iter_trace", "memory_array", "iter_feed"}  # these are made of other calls
+
+
+def names_of(kind: type) -> Set[str]:
+    """The public methods of a class."""
+    return {name for name, it in vars(kind).items() if callable(it) and not name.startswith("_")}
+
+
+def test_calls_at_work() -> None:
+    """While another call is at work, each one is refused, and the library isn't reached."""
+    assert names_of(rsp.Rsp) == {*CALLS} | NO_CALL - {"iter_feed"}
+    assert names_of(rsp.Bench) == {*OF_A_BENCH, "iter_feed"}
+    machine, bench = loaded("nop\nbreak\n", 4), rsp.Bench(bytes(64))
+    before, dmem = machine.get(), machine.memory(rsp.DMEM, 0, 4096)
+    with machine._lock, bench._lock, mock.patch.multiple(rsp, _lib=mock.DEFAULT, _quick=mock.DEFAULT):
+        for name, given in CALLS.items():
+            told = f"{name}: another call is using the machine"
+            raised(rsp.RspError, told, getattr(machine, name), *given)
+        for name, given in OF_A_BENCH.items():
+            raised(rsp.RspError, f"{name}: another call is using the bench", getattr(bench, name), *given)
+        raised(rsp.RspError, "feed: another call is using the bench", list, bench.iter_feed("step\n"))
+        raised(rsp.RspError, "rdram: another call is using the bench", lambda: bench.rdram)
+        refused(Status.NO_MACHINE, machine.step)
+    assert machine.get() == before and machine.memory(rsp.DMEM, 0, 4096) == dmem
+    assert machine.step() is Status.OK and bench.feed("step\n") == b"step Done pc 004\n"
+
+
+def test_handle_is_empty_meanwhile() -> None:
+    """A short call that has passed the test just before a long one began finds no machine."""
+    machine = loaded("nop\nbreak\n")
+    assert machine._alone("run", lambda at: rsp._quick.rsp_step(machine._at)) == Status.NO_MACHINE
+    assert machine._alone("run", lambda at: rsp._lib.rsp_step(at)) == Status.OK
+    raised(ZeroDivisionError, "", machine._alone, "run", lambda at: 1 // 0)
+    assert machine.regs().pc == 4, "the machine is back"
+
+
+RACE = """
+import faulthandler, threading, time
+import rsp
+machine, bench, stop = rsp.Rsp(bytes(4096), 64), rsp.Bench(bytes(64)), time.time() + 0.5
+told = []
+def steps():
+    while time.time() < stop:
+        try:
+            machine.step(), machine.run(100), bench.feed("run 100\\n")
+        except rsp.RspError as fault:
+            if str(fault) not in told:
+                told.append(str(fault))
+threads = [threading.Thread(target=steps) for _ in range(3)]
+[it.start() for it in threads]
+[it.join() for it in threads]
+machine.step(), bench.feed("step\\n")
+kinds = {it.split(": ")[1].rpartition(" ")[0] for it in told}
+assert kinds <= {"another call is using the", "the script has more than 1048576"}, told
+print("done")
+"""
+
+
+@pytest.mark.parametrize("turn", range(5))
+def test_three_threads(turn: int) -> None:
+    """Three threads that call one machine and one bench at once: no signal ends the process, and no machine
+    is lost."""
+    where = {**os.environ, "PYTHONPATH": str(TOP / "library/python")}
+    assert succeeds(sys.executable, "-c", RACE, env=where) == "done\n"
+
+
+def test_interrupt() -> None:
+    """A signal whose handler raises leaves no machine in use, wherever it comes."""
+
+    def raises(*_: object) -> None:
+        raise KeyboardInterrupt
+
+    machine, before = loaded("loop: j loop\nnop\n", 4), signal.signal(signal.SIGVTALRM, raises)
+    try:
+        for turn in range(50):
+            with pytest.raises(KeyboardInterrupt):
+                signal.setitimer(signal.ITIMER_VIRTUAL, 1e-4 + turn * 1e-6)
+                while True:
+                    machine.run(5)
+            assert machine.step() is Status.OK
+    finally:
+        signal.setitimer(signal.ITIMER_VIRTUAL, 0)
+        signal.signal(signal.SIGVTALRM, before)
 
 
 def test_steps_and_stops() -> None:
@@ -168,6 +274,24 @@ def test_trace_one_by_one() -> None:
         assert [*machine.iter_trace()] == []
 
 
+def test_single_registers() -> None:
+    machine = loaded("nop\nnop\n", 4)
+    machine.step()
+    wanted = machine.get()
+    wanted.words[31], wanted.vectors[31] = 0xFFFFFFFF, [1, 2, 3, 4, 5, 6, 7, 65535]
+    machine.set_reg(31, 0xFFFFFFFF)
+    machine.set_vreg(31, iter([1, 2, 3, 4, 5, 6, 7, 65535]))
+    machine.set_reg(0, 0)
+    assert machine.get() == wanted
+    refused(Status.SHORT_HISTORY, machine.back, 1)
+    for number in (-1, 32, 1 << 32):
+        refused(OUT, machine.set_reg, number, 0)
+        refused(OUT, machine.set_vreg, number, [0] * 8)
+    refused(OUT, machine.set_reg, 0, 1)
+    refused(OUT, machine.set_reg, 1, 1 << 32)
+    assert machine.get() == wanted, "a refused call changes nothing"
+
+
 def test_sp_registers() -> None:
     machine = rsp.Rsp()
     given = machine.sp()
@@ -251,7 +375,7 @@ EXPLAINED = {
     "lqv $v1[0], 0x460($0)": ("13 OutOfRange", 2, "-1024 to 1008, a multiple of 16"),
     "j nowhere": ("15 LabelMissing", 1, "the label of a line, or 0 to 4092, a multiple of 4"),
     "lw $1, $2": ("12 BadOperand", 2, OFFSET),
-    "vrcp $v1, $v2[0]": ("12 BadOperand", 1, "a vector register, with a lane"),
+    "vrcp $v1, $v2[0]": ("12 BadOperand", 1, "a vector register, $v0 to $v31, with a lane, [0] to [7]"),
     "nop $1": ("12 BadOperand", 1, "nothing"),
 }
 

@@ -11,6 +11,9 @@ STRUCTS = {
     "RspAssembled": rsp._Assembled,
     "RspLanes": rsp._Lanes,
     "RspMove": rsp._Move,
+    "RspLabel": rsp._Label,
+    "RspDma": rsp._Dma,
+    "RspReached": rsp._Reached,
     "RspOperand": Operand,
 }
 

@@ -76,6 +76,51 @@ def test_example(name: str, site: Path) -> None:
     assert by_python(EXAMPLES / f"{name}.py", *words, path=site) == wanted
 
 
+def task_image(folder: Path) -> Tuple[Path, Dict[int, Path]]:
+    """The image of examples/task.rsp before its task starts, and its two texts by their addresses."""
+    script = page("examples/task.rsp").partition("\ntask ")[0] + "\n"
+    image, texts = folder / "image", {}
+    image.write_bytes(rsp.run_script(script, bytes(0x2000)).image)
+    for at, block in re.findall(r"(?ms)^asm (\w+)\n(.*?)^end$", script):
+        texts[int(at, 0)] = folder / f"{at}.s"
+        texts[int(at, 0)].write_text(block)
+    return image, texts
+
+
+def test_examples_on_a_task(folder: Path) -> None:
+    """Labels are where the text is, and a text that isn't in IMEM is refused."""
+    path, (image, texts) = OURS, task_image(folder)
+    counts, view = EXAMPLES / "step_counts.py", EXAMPLES / "step_view.py"
+    said = by_python(counts, texts[0x80], image, "0x100", path=path)
+    assert re.findall(r"(?m)^(\w+):\n +\d+ (\w+) (.*)$", said) == [("sent", "0b0", "mfc0 $1, $c6")]
+    said = by_python(counts, texts[0], image, "0x100", "--at", "0", path=path)
+    assert re.findall(r"(?m)^(\w+):\n +\d+ (\w+) (.*)$", said) == [("wait", "034", "mfc0 $1, $c6")]
+    told = by_python(counts, texts[0], image, "0x100", path=path)
+    assert told == "step_counts: IMEM holds c8012000 at 080, which isn't the text's word\n"
+    told = by_python(counts, texts[0], image, "0x100", "--at", "0x400", path=path)
+    assert told == "step_counts: no word of the text is executed at 400: --at says where the text is\n"
+    said = by_python(view, image, 1, "--task", "0x100", path=path)
+    assert said.splitlines()[1] == f"{'> 000 addiu $1, $0, 4224'.ljust(40)}| $1 00001080"
+
+
+def suite(by: str, changed: str, site: Path, folder: Path) -> str:
+    """What the example of a suite says, run by `unittest` or `pytest`, with its VMULF changed."""
+    text = (EXAMPLES / "test_microcode.py").read_text()
+    assert text.count("vmulf $v3,") == 1
+    (folder / "test_microcode.py").write_text(text.replace("vmulf", changed))
+    words = [] if by == "unittest" else ["-q", "-p", "no:cacheprovider", "test_microcode.py"]
+    env = {**os.environ, "PYTHONPATH": str(site), "PYTHONDONTWRITEBYTECODE": "1"}
+    return run(sys.executable, "-m", by, *words, env=env, cwd=folder).stdout
+
+
+@in_site
+@pytest.mark.parametrize("by, passes", (("unittest", "Ran 3 tests"), ("pytest", "3 passed")))
+def test_suite(by: str, passes: str, site: Path, folder: Path) -> None:
+    """A suite of the cookbook passes, and a fault of its microcode fails its tests."""
+    assert passes in suite(by, "vmulf", site, folder)
+    assert re.search("FAILED \\(failures=|[23] failed", suite(by, "vmulu", site, folder))
+
+
 @pytest.mark.needs("cc", "ar")
 def test_library_of_another_version(folder: Path) -> None:
     shutil.copytree(OURS / "rsp", folder / "rsp")

@@ -27,11 +27,23 @@ from rsp import RspError, State
 Refusal = Tuple[type, str, Callable[[Any], object]]  # the error, what its message has, and the call
 setitem = operator.setitem
 ANY: Any = rsp  # for calls that types forbid
+
+
+class Mine(State):
+    """A state with a method of its own."""
+
+    def total(self) -> int:
+        return sum(self.words)
+
+
 FIELDS: Tuple[Refusal, ...] = (
     (ValueError, "pc is 70000, not 0 to 65535", lambda it: setattr(it, "pc", 70000)),
     (ValueError, "interrupt is -1", lambda it: setattr(it, "interrupt", -1)),
     (AttributeError, "rsp.State has no field cp; its fields are words", lambda it: setattr(it, "cp", 0)),
     (AttributeError, ", pc, npc, ", lambda it: setattr(it, "cp", 0)),
+    (AttributeError, "rsp.State has no field scalars; its fields are words, vec", lambda it: it.scalars),
+    (AttributeError, "rsp.Flags has no field vco; its fields are carry, ", lambda it: it.flags.vco),
+    (AttributeError, "Mine has no field note; its fields are words, ", lambda it: setattr(Mine(), "note", 0)),
     (TypeError, "pc is of type str", lambda it: setattr(it, "pc", "4")),
     (ValueError, "words has 31 items, not 32", lambda it: setattr(it, "words", [0] * 31)),
     (TypeError, "words is of type str", lambda it: setattr(it, "words", "0" * 32)),
@@ -74,6 +86,18 @@ MESSAGES: Tuple[Refusal, ...] = (
     (RspError, "4 has no breakpoint", lambda it: it.drop_break(4)),
     (RspError, "fewer states than 1", lambda it: it.back(1)),
     (TypeError, "reg: number is of type str", lambda it: it.reg("$2")),
+    (RspError, "reg: number is 32, not 0 to 31", lambda it: it.reg(32)),
+    (RspError, "set_reg: number is 32, not 0 to 31", lambda it: it.set_reg(32, 0)),
+    (RspError, "set_reg: value is -1, not 0 to 4294967295", lambda it: it.set_reg(1, -1)),
+    (RspError, "set_reg: register 0 holds 0, and not 3", lambda it: it.set_reg(0, 3)),
+    (TypeError, "set_reg: value is of type float", lambda it: it.set_reg(1, 1.0)),
+    (RspError, "set_vreg: number is 32, not 0 to 31", lambda it: it.set_vreg(32, [0] * 8)),
+    (ValueError, "vectors[3] has 7 items, not 8", lambda it: it.set_vreg(3, [0] * 7)),
+    (ValueError, "lane 2 is 65536", lambda it: it.set_vreg(3, [0, 0, 65536, 0, 0, 0, 0, 0])),
+    (TypeError, "vectors[3] is of type str", lambda it: it.set_vreg(3, "01234567")),
+    (TypeError, "words[1] is of type float", lambda it: it.load_words(rsp.DMEM, 0, [1, 2.0])),
+    (RspError, "words[2] is 4294967296", lambda it: it.load_words(rsp.DMEM, 0, iter([1, 2, 1 << 32]))),
+    (TypeError, "words is of type int", lambda it: it.load_words(rsp.DMEM, 0, 5)),
     (RspError, "2 words from 4092", lambda it: it.listing(4092, 2)),
     (TypeError, "text is of type bytes", lambda it: ANY.assemble(b"nop")),
     (rsp.AssemblyError, "fault 11 UnknownName line 2: foo $1", lambda it: rsp.assemble("nop\n foo $1")),
@@ -138,6 +162,20 @@ def test_copies() -> None:
         assert made == one and isinstance(made.words, type(one.words))
         made.pc = 16
         assert one.pc == 0 and made != one
+
+
+def test_subclass() -> None:
+    """One of State has its fields, and is taken where a state is."""
+    one = Mine(pc=8, words=[0, 5] + [0] * 30)
+    assert (one.pc, one.npc, one.total(), repr(one)) == (8, 12, 5, "<Mine: pc 008, npc 00c>")
+    machine = rsp.Rsp()
+    machine.set(one)
+    assert machine.get() == one and one == machine.get() and not machine.get().diff(one)
+    assert Mine.from_buffer_copy(machine.get()) == one and one != State()
+    assert [it.name for it in State().diff(one)] == ["pc", "npc", "$1"]
+    more: Any = type("More", (State,), {"_fields_": [("count", ctypes.c_uint32)]})(pc=4, count=7)
+    assert (more.count, more.npc) == (7, 8) and more != State(pc=4)
+    raised(TypeError, "diff: other is of type Flags, not Mine", State.diff, one, rsp.Flags())
 
 
 def test_differences() -> None:
@@ -214,13 +252,10 @@ def test_copied_and_closed_machine() -> None:
         made.set_pc(8)
         assert (made.regs().pc, machine.regs().pc) == (8, 0)
         made.close()
-    # While a call in another thread is at work, the handle holds no machine.
-    held, machine._handle.at = machine._handle.at, None
-    raised(RspError, "a call in another thread has it", machine.step)
-    machine._handle.at = held
+    raised(TypeError, "a machine can't be pickled", pickle.dumps, machine)
     machine.close()
     raised(RspError, "copy: the machine is closed", copy.copy, machine)
-    raised(RspError, "the machine is closed", machine.step)
+    raised(RspError, "step: the machine is closed", machine.step)
 
 
 def test_pickled_errors() -> None:

@@ -6,6 +6,7 @@ They fail if a layout or a call differs from crates/rsp_c, a test fails, or carg
 import os
 import re
 import shutil
+import sys
 import tempfile
 from pathlib import Path
 from typing import Any, Callable, Iterator
@@ -50,7 +51,7 @@ def cargo(library: Path) -> Iterator[Cargo]:
 def test_cargo_test(cargo: Cargo) -> None:
     ran = cargo("test", "--offline", "-q")
     counts = [int(it) for it in re.findall(r"test result: ok\. (\d+) passed; 0 failed", ran.stdout)]
-    assert ran.returncode == 0 and sum(counts) >= 18 and "warning" not in ran.stdout, ran.stdout
+    assert ran.returncode == 0 and sum(counts) >= 21 and "warning" not in ran.stdout, ran.stdout
 
 
 @in_crate
@@ -60,7 +61,28 @@ def test_cargo_doc(cargo: Cargo) -> None:
 
 
 @in_crate
-@pytest.mark.parametrize("name", sorted(it.stem for it in (CRATE / "examples").glob("*.rs")))
+@pytest.mark.needs("cc", "python:numpy")
+def test_campaign(cargo: Cargo, folder: Path, monkeypatch: pytest.MonkeyPatch) -> None:
+    """The example of a campaign's emulator: what agrees, a planted fault, an instruction that it lacks."""
+    from lib.campaigns import counts_of, said_of
+
+    monkeypatch.setenv("PATH", f"{Path(sys.executable).parent}:{os.environ['PATH']}")  # the Python with numpy
+    made = cargo("build", "--offline", "-q", "--example", "cases", CARGO_TARGET_DIR=folder / "target")
+    assert (made.returncode, made.stdout) == (0, "")
+    emulator = folder / "target/debug/examples/libcases.so"
+    said = said_of(folder / "out", emulator, "--instructions", "lui,sw,sra,vadd", "--cases", 300)
+    counts = counts_of(folder / "out")
+    assert [counts[it] for it in ("lui", "sw")] == [(300, 0, 0)] * 2, said
+    assert 50 < counts["sra"][1] < 300, "where the sign is set"
+    assert re.search(r"(?m)^Not there, .*VADD 300 of 300 cases|^VADD +300 +0 +300 ", said), said
+
+
+def test_examples() -> None:
+    assert {it.stem for it in (CRATE / "examples").glob("*.rs")} == {*EXAMPLES, "cases"}
+
+
+@in_crate
+@pytest.mark.parametrize("name", EXAMPLES)
 def test_example(name: str, cargo: Cargo) -> None:
     ran = cargo(*RUN, name)
     assert (ran.returncode, ran.stdout) == (0, EXAMPLES[name])

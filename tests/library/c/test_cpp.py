@@ -1,0 +1,63 @@
+"""rsp.hpp, the class of C++17 over rsp.h (machine.cpp), and rsp.h in C++ under strict warnings.
+
+They fail if a method does something else than its call, a machine is lost or freed twice by a move, or a
+compiler warns.
+"""
+
+from pathlib import Path
+
+import pytest
+
+from lib import TOP
+from lib.library.programs import HERE, passes
+from lib.pages import block_with, page
+from lib.packages import need
+from lib.processes import STRICT, compiled, succeeds
+
+pytestmark = pytest.mark.usefixtures("library")
+LIBRARY = TOP / "library/c/librsp.a"
+WARNINGS = ("-Wpedantic", "-Wconversion", "-Wshadow", "-Wold-style-cast", "-Wzero-as-null-pointer-constant")
+COMPILERS = ("c++", "clang++")
+
+
+def program(folder: Path, source: Path, compiler: str = "c++", standard: str = "c++17") -> Path:
+    need(compiler)
+    words = (f"-std={standard}", *STRICT, *WARNINGS, source, LIBRARY)
+    return compiled(folder / source.stem, *words, compiler=compiler)
+
+
+@pytest.mark.parametrize("standard", ["c++17", "c++20"])
+@pytest.mark.parametrize("compiler", COMPILERS)
+def test_class(compiler: str, standard: str, folder: Path) -> None:
+    passes(program(folder, HERE / "machine.cpp", compiler, standard))
+
+
+@pytest.mark.needs("valgrind")
+def test_class_under_valgrind(folder: Path) -> None:
+    """A machine that is lost, freed twice, or used after its end."""
+    words = ("valgrind", "-q", "--leak-check=full", "--error-exitcode=9")
+    assert "==" not in succeeds(*words, program(folder, HERE / "machine.cpp"))
+
+
+@pytest.mark.parametrize("compiler", COMPILERS)
+@pytest.mark.parametrize("standard", ["c++98", "c++11", "c++17"])
+def test_header(standard: str, compiler: str, folder: Path) -> None:
+    """Empty handles don't make a compiler warn; C++98 has no stdint.h of its own, but the compilers have."""
+    need(compiler)
+    source, strict = folder / "handles.cpp", [it for it in WARNINGS if it != "-Wpedantic"]
+    source.write_text('#include "rsp.h"\nrsp m = RSP_NONE, n = RSP_NONE;\nrsp_bench b = RSP_NONE;\n')
+    compiled(folder / "handles.o", f"-std={standard}", *STRICT, *strict, "-c", source, compiler=compiler)
+
+
+def test_page(folder: Path) -> None:
+    """The program in C++ of EMBEDDING.md prints what the page says."""
+    source = folder / "page.cpp"
+    source.write_text(block_with("docs/EMBEDDING.md", '#include "rsp.hpp"'))
+    wanted = page("docs/EMBEDDING.md").partition('#include "rsp.hpp"')[2].partition("It prints `")[2]
+    assert succeeds(program(folder, source)) == f"{wanted.partition('`')[0]}\n"
+
+
+def test_length() -> None:
+    """The class has at most 60 lines."""
+    text = (TOP / "library/c/rsp.hpp").read_text()
+    assert text[text.index("class rsp::machine") :].partition("\n};\n")[0].count("\n") < 60

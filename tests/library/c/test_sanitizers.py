@@ -1,0 +1,60 @@
+"""The programs in C over the library, and its allocator for WebAssembly, under the sanitizers of gcc.
+
+They fail if the sanitizer of addresses or that of undefined behaviour finds something, or memory that nobody
+freed, or if a program says something else than without them. tests/plugin and tests/program do the same with
+the plugin and with the program in C, tests/library/c/test_runner.py with the runner of vectors.
+"""
+
+from pathlib import Path
+from typing import Tuple
+
+import pytest
+
+from lib import TESTS, TOP
+from lib.library import LOCKSTEP
+from lib.library.programs import HERE, built, passes
+from lib.pages import block_with
+from lib.processes import compiled, succeeds
+from lib.program import ran
+from lib.sanitizers import sanitizers
+from lib.stored import stored
+from rsp_tools.systems import places
+
+pytestmark = [pytest.mark.needs("cc"), pytest.mark.usefixtures("library")]
+
+
+@pytest.fixture
+def words() -> Tuple[str, ...]:
+    if not sanitizers():
+        pytest.skip("the sanitizers of gcc don't run here")
+    return sanitizers()
+
+
+@pytest.mark.parametrize("name", ("calls", "owner", "threads"))
+def test_program(name: str, words: Tuple[str, ...], folder: Path) -> None:
+    passes(built(folder, HERE / f"{name}.c", "-pthread", *words))
+
+
+def test_lockstep(words: Tuple[str, ...], folder: Path) -> None:
+    assert succeeds(built(folder, TOP / "examples/c/lockstep.c", *words)) == LOCKSTEP
+
+
+def test_page(words: Tuple[str, ...], folder: Path) -> None:
+    """The program at the top of EMBEDDING.md."""
+    source = folder / "text.c"
+    source.write_text(block_with("docs/EMBEDDING.md", '#include "rsp.h"'))
+    assert succeeds(built(folder, source, *words)) == "2 steps, $2 is 1234\n"
+
+
+def test_scripts(words: Tuple[str, ...], folder: Path) -> None:
+    """All stored scripts, seven bytes a call."""
+    bench, image = built(folder, HERE / "script.c", *words), folder / "image"
+    for script in stored():
+        image.write_bytes(script.image() or bytes(4194304))
+        assert ran(bench, [7, image, "/dev/null"], script.script) == script.wanted, script
+
+
+def test_allocator(words: Tuple[str, ...], folder: Path) -> None:
+    names = ("-Dmalloc=heap_malloc", "-Drealloc=heap_realloc", "-Dfree=heap_free", "-ffreestanding")
+    part = compiled(folder / "part.o", *words, *names, "-c", places.PARTS / "allocator.c")
+    passes(compiled(folder / "allocator", *words, TESTS / "systems/allocator.c", part))

@@ -1,0 +1,62 @@
+"""How long a call of the library takes at most: what docs/EMBEDDING.md says of the number of its steps.
+
+It fails if so many of the slowest steps that measure.slowest found take longer than the page says, by the
+processor's time, the least of five calls.
+"""
+
+import re
+import time
+from typing import Callable
+
+import pytest
+
+import rsp
+from lib.pages import page
+
+pytestmark = pytest.mark.usefixtures("library")
+TEXT = " ".join(page("docs/EMBEDDING.md").split())
+# 256 rows of 4096 bytes with a skip; the moves to SP_RD_LEN and SP_WR_LEN, and a store.
+LARGEST, DMA_IN, DMA_OUT, STORE = 0xEC8FFFFF, 0x40811000, 0x40811800, 0xAC000000
+
+
+def machine(word: int) -> "rsp.Rsp":
+    """A machine whose IMEM is full of a word, with all that a run can stop at."""
+    made = rsp.Rsp(bytes(8 << 20), depth=256)
+    made.load_words(rsp.IMEM, 0, [word] * 1006 + [0x08000000] + [0] * 17)
+    state = made.get()
+    state.words[1], state.sp[0], state.sp[1] = LARGEST, 8, 0x63248
+    made.set(state)
+    for it in range(16):
+        made.add_break(4092 - 4 * it)  # after the jump back
+    for it in range(8):
+        made.add_watch(64 * it, 64)
+    return made
+
+
+def least(call: Callable[[], object]) -> float:
+    """The processor's milliseconds of a call, the least of five."""
+    taken = []
+    for _ in range(5):
+        began = time.process_time()
+        call()
+        taken.append(1000 * (time.process_time() - began))
+    return min(taken)
+
+
+@pytest.mark.parametrize("word", (DMA_IN, DMA_OUT), ids=("from RDRAM", "to RDRAM"))
+def test_run(word: int) -> None:
+    steps, most = re.findall(r"a `rsp_run` of at most ([\d,]+) steps takes less than (\d+) ms", TEXT)[0]
+    one, count = machine(word), int(steps.replace(",", ""))
+    stops = []
+    assert least(lambda: stops.append(one.run(count))) < int(most)
+    assert all(it.steps == count for it in stops)
+
+
+def test_run_until_move() -> None:
+    steps, most = re.findall(
+        r"a `rsp_run_until_move` of at most ([\d,]+) steps, .*? takes less than (\d+) ms", TEXT
+    )[0]
+    one, count = machine(STORE), int(steps.replace(",", ""))
+    stops = []
+    assert least(lambda: stops.append(one.run_until_move(count, 0, 12))) < int(most)
+    assert all(it.steps == count for it in stops)

@@ -1,0 +1,70 @@
+"""Runs to events, DMAs that a caller moves, the length of the history, and labels."""
+
+import pytest
+
+import rsp
+
+TEXT = """start: ori $1, $0, 0x1f80
+mtc0 $1, $c0
+ori $2, $0, 0x200
+mtc0 $2, $c1
+lui $3, 0x0180
+ori $3, $3, 0x1007
+mfc0 $4, $c6
+transfer: mtc0 $3, $c3
+end: break
+"""
+
+
+@pytest.fixture
+def machine() -> rsp.Rsp:
+    made = rsp.Rsp(bytes(4096), 8)
+    made.load_words(rsp.IMEM, 0, rsp.assemble(TEXT))
+    return made
+
+
+def test_events(machine: rsp.Rsp) -> None:
+    stop = machine.event(6)
+    assert (stop.reason, stop.steps, stop.move, stop.dma) == (rsp.Reason.LIMIT, 6, None, None)
+    assert (stop.status, stop.interrupt, machine.history()) == (0, False, 6)
+    stop = machine.event(5, reads=1 << 6)
+    assert (stop.reason, stop.steps, stop.move) == (rsp.Reason.MOVE, 0, rsp.Move(0x40043000, 6, False, 0))
+    machine.pass_move(5)
+    stop = machine.event(1)
+    assert (stop.reason, stop.move) == (rsp.Reason.DMA, rsp.Move(0x40831800, 3, True, 0x01801007))
+    assert stop.dma == rsp.Dma(rsp.IMEM, 0xF80, 0x200, 8, 2, 24, True)
+
+
+def test_pass_dma(machine: rsp.Rsp) -> None:
+    """It is the step, but for the bytes."""
+    machine.run(7)
+    other = machine.copy()
+    other.load(rsp.IMEM, 0xF80, b"16 bytes to move")
+    machine.load(rsp.IMEM, 0xF80, b"16 bytes to move")
+    assert machine.pass_dma() is rsp.Status.OK and other.step() is rsp.Status.OK
+    assert machine.get() == other.get() and machine.history() == 0
+    assert other.memory(rsp.RDRAM, 0x200, 8) + other.memory(rsp.RDRAM, 0x220, 8) == b"16 bytes to move"
+    assert machine.memory(rsp.RDRAM, 0, 4096) == bytes(4096)
+    with pytest.raises(rsp.RspError, match="pass_dma: the word at pc starts no DMA"):
+        machine.pass_dma()
+    machine.run(1)
+    assert machine.pass_dma() is rsp.Status.HALTED
+
+
+@pytest.mark.parametrize("given", [(0,), (1000001,), (1, 65536), (1, 0, 65536), (1, -1)])
+def test_bad_numbers(given: "tuple[int, ...]", machine: rsp.Rsp) -> None:
+    before = machine.get()
+    with pytest.raises(rsp.RspError) as found:
+        machine.event(*given)
+    assert found.value.status is rsp.Status.OUT_OF_RANGE and machine.get() == before
+
+
+def test_labels() -> None:
+    words = rsp.assemble(TEXT, 0x100)
+    assert words.labels == {"start": 0x100, "transfer": 0x11C, "end": 0x120}
+    assert [*words.labels] == ["start", "transfer", "end"] and rsp.assemble("nop").labels == {}
+    machine = rsp.Rsp()
+    machine.load_words(rsp.IMEM, 0x100, words)
+    machine.set_pc(words.labels["start"])
+    machine.add_break(words.labels["end"])
+    assert machine.run(100).pc == 0x120

@@ -1,0 +1,236 @@
+"""`rsp.waits`, and examples/c/waits.c, on programs that lack a wait, and on programs that lack none.
+
+They fail if an instruction that comes too early isn't named, or another one is. The microcode of microcode/,
+of examples/ and of docs/COOKBOOK.md lacks none.
+"""
+
+import contextlib
+import os
+import re
+import sys
+import textwrap
+from pathlib import Path
+from typing import Dict, Iterator, List, Tuple
+
+import pytest
+
+import rsp
+import rsp.waits
+from lib import TOP
+from lib.library.module import loaded, raised
+from lib.library.programs import built
+from lib.pages import block_with
+from lib.processes import succeeds
+
+# Pieces of the programs. $2 is an address of DMEM, $1 one of RDRAM, $3 the order: 256 bytes.
+BEGIN = "ori $2, $0, 0x400\nori $1, $0, 0x800\nori $3, $0, 255\n"
+GET = "mtc0 $2, $c0\nmtc0 $1, $c1\nmtc0 $3, $c2\n"
+PUT = GET.replace("$c2", "$c3")
+SECOND = "ori $2, $0, 0x500\n"
+THIRD = "ori $2, $0, 0x600\n"
+LOAD, STORE = "lqv $v1[0], 0xf0($2)\n", "sqv $v1[0], 0xf0($2)\n"
+BEFORE = "lqv $v2[0], -16($2)\n"  # of the buffer before
+
+
+def wait(number: int = 6, name: str = "wait") -> str:
+    """A loop until an SP register is 0."""
+    return f"{name}: mfc0 $4, $c{number}\nbne $4, $0, {name}\nnop\n"
+
+
+# Waits by SP_STATUS, whose bit 2 is busy and bit 3 full, and by a branch that leaves the loop.
+STATUS = "wait: mfc0 $4, $c4\nandi $4, $4, {}\nbne $4, $0, wait\nnop\n"
+LEAVES = "wait: mfc0 $4, $c6\nbeq $4, $0, done\nnop\nj wait\nnop\ndone: nop\n"
+# A loop that brings bytes to one of two buffers while it works on those in the other one.
+TURNS = """
+      ori $1, $0, 0x800
+      ori $3, $0, 255
+      ori $8, $0, 4
+      jal fetch
+      ori $2, $0, 0x400
+next: mfc0 $4, $c6
+      bne $4, $0, next
+      ori $5, $2, 0
+      xori $2, $2, 0x100
+      jal fetch
+      addiu $1, $1, 256
+      lqv $v1[0], 0($5)
+      sqv $v1[0], 16($5)
+      addiu $8, $8, -1
+      bne $8, $0, next
+      nop
+      break
+fetch: mtc0 $2, $c0
+      mtc0 $1, $c1
+      jr $31
+      mtc0 $3, $c2
+"""
+
+
+def overlay(waits: str) -> str:
+    """A program that brings 64 bytes to 100 in IMEM, where only `break` is, and jumps there."""
+    lines = f"ori $2, $0, 0x1100\nori $1, $0, 0x800\nori $3, $0, 63\n{GET}{waits}j 0x100\nnop\n"
+    return lines + "break\n" * (0x144 // 4 - len(lines.splitlines()))
+
+
+RIGHT = {
+    "one transfer": BEGIN + GET + wait() + LOAD,
+    "other moves beside it": BEGIN + "mfc0 $5, $c7\n" + GET + "mfc0 $5, $c7\nmtc0 $0, $c7\n" + wait() + LOAD,
+    "a branch that leaves the loop": BEGIN + GET + LEAVES + LOAD,
+    "busy of SP_STATUS": BEGIN + GET + STATUS.format(4) + LOAD,
+    "busy and full of SP_STATUS": BEGIN + GET + SECOND + GET + STATUS.format(12) + LOAD,
+    "two transfers": BEGIN + GET + SECOND + GET + wait() + LOAD + BEFORE,
+    "the first of two": BEGIN + GET + SECOND + GET + wait(5) + BEFORE,
+    "three transfers": BEGIN + GET + SECOND + GET + wait(5) + THIRD + GET + wait(6, "end") + LOAD,
+    "a load in the delay slot": BEGIN + GET + wait().replace("nop\n", LOAD) + STORE,
+    "a read in the delay slot": BEGIN + GET + "mfc0 $4, $c6\nwait: bne $4, $0, wait\nmfc0 $4, $c6\n" + LOAD,
+    "bytes beside it": BEGIN + GET + "lqv $v1[0], 256($2)\nlrv $v1[0], 0($2)\nsw $1, 0x3fc($0)\n",
+    "a source that is loaded": BEGIN + PUT + LOAD + wait() + STORE,
+    "an overlay": overlay(wait()),
+    "two buffers in turn": TURNS,
+    "a signal before the wait": BEGIN + GET + STATUS.format(0x80).replace("wait", "end") + wait() + LOAD,
+}
+Named = List[Tuple[str, str]]  # instructions, and what they do too early
+LOADS = [("lqv $v1[0], 240($2)", "loads")]
+STORES = [("sqv $v1[0], 240($2)", "stores")]
+WRITES = [(f"mtc0 ${n}, $c{to}", "writes a DMA register") for n, to in ((2, 0), (1, 1), (3, 2))]
+WRONG: Dict[str, Tuple[str, Named]] = {
+    "no wait": (BEGIN + GET + LOAD, LOADS),
+    "other moves": (BEGIN + GET + "mfc0 $5, $c7\nmtc0 $5, $c11\nmfc0 $5, $c6\n" + LOAD, LOADS),
+    "a store into what comes": (BEGIN + GET + STORE + wait(), STORES),
+    "a store into what goes": (BEGIN + PUT + STORE + wait(), STORES),
+    "the semaphore": (BEGIN + GET + wait(7) + LOAD, LOADS),
+    "a register of the DPC": (BEGIN + GET + wait(11) + LOAD, LOADS),
+    "full for busy": (BEGIN + GET + wait(5) + LOAD, LOADS),
+    "full of SP_STATUS for busy": (BEGIN + GET + STATUS.format(8) + LOAD, LOADS),
+    "a signal of SP_STATUS": (BEGIN + GET + STATUS.format(0x80) + LOAD, LOADS),
+    "a branch the wrong way": (BEGIN + GET + wait().replace("bne", "beq") + LOAD, LOADS),
+    "a branch that leaves the loop the wrong way": (BEGIN + GET + LEAVES.replace("beq", "bne") + LOAD, LOADS),
+    "a read without a branch": (BEGIN + GET + "mfc0 $4, $c6\nnop\nnop\n" + LOAD, LOADS),
+    "a branch on another register": (BEGIN + GET + wait().replace("bne $4", "bne $6") + LOAD, LOADS),
+    "a branch to what comes next": (BEGIN + GET + "mfc0 $4, $c6\nbne $4, $0, go\nnop\ngo: " + LOAD, LOADS),
+    "the first transfer alone": (BEGIN + GET + wait() + SECOND + GET + LOAD, LOADS),
+    "the first of two alone": (BEGIN + GET + SECOND + GET + wait(5) + LOAD, LOADS),
+    "a wait before the order": (BEGIN + wait() + GET + LOAD, LOADS),
+    "a third order": (BEGIN + GET + SECOND + GET + THIRD + GET + wait(), WRITES),
+    "an overlay": (overlay(""), [("nop", "is fetched")]),
+    "two buffers in turn": (
+        re.sub(r"next: .*\n.*\n", "next:\n", TURNS),
+        [("lqv $v1[0], 0($5)", "loads"), ("sqv $v1[0], 16($5)", "stores"), *WRITES],
+    ),
+}
+
+
+def named(program: str) -> Named:
+    """The instructions that `missing` names, in the order of their addresses."""
+    found = sorted(rsp.waits.missing(loaded(program + "break\n"), 2000), key=lambda it: it.place)
+    return [*dict.fromkeys((it.text, it.what) for it in found)]
+
+
+@pytest.mark.parametrize("name", RIGHT)
+def test_right(name: str) -> None:
+    assert named(RIGHT[name]) == []
+
+
+@pytest.mark.parametrize("name", WRONG)
+def test_wrong(name: str) -> None:
+    program, wanted = WRONG[name]
+    assert sorted(named(program)) == sorted(wanted)
+
+
+def test_what_is_told() -> None:
+    (it,) = rsp.waits.missing(loaded(BEGIN + GET + LOAD + "break\n"))
+    assert it.transfer == (0x14, rsp.DMEM, 0x400, 256, False) and it.read is None
+    told = "018: lqv $v1[0], 240($2): loads before the end of the transfer of 014, to DMEM 400 to 4ff"
+    assert str(it) == told
+    (it,) = rsp.waits.missing(loaded(BEGIN + PUT + wait(5) + STORE + "break\n"))
+    told = "024: sqv $v1[0], 240($2): stores before the end of the transfer of 014, from DMEM 400 to 4ff"
+    assert str(it) == f"{told} if it is under way at the read of 018"
+
+
+def test_order_after_another_move() -> None:
+    second = GET.replace("mtc0 $3, $c2", "mfc0 $5, $c7\nmtc0 $3, $c2")
+    (it,) = rsp.waits.missing(loaded(BEGIN + GET + SECOND + second + LOAD + "break\n"))
+    assert (it.transfer.place, it.transfer.address, it.place) == (0x28, 0x500, 0x2C)
+
+
+def test_rows_and_the_end_of_dmem() -> None:
+    """Two rows of 16 bytes from ff0 on are bytes ff0 to 00f."""
+    rows = "ori $2, $0, 0xff0\nlui $3, 0x80\nori $3, $3, 0x100f\n" + GET
+    for line, wanted in {
+        "lw $5, 12($0)": 1,
+        "lw $5, 16($0)": 0,
+        "lb $5, 0xff0($0)": 1,
+        "lb $5, 0xfef($0)": 0,
+    }.items():
+        assert len(list(rsp.waits.missing(loaded(f"{rows}{line}\nbreak\n")))) == wanted, line
+
+
+def test_machine_afterwards() -> None:
+    """It has made the steps, and neither its breakpoints nor a limit change what is found up to it."""
+    machine = loaded(BEGIN + GET + LOAD + "break\n")
+    machine.add_break(4)
+    machine.add_break(0x18)
+    assert len(list(rsp.waits.missing(machine, 6))) == 0 and machine.regs().pc == 0x18
+    machine = loaded(BEGIN + GET + LOAD + "break\n")
+    assert len(list(rsp.waits.missing(machine, 7))) == 1 and machine.regs().pc == 0x1C
+    machine = loaded(BEGIN + GET + LOAD + "break\n")
+    machine.add_break(0x18)
+    assert len(list(rsp.waits.missing(machine))) == 1 and machine.step() is rsp.Status.HALTED
+    assert list(rsp.waits.missing(machine)) == []
+    raised(TypeError, "missing: limit is of type str", list, rsp.waits.missing(machine, "5"))  # type: ignore
+
+
+def runs(script: str) -> Iterator[rsp.waits.Missing]:
+    """What is missing in the runs of a script, by the module."""
+    machine, lines = rsp.Rsp(bytes(1 << 16)), iter(re.sub(" *#.*", "", script).splitlines())
+    for line in lines:
+        word, *given = line.split() or [""]
+        numbers = [int(it, 0) for it in given if re.fullmatch(r"0|[1-9]\d*|0x[0-9a-f]+", it)]
+        if word == "asm":
+            block = "\n".join(iter(lambda: next(lines), "end"))
+            with contextlib.suppress(rsp.AssemblyError):  # one loads nothing, to show that
+                machine.load_words(rsp.IMEM, numbers[0], rsp.assemble(block, numbers[0]))
+        elif word == "load":
+            machine.load(rsp.Bank[given[0].upper()], numbers[0], bytes.fromhex(given[2]))
+        elif word in ("write", "read", "pc", "task") and (word, *numbers) != ("task", 0x104):
+            names = {"pc": "set_pc", "task": "start_task"}
+            getattr(machine, names.get(word, word))(*numbers)
+        elif word in ("run", "step"):
+            yield from rsp.waits.missing(machine, *(numbers or [1]))
+
+
+def scripts() -> List[Path]:
+    return [*sorted(TOP.glob("microcode/*.rsp")), *sorted(TOP.glob("examples/*.rsp"))]
+
+
+@pytest.mark.parametrize("path", scripts(), ids=lambda it: it.stem)
+def test_microcode(path: Path) -> None:
+    assert list(runs(path.read_text())) == []
+
+
+def test_cookbook(folder: Path) -> None:
+    """The code of the page names the load that it says, in the loop of two buffers without its wait."""
+    name = "docs/COOKBOOK.md"
+    code, told = (block_with(name, "import rsp, rsp.waits", more) for more in (0, 1))
+    block = block_with(name, "        jal   fetch             # the first block")
+    text = "ori $1, $0, 0x800\nori $7, $0, 0xc00\n" + block.replace("# work on it", "\nlw $5, 0($4)\n#")
+    env = {**os.environ, "PYTHONPATH": str(TOP / "library/python")}
+    for program, wanted in (text, []), (re.sub(r"(?m)^(next:).*\n.*\n", r"\1\n", text), [told.strip()]):
+        (folder / "text.s").write_text(program)
+        said = succeeds(sys.executable, "-c", textwrap.dedent(code), cwd=folder, env=env)
+        assert said.splitlines()[:1] == wanted
+
+
+@pytest.mark.needs("cc")
+def test_in_c(folder: Path) -> None:
+    """The example in C names the same of all these programs."""
+    example = TOP / "examples/c/waits.c"
+    assert len(example.read_text().splitlines()) <= 120
+    made, text = built(folder, example), folder / "text.s"
+    right: Dict[str, Tuple[str, Named]] = {f"right: {name}": (text, []) for name, text in RIGHT.items()}
+    for name, (program, wanted) in {**right, **WRONG}.items():
+        text.write_text(program + "break\n")
+        told = re.findall(
+            r"(?m)^\w+: (.*): (.*) before the end of the transfer of \w+$", succeeds(made, text)
+        )
+        assert sorted({*told}) == sorted(wanted), name
