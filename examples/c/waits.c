@@ -6,23 +6,21 @@
 
 enum { AHEAD = 1000, LIMIT = 100000, READS = 1 << 4 | 1 << 5 | 1 << 6, WRITES = 15 };
 typedef struct transfer { uint32_t place, bank, address, length, to_rdram; } transfer; /* `place`: of the MTC0 that orders it */
+typedef struct early { const char *what; uint32_t place; } early; /* what an instruction does too early, and the `place` of the transfer */
 typedef struct seen { rsp_state state; uint8_t dmem[4096]; } seen;
 
-/* A machine on its way, and the last transfers that are under way. By instruction: where a copy has read, what comes too early, and for which one. */
+/* A machine on its way, with the last transfers that are under way. By instruction: what comes too early, and where a copy has read. A copy has the walk
+ * `whose` it is, and has parted once its way is another one. */
 typedef struct walk {
     rsp m;
     transfer orders[2];
-    uint32_t count, is_copy, of[1024];
-    const char *what[1024];
-    uint8_t asked[1024];
+    struct walk *whose;
+    uint32_t count, has_parted, asked[1024];
+    early found[1024];
 } walk;
 
 static rsp twin = RSP_NONE; /* makes a step once more, over other bytes */
-
-static void name(walk *w, const transfer *t, uint32_t pc, const char *what)
-{
-    w->what[pc / 4] = what, w->of[pc / 4] = t->place;
-}
+static int step(walk *w);
 
 static void look(rsp *m, seen *out)
 {
@@ -34,47 +32,53 @@ static void name_touch(walk *w, const transfer *t, const seen *before, const see
 {
     seen other = *before;
     uint32_t n, at, pc = before->state.pc;
+    early *found = &w->found[pc / 4];
     for (n = 0; n < t->length; n++) other.dmem[(t->address + n) % 4096] ^= 0xff;
     rsp_set(&twin, &other.state), rsp_load(&twin, RSP_DMEM, 0, other.dmem, sizeof other.dmem);
     rsp_load_words(&twin, RSP_IMEM, pc, &word, 1), rsp_step(&twin);
     look(&twin, &other);
-    if (!t->to_rdram && memcmp(&other.state, &after->state, sizeof other.state) != 0) name(w, t, pc, "loads");
-    for (n = 0, at = t->address; n < t->length; n++, at = (at + 1) % 4096) if (other.dmem[at] == after->dmem[at]) name(w, t, pc, "stores");
+    if (!t->to_rdram && memcmp(&other.state, &after->state, sizeof other.state) != 0) *found = (early){ "loads", t->place };
+    for (n = 0, at = t->address; n < t->length; n++, at = (at + 1) % 4096) if (other.dmem[at] == after->dmem[at]) *found = (early){ "stores", t->place };
 }
 
-static int step(walk *w);
+/* Takes over what a copy has found since its last read. */
+static void take(walk *w, walk *copy)
+{
+    for (uint32_t n = 0; n < 1024; n++) if (copy->found[n].what) w->found[n] = copy->found[n];
+    memset(copy->found, 0, sizeof copy->found);
+}
 
-/* Follows a copy that is answered that the last transfers are under way, until it reads where it has read. What comes before its way parts from the
- * machine's doesn't count, since the program tests the answer there. */
+/* Follows a copy that is answered that the last transfers are under way. It has waited if its way has parted and it reads where it has read. What comes
+ * between a read and the branch at which the ways part doesn't count, because the program tests the answer there. */
 static void follow(walk *w, uint32_t last)
 {
-    walk copy = { RSP_NONE, { w->orders[w->count - last], w->orders[1] }, last, 1, { 0 }, { NULL }, { 0 } };
+    walk copy = { .orders = { w->orders[w->count - last], w->orders[1] }, .whose = w, .count = last };
     rsp beside = RSP_NONE;
     rsp_scalars mine, its;
-    uint32_t n, has_parted = rsp_copy(&copy.m, &w->m) != RSP_OK || rsp_copy(&beside, &w->m) != RSP_OK;
-    for (n = 0; n < AHEAD && step(&copy); n++) {
-        if (has_parted || rsp_step(&beside) != RSP_OK) continue;
+    uint32_t n, has_failed = rsp_copy(&copy.m, &w->m) != RSP_OK || rsp_copy(&beside, &w->m) != RSP_OK;
+    for (n = 0; !has_failed && n < AHEAD && step(&copy); n++) {
+        if (copy.has_parted || rsp_step(&beside) != RSP_OK) continue;
         rsp_regs(&copy.m, &mine), rsp_regs(&beside, &its);
-        if ((has_parted = mine.pc != its.pc)) memset(copy.what, 0, sizeof copy.what);
+        if ((copy.has_parted = mine.pc != its.pc)) memset(copy.found, 0, sizeof copy.found);
     }
-    for (n = 0; n < 1024; n++) if (copy.what[n]) w->what[n] = copy.what[n], w->of[n] = copy.of[n];
-    rsp_free(&copy.m), rsp_free(&beside);
+    take(w, &copy), rsp_free(&copy.m), rsp_free(&beside);
 }
 
 /* A move of an SP register. A write of SP_RD_LEN or SP_WR_LEN orders a transfer; a read shows whether one is under way. Answers as `step`. */
 static int make_move(walk *w, const rsp_move *at)
 {
     uint32_t n, is_full = w->count > 1, bytes = ((at->value >> 12 & 255) + 1) * (((at->value & 0xfff) | 7) + 1);
-    if (at->writes && is_full) name(w, &w->orders[1], at->stop.pc, "writes a DMA register");
+    if (at->writes && is_full) w->found[at->stop.pc / 4] = (early){ "writes a DMA register", w->orders[1].place };
     if (at->writes && at->number > 1) {
         rsp_peek(&w->m, 0, &n);
         if (is_full) w->orders[0] = w->orders[w->count = 1];
         w->orders[w->count++] = (transfer){ at->stop.pc, n >> 12 & 1, n & 0xfff, bytes < 4096 ? bytes : 4096, at->number == 3 };
     }
-    if (!at->writes && w->is_copy) {
+    if (!at->writes && w->whose) {
+        take(w->whose, w);
         rsp_peek(&w->m, at->number, &n);
         n |= at->number == 4 ? 4 | is_full << 3 : at->number == 5 ? is_full : 1;
-        return !w->asked[at->stop.pc / 4]++ && rsp_pass(&w->m, n) == RSP_OK;
+        return !(w->asked[at->stop.pc / 4]++ && w->has_parted) && rsp_pass(&w->m, n) == RSP_OK;
     }
     for (n = 1; !at->writes && n <= w->count; n++) follow(w, n);
     if (!at->writes) w->count = 0;
@@ -87,12 +91,9 @@ static int step(walk *w)
     seen before, after;
     rsp_move at;
     uint32_t n, word, pc;
-    look(&w->m, &before), pc = before.state.pc;
-    rsp_memory_words(&w->m, RSP_IMEM, pc, &word, 1);
-    for (n = 0; n < w->count; n++) {
-        const transfer *t = &w->orders[n];
-        if (t->bank == RSP_IMEM && !t->to_rdram && (pc - t->address) % 4096 < t->length) name(w, t, pc, "is fetched");
-    }
+    look(&w->m, &before), pc = before.state.pc, rsp_memory_words(&w->m, RSP_IMEM, pc, &word, 1);
+    for (const transfer *t = w->orders; t < w->orders + w->count; t++)
+        if (t->bank == RSP_IMEM && !t->to_rdram && (pc - t->address) % 4096 < t->length) w->found[pc / 4] = (early){ "is fetched", t->place };
     rsp_run_until_move(&w->m, 1, READS, WRITES, &at);
     if (at.stop.steps == 0) return at.stop.reason == RSP_AT_MOVE && make_move(w, &at);
     look(&w->m, &after);
@@ -112,9 +113,8 @@ int main(int argc, char **argv)
     if (rsp_new(&w.m, image, sizeof image, 0) != RSP_OK || rsp_new(&twin, image, 64, 0) != RSP_OK) return 2;
     rsp_load_words(&w.m, RSP_IMEM, 0, words, out.count);
     for (n = 0; n < LIMIT && step(&w); n++) continue;
-    for (n = 0; n < 1024; n++) {
-        if (!w.what[n] || rsp_listing(&w.m, 4 * n, &line, 1) != RSP_OK) continue;
-        printf("%03x: %s: %s before the end of the transfer of %03x\n", (unsigned)(4 * n), line.text, w.what[n], (unsigned)w.of[n]);
-    }
+    for (n = 0; n < 1024; n++)
+        if (w.found[n].what && rsp_listing(&w.m, 4 * n, &line, 1) == RSP_OK)
+            printf("%03x: %s: %s before the end of the transfer of %03x\n", (unsigned)(4 * n), line.text, w.found[n].what, (unsigned)w.found[n].place);
     return 0;
 }

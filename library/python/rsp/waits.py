@@ -15,14 +15,15 @@ The rules are ours:
   shows that it is done.
 - At such a read a console may answer that all transfers are done, that the last one is under way, or that the
   last two are. The machine goes on as after the first answer. For each other one a copy goes on, and gets the
-  same answer wherever it reads. It has waited as soon as it reads again at an address where it has read; else
-  it is followed for AHEAD steps. What comes before the branch at which its way parts from the machine's
-  doesn't count, since the program tests the answer there.
+  same answer wherever it reads. Once its way has parted from the machine's, it has waited as soon as it reads
+  again at an address where it has read; else it is followed for AHEAD steps. What comes between a read and
+  the branch at which the ways part doesn't count, because the program tests the answer there.
 - While a transfer is under way, no instruction loads a byte that it brings, stores a byte that it brings or
   takes, or is fetched from what it brings.
 - One more transfer may be ordered while one is under way. While two are, nothing writes SP registers 0 to 3.
 
-What the CPU orders, and a transfer that is under way when the program ends, are left out.
+What the CPU orders is left out. A transfer that is under way when the program ends is named only if it is
+asked for, because the CPU may be what waits for it.
 """
 
 from typing import Iterator, List, NamedTuple, Optional, Sequence, Set, Tuple
@@ -69,10 +70,11 @@ class Transfer(NamedTuple):
 
 class Missing(NamedTuple):
     """An instruction before which a wait is missing: the `transfer`, and the instruction by its address
-    `place` and its `text`. `what` it does is `loads`, `stores`, `is fetched` or `writes a DMA register`.
+    `place` and its `text`. `what` it does is `loads`, `stores`, `is fetched`, `writes a DMA register` or
+    `ends`.
 
-    `read` is None, or the address of a read of an SP register after which it happens if a transfer is then
-    under way.
+    `read` is None, or the address of the last read of an SP register before it, if it happens only where the
+    transfer is then under way.
     """
 
     transfer: Transfer
@@ -89,12 +91,14 @@ class Missing(NamedTuple):
 class _Walk:
     """A machine on its way, and the transfers that are under way, in their order.
 
-    `read` is the address of the read after which this is a copy with another answer than the machine's. The
-    twin shows which bytes an instruction touches: it makes the same step over other bytes.
+    `read` is None, or the address of the last read of a copy, which gets another answer than the machine. A
+    copy has made so many `reads`, and `has_parted` says whether its way is another one than the machine's.
+    The twin shows which bytes an instruction touches: it makes the same step over other bytes.
     """
 
     def __init__(self, machine: Rsp, twin: Rsp, transfers: Sequence[Transfer], read: Optional[int]) -> None:
         self.machine, self.transfers = machine, [*transfers]
+        self.has_parted, self.reads = False, 0
         self._twin, self._read = twin, read
         self._asked: Set[int] = set()
         self._code = machine.memory_words(IMEM, 0, 1024)
@@ -113,6 +117,8 @@ class _Walk:
             more, goes_on = self._touched(pc, word, word >> 26 in _STORES)
         else:
             more, goes_on = [], self.machine.step() is Status.OK
+        if self.transfers and self.machine.peek(_STATUS) & 1:
+            more, goes_on = more + [self._named(it, pc, "ends") for it in self.transfers], False
         return found + more, goes_on
 
     def _named(self, transfer: Transfer, pc: int, what: str) -> Missing:
@@ -149,9 +155,10 @@ class _Walk:
             found = [it for count in range(len(self.transfers)) for it in self._followed(pc, count + 1)]
             self.transfers.clear()
             return found, self.machine.step() is Status.OK
-        if pc in self._asked:
+        if pc in self._asked and self.has_parted:
             return [], False
         self._asked.add(pc)
+        self._read, self.reads = pc, self.reads + 1
         is_full = len(self.transfers) > 1
         status = self.machine.peek(_STATUS) | 4 | 8 * is_full
         self.machine.pass_move({_STATUS: status, _FULL: is_full}.get(move.number, 1))
@@ -161,15 +168,19 @@ class _Walk:
         """What is missing if the last `count` transfers are still under way at a read."""
         copy = _Walk(self.machine.copy(), self._twin, self.transfers[-count:], pc)
         found: List[Missing] = []
+        untested: List[Missing] = []  # what is missing since the last read
         beside: Optional[Rsp] = self.machine.copy()  # until the ways part
         for _ in range(AHEAD):
+            reads = copy.reads
             more, goes_on = copy.step()
-            found += more
+            if copy.reads > reads:
+                found, untested = found + untested, []
+            untested += more
             if beside and beside.step() is Status.OK and beside.regs().pc != copy.machine.regs().pc:
-                found, beside = [], None
+                untested, beside, copy.has_parted = [], None, True
             if not goes_on:
                 break
-        return found
+        return found + untested
 
     def _written(self, pc: int, move: Move) -> List[Missing]:
         full = self.transfers[1:]
@@ -184,12 +195,14 @@ class _Walk:
         return found
 
 
-def missing(machine: Rsp, limit: int = 1000000) -> Iterator[Missing]:
+def missing(machine: Rsp, limit: int = 1000000, at_end: bool = False) -> Iterator[Missing]:
     """Makes up to `limit` steps, and yields each instruction before which a wait is missing, once for each
-    MTC0 that orders its transfer.
+    MTC0 that orders its transfer. With `at_end` the instruction that halts the machine while a transfer is
+    under way is one too.
 
-    The end is a halt, or a reserved word; breakpoints and watches don't count. A step takes some microseconds
-    while a transfer is under way.
+    The end is a halt, or a reserved word; breakpoints and watches don't count. A program that never ends
+    stops at the limit without a word: `machine.peek(4) & 1` is 1 if it has halted. A step takes some
+    microseconds while a transfer is under way.
     """
     (left,) = _in_words.integers("missing", (limit,))
     twin = Rsp()
@@ -205,7 +218,7 @@ def missing(machine: Rsp, limit: int = 1000000) -> Iterator[Missing]:
             left -= 1
             for it in found:
                 key = it.transfer.place, it.place, it.what
-                if key not in told:
+                if key not in told and (at_end or it.what != "ends"):
                     told.add(key)
                     yield it
             goes_on = goes_on and bool(walk.transfers)

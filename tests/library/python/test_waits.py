@@ -10,7 +10,7 @@ import re
 import sys
 import textwrap
 from pathlib import Path
-from typing import Dict, Iterator, List, Tuple
+from typing import Dict, Iterator, List, Optional, Tuple
 
 import pytest
 
@@ -65,6 +65,23 @@ fetch: mtc0 $2, $c0
       mtc0 $3, $c2
 """
 
+# A routine that orders once no order is pending, as libraries of microcode have it, called for two buffers.
+ROUTINE = f"""
+{BEGIN}jal fetch
+nop
+{SECOND}jal fetch
+nop
+{{}}{LOAD}{{}}{THIRD}jal fetch
+nop
+{wait(6, "end")}break
+fetch: mfc0 $4, $c5
+bne $4, $0, fetch
+mtc0 $2, $c0
+mtc0 $1, $c1
+jr $31
+mtc0 $3, $c2
+"""
+
 
 def overlay(waits: str) -> str:
     """A program that brings 64 bytes to 100 in IMEM, where only `break` is, and jumps there."""
@@ -87,6 +104,7 @@ RIGHT = {
     "a source that is loaded": BEGIN + PUT + LOAD + wait() + STORE,
     "an overlay": overlay(wait()),
     "two buffers in turn": TURNS,
+    "a routine that waits for full": ROUTINE.format(wait(), BEFORE),
     "a signal before the wait": BEGIN + GET + STATUS.format(0x80).replace("wait", "end") + wait() + LOAD,
 }
 Named = List[Tuple[str, str]]  # instructions, and what they do too early
@@ -101,6 +119,29 @@ WRONG: Dict[str, Tuple[str, Named]] = {
     "the semaphore": (BEGIN + GET + wait(7) + LOAD, LOADS),
     "a register of the DPC": (BEGIN + GET + wait(11) + LOAD, LOADS),
     "full for busy": (BEGIN + GET + wait(5) + LOAD, LOADS),
+    "full for busy, and a wait at the end": (BEGIN + GET + wait(5) + LOAD + wait(6, "end"), LOADS),
+    "full for busy in each turn": (
+        TURNS.replace("$c6", "$c5").replace("break", wait(6, "end") + "break"),
+        [("lqv $v1[0], 0($5)", "loads"), ("sqv $v1[0], 16($5)", "stores")],
+    ),
+    "a routine that waits for full": (
+        ROUTINE.format("", BEFORE),
+        [*LOADS, ("lqv $v2[0], -16($2)", "loads")],
+    ),
+    "one buffer for what goes in each turn": (
+        BEGIN
+        + "ori $8, $0, 3\nturn: "
+        + STORE
+        + wait(5)
+        + PUT
+        + "bne $8, $0, turn\naddiu $8, $8, -1\n"
+        + wait(6, "end"),
+        STORES,
+    ),
+    "a branch to the next line, and a wait at the end": (
+        BEGIN + GET + "mfc0 $4, $c6\nbne $4, $0, go\nnop\ngo: " + LOAD + wait(6, "end"),
+        LOADS,
+    ),
     "full of SP_STATUS for busy": (BEGIN + GET + STATUS.format(8) + LOAD, LOADS),
     "a signal of SP_STATUS": (BEGIN + GET + STATUS.format(0x80) + LOAD, LOADS),
     "a branch the wrong way": (BEGIN + GET + wait().replace("bne", "beq") + LOAD, LOADS),
@@ -145,6 +186,20 @@ def test_what_is_told() -> None:
     (it,) = rsp.waits.missing(loaded(BEGIN + PUT + wait(5) + STORE + "break\n"))
     told = "024: sqv $v1[0], 240($2): stores before the end of the transfer of 014, from DMEM 400 to 4ff"
     assert str(it) == f"{told} if it is under way at the read of 018"
+    (it,) = rsp.waits.missing(loaded(BEGIN + GET + STATUS.format(0x80) + wait(5, "next") + LOAD + "break\n"))
+    assert it.read == 0x28  # the last one before it
+
+
+@pytest.mark.parametrize("waits, read", [("", None), (wait(5), 0x18)])
+@pytest.mark.parametrize("order", [GET, PUT])
+@pytest.mark.parametrize("end", ["break", "ori $5, $0, 2\nmtc0 $5, $c4"])
+def test_end(end: str, order: str, waits: str, read: Optional[int]) -> None:
+    """Only if it is asked for, an end while a transfer is under way."""
+    program = BEGIN + order + waits + end + "\n"
+    assert list(rsp.waits.missing(loaded(program))) == []
+    (it,) = rsp.waits.missing(loaded(program), at_end=True)
+    assert (it.transfer.place, it.what, it.text, it.read) == (0x14, "ends", end.splitlines()[-1], read)
+    assert list(rsp.waits.missing(loaded(BEGIN + order + wait() + end + "\n"), at_end=True)) == []
 
 
 def test_order_after_another_move() -> None:
