@@ -32,12 +32,7 @@ pub fn work<F: FileStore, R: Read + Drop, W: Write + Drop, E: Write>(
     let done = match asked {
         Request::Run(named) => run(alloc, &named, files, input, output),
         Request::Assemble(named) => assemble_file(alloc, files, &named, output),
-        Request::Disassemble {
-            words,
-            at,
-            with_addresses,
-            with_labels,
-        } => disassemble_file(alloc, files, words, at, with_addresses, with_labels, output),
+        Request::Disassemble(named) => disassemble_file(alloc, files, &named, output),
     };
     match done {
         Ok(()) => Status::Done,

@@ -40,6 +40,19 @@ pub struct AssembleFiles<'a> {
     pub with_explanation: bool,
 }
 
+/// The file of a disassembly, and how it is printed.
+#[derive(Drop)]
+pub struct DisassembleFiles<'a> {
+    /// The file of the words.
+    pub words: &'a str,
+    /// The address of the first word in IMEM, as it was written; without it 0.
+    pub at: Option<&'a str>,
+    /// Whether each line begins with the address and the word.
+    pub with_addresses: bool,
+    /// Whether the targets among the words are labels.
+    pub with_labels: bool,
+}
+
 /// What the command line requests.
 #[derive(Drop)]
 pub enum Request<'a> {
@@ -48,28 +61,22 @@ pub enum Request<'a> {
     /// `rsp asm`: assembling a file of source text into a file of words.
     Assemble(AssembleFiles<'a>),
     /// `rsp dis`: printing the disassembly of a file of words.
-    Disassemble {
-        /// The file of the words.
-        words: &'a str,
-        /// The address of the first word in IMEM, as it was written; without it 0.
-        at: Option<&'a str>,
-        /// Whether each line begins with the address and the word.
-        with_addresses: bool,
-        /// Whether the targets among the words are labels.
-        with_labels: bool,
-    },
+    Disassemble(DisassembleFiles<'a>),
 }
 
-/// An argument of a subcommand: its name, and at the end what the help says of it.
+/// What an argument of a subcommand is.
 #[derive(Clone, Copy)]
-enum ArgumentForm {
+enum Kind {
     /// A file that must be named, by its position.
-    File(&'static str, &'static str),
-    /// An option with a value. The second text stands for the value in the help.
-    Value(&'static str, &'static str, &'static str),
+    File,
+    /// An option with a value, for which the text stands in the help.
+    Value(&'static str),
     /// An option without a value.
-    Flag(&'static str, &'static str),
+    Flag,
 }
+
+/// An argument of a subcommand: its name, its kind, and what the help says of it.
+type ArgumentForm = (&'static str, Kind, &'static str);
 
 struct SubcommandForm {
     name: &'static str,
@@ -101,57 +108,73 @@ const SUBCOMMANDS: [SubcommandForm; 3] = [
 ];
 
 const RUN: [ArgumentForm; 3] = [
-    ArgumentForm::Value(
+    (
         "rdram",
-        "FILE",
+        Kind::Value("FILE"),
         "The image of the RDRAM; without it 4194304 zeros",
     ),
-    ArgumentForm::Value("save", "FILE", "Where the image is written after the run"),
-    ArgumentForm::Flag("strict", "Ends with status 1 if a reply is a fault"),
+    (
+        "save",
+        Kind::Value("FILE"),
+        "Where the image is written after the run",
+    ),
+    (
+        "strict",
+        Kind::Flag,
+        "Ends with status 1 if a reply is a fault",
+    ),
 ];
 
 const ASM: [ArgumentForm; 5] = [
-    ArgumentForm::File("SRC", "The source text"),
-    ArgumentForm::File("OUT", "Where the words are written"),
+    ("SRC", Kind::File, "The source text"),
+    ("OUT", Kind::File, "Where the words are written"),
     ADDRESS,
-    ArgumentForm::Flag(
+    (
         "listing",
+        Kind::Flag,
         "Prints the labels, and the address, the word and the source line of each word",
     ),
-    ArgumentForm::Flag(
+    (
         "explain",
+        Kind::Flag,
         "Shows the line of a fault, its operand, and what that may be",
     ),
 ];
 
 const DIS: [ArgumentForm; 4] = [
-    ArgumentForm::File("FILE", "The words, at most 1024"),
+    ("FILE", Kind::File, "The words, at most 1024"),
     ADDRESS,
-    ArgumentForm::Flag("places", "Shows the place and the word before each text"),
-    ArgumentForm::Flag("labels", "Names the words that jumps and branches lead to"),
+    (
+        "places",
+        Kind::Flag,
+        "Shows the place and the word before each text",
+    ),
+    (
+        "labels",
+        Kind::Flag,
+        "Names the words that jumps and branches lead to",
+    ),
 ];
 
 /// The address of the first word, as text. It is read and refused where it is used.
-const ADDRESS: ArgumentForm = ArgumentForm::Value(
+const ADDRESS: ArgumentForm = (
     "at",
-    "ADDR",
+    Kind::Value("ADDR"),
     "The place of the first word in IMEM, a multiple of 4 up to 4092; without it 0",
 );
 
 fn argument<'a>(alloc: Global, form: ArgumentForm) -> Arg<'a> {
-    let argument = match form {
-        ArgumentForm::File(name, about) => Arg::new(alloc, name).required(true).help(about),
-        ArgumentForm::Value(name, value, about) => Arg::new(alloc, name)
-            .long(name)
-            .value_name(value)
-            .help(about),
-        ArgumentForm::Flag(name, about) => {
-            return Arg::new(alloc, name)
-                .long(name)
-                .action(ArgAction::SetTrue)
-                .help(about);
-        }
-    };
+    let (name, kind, about) = form;
+    let argument = Arg::new(alloc, name).help(about);
+    match kind {
+        Kind::File => with_value(argument.required(true)),
+        Kind::Value(value) => with_value(argument.long(name).value_name(value)),
+        Kind::Flag => argument.long(name).action(ArgAction::SetTrue),
+    }
+}
+
+/// The argument with a value, which isn't empty.
+fn with_value(argument: Arg<'_>) -> Arg<'_> {
     argument
         .value_parser(ValueParser::NonEmptyString)
         .action(ArgAction::Set)
@@ -198,22 +221,31 @@ fn assemble_files<'a>(given: &ArgMatches<'a>) -> Option<AssembleFiles<'a>> {
     })
 }
 
+/// The file of a disassembly. None if it isn't named.
+fn disassemble_files<'a>(given: &ArgMatches<'a>) -> Option<DisassembleFiles<'a>> {
+    Some(DisassembleFiles {
+        words: given.get_str("FILE")?,
+        at: given.get_str("at"),
+        with_addresses: given.get_flag("places"),
+        with_labels: given.get_flag("labels"),
+    })
+}
+
+fn run_files<'a>(given: &ArgMatches<'a>) -> RunFiles<'a> {
+    RunFiles {
+        rdram: given.get_str("rdram"),
+        save: given.get_str("save"),
+        is_strict: given.get_flag("strict"),
+    }
+}
+
 /// What the matches of the command line ask for. None if they are of no subcommand, or lack one of its files.
 fn request_in<'a>(matches: &ArgMatches<'a>) -> Option<Request<'a>> {
     let (name, given) = matches.subcommand()?;
     match name {
-        "run" => Some(Request::Run(RunFiles {
-            rdram: given.get_str("rdram"),
-            save: given.get_str("save"),
-            is_strict: given.get_flag("strict"),
-        })),
+        "run" => Some(Request::Run(run_files(given))),
         "asm" => assemble_files(given).map(Request::Assemble),
-        "dis" => Some(Request::Disassemble {
-            words: given.get_str("FILE")?,
-            at: given.get_str("at"),
-            with_addresses: given.get_flag("places"),
-            with_labels: given.get_flag("labels"),
-        }),
+        "dis" => disassemble_files(given).map(Request::Disassemble),
         _ => None,
     }
 }
@@ -226,8 +258,12 @@ fn nothing_asked(alloc: Global) -> Result<Error, AllocError> {
     )
 }
 
+fn matches_of<'a>(alloc: Global, words: &'a [String]) -> Result<ArgMatches<'a>, Error> {
+    command(alloc)?.try_get_matches_from(words)
+}
+
 fn read_words<'a>(alloc: Global, words: &'a [String]) -> Result<Request<'a>, Error> {
-    let matches = command(alloc)?.try_get_matches_from(words)?;
+    let matches = matches_of(alloc, words)?;
     match request_in(&matches) {
         Some(asked) => Ok(asked),
         None => Err(nothing_asked(alloc)?),

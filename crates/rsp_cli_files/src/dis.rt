@@ -4,6 +4,7 @@ use crate::fault::Fault;
 use crate::files::{FileStore, read_file};
 use crate::origin::origin_of;
 use byteorder::{BigEndian, ByteOrder};
+use rsp_cli_args::DisassembleFiles;
 use rsp_dis::{Targets, label_of, labelled_text_of, text_of};
 use std::alloc::Global;
 use std::io::{self, Write};
@@ -17,32 +18,41 @@ const WORDS_READ_LIMIT: u64 = 4097;
 /// Prints the disassembly of the words of a file, a line each, for the words at the address `at` of IMEM and after it. The high
 /// byte of a word comes first in the file. With `with_addresses` a line begins with the address and the word. With `with_labels` a
 /// word that a jump or a branch of the file leads to has a label, on a line before it, and a comment says where a jump leads that is
-/// shown as `.word`. WordsSize if the file has no whole number of
-/// words, or more than fit from that address to the end of IMEM.
+/// shown as `.word`. WordsSize if the file has no whole number of words, or more than fit from that address to the end of IMEM.
 pub fn disassemble_file<'a, F: FileStore, W: Write + Drop>(
     alloc: Global,
     files: &mut F,
-    name: &'a str,
-    at: Option<&'a str>,
-    with_addresses: bool,
-    with_labels: bool,
+    asked: &DisassembleFiles<'a>,
     mut output: W,
 ) -> Result<(), Fault<'a>> {
-    let origin = origin_of(at)?;
-    let bytes = read_file(alloc, files, name, WORDS_READ_LIMIT)?;
+    let origin = origin_of(asked.at)?;
+    let bytes = read_file(alloc, files, asked.words, WORDS_READ_LIMIT)?;
     if bytes.len() > WORDS_LIMIT - usize::from(origin) || bytes.len() % 4 != 0 {
         return Err(Fault::WordsSize);
     }
+    print_file(&mut output, origin, bytes.as_slice(), asked).map_err(|_| Fault::RunWrite)
+}
+
+/// Prints the disassembly of the bytes of a file.
+fn print_file<W: Write>(
+    output: &mut W,
+    origin: u16,
+    bytes: &[u8],
+    asked: &DisassembleFiles<'_>,
+) -> io::Result<()>
+    requires aligned { origin % 4 ≡ 0 }
+    requires whole { length bytes.now % 4 ≡ 0 }
+    requires room { origin + length bytes.now ≤ 4096 }
+{
     let count = bytes.len() / 4;
     let mut words = [0; 1024];
-    BigEndian::read_u32_into(&bytes, &mut words[..count]);
+    BigEndian::read_u32_into(bytes, &mut words[..count]);
     let words = &words[..count];
-    if with_labels {
-        print_labelled(&mut output, origin, words, with_addresses)
+    if asked.with_labels {
+        print_labelled(output, origin, words, asked.with_addresses)
     } else {
-        print_plain(&mut output, origin, words, with_addresses)
+        print_plain(output, origin, words, asked.with_addresses)
     }
-    .map_err(|_| Fault::RunWrite)
 }
 
 /// The address in IMEM of the word `index` of a file whose first word is at `origin`.

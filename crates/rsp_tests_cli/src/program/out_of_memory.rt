@@ -83,7 +83,7 @@ fn arguments_are_read_when_memory_is_there(rt: HostRuntime) -> Result<(), Fail> 
     let words = words(&rt, "rsp dis image --places")?;
     for _ in 0..2 {
         match read_arguments(rt.alloc(), &words) {
-            Ok(Request::Disassemble { words, .. }) => assert_eq!(rt; words, "image"),
+            Ok(Request::Disassemble(named)) => assert_eq!(rt; named.words, "image"),
             Ok(_) => return Err(Fail::new("the arguments are read otherwise")),
             Err(error) => {
                 assert!(rt; error.kind() == ErrorKind::OutOfMemory);
