@@ -1,16 +1,12 @@
 ghost use Rattle.std.specs.Prelude.{◌≤◌};
 
-use crate::advice;
-use crate::spelling::{spelling, spelling_in_range};
-use rsp_asm::{
-    AsmFault, AsmFaultKind, Bounds, Expected, FaultyOperand, explain, operand_text, statement_name,
+use crate::allowed::{Allowed, kind_of};
+use rsp_advice::{
+    Advice, Visible, of_comment, of_line, of_operand, of_statement, respelled, respelled_in_range,
 };
-use rsp_decode::{ByteElements, Operand};
+use rsp_asm::{AsmFault, AsmFaultKind, FaultyOperand, explain, operand_text, statement_name};
 use std::alloc::{AllocError, Global};
 use std::str;
-
-/// The most bytes of a line that are shown: as many as a line may have.
-const LINE_LIMIT: usize = 256;
 
 /// What `--explain` adds to the line of a fault: the line's text, and what is wrong in it. For an operand that is its number, its
 /// text, and what may be there; for a statement whose name is unknown, the name. Then what to write, where the text is one of
@@ -23,15 +19,13 @@ pub(crate) fn explanation(
 ) -> Result<String, AllocError>
     requires { origin ≤ 4096 }
 {
-    let mut told = String::new(alloc);
     let line = numbered_line(text, fault.line);
-    told.push_str("\n  line: ")?;
-    push_visible(&mut told, line.trim())?;
-    match explain(alloc, origin, text)? {
-        Some(faulty) => push_operand(alloc, &mut told, line, faulty, fault.kind)?,
-        None => push_statement(&mut told, line, fault.kind)?,
-    }
-    Ok(told)
+    let shown = Visible(line.trim());
+    let reason = match explain(alloc, origin, text)? {
+        Some(faulty) => operand_reason(alloc, line, faulty, fault.kind)?,
+        None => statement_reason(alloc, line, fault.kind)?,
+    };
+    format!(in alloc; "\n  line: {shown}{reason}")
 }
 
 /// The line with this number, from 1.
@@ -46,12 +40,15 @@ fn numbered_line(text: &str, number: usize) -> &str {
     ""
 }
 
-/// The operand of a line with this number, from 1; empty if the line has fewer.
+/// The operand of a line with this number, from 1. None if the line has fewer.
+fn found_operand(line: &str, number: usize) -> Option<&str> {
+    let text = operand_text(line.as_bytes(), number.saturating_sub(1))?;
+    Some(str::from_utf8(text).unwrap_or(""))
+}
+
+/// The same, empty if the line has fewer.
 fn operand(line: &str, number: usize) -> &str {
-    match operand_text(line.as_bytes(), number.saturating_sub(1)) {
-        Some(text) => str::from_utf8(text).unwrap_or(""),
-        None => "",
-    }
+    found_operand(line, number).unwrap_or("")
 }
 
 /// The name of a line's statement.
@@ -59,38 +56,32 @@ fn name_of(line: &str) -> &str {
     str::from_utf8(statement_name(line.as_bytes())).unwrap_or("")
 }
 
-/// Appends the name of a statement that is unknown, and what to write in its place or in that of a line that is none.
-fn push_statement(told: &mut String, line: &str, kind: AsmFaultKind) -> Result<(), AllocError> {
-    match kind {
+/// The name of a statement that is unknown, and what to write in its place or in that of a line that is none.
+fn statement_reason(alloc: Global, line: &str, fault: AsmFaultKind) -> Result<String, AllocError> {
+    let name = name_of(line);
+    match fault {
         AsmFaultKind::UnknownName => {
-            told.push_str("\n  name: ")?;
-            push_visible(told, name_of(line))?;
-            push_written(told, advice::of_statement(name_of(line), operand(line, 1)))
+            let advice = Advice(of_statement(name, operand(line, 1)));
+            format!(in alloc; "\n  name: {}{advice}", Visible(name))
         }
-        AsmFaultKind::BadLine => push_written(told, advice::of_line(line)),
-        _ => Ok(()),
+        AsmFaultKind::BadLine => format!(in alloc; "{}", Advice(of_line(line))),
+        _ => Ok(String::new(alloc)),
     }
 }
 
-/// Appends an operand that is at fault, what may be there, and what to write.
-fn push_operand(
+/// An operand that is at fault, what may be there, and what to write.
+fn operand_reason(
     alloc: Global,
-    told: &mut String,
     line: &str,
     faulty: FaultyOperand,
-    kind: AsmFaultKind,
-) -> Result<(), AllocError> {
+    fault: AsmFaultKind,
+) -> Result<String, AllocError> {
     let FaultyOperand { number, expected } = faulty;
-    let heading = format!(in alloc; "\n  operand {number}: ")?;
-    told.push_str(&heading)?;
-    match operand_text(line.as_bytes(), number.saturating_sub(1)) {
-        Some(_) => push_visible(told, operand(line, number))?,
-        None => told.push_str("(none)")?,
-    }
-    told.push_str("\n  may be: ")?;
-    push_allowed(alloc, told, expected, kind)?;
-    let written = written(alloc, line, faulty, kind)?;
-    push_written(told, written.as_str())
+    let shown = Visible(found_operand(line, number).unwrap_or("(none)"));
+    let allowed = Allowed { expected, fault };
+    let written = written(alloc, line, faulty, fault)?;
+    let advice = Advice(written.as_str());
+    format!(in alloc; "\n  operand {number}: {shown}\n  may be: {allowed}{advice}")
 }
 
 /// What to write in place of an operand; empty if there is nothing to say.
@@ -98,23 +89,26 @@ fn written(
     alloc: Global,
     line: &str,
     faulty: FaultyOperand,
-    kind: AsmFaultKind,
+    fault: AsmFaultKind,
 ) -> Result<String, AllocError> {
     let FaultyOperand { number, expected } = faulty;
     let text = operand(line, number);
-    let (found, advice) = match (kind, expected) {
-        (AsmFaultKind::BadOperand, Expected::Nothing) if !advice::has_comment(text) => {
-            (Some(without(alloc, line, number)?), "")
-        }
-        (AsmFaultKind::BadOperand, _) => (
-            spelling(alloc, expected, text, apart(line, number))?,
-            advice::of_operand(expected, text),
+    let Some(kind) = kind_of(expected) else {
+        return match of_comment(text) {
+            "" => without(alloc, line, number),
+            comment => String::from_str(alloc, comment),
+        };
+    };
+    let (found, advice) = match fault {
+        AsmFaultKind::BadOperand => (
+            respelled(kind, text, apart(line, number)),
+            of_operand(kind, text),
         ),
-        (AsmFaultKind::OutOfRange, _) => (spelling_in_range(alloc, expected, text)?, ""),
+        AsmFaultKind::OutOfRange => (respelled_in_range(kind, text), ""),
         _ => (None, ""),
     };
     match found {
-        Some(spelled) => Ok(spelled),
+        Some(spelling) => format!(in alloc; "{spelling}"),
         None => String::from_str(alloc, advice),
     }
 }
@@ -140,112 +134,4 @@ fn without(alloc: Global, line: &str, number: usize) -> Result<String, AllocErro
         statement.push_str(operand(line, before))?;
     }
     Ok(statement)
-}
-
-/// Appends what to write, if there is something to say.
-fn push_written(told: &mut String, written: &str) -> Result<(), AllocError> {
-    if written.is_empty() {
-        return Ok(());
-    }
-    told.push_str("\n  write: ")?;
-    push_visible(told, written)
-}
-
-/// Appends a text as a terminal may show it, at most as many bytes as a line may have: a dot for each that isn't 20 to 7e
-/// hexadecimal.
-fn push_visible(told: &mut String, text: &str) -> Result<(), AllocError> {
-    for (index, &byte) in text.as_bytes().iter().enumerate() {
-        if index == LINE_LIMIT {
-            return told.push_str(" ..");
-        }
-        match byte {
-            b'\t' => told.push(' ')?,
-            b' '..=b'~' => told.push(char::from(byte))?,
-            _ => told.push('.')?,
-        }
-    }
-    Ok(())
-}
-
-/// Appends what may be in the place of an operand. The form of one that can't be read, the range of one that can.
-fn push_allowed(
-    alloc: Global,
-    told: &mut String,
-    expected: Expected,
-    kind: AsmFaultKind,
-) -> Result<(), AllocError> {
-    let bounds = expected.bounds();
-    match kind {
-        AsmFaultKind::BadOperand => {
-            let (before, after) = form_of(expected);
-            told.push_str(before)?;
-            push_bounds(alloc, told, bounds)?;
-            told.push_str(after)
-        }
-        AsmFaultKind::LabelMissing => {
-            told.push_str("the label of a line, or ")?;
-            push_bounds(alloc, told, bounds)
-        }
-        _ => push_bounds(alloc, told, bounds),
-    }
-}
-
-fn push_bounds(alloc: Global, told: &mut String, bounds: Option<Bounds>) -> Result<(), AllocError> {
-    let Some(Bounds { low, high, step }) = bounds else {
-        return Ok(());
-    };
-    told.push_str(&format!(in alloc; "{low} to {high}")?)?;
-    if step > 1 {
-        told.push_str(&format!(in alloc; ", a multiple of {step}")?)?;
-    }
-    Ok(())
-}
-
-/// The form of an operand: what is said before its range, if it has one, and after it.
-fn form_of(expected: Expected) -> (&'static str, &'static str) {
-    let Expected::Kind(kind) = expected else {
-        return match expected {
-            Expected::Number => ("a number or a label, ", ""),
-            _ => ("nothing", ""),
-        };
-    };
-    match kind {
-        Operand::Scalar(_) => (
-            "a scalar register, $0 to $31 or as $t0, but not $v0 and $v1",
-            "",
-        ),
-        Operand::ShiftAmount | Operand::Signed | Operand::Unsigned => ("a number or a label, ", ""),
-        Operand::JumpTarget | Operand::BranchTarget => ("a number or a label, ", ""),
-        Operand::ScalarMemory | Operand::VectorMemory(_) => {
-            (
-                "a number or a label, ",
-                ", and a scalar register in parentheses",
-            )
-        }
-        Operand::SpRegister => ("an SP register, $c0 to $c15", ""),
-        Operand::ControlRegister => ("$vco, $vcc or $vce", ""),
-        Operand::Vector(_) => ("a vector register, $v0 to $v31", ""),
-        Operand::VectorByte(_, ByteElements::All) => {
-            (
-                "a vector register, $v0 to $v31, with a byte, [0] to [15], or none",
-                "",
-            )
-        }
-        Operand::VectorByte(_, ByteElements::Halves) => {
-            (
-                "a vector register, $v0 to $v31, with byte [0] or [8] or none",
-                "",
-            )
-        }
-        Operand::VectorElement => {
-            (
-                "a vector register, $v0 to $v31, with an element, [v], [0q], [1q], [0h] to [3h] or [0] to [7], or none",
-                "",
-            )
-        }
-        Operand::VectorLane => (
-            "a vector register, $v0 to $v31, with a lane, [0] to [7]",
-            "",
-        ),
-    }
 }

@@ -3,7 +3,7 @@
 //! It is apart from `rsp_cli` since it doesn't wait for the machine.
 #![tactic(auto)]
 
-mod advice;
+mod allowed;
 mod assemble;
 mod beside;
 mod dis;
@@ -13,7 +13,6 @@ mod files;
 mod listing;
 mod origin;
 mod save;
-mod spelling;
 mod target;
 
 pub use assemble::assemble_file;

@@ -1,7 +1,7 @@
 /* program.h: the program `rsp` in C, for systems that the proved one isn't built for.
  *
  * The library answers scripts, assembles and disassembles. The rest is here: the command line, files, messages and exit statuses, as those of
- * crates/rsp_cli_args, rsp_cli_files and rsp_cli. A process does one piece of work. The first fault ends it, so nothing is freed. */
+ * crates/rsp_cli_args, rsp_advice, rsp_cli_files and rsp_cli. A process does one piece of work. The first fault ends it, so nothing is freed. */
 #ifndef RSP_PROGRAM_H
 #define RSP_PROGRAM_H
 

@@ -1,7 +1,6 @@
 // What to write here in place of what a text of another assembler says. Each function returns an empty text if there is nothing to
 // say.
 
-use rsp_asm::Expected;
 use rsp_decode::Operand;
 
 const COMMENT: &str = "a comment, after # or ;";
@@ -68,20 +67,25 @@ const STATEMENTS: &[(&str, &str)] = &[
     (".align", NO_LINE),
 ];
 
-/// Whether a text has another assembler's comment.
-pub(crate) fn has_comment(text: &str) -> bool {
-    text.contains("//") || text.contains("/*")
+/// What to write in place of another assembler's comment; empty if the text has none.
+pub fn of_comment(text: &str) -> &'static str {
+    if text.contains("//") || text.contains("/*") {
+        COMMENT
+    } else {
+        ""
+    }
 }
 
 /// What to write in place of a statement whose name is unknown. `operand` is its first operand.
-pub(crate) fn of_statement(name: &str, operand: &str) -> &'static str {
+pub fn of_statement(name: &str, operand: &str) -> &'static str {
     for (other, written) in STATEMENTS {
         if name.eq_ignore_ascii_case(other) {
             return written;
         }
     }
-    if has_comment(name) {
-        COMMENT
+    let comment = of_comment(name);
+    if !comment.is_empty() {
+        comment
     } else if name.ends_with(':') {
         ONE_LABEL
     } else if name.starts_with("emux_") || name.starts_with("assert") {
@@ -94,34 +98,32 @@ pub(crate) fn of_statement(name: &str, operand: &str) -> &'static str {
 }
 
 /// What to write in place of a line that is none.
-pub(crate) fn of_line(line: &str) -> &'static str {
+pub fn of_line(line: &str) -> &'static str {
     if line.starts_with('\u{feff}') {
         NO_MARK
     } else if line.len() > 256 || !line.bytes().all(|byte| matches!(byte, b'\t' | b' '..=b'~')) {
         LINE
-    } else if has_comment(line) {
-        COMMENT
     } else {
-        LABEL
+        match of_comment(line) {
+            "" => LABEL,
+            comment => comment,
+        }
     }
 }
 
-/// What to write in place of an operand that can't be read.
-pub(crate) fn of_operand(expected: Expected, text: &str) -> &'static str {
-    if has_comment(text) {
-        return COMMENT;
+/// What to write in place of an operand of this kind that can't be read.
+pub fn of_operand(kind: Operand, text: &str) -> &'static str {
+    let comment = of_comment(text);
+    if !comment.is_empty() {
+        return comment;
     }
-    match expected {
-        Expected::Number => SUM,
-        Expected::Nothing => "",
-        Expected::Kind(kind) => match kind {
-            Operand::Scalar(_) => REGISTERS,
-            Operand::Vector(_) | Operand::VectorElement => of_accumulator(text),
-            Operand::ShiftAmount | Operand::Signed | Operand::Unsigned => SUM,
-            Operand::JumpTarget | Operand::BranchTarget => of_target(text),
-            Operand::ScalarMemory | Operand::VectorMemory(_) => MEMORY,
-            _ => "",
-        },
+    match kind {
+        Operand::Scalar(_) => REGISTERS,
+        Operand::Vector(_) | Operand::VectorElement => of_accumulator(text),
+        Operand::ShiftAmount | Operand::Signed | Operand::Unsigned => SUM,
+        Operand::JumpTarget | Operand::BranchTarget => of_target(text),
+        Operand::ScalarMemory | Operand::VectorMemory(_) => MEMORY,
+        _ => "",
     }
 }
 
