@@ -78,8 +78,7 @@ fn faulted<E: Write>(fault: Fault, errors: &mut E) -> Status {
     Status::Faulted
 }
 
-/// Answers a script. The image of the RDRAM is read before the script, and saved after a run that finished. A strict run then ends
-/// with a fault if a reply was one.
+/// Answers a script. The image of the RDRAM is read before the script, and saved after a run that finished.
 fn run<'a, F: FileStore, R: Read + Drop, W: Write + Drop>(
     alloc: Global,
     asked: &RunFiles<'a>,
@@ -88,15 +87,38 @@ fn run<'a, F: FileStore, R: Read + Drop, W: Write + Drop>(
     output: W,
 ) -> Result<(), Fault<'a>> {
     let image = read_image(alloc, files, asked.rdram)?;
+    if asked.is_strict {
+        return run_strictly(alloc, image, asked.save, files, input, output);
+    }
+    let image = answer(alloc, image, input, output)?;
+    save_image(files, asked.save, image)
+}
+
+/// Answers a script and saves the image in the same way, and then ends with a fault if a reply was one.
+fn run_strictly<'a, F: FileStore, R: Read + Drop, W: Write + Drop>(
+    alloc: Global,
+    image: Rdram,
+    saved: Option<&'a str>,
+    files: &mut F,
+    input: R,
+    output: W,
+) -> Result<(), Fault<'a>> {
     let mut output = CountingWriter::new(output);
     let image = answer(alloc, image, input, &mut output)?;
-    if let Some(name) = asked.save {
-        write_file(files, name, image.into_bytes().as_slice())?;
+    save_image(files, saved, image)?;
+    refuse_faults(alloc, output.faults())
+}
+
+/// Writes an image to the file of this name, if one is named.
+fn save_image<'a, F: FileStore>(
+    files: &mut F,
+    name: Option<&'a str>,
+    image: Rdram,
+) -> Result<(), Fault<'a>> {
+    match name {
+        Some(name) => write_file(files, name, image.into_bytes().as_slice()),
+        None => Ok(()),
     }
-    if asked.is_strict {
-        refuse_faults(alloc, output.faults())?;
-    }
-    Ok(())
 }
 
 /// Ends a strict run with a fault if a reply was one.
