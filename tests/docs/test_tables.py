@@ -144,7 +144,7 @@ def test_faults_of_texts() -> None:
 def test_messages() -> None:
     """FAULTS lists the program's messages."""
     source = page("crates/rsp_cli_files/src/fault.rt")
-    messages = re.findall(r'"((?:cannot|bad|faults?) [^"]*)"', source)
+    messages = {*re.findall(r'"((?:cannot|bad|faults?) [^"\\]*)', source)}
     shown = {"{}": "FILE", "{count}": "N", "{first}": "fault .."}
     listed = [cells[1] for cells in tables("docs/FAULTS.md", "## Exit statuses and messages")]
     assert len(messages) == 11

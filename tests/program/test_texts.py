@@ -280,6 +280,17 @@ def test_explanation_of_no_line(line: bytes, shown: str, written: str, rsp: Any,
     assert rsp("asm", "text", "made", "--explain").errors == told.encode()
 
 
+def test_explanation_of_size(rsp: Any, folder: Path) -> None:
+    """Of a text that is too long no more is read than shows that. One of the limit has no such fault."""
+    limit = 1_048_576
+    (folder / "text").write_bytes(b"\n" * (limit + 1))
+    told = f"rsp: fault 42 ScriptTooLong\n  size: {limit + 1} bytes or more\n  may be: 0 to {limit} bytes\n"
+    assert rsp("asm", "text", "made", "--explain") == (1, b"", told.encode())
+    assert block_with("docs/ASSEMBLY.md", "rsp: fault 42 ScriptTooLong") == told
+    (folder / "text").write_bytes(b"\n" * limit)
+    assert rsp("asm", "text", "made", "--explain") == (0, b"ok 0 words\n", b"")
+
+
 # Blocks of pages.
 
 

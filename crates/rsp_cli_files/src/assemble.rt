@@ -9,7 +9,7 @@ use byteorder::{BigEndian, ByteOrder};
 use rsp_asm::{AsmFaultKind, Words, assemble};
 use rsp_cli_args::AssembleFiles;
 use std::alloc::{AllocError, Global};
-use std::io::Write;
+use std::io::{self, Write};
 use std::str;
 
 /// The most bytes of a source text.
@@ -28,26 +28,51 @@ pub fn assemble_file<'a, F: FileStore, W: Write + Drop>(
 ) -> Result<(), Fault<'a>> {
     let origin = origin_of(asked.at)?;
     let bytes = read_file(alloc, files, asked.source, SOURCE_READ_LIMIT)?;
-    let text = text_in(bytes.as_slice())?;
+    let text = text_in(bytes.as_slice(), asked.with_explanation)?;
     let words = assembled(alloc, origin, text, asked.with_explanation)?;
-    let bytes = big_endian(alloc, words.as_slice()).map_err(|_| Fault::OutOfMemory)?;
-    write_file(files, asked.out, bytes.as_slice())?;
+    let words = words.as_slice();
+    write_words(alloc, files, asked.out, words)?;
+    report(alloc, origin, text, words, asked.with_listing, &mut output).map_err(|_| Fault::RunWrite)
+}
+
+fn write_words<'a, F: FileStore>(
+    alloc: Global,
+    files: &mut F,
+    name: &'a str,
+    words: &[u32],
+) -> Result<(), Fault<'a>> {
+    let bytes = big_endian(alloc, words).map_err(|_| Fault::OutOfMemory)?;
+    write_file(files, name, bytes.as_slice())
+}
+
+/// Prints how many words there are and, if it is asked for, the listing.
+fn report<W: Write>(
+    alloc: Global,
+    origin: u16,
+    text: &str,
+    words: &[u32],
+    with_listing: bool,
+    output: &mut W,
+) -> io::Result<()>
+    requires { origin ≤ 4096 }
+{
     let count = words.len();
-    writeln!(output, "ok {count} words").map_err(|_| Fault::RunWrite)?;
-    if asked.with_listing {
-        print_listing(alloc, origin, text, words.as_slice(), &mut output).map_err(
-            |_| Fault::RunWrite,
-        )?;
+    writeln!(output, "ok {count} words")?;
+    if with_listing {
+        print_listing(alloc, origin, text, words, output)?;
     }
     Ok(())
 }
 
-/// The text of a file. ScriptTooLong if it has too many bytes, else NotText if it isn't UTF-8.
-fn text_in<'a>(bytes: &[u8]) -> Result<&str, Fault<'a>> {
-    if bytes.len() > SOURCE_LIMIT {
-        return Err(Fault::ScriptTooLong);
+/// The text of a file. If it has too many bytes it is refused for that, also if it isn't UTF-8.
+fn text_in<'a>(bytes: &[u8], with_explanation: bool) -> Result<&str, Fault<'a>> {
+    if bytes.len() <= SOURCE_LIMIT {
+        str::from_utf8(bytes).map_err(|_| Fault::NotText)
+    } else if with_explanation {
+        Err(Fault::SourceTooLong)
+    } else {
+        Err(Fault::ScriptTooLong)
     }
-    str::from_utf8(bytes).map_err(|_| Fault::NotText)
 }
 
 /// The words of a source text. A fault is explained if that is asked for and there is memory for it.

@@ -32,6 +32,8 @@ pub enum Fault<'a> {
     RunWrite,
     /// The script or the source text has more than 1,048,576 bytes.
     ScriptTooLong,
+    /// The source text has more than 1,048,576 bytes, and an explanation is asked for.
+    SourceTooLong,
     /// There was no memory in the run of a script.
     RunOutOfMemory,
     /// A strict run has faults among its replies.
@@ -66,6 +68,10 @@ impl Display for Fault<'_> {
             Fault::RunRead => "fault 40 ReadFault",
             Fault::RunWrite => "fault 41 WriteFault",
             Fault::ScriptTooLong => "fault 42 ScriptTooLong",
+            // No more bytes of the file are read than show that it is too long.
+            Fault::SourceTooLong => {
+                "fault 42 ScriptTooLong\n  size: 1048577 bytes or more\n  may be: 0 to 1048576 bytes"
+            }
             Fault::RunOutOfMemory => "fault 43 OutOfMemory",
         };
         f.write_str(text)

@@ -194,6 +194,13 @@ static void refuse_text(span text, uint32_t origin, const rsp_assembled *made, b
     fault("%s\n  operand %u: %s\n  may be: %s%s%s", head, (unsigned)found.number, part, allowed, before, written);
 }
 
+/* Ends with the fault of a text that is too long and, if it is asked for, with what is known of its size: no more of it is read. */
+static void refuse_length(bool is_explained)
+{
+    if (!is_explained) fault("fault 42 ScriptTooLong");
+    fault("fault 42 ScriptTooLong\n  size: %d bytes or more\n  may be: 0 to %d bytes", LONGEST_TEXT + 1, LONGEST_TEXT);
+}
+
 void assemble(const request *asked)
 {
     static uint32_t words[1024];
@@ -203,7 +210,7 @@ void assemble(const request *asked)
     rsp_assembled made;
     span text = { .len = read_file(asked->given[SOURCE], LONGEST_TEXT + 1, &source) };
     text.at = source;
-    if (text.len > LONGEST_TEXT) fault("fault 42 ScriptTooLong");
+    if (text.len > LONGEST_TEXT) refuse_length(asked->given[EXPLAIN]);
     if (rsp_assemble(origin, source, text.len, words, 1024, &made) != RSP_OK) refuse_text(text, origin, &made, asked->given[EXPLAIN]);
     for (size_t i = 0; i < 4 * made.count; i++) bytes[i] = (uint8_t)(words[i / 4] >> (24 - i % 4 * 8));
     save_file(asked->given[OUT], (span){ bytes, 4 * made.count });
