@@ -19,6 +19,7 @@ pub mod Kept
 pub mod Halves
 pub mod FlagsKept
 pub mod Fixed
+pub mod Clips
 pub mod FixedProducts
 pub mod FixedSums
 pub mod Reciprocals

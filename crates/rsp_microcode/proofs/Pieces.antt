@@ -18,7 +18,8 @@ use Rattle.rsp_microcode.specs.Lanes.{sqv}
 use Rattle.rsp_microcode.specs.Loads.{WholeLoad, load_of}
 use Rattle.rsp_microcode.specs.Multiplies.{Term, instruction}
 use Rattle.rsp_microcode.specs.Kept.{Spares}
-use Rattle.rsp_microcode.specs.Pieces.{Piece, takes, sums, puts, rows, code_of, pieces_fit, RunsOfPieces, PiecesRun}
+use Rattle.rsp_microcode.specs.Clips.{clip_code}
+use Rattle.rsp_microcode.specs.Pieces.{Piece, takes, sums, clips, puts, rows, code_of, pieces_fit, RunsOfPieces, PiecesRun}
 use Rattle.rsp_microcode.proofs.Runs.{gone, ran_on, straight}
 use Rattle.rsp_microcode.proofs.Frames.{framed, scalars_spared, vectors_spared}
 use Rattle.rsp_microcode.proofs.Ranges.{ranges}
@@ -27,6 +28,7 @@ use Rattle.rsp_microcode.proofs.Bytes.{has_bytes}
 use Rattle.rsp_microcode.proofs.Lanes.{stores_lanes}
 use Rattle.rsp_microcode.proofs.LoadRuns.{loads_run}
 use Rattle.rsp_microcode.proofs.Multiplies.{sums as sums_run}
+use Rattle.rsp_microcode.proofs.Clips.{clips_run}
 
 -- straight code leaves pc where it goes on to
 pub addresses_run : (is : List Inst) (s : State) → all_go_on is ≡ true → s.npc ≡ address_after s.pc
@@ -67,6 +69,7 @@ pub pieces_straight : (ps : List Piece) → pieces_fit ps ≡ true → IsStraigh
 pieces_straight [] h = (refl, refl)
 pieces_straight (takes ls ∷ ps) h = let parts = and_parts _ _ h in both_straight (map load_of ls) _ (loads_straight ls) (pieces_straight ps parts.1)
 pieces_straight (sums ms ∷ ps) h = let parts = and_parts _ _ h in both_straight (map instruction ms) _ (sums_straight ms) (pieces_straight ps parts.1)
+pieces_straight (clips high low ∷ ps) h = let parts = and_parts _ _ h in pieces_straight ps parts.1
 pieces_straight (puts vt offset base ∷ ps) h = let parts = and_parts _ _ h in pieces_straight ps parts.1
 pieces_straight (rows is ∷ ps) h = let parts = and_parts _ _ h in both_straight is _ (and_parts _ _ parts.0) (pieces_straight ps parts.1)
 
@@ -91,6 +94,12 @@ pieces law (sums ms ∷ ps) s ok next h a =
     let more = handed_on (map instruction ms) s _ (sums_straight ms) one ok next in
     let rest = pieces law ps _ more.0 more.1 parts.1 a in
     (ran_on (map instruction ms) (code_of ps) s ∙ ap (ran_through (code_of ps)) one ∙ rest.0, rest.1)
+pieces law (clips high low ∷ ps) s ok next h a =
+    let parts = and_parts _ _ h in
+    let one = clips_run high low s ok.vectors parts.0 in
+    let more = handed_on (clip_code high low) s _ (refl, refl) one ok next in
+    let rest = pieces law ps _ more.0 more.1 parts.1 a in
+    (ap (ran_through (code_of ps)) one ∙ rest.0, rest.1)
 pieces law (puts vt offset base ∷ ps) s ok next h a =
     let parts = and_parts _ _ h in
     let field = and_parts _ _ parts.0 in

@@ -14,5 +14,6 @@ pub mod Calls
 pub mod Blocks
 pub mod Kept
 pub mod Fixed
+pub mod Clips
 pub mod Reciprocals
 pub mod Transfers

@@ -1,8 +1,9 @@
--- Straight microcode by pieces: whole loads, sums of multiplies, whole stores, and any other instructions. The state after them can be
--- computed.
+-- Straight microcode by pieces: whole loads, sums of multiplies, clip codes, whole stores, and any other instructions. The state after them
+-- can be computed.
 use Rattle.std.specs.Prelude.{ℕ, ◌≡◌, ◌%◌, ◌&&◌, Bool, true, nat_lt, List, [], ◌∷◌, ◌++◌, length, map, Some}
 use Rattle.std.specs.List.{list_all}
 use Rattle.rsp_decode.specs.declared.inst.Inst.{Inst}
+use Rattle.rsp_decode.specs.declared.fields.VectorFields.{VectorFields}
 use Rattle.rsp_decode.specs.Table.{inst_of}
 use Rattle.rsp_scalar.specs.Registers.{register}
 use Rattle.rsp_scalar.specs.Flow.{address_after}
@@ -17,10 +18,12 @@ use Rattle.rsp_microcode.specs.Lanes.{sqv, with_lanes, lanes_address}
 use Rattle.rsp_microcode.specs.Reads.{after_writes}
 use Rattle.rsp_microcode.specs.Loads.{WholeLoad, load_of, load_fits, loaded, AreAllAligned}
 use Rattle.rsp_microcode.specs.Multiplies.{Term, instruction, independent, is_sum, summed}
+use Rattle.rsp_microcode.specs.Clips.{clip_code, clip_fits, clipped}
 
 pub data Piece : Type 0 where
   takes : List WholeLoad → Piece  -- LQV of whole registers
   sums : List Term → Piece  -- a multiply and those that add to it
+  clips : (high low : VectorFields) → Piece  -- VCH of high halves, and VCL of the low ones
   puts : (vt offset base : ℕ) → Piece  -- SQV of a whole register
   rows : List Inst → Piece  -- instructions that go on, of any other kind
 
@@ -28,6 +31,7 @@ abbrev pub code_of : List Piece → List Inst
 code_of [] = []
 code_of (takes ls ∷ ps) = map load_of ls ++ code_of ps
 code_of (sums ms ∷ ps) = map instruction ms ++ code_of ps
+code_of (clips high low ∷ ps) = clip_code high low ++ code_of ps
 code_of (puts vt offset base ∷ ps) = sqv vt offset base ∷ code_of ps
 code_of (rows is ∷ ps) = is ++ code_of ps
 
@@ -35,6 +39,7 @@ code_of (rows is ∷ ps) = is ++ code_of ps
 abbrev pub piece_fits : Piece → Bool
 piece_fits (takes ls) = list_all load_fits ls
 piece_fits (sums ms) = independent ms && is_sum ms
+piece_fits (clips high low) = clip_fits high low
 piece_fits (puts vt offset base) = nat_lt vt 32 && nat_lt offset 64
 piece_fits (rows is) = all_go_on is && all_fit is
 
@@ -45,6 +50,7 @@ pieces_fit ps = list_all piece_fits ps
 abbrev pub after_piece : Piece → State → State
 after_piece (takes ls) s = record s { pc = address_after_words ls s.pc; npc = address_after_words ls s.npc; vectors = after_writes with_vector (loaded ls s.dmem s.registers) s.vectors }
 after_piece (sums ms) s = summed ms s
+after_piece (clips high low) s = clipped high low s
 after_piece (puts vt offset base) s = record s { pc = s.npc; npc = address_after s.npc; dmem = with_lanes s.dmem (lanes_address offset base s) (vector s.vectors vt) }
 after_piece (rows is) s = ran_through is s
 
@@ -57,6 +63,7 @@ abbrev pub AreAligned : List Piece → State → Type 0
 AreAligned [] s = Unit {0}
 AreAligned (takes ls ∷ ps) s = AreAllAligned ls s.registers × AreAligned ps (after_piece (takes ls) s)
 AreAligned (sums ms ∷ ps) s = AreAligned ps (after_piece (sums ms) s)
+AreAligned (clips high low ∷ ps) s = AreAligned ps (after_piece (clips high low) s)
 AreAligned (puts vt offset base ∷ ps) s = (register s.registers base % 16 ≡ 0) × AreAligned ps (after_piece (puts vt offset base) s)
 AreAligned (rows is ∷ ps) s = AreAligned ps (after_piece (rows is) s)
 

@@ -2,6 +2,7 @@
 //! contract of a function that does nothing; a function that calls it may use it in its proof.
 
 ghost use Rattle.rsp_microcode.specs.Blocks.{BlocksJoin, BothStand, FirstBlock, NextBlock, RanAt, RanOthers, RanReturns, StepsAfter};
+ghost use Rattle.rsp_microcode.specs.Clips.{ClipCodes, ClipsRun, CodeBits};
 ghost use Rattle.rsp_microcode.specs.Calls.{CallRuns, RoutineRuns};
 ghost use Rattle.rsp_microcode.specs.Buffers.{FilledNone, FilledOne, FilledSpares};
 ghost use Rattle.rsp_microcode.specs.Fixed.{FixedAdds, FixedAddsInRange, FixedHigh, FixedParts, FixedPlusProduct, FixedProduct, FixedRange, FixedSum, FixedTimes};
@@ -80,6 +81,14 @@ pub fn reciprocals()
 /// Inverse square roots: what VRSQH, VRSQL and VRSQH leave is the table's, as a fixed-point number.
 pub fn roots()
     ensures { Roots }
+{}
+
+/// Clip codes: the flags that VCH and then VCL leave say of each number of 32 bits whether it is at most -w, and whether it is at
+/// least w; CFC2 reads them as bits; and a run through the two instructions leaves them.
+pub fn clip_codes()
+    ensures flags { ClipCodes }
+    ensures bits { CodeBits }
+    ensures run { ClipsRun }
 {}
 
 /// A vector register after writes holds what was last written to it.
@@ -170,7 +179,7 @@ pub fn ranges_kept()
     ensures { RangesKept }
 {}
 
-/// Straight microcode by pieces: whole loads, sums of multiplies, whole stores, and any other instructions that go on. The state
+/// Straight microcode by pieces: whole loads, sums of multiplies, clip codes, whole stores, and any other instructions that go on. The state
 /// after them can be computed; steps over their words come to it, keep the ranges, and leave all else as it was.
 pub fn runs_of_pieces()
     ensures pieces { RunsOfPieces }
