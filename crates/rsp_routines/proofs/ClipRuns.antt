@@ -1,338 +1,43 @@
 -- Clip codes.
-use Rattle.std.proofs.Common.{◌≡◌, ℕ, ◌+◌, ◌-◌, ◌*◌, ◌%◌, ◌^◌, ◌<◌, ◌≤◌, ◌&&◌, ◌||◌, ℤ, pos, negsuc, ◌+ℤ◌, List, [], ◌∷◌, get_or, map, Some, Bool, true, false, not, nat_lt, nat_le, nat_eq, refl, ap, sym, ◌∙◌, arith, inl, inr}
-use Rattle.std.specs.Prelude.{◌-ℤ◌, int_lt, int_le, if◌then◌else◌}
-use Rattle.std.proofs.lemmas.Int.{ints}
-use Rattle.std.proofs.Math.IntN.{+ℤ_comm}
-use Rattle.std.proofs.lemmas.Bool.{cases_lt, lt-leb, le-leb, le-ltb}
-use Rattle.std.specs.Ordering.{int_eq}
-use Rattle.std.proofs.lemmas.Bool.Decides.{nat_tests}
-use Rattle.rsp_numbers.specs.Numbers.{s16, s32}
-use Rattle.rsp_numbers.proofs.Signed.{s16_small, s16_large, s32_small, s32_large}
-use Rattle.rsp_decode.specs.declared.inst.Inst.{Inst}
-use Rattle.rsp_decode.specs.declared.inst.Inst.TheVariants.{VectorClip, MoveControl}
-use Rattle.rsp_decode.specs.declared.vector.VectorClipOp.TheVariants.{Vcl, Vch}
+use Rattle.std.proofs.Common.{◌≡◌, ℕ, List, [], ◌∷◌, map, Some, false, refl, ap, sym, ◌∙◌, arith}
+use Rattle.rsp_decode.specs.declared.inst.Inst.TheVariants.{MoveControl}
 use Rattle.rsp_decode.specs.declared.vector.Control.TheVariants.{Vcc}
 use Rattle.rsp_decode.specs.declared.scalar.MoveOp.TheVariants.{From}
 use Rattle.rsp_decode.specs.Table.Words.{inst_of, row_of}
-use Rattle.rsp_lanes.specs.Lanes.{bool_xor, selected}
-use Rattle.rsp_lanes.specs.Flags.{LaneFlags, flags_at}
 use Rattle.rsp_lanes.specs.declared.flags.Flags.{Flags}
-use Rattle.rsp_lanes.specs.Outcome.{Outcome, outcome_at, results_of, flags_after}
-use Rattle.rsp_lanes.proofs.FlagLanes.{flags_of}
-use Rattle.rsp_compare.specs.Clips.{signs_differ, compare_flags, vch_signs_differ, vch_signs_agree, vch, vcl}
+use Rattle.rsp_lanes.proofs.Kit.{lane_of}
 use Rattle.rsp_multiply.specs.Laws.{SumsOfProducts}
 use Rattle.rsp_scalar.specs.Registers.{register}
-use Rattle.rsp_loadstore.specs.File.{vector}
 use Rattle.rsp_loadstore.specs.Controls.{control_word, control_value}
-use Rattle.rsp_machine.specs.State.{State, IsState}
+use Rattle.rsp_machine.specs.State.{State}
 use Rattle.rsp_machine.specs.Step.{executed, instruction_effect}
-use Rattle.rsp_machine.specs.Vector.{ruled, moves_control}
-use Rattle.rsp_machine.specs.Laws.{steps_of}
-use Rattle.rsp_microcode.specs.Pieces.{Piece, rows, code_of}
-use Rattle.rsp_microcode.proofs.Registers.{vector_reads, one_scalar}
-use Rattle.rsp_microcode.proofs.Fixed.{itself}
+use Rattle.rsp_machine.specs.Vector.{moves_control}
+use Rattle.rsp_microcode.specs.Pieces.{Piece, clips, rows, code_of}
+use Rattle.rsp_microcode.proofs.Registers.{one_scalar}
 use Rattle.rsp_microcode.proofs.Pieces.{pieces_run}
-use Rattle.rsp_routines.specs.Clip.{is_below, is_above, ClipsAll}
+use Rattle.rsp_routines.specs.Clip.{ClipsAll}
 
 abbrev words : List ℕ
 words = 0x4a030965 ∷ 0x4a0411a4 ∷ 0x48410800 ∷ []
 
-abbrev instructions : List Inst
-instructions =
-    VectorClip Vch (record { vd = 5; vs = 1; vt = 3; element = 0 }) ∷ VectorClip Vcl (record { vd = 6; vs = 2; vt = 4; element = 0 })
-    ∷ MoveControl From 1 Vcc ∷ []
+abbrev pieces : List Piece
+pieces =
+    clips (record { vd = 5; vs = 1; vt = 3; element = 0 }) (record { vd = 6; vs = 2; vt = 4; element = 0 })
+    ∷ rows (MoveControl From 1 Vcc ∷ [])
+    ∷ []
 
-abbrev code : List Piece
-code = rows instructions ∷ []
-
-decoded : map inst_of words ≡ map Some (code_of code)
+decoded : map inst_of words ≡ map Some (code_of pieces)
 unfolding inst_of row_of
 decoded = refl
 
--- the flags of a lane after both
-abbrev after_both : ℕ → ℕ → ℕ → ℕ → LaneFlags → LaneFlags
-after_both a b c d f = (vcl c d (vch a b f).flags).flags
-
-record Codes (a b c d : ℕ) (f : LaneFlags) : Type 0 where
-  below : (after_both a b c d f).compare ≡ is_below (s32 (a * 65536 + c)) (s32 (b * 65536 + d))
-  above : (after_both a b c d f).clip ≡ is_above (s32 (a * 65536 + c)) (s32 (b * 65536 + d))
-
--- the flags after VCH by the signed numbers: n is their difference if the signs agree, else their sum
-abbrev agree : ℤ → Bool → LaneFlags
-agree n s = record { carry = false; differ = not (int_eq n (pos 0)); compare = s; clip = int_le (pos 0) n; extra = false }
-
-abbrev apart : ℤ → Bool → LaneFlags
-apart n s = record { carry = true; differ = not (int_eq n (pos 0)) && not (int_eq n (negsuc 0)); compare = int_le n (pos 0); clip = s; extra = int_eq n (negsuc 0) }
-
-abbrev first_of : ℤ → ℤ → LaneFlags
-first_of x y = if bool_xor (int_lt x (pos 0)) (int_lt y (pos 0)) then apart (x +ℤ y) (int_lt y (pos 0)) else agree (x -ℤ y) (int_lt y (pos 0))
-
-flags_if : (b : Bool) (x y : Outcome) → (if b then x else y).flags ≡ (if b then x.flags else y.flags)
-flags_if true x y = refl
-flags_if false x y = refl
-
-first_is : (a b : ℕ) (f : LaneFlags) → (vch a b f).flags ≡ first_of (s16 a) (s16 b)
-first_is a b f = flags_if (signs_differ a b) (vch_signs_differ a b) (vch_signs_agree a b)
-
-both_positive : (a b : ℕ) → first_of (pos a) (pos b) ≡ agree (pos a -ℤ pos b) false
-both_positive a b = let p = le-ltb a 0 (omega arith) in let q = le-ltb b 0 (omega arith) in rw (p, q) refl
-
-one_negative : (k b : ℕ) → first_of (negsuc k) (pos b) ≡ apart (negsuc k +ℤ pos b) false
-one_negative k b = let q = le-ltb b 0 (omega arith) in rw q refl
-
--- the flags after VCL
-abbrev last_of : ℕ → ℕ → LaneFlags → LaneFlags
-last_of c d f = (vcl c d f).flags
-
-smaller : (c d k : ℕ) → last_of c d (agree (negsuc k) false) ≡ compare_flags false false
-smaller c d k = refl
-
-not_0 : (k : ℕ) → 0 < k → int_eq (pos k) (pos 0) ≡ false
-not_0 k h = grind (arith, nat_tests)
-
-not_minus_1 : (k : ℕ) → 0 < k → int_eq (negsuc k) (negsuc 0) ≡ false
-not_minus_1 k h = grind (arith, nat_tests)
-
-larger : (c d k : ℕ) → 0 < k → last_of c d (agree (pos k) false) ≡ compare_flags false true
-larger c d k h = let p = not_0 k h in let q = le-leb 0 k (omega arith) in rw (p, q) refl
-
-same_high : (c d : ℕ) → last_of c d (agree (pos 0) false) ≡ compare_flags false (nat_le d c)
-same_high c d = refl
-
-far_below : (c d k : ℕ) → 0 < k → last_of c d (apart (negsuc k) false) ≡ compare_flags true false
-far_below c d k h = let p = not_minus_1 k h in rw p refl
-
-just_below : (c d : ℕ) → last_of c d (apart (negsuc 0) false) ≡ compare_flags (nat_eq ((c + d) % 65536) 0 || nat_lt (c + d) 65536) false
-just_below c d = refl
-
-opposite : (c d : ℕ) → last_of c d (apart (pos 0) false) ≡ compare_flags (nat_eq (c + d) 0) false
-opposite c d = refl
-
-not_below : (c d k : ℕ) → 0 < k → last_of c d (apart (pos k) false) ≡ compare_flags false false
-not_below c d k h = let p = not_0 k h in let q = lt-leb k 0 (omega arith) in rw (p, q) refl
-
--- the same for a w below 0
-pos_neg : (a k : ℕ) → first_of (pos a) (negsuc k) ≡ apart (pos a +ℤ negsuc k) true
-pos_neg a k = let p = le-ltb a 0 (omega arith) in rw p refl
-
-neg_neg : (j k : ℕ) → first_of (negsuc j) (negsuc k) ≡ agree (negsuc j -ℤ negsuc k) true
-neg_neg j k = refl
-
-smaller_n : (c d k : ℕ) → last_of c d (agree (negsuc k) true) ≡ compare_flags true false
-smaller_n c d k = refl
-
-larger_n : (c d k : ℕ) → 0 < k → last_of c d (agree (pos k) true) ≡ compare_flags true true
-larger_n c d k h = let p = not_0 k h in let q = le-leb 0 k (omega arith) in rw (p, q) refl
-
-same_high_n : (c d : ℕ) → last_of c d (agree (pos 0) true) ≡ compare_flags true (nat_le d c)
-same_high_n c d = refl
-
-far_below_n : (c d k : ℕ) → 0 < k → last_of c d (apart (negsuc k) true) ≡ compare_flags true true
-far_below_n c d k h = let p = not_minus_1 k h in rw p refl
-
-just_below_n : (c d : ℕ) → last_of c d (apart (negsuc 0) true) ≡ compare_flags (nat_eq ((c + d) % 65536) 0 || nat_lt (c + d) 65536) true
-just_below_n c d = refl
-
-opposite_n : (c d : ℕ) → last_of c d (apart (pos 0) true) ≡ compare_flags (nat_eq (c + d) 0) true
-opposite_n c d = refl
-
-not_below_n : (c d k : ℕ) → 0 < k → last_of c d (apart (pos k) true) ≡ compare_flags false true
-not_below_n c d k h = let p = not_0 k h in let q = lt-leb k 0 (omega arith) in rw (p, q) refl
-
--- the two codes of a number with this sign
-at_most_0 : (p q : ℕ) → int_le (negsuc p +ℤ pos q) (pos 0) ≡ nat_le q (p + 1)
-at_most_0 p q = elim (cases_lt p q) [
-  | inl l ↦ let e : negsuc p +ℤ pos q ≡ pos (q - p - 1) = omega (arith, ints) in ap (λ z. int_le z (pos 0)) e ∙ nat_case (q - p - 1) q (p + 1) (omega arith)
-  | inr l ↦ let e : negsuc p +ℤ pos q ≡ negsuc (p - q) = omega (arith, ints) in ap (λ z. int_le z (pos 0)) e ∙ sym (le-leb q (p + 1) (omega arith))
-]
-  where
-    nat_case : (k q r : ℕ) → q ≡ k + r → nat_le k 0 ≡ nat_le q r
-    nat_case k q r e = grind (arith, nat_tests)
-
-below_positive : (x w : ℕ) → is_below (pos x) (pos w) ≡ false
-below_positive x w = let p = le-ltb x 0 (omega arith) in let q = le-ltb w 0 (omega arith) in rw (p, q) refl
-
-below_pos_neg : (x w : ℕ) → is_below (pos x) (negsuc w) ≡ nat_le x (w + 1)
-below_pos_neg x w = let p = le-ltb x 0 (omega arith) in rw p (ap (λ z. int_le z (pos 0)) (+ℤ_comm (pos x) (negsuc w)) ∙ at_most_0 w x)
-
-below_neg_neg : (x w : ℕ) → is_below (negsuc x) (negsuc w) ≡ true
-below_neg_neg x w = refl
-
-shown : (a b c d : ℕ) (f g : LaneFlags) (p q : Bool) (x w : ℤ) → (vch a b f).flags ≡ g → last_of c d g ≡ compare_flags p q
-    → s32 (a * 65536 + c) ≡ x → s32 (b * 65536 + d) ≡ w → p ≡ is_below x w → q ≡ is_above x w → Codes a b c d f
-shown a b c d f g p q x w one two e k below above =
-    let all : after_both a b c d f ≡ compare_flags p q = ap (last_of c d) one ∙ two in
+pub does : SumsOfProducts → ClipsAll words
+unfolding executed instruction_effect moves_control control_value
+does law s is at =
+    let end = pieces_run law words pieces decoded refl s is at tt in
+    let flags = ap (λ (t : State). t.flags) end.ran in
     record {
-      below = ap (λ (h : LaneFlags). h.compare) all ∙ below ∙ ap (λ z. is_below z w) (sym e) ∙ ap (is_below (s32 (a * 65536 + c))) (sym k);
-      above = ap (λ (h : LaneFlags). h.clip) all ∙ above ∙ ap (λ z. is_above z w) (sym e) ∙ ap (is_above (s32 (a * 65536 + c))) (sym k);
-    }
-
-positive : (a b c d : ℕ) (f : LaneFlags) → a < 32768 → b < 32768 → c < 65536 → d < 65536 → Codes a b c d f
-positive a b c d f ha hb hc hd =
-    let x : s32 (a * 65536 + c) ≡ pos (a * 65536 + c) = s32_small _ (omega arith) in
-    let w : s32 (b * 65536 + d) ≡ pos (b * 65536 + d) = s32_small _ (omega arith) in
-    let one = first_is a b f ∙ ap (λ z. first_of z (s16 b)) (s16_small a (omega arith)) ∙ ap (first_of (pos a)) (s16_small b (omega arith)) ∙ both_positive a b in
-    let low = sym (below_positive (a * 65536 + c) (b * 65536 + d)) in
-    elim (cases_lt a b) [
-      | inl l ↦
-          let e : pos a -ℤ pos b ≡ negsuc (b - a - 1) = omega (arith, ints) in
-          shown a b c d f _ _ _ _ _ (one ∙ ap (λ n. agree n false) e) (smaller c d (b - a - 1)) x w low (sym (lt-leb (b * 65536 + d) (a * 65536 + c) (omega arith)))
-      | inr l ↦ elim (cases_lt b a) [
-        | inl m ↦
-            let e : pos a -ℤ pos b ≡ pos (a - b) = omega (arith, ints) in
-            shown a b c d f _ _ _ _ _ (one ∙ ap (λ n. agree n false) e) (larger c d (a - b) (omega arith)) x w low (sym (le-leb (b * 65536 + d) (a * 65536 + c) (omega arith)))
-        | inr m ↦
-            let e : pos a -ℤ pos b ≡ pos 0 = omega (arith, ints) in
-            shown a b c d f _ _ _ _ _ (one ∙ ap (λ n. agree n false) e) (same_high c d) x w low (low_halves a b c d (omega arith))
-      ]
-    ]
-  where
-    low_halves : (a b c d : ℕ) → a ≡ b → nat_le d c ≡ nat_le (b * 65536 + d) (a * 65536 + c)
-    low_halves a b c d e = grind (arith, nat_tests)
-
-none_over : (a b c d v y : ℕ) → v ≤ y + (c + d) → y + (c + d) ≤ v → c + d < 131072 → nat_eq (c + d) 0 ≡ nat_le v y
-none_over a b c d v y p q r = grind (arith, nat_tests)
-
-one_over : (a b c d v y : ℕ) → c < 65536 → d < 65536 → v + 65536 ≡ y + (c + d) → (nat_eq ((c + d) % 65536) 0 || nat_lt (c + d) 65536) ≡ nat_le v y
-one_over a b c d v y p q e = grind (arith, nat_tests)
-
-negative : (a b c d : ℕ) (f : LaneFlags) → 32768 ≤ a → a < 65536 → b < 32768 → c < 65536 → d < 65536 → Codes a b c d f
-negative a b c d f la ha hb hc hd =
-    let y = 2 ^ 32 - 1 - (a * 65536 + c) in
-    let v = b * 65536 + d in
-    let k = 2 ^ 16 - 1 - a in
-    let x : s32 (a * 65536 + c) ≡ negsuc y = s32_large _ (omega arith) (omega arith) in
-    let w : s32 v ≡ pos v = s32_small _ (omega arith) in
-    let one = first_is a b f ∙ ap (λ z. first_of z (s16 b)) (s16_large a la (omega arith)) ∙ ap (first_of (negsuc k)) (s16_small b (omega arith)) ∙ one_negative k b in
-    let low = sym (at_most_0 y v) in
-    elim (cases_lt k b) [
-      | inl l ↦ elim (cases_lt (k + 1) b) [
-        | inl m ↦
-            let e : negsuc k +ℤ pos b ≡ pos (b - k - 1) = omega (arith, ints) in
-            shown a b c d f _ _ _ _ _ (one ∙ ap (λ n. apart n false) e) (not_below c d (b - k - 1) (omega arith)) x w (sym (lt-leb v (y + 1) (omega arith)) ∙ low) refl
-        | inr m ↦
-            let e : negsuc k +ℤ pos b ≡ pos 0 = omega (arith, ints) in
-            shown a b c d f _ _ _ _ _ (one ∙ ap (λ n. apart n false) e) (opposite c d) x w (none_over a b c d v (y + 1) (omega arith) (omega arith) (omega arith) ∙ low) refl
-      ]
-      | inr l ↦ elim (cases_lt b k) [
-        | inl m ↦
-            let e : negsuc k +ℤ pos b ≡ negsuc (k - b) = omega (arith, ints) in
-            shown a b c d f _ _ _ _ _ (one ∙ ap (λ n. apart n false) e) (far_below c d (k - b) (omega arith)) x w (sym (le-leb v (y + 1) (omega arith)) ∙ low) refl
-        | inr m ↦
-            let e : negsuc k +ℤ pos b ≡ negsuc 0 = omega (arith, ints) in
-            shown a b c d f _ _ _ _ _ (one ∙ ap (λ n. apart n false) e) (just_below c d) x w (one_over a b c d v (y + 1) hc hd (omega arith) ∙ low) refl
-      ]
-    ]
-
--- w below 0, x not
-positive_w : (a b c d : ℕ) (f : LaneFlags) → a < 32768 → 32768 ≤ b → b < 65536 → c < 65536 → d < 65536 → Codes a b c d f
-positive_w a b c d f ha lb hb hc hd =
-    let v = a * 65536 + c in
-    let y = 2 ^ 32 - 1 - (b * 65536 + d) in
-    let k = 2 ^ 16 - 1 - b in
-    let x : s32 v ≡ pos v = s32_small _ (omega arith) in
-    let w : s32 (b * 65536 + d) ≡ negsuc y = s32_large _ (omega arith) (omega arith) in
-    let one = first_is a b f ∙ ap (λ z. first_of z (s16 b)) (s16_small a (omega arith)) ∙ ap (first_of (pos a)) (s16_large b lb (omega arith)) ∙ pos_neg a k in
-    let low = sym (below_pos_neg v y) in
-    elim (cases_lt k a) [
-      | inl l ↦ elim (cases_lt (k + 1) a) [
-        | inl m ↦
-            let e : pos a +ℤ negsuc k ≡ pos (a - k - 1) = omega (arith, ints) in
-            shown a b c d f _ _ _ _ _ (one ∙ ap (λ n. apart n true) e) (not_below_n c d (a - k - 1) (omega arith)) x w (sym (lt-leb v (y + 1) (omega arith)) ∙ low) refl
-        | inr m ↦
-            let e : pos a +ℤ negsuc k ≡ pos 0 = omega (arith, ints) in
-            shown a b c d f _ _ _ _ _ (one ∙ ap (λ n. apart n true) e) (opposite_n c d) x w (none_over a b c d v (y + 1) (omega arith) (omega arith) (omega arith) ∙ low) refl
-      ]
-      | inr l ↦ elim (cases_lt a k) [
-        | inl m ↦
-            let e : pos a +ℤ negsuc k ≡ negsuc (k - a) = omega (arith, ints) in
-            shown a b c d f _ _ _ _ _ (one ∙ ap (λ n. apart n true) e) (far_below_n c d (k - a) (omega arith)) x w (sym (le-leb v (y + 1) (omega arith)) ∙ low) refl
-        | inr m ↦
-            let e : pos a +ℤ negsuc k ≡ negsuc 0 = omega (arith, ints) in
-            shown a b c d f _ _ _ _ _ (one ∙ ap (λ n. apart n true) e) (just_below_n c d) x w (one_over a b c d v (y + 1) hc hd (omega arith) ∙ low) refl
-      ]
-    ]
-
--- both below 0
-negative_w : (a b c d : ℕ) (f : LaneFlags) → 32768 ≤ a → a < 65536 → 32768 ≤ b → b < 65536 → c < 65536 → d < 65536 → Codes a b c d f
-negative_w a b c d f la ha lb hb hc hd =
-    let v = 2 ^ 32 - 1 - (a * 65536 + c) in
-    let y = 2 ^ 32 - 1 - (b * 65536 + d) in
-    let j = 2 ^ 16 - 1 - a in
-    let k = 2 ^ 16 - 1 - b in
-    let x : s32 (a * 65536 + c) ≡ negsuc v = s32_large _ (omega arith) (omega arith) in
-    let w : s32 (b * 65536 + d) ≡ negsuc y = s32_large _ (omega arith) (omega arith) in
-    let one = first_is a b f ∙ ap (λ z. first_of z (s16 b)) (s16_large a la (omega arith)) ∙ ap (first_of (negsuc j)) (s16_large b lb (omega arith)) ∙ neg_neg j k in
-    let low = sym (below_neg_neg v y) in
-    elim (cases_lt a b) [
-      | inl l ↦
-          let e : negsuc j -ℤ negsuc k ≡ negsuc (b - a - 1) = omega (arith, ints) in
-          shown a b c d f _ _ _ _ _ (one ∙ ap (λ n. agree n true) e) (smaller_n c d (b - a - 1)) x w low (sym (lt-leb v y (omega arith)))
-      | inr l ↦ elim (cases_lt b a) [
-        | inl m ↦
-            let e : negsuc j -ℤ negsuc k ≡ pos (a - b) = omega (arith, ints) in
-            shown a b c d f _ _ _ _ _ (one ∙ ap (λ n. agree n true) e) (larger_n c d (a - b) (omega arith)) x w low (sym (le-leb v y (omega arith)))
-        | inr m ↦
-            let e : negsuc j -ℤ negsuc k ≡ pos 0 = omega (arith, ints) in
-            shown a b c d f _ _ _ _ _ (one ∙ ap (λ n. agree n true) e) (same_high_n c d) x w low (low_halves_w c d v y (omega arith))
-      ]
-    ]
-  where
-    low_halves_w : (c d v y : ℕ) → v + c ≡ y + d → nat_le d c ≡ nat_le v y
-    low_halves_w c d v y e = grind (arith, nat_tests)
-
-codes_are : (a b c d : ℕ) (f : LaneFlags) → a < 65536 → b < 65536 → c < 65536 → d < 65536 → Codes a b c d f
-codes_are a b c d f ha hb hc hd = elim (cases_lt b 32768) [
-  | inl m ↦ elim (cases_lt a 32768) [
-    | inl l ↦ positive a b c d f l m hc hd
-    | inr l ↦ negative a b c d f l ha m hc hd
-  ]
-  | inr m ↦ elim (cases_lt a 32768) [
-    | inl l ↦ positive_w a b c d f l m hb hc hd
-    | inr l ↦ negative_w a b c d f l ha m hb hc hd
-  ]
-]
-
--- the flags after both instructions, by lanes
-abbrev first_flags : State → Flags
-first_flags s = flags_after vch (vector s.vectors 1) (selected (vector s.vectors 3) 0) s.flags
-
-abbrev last_flags : State → List ℕ → List ℕ → Flags
-last_flags s c d = flags_after vcl c (selected d 0) (first_flags s)
-
-lane_flags : (s : State) (c d : List ℕ) (i : ℕ) → i < 8
-    → flags_at (last_flags s c d) i ≡ after_both (get_or (vector s.vectors 1) i 0) (get_or (vector s.vectors 3) i 0) (get_or c i 0) (get_or d i 0) (flags_at s.flags i)
-unfolding flags_after
-lane_flags s c d i h =
-    let a = vector s.vectors 1 in
-    let b = vector s.vectors 3 in
-    let one : flags_at (first_flags s) i ≡ (vch (get_or a i 0) (get_or (selected b 0) i 0) (flags_at s.flags i)).flags =
-    flags_of (λ i. (outcome_at vch a (selected b 0) s.flags i).flags) (first_flags s) refl i h in
-    flags_of (λ i. (outcome_at vcl c (selected d 0) (first_flags s) i).flags) (last_flags s c d) refl i h
-    ∙ ap (λ (f : LaneFlags). (vcl (get_or c i 0) (get_or (selected d 0) i 0) f).flags) one
-    ∙ rw (itself b i h, itself d i h) refl
-
-ended : (s : State) → IsState s → (t : State) → t ≡ executed (MoveControl From 1 Vcc) (executed (VectorClip Vcl (record { vd = 6; vs = 2; vt = 4; element = 0 })) (executed (VectorClip Vch (record { vd = 5; vs = 1; vt = 3; element = 0 })) s))
-    → (t.flags ≡ last_flags s (vector s.vectors 2) (vector s.vectors 4)) × (register t.registers 1 ≡ control_word Vcc t.flags)
-unfolding executed instruction_effect ruled moves_control control_value
-ended s is t e =
-    let written = results_of vch (vector s.vectors 1) (selected (vector s.vectors 3) 0) s.flags in
-    let read = λ (n : ℕ). vector_reads ((5, written) ∷ []) s.vectors n is.vectors.count refl in
-    let flags = ap (λ (x : State). x.flags) e in (
-      flags ∙ rw (read 2, read 4) refl,
-      ap (λ (x : State). register x.registers 1) e ∙ one_scalar s.registers 1 1 _ is.registers.count (omega arith) refl ∙ ap (control_word Vcc) (sym flags),
-    )
-
-pub clips : SumsOfProducts → ClipsAll words
-clips law s is at =
-    let end = pieces_run law words code decoded refl s is at tt in
-    let done = ended s is (steps_of 3 s) end.ran in
-    let v = is.vectors.registers in
-    let codes = λ (i : ℕ) (h : i < 8). codes_are _ _ _ _ (flags_at s.flags i) ((v 1 (omega arith)).1 i) ((v 3 (omega arith)).1 i) ((v 2 (omega arith)).1 i) ((v 4 (omega arith)).1 i) in
-    let lane = λ (i : ℕ) (h : i < 8). ap (λ f. flags_at f i) done.0 ∙ lane_flags s (vector s.vectors 2) (vector s.vectors 4) i h in
-    record {
-      below = λ i h. ap (λ (f : LaneFlags). f.compare) (lane i h) ∙ (codes i h).below;
-      above = λ i h. ap (λ (f : LaneFlags). f.clip) (lane i h) ∙ (codes i h).above;
-      code = done.1;
+      below = λ i h. lane_of false _ _ (ap (λ (f : Flags). f.compare) flags) i h;
+      above = λ i h. lane_of false _ _ (ap (λ (f : Flags). f.clip) flags) i h;
+      code = ap (λ (t : State). register t.registers 1) end.ran ∙ one_scalar s.registers 1 1 _ is.registers.count (omega arith) refl ∙ ap (control_word Vcc) (sym flags);
       others = end.others (1 ∷ []) (5 ∷ 6 ∷ []) refl;
     }

@@ -1,5 +1,5 @@
 -- Clip codes: on which side of -w to w a number is.
-use Rattle.std.specs.Prelude.{ℕ, ℤ, pos, ◌≡◌, ◌<◌, ◌&&◌, ◌||◌, ◌+ℤ◌, ◌++◌, int_lt, int_le, Bool, false, List, [], ◌∷◌, codes, slice_index_or}
+use Rattle.std.specs.Prelude.{ℕ, ◌≡◌, ◌<◌, ◌++◌, false, List, [], ◌∷◌, codes, slice_index_or}
 use Rattle.rsp_decode.specs.declared.vector.Control.TheVariants.{Vcc}
 use Rattle.rsp_scalar.specs.Registers.{register}
 use Rattle.rsp_loadstore.specs.File.{vector}
@@ -9,6 +9,7 @@ use Rattle.rsp_machine.specs.Laws.{steps_of}
 use Rattle.rsp_microcode.specs.Runs.{IsAt, address_after_words}
 use Rattle.rsp_microcode.specs.Kept.{registers_but, vectors_but}
 use Rattle.rsp_microcode.specs.Fixed.{fixed}
+use Rattle.rsp_microcode.specs.Clips.{is_below, is_above}
 use Rattle.rsp_microcode.specs.Text.{line}
 
 -- $v1 has the high halves of the numbers, $v2 the low ones; $v3 and $v4 those of w; the codes are in $1
@@ -17,13 +18,6 @@ text =
     line (codes "vch $v5, $v1, $v3")
     ++ line (codes "vcl $v6, $v2, $v4")
     ++ line (codes "cfc2 $1, $vcc")
-
--- whether x <= -w, and one of the two is negative (so not both are 0); and whether x >= w
-abbrev pub is_below : ℤ → ℤ → Bool
-is_below x w = (int_lt x (pos 0) || int_lt w (pos 0)) && int_le (x +ℤ w) (pos 0)
-
-abbrev pub is_above : ℤ → ℤ → Bool
-is_above x w = int_le w x
 
 -- what the three steps from s to t do
 pub record ClipsNumbers (words : List ℕ) (s t : State) : Type 0 where
