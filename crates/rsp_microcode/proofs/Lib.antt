@@ -15,6 +15,7 @@ pub mod Buffers
 pub mod Calls
 pub mod Blocks
 pub mod Joins
+pub mod Branches
 pub mod Kept
 pub mod Halves
 pub mod FlagsKept

@@ -98,7 +98,7 @@ record Stands (l : Loop) (s : State) (Holds : ℕ → State → Type 0) (n k : �
   frame : t ≡ with_parts (of_rows (loop_code l)) s t
   spares : Spares (loop_code l) s t
 
-lengths : (ws : List ℕ) (is : List Inst) (b d : Inst) → map inst_of ws ≡ map Some (is ++ b ∷ d ∷ []) → length ws ≡ length is + 2
+pub lengths : (ws : List ℕ) (is : List Inst) (b d : Inst) → map inst_of ws ≡ map Some (is ++ b ∷ d ∷ []) → length ws ≡ length is + 2
 lengths ws is b d e = sym (length-map ws inst_of) ∙ ap length e ∙ length-map (is ++ b ∷ d ∷ []) Some ∙ length-append is (b ∷ d ∷ [])
 
 round : SumsOfProducts → (l : Loop) → map inst_of l.words ≡ map Some (loop_code l) → is_loop l ≡ true

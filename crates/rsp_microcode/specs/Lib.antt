@@ -12,6 +12,7 @@ pub mod Ranges
 pub mod Buffers
 pub mod Calls
 pub mod Blocks
+pub mod Branches
 pub mod Kept
 pub mod Fixed
 pub mod Clips

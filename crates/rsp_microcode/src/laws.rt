@@ -2,6 +2,7 @@
 //! contract of a function that does nothing; a function that calls it may use it in its proof.
 
 ghost use Rattle.rsp_microcode.specs.Blocks.{BlocksJoin, BothStand, FirstBlock, NextBlock, RanAt, RanOthers, RanReturns, StepsAfter};
+ghost use Rattle.rsp_microcode.specs.Branches.{BlockRuns};
 ghost use Rattle.rsp_microcode.specs.Clips.{ClipCodes, ClipsRun, CodeBits};
 ghost use Rattle.rsp_microcode.specs.Calls.{CallRuns, RoutineRuns};
 ghost use Rattle.rsp_microcode.specs.Buffers.{FilledNone, FilledOne, FilledSpares};
@@ -146,6 +147,13 @@ pub fn blocks()
     ensures others { RanOthers }
     ensures returns { RanReturns }
 {}
+
+/// Blocks that end with a branch, forward or back, and its delay slot: a branch that isn't taken goes on, as straight code does.
+pub fn block_runs()
+    ensures { BlockRuns }
+{
+    l4();
+}
 
 /// Transfers: three moves to SP registers take a row of bytes from RDRAM to DMEM, or from DMEM to RDRAM, and change nothing else
 /// but the addresses and the skip of the SP registers.
