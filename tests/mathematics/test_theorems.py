@@ -29,7 +29,9 @@ pytestmark = [pytest.mark.xdist_group("theorems"), pytest.mark.timeout(LONGEST +
 NEEDS_RT = pytest.mark.needs("rt")
 PAGE = "docs/PROVING.md"
 COPIED = ("HANDLES", "crates.txt", "crates", "tools", "conformance/rsp_conformance")
-NAMES = "straight_code down_to_zero down_by_eight called_routine up_to_end with_loop sets_count".split()
+LOOPS = "down_to_zero down_by_eight up_to_end with_loop sets_count".split()
+WAITS = "signal_wait cleared_signal after_transfer".split()
+NAMES = ["straight_code", "codes_of_points", "called_routine", *LOOPS, *WAITS]
 TEXTS = {it: page(f"tests/mathematics/theorems/{it}.s") for it in NAMES}
 LABELS = (*TEXTS, "docs/PROVING.md's example", "docs/PROVING.md's loop")
 # A name, a text, and a part of the sentence that refuses them.
@@ -43,10 +45,13 @@ REFUSED = (
     ("wrong", "vadd $v1", "the text isn't assembled: rsp: fault"),
     ("halts", "break", "a BREAK halts the machine"),
     ("moves", "mtc0 $1, $c0", "take the law `transfers` between"),
-    ("locks", "mfc0 $1, $c7", "take the law `transfers` between"),
+    ("locks", "mfc0 $1, $c7", "take the law `steps_over`"),
     ("reserved", ".word 0x4a000012", "4a000012 is no instruction of the table"),
     ("branches", "nop\nbeq $1, $2, 0\nnop", "has to be `bne $A, $B` or `bgtz $C`"),
     ("skips", "bne $1, $2, 12\nnop\nnop", "one loop at most"),
+    ("exits", "nop\nbeq $1, $2, 20\nnop\nbne $1, $3, 0\nnop", "give the code up to each branch"),
+    ("never", "mfc0 $1, $c6\nbeq $1, $0, 0\nnop", "the wait never ends: SP register 6 reads 0"),
+    ("reads", "mfc0 $1, $c4\naddiu $1, $1, 1\nbeq $1, $0, 0\nnop", "or the loop a wait: `mfc0`"),
     ("nests", "nop\nbne $1, $2, 0\nnop\nbne $1, $3, 0\nnop", "one loop at most"),
     ("jumps", "nop\nj 0\nnop", "has to be the loop's, or `jr $31`"),
     ("compares", "nop\nbne $1, $2, 0\nnop", "counted by one `addiu $C, $C, N`"),

@@ -10,6 +10,7 @@ says TODO. Then:
 
 The text is straight code and at most one loop, with code before it and after it. `jr $31` and the delay slot
 may end it. The branch of the loop is `bne $A, $B`, of which one `addiu` of the loop counts one, or `bgtz $C`.
+Or the loop is a wait: `mfc0`, maybe `andi`, and `bne` or `beq` that compares with $0.
 Of a loop over buffers, which stores one vector a round, the lines that begin with `--| ` say what it fills:
 they are comments until you take these marks away.
 """
@@ -32,6 +33,7 @@ from rsp_tools.theorem.routine import Joined, Routine, module_of, routine_of
 from rsp_tools.theorem.source import source, text_answer, theorem_answer
 from rsp_tools.theorem.statement import statement
 from rsp_tools.theorem.straight import routine_proof, straight_proof
+from rsp_tools.theorem.waits import wait_proof
 
 CRATE = TOP / "crates" / "rsp_routines"
 PROGRAM = os.environ.get("RSP_PROGRAM", str(TOP / "crates/rsp_main/out/rsp_main"))
@@ -93,6 +95,8 @@ def proof(it: Routine | Joined) -> str:
         return joined_proof(it)
     if it.counter:
         return loop_proof(it)
+    if it.wait:
+        return wait_proof(it, it.wait)
     return routine_proof(it) if it.returns else straight_proof(it)
 
 
@@ -121,11 +125,15 @@ def main(name: str, text: str) -> None:
     if not words:
         stop("the text has no instruction")
     it = routine_of(name, lines_of(text), words, shown)
-    write(f"src/{name}.rt", source(it))
-    write(f"specs/{it.module}.antt", statement(it))
-    write(f"proofs/{it.module}Runs.antt", proof(it))
-    write(f"proofs/{name}/theorem/Answers.antt", theorem_answer(it))
-    write(f"proofs/{name}/words/Answers.antt", text_answer(it))
+    files = {
+        f"src/{name}.rt": source(it),
+        f"specs/{it.module}.antt": statement(it),
+        f"proofs/{it.module}Runs.antt": proof(it),
+        f"proofs/{name}/theorem/Answers.antt": theorem_answer(it),
+        f"proofs/{name}/words/Answers.antt": text_answer(it),
+    }
+    for path, contents in files.items():
+        write(path, contents)
     declare(it)
     print(f"now: cd crates/rsp_routines && rt check --only {name}")
 

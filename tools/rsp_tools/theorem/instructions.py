@@ -97,10 +97,13 @@ class Instruction:
         return CONTROLS[self.fields["c"] % 4]
 
     @property
-    def term(self) -> str:
+    def values(self) -> str:
         control = self.control if self.variant == "MoveControl" else ""
-        values = VALUES[self.form].format(**self.fields, control=control)
-        return " ".join(filter(None, (self.variant, self.row, values)))
+        return VALUES[self.form].format(**self.fields, control=control)
+
+    @property
+    def term(self) -> str:
+        return " ".join(filter(None, (self.variant, self.row, self.values)))
 
     @property
     def is_branch(self) -> bool:
@@ -145,10 +148,12 @@ def instruction_of(word: int) -> Instruction:
     fields = fields_of(row, word)
     if row.name == "break":
         stop("a BREAK halts the machine: end the text before it")
-    if row.form == "to sp" or row.form == "from sp" and fields["c"] == SEMAPHORE:
+    if row.form == "from sp" and fields["c"] == SEMAPHORE:
+        stop("a read of the semaphore takes it, which no piece may: take the law `steps_over` for that step")
+    if row.form == "to sp":
         stop(
-            "a move to an SP register, or from the semaphore, changes what no piece may change: give the code"
-            " before and after a transfer by itself, and take the law `transfers` between"
+            "a move to an SP register changes what no piece may change: give the code before and after a"
+            " transfer by itself, and take the law `transfers` between"
         )
     variant = VARIANT_OF_ROW.get(row.name) or VARIANT_OF_FORM[row.form]
     return Instruction(word, row.name, row.form, variant, fields)

@@ -7,8 +7,9 @@ from .instructions import uses
 from .kit import KIT, OPENED
 from .loops import lemmas, needs_bound
 from .pieces import aligned, bases_of
-from .routine import Joined, Routine
+from .routine import Joined, Routine, Wait
 from .straight import code_text, record_text
+from .waits import USES as WAITS, wait_lemmas
 
 JOINS = """\
 use Rattle.std.specs.Prelude.{◌++◌}
@@ -23,16 +24,17 @@ def joined_proof(it: Joined) -> str:
     for block, name in (it.front, "front"), (it.back, "back"):
         for piece in block.pieces if block else []:
             piece.name = f"{name}_{piece.name}" if piece.name else ""
-    names = f"{it.module}Entered, {it.module}Does, Does{it.module}"
+    names = f"{it.module}Does, Does{it.module}" + ("" if it.wait else f", {it.module}Entered")
+    turns = wait_lemmas(it.loop, it.wait) if it.wait else lemmas(it.loop)
     blocks = code_text(it.front, "front_words", "front", "front_decoded") if it.front else ""
     if it.back and it.returns:
         blocks += record_text(it.back, "Routine", "back", "back_decoded")
     elif it.back:
         blocks += code_text(it.back, "back_words", "back", "back_decoded")
     return f"""-- {it.name}.
-{KIT}{uses(it.code)}{JOINS}use Rattle.rsp_routines.specs.{it.module}.{{{names}}}
+{KIT}{uses(it.code)}{JOINS}{WAITS if it.wait else ''}use Rattle.rsp_routines.specs.{it.module}.{{{names}}}
 {result_use(it.loop)}
-{lemmas(it.loop)}
+{turns}
 {blocks}abbrev words : List ℕ
 words = {f"front_words ++ {rest(it)}" if it.front else rest(it).strip("()")}
 
@@ -44,18 +46,28 @@ def does(it: Joined) -> str:
     before, each, after = it.steps
     facts = "".join(f" a{base}" for base in it.straight_bases)
     cuts = [f"steps_after {before} ({it.later_steps}) s"] if it.front else []
-    cuts += [f"steps_after (n * {each}) {after} u"] if it.back else []
-    lines = [*front_lines(it), *loop_lines(it), *back_lines(it)]
+    cuts += [f"steps_after {each if it.wait else f'(n * {each})'} {after} u"] if it.back else []
+    turns = wait_lines(it, it.wait) if it.wait else loop_lines(it)
+    lines = [*front_lines(it), *turns, *back_lines(it)]
     results = marked(f"      filled = {filled(it)};") if it.loop.target else ""
+    rounds = "" if it.wait else " n"
+    claimed = f"{it.module}Does words s"
     return f"""\
 pub does : SumsOfProducts → Does{it.module} words
 unfolding {OPENED}
-does law s is at{facts} n entered =
-{"".join(f"    {line}{chr(10)}" for line in lines)}    let done : {it.module}Does words s t n = record {{
+does law s is at{facts}{given(it)} =
+{"".join(f"    {line}{chr(10)}" for line in lines)}    let done : {claimed} t{rounds} = record {{
 {results}      others = {others(it)};
     }} in
-    subst (λ (x : State). {it.module}Does words s x n) (sym ({' ∙ '.join(cuts)})) done
+    subst (λ (x : State). {claimed} x{rounds}) (sym ({' ∙ '.join(cuts)})) done
 """
+
+
+def given(it: Joined) -> str:
+    """The last arguments of the theorem."""
+    if it.wait:
+        return "" if it.wait.is_quiet else " ready"
+    return " n entered"
 
 
 def moved(it: Joined) -> str:
@@ -106,10 +118,15 @@ def filled(it: Joined) -> str:
     return f"subst (λ m. {goal}) (sym (ap (λ (x : State). x.dmem) last.frame)) ({proof})"
 
 
+def middle(it: Joined) -> str:
+    """The name of the loop or the wait."""
+    return "wait" if it.wait else "loop"
+
+
 def rest(it: Joined) -> str:
     """The words from the loop on."""
     back = "back.words" if it.returns else "back_words"
-    return f"(loop.words ++ {back})" if it.back else "loop.words"
+    return f"({middle(it)}.words ++ {back})" if it.back else f"{middle(it)}.words"
 
 
 def front_lines(it: Joined) -> list[str]:
@@ -137,6 +154,22 @@ def loop_lines(it: Joined) -> list[str]:
         "let ran_v = loop_ran loop n (Holds u n) u v at_u.next mid in",
     ]
     return [*lines, f"let at_v = ran_at loop.words {back} _ u v at_u ran_v in"] if it.back else lines
+
+
+def wait_lines(it: Joined, wait: Wait) -> list[str]:
+    """The wait: v is the state after it."""
+    back = "back.words" if it.returns else "back_words"
+    at = f"(first_block wait.words {back} u at_u)" if it.back else "at_u"
+    lines = []
+    if it.front and not wait.is_quiet:
+        lines.append("let same : u.sp ≡ s.sp = ap (λ (x : State). x.sp) first.frame in")
+        lines.append(f"let ready : {wait.ready('u')} = rw same ready in")
+    lines += [
+        f"let mid = waits law u ok {at}{given(it)} in",
+        f"let v = steps_of {it.steps[1]} u in",
+        "let ran_v = mid in",
+    ]
+    return [*lines, f"let at_v = ran_at wait.words {back} _ u v at_u ran_v in"] if it.back else lines
 
 
 def entered(it: Joined) -> str:
@@ -186,13 +219,13 @@ def others(it: Joined) -> str:
     """The frame of all blocks."""
     sets = f"{it.numbers} {it.vectors} refl"
     if it.returns:
-        ran = "(blocks_join front_words loop.words _ _ s u v ran_u ran_v)" if it.front else "ran_v"
-        words = "(front_words ++ loop.words)" if it.front else "loop.words"
+        ran = f"(blocks_join front_words {middle(it)}.words _ _ s u v ran_u ran_v)" if it.front else "ran_v"
+        words = f"(front_words ++ {middle(it)}.words)" if it.front else f"{middle(it)}.words"
         return f"ran_returns {words} _ back s v t is {ran} refl last {sets}"
     ran = "ran_v"
     if it.back:
         last = "(pieces_ran back_words back v t at_v.next last)"
-        ran = f"(blocks_join loop.words back_words _ _ u v t ran_v {last})"
+        ran = f"(blocks_join {middle(it)}.words back_words _ _ u v t ran_v {last})"
     if it.front:
         ran = f"(blocks_join front_words {rest(it)} _ _ s u t ran_u {ran})"
     return f"ran_others words _ s t is at.next {ran} {sets}"

@@ -11,7 +11,7 @@ from .instructions import Instruction
 class Piece:
     """A piece: its kind, the text of each member, and the base registers that have to be aligned."""
 
-    kind: str  # takes, sums, puts or rows
+    kind: str  # takes, sums, clips, puts or rows
     members: list[str] = field(default_factory=list)
     bases: list[int] = field(default_factory=list)
     moves: bool = False  # whether it writes a scalar register
@@ -19,8 +19,8 @@ class Piece:
 
     @property
     def text(self) -> str:
-        if self.kind == "puts":
-            return f"puts {self.members[0]}"
+        if self.kind in ("puts", "clips"):
+            return f"{self.kind} {self.members[0]}"
         return f"{self.kind} {self.name}" if self.name else f"{self.kind} ({listing(self.members)})"
 
 
@@ -36,12 +36,17 @@ def is_whole(it: Instruction) -> bool:
 def pieces_of(code: list[Instruction], steady: dict[int, int]) -> list[Piece]:
     """The pieces of straight code. LQV and SQV of whole registers are pieces if their base is `steady` and
     no instruction before them writes it. Multiplies that add to one are a sum, if none reads what one before
-    it wrote.
+    it wrote. VCH and the VCL after it are clip codes.
     """
     pieces: list[Piece] = []
     written: set[int] = set()
     summed: set[int] = set()  # the vector registers that the last sum wrote
-    for it in code:
+    for before, it, after in zip([None, *code], code, [*code[1:], None]):
+        if before and are_codes(before, it):
+            continue
+        if after and are_codes(it, after):
+            pieces.append(Piece("clips", [f"{it.values} {after.values}"]))
+            continue
         last = pieces[-1].kind if pieces else None
         kind, member = kind_of(it, last, summed, steady.keys() - written)
         if kind == "puts" or kind != last or kind == "sums" and not adds(it):
@@ -57,6 +62,14 @@ def pieces_of(code: list[Instruction], steady: dict[int, int]) -> list[Piece]:
             written.add(it.scalar)
             piece.moves = True
     return named(pieces)
+
+
+def are_codes(high: Instruction, low: Instruction) -> bool:
+    """Whether VCH and the VCL after it compare numbers of 32 bits: they have one element, and VCL reads no
+    register that VCH writes.
+    """
+    is_pair = (high.name, low.name) == ("vch", "vcl") and high.fields["e"] == low.fields["e"]
+    return is_pair and high.fields["vd"] not in (low.fields["vs"], low.fields["vt"])
 
 
 def adds(it: Instruction) -> bool:

@@ -11,6 +11,7 @@ from .instructions import Instruction, instruction_of
 from .pieces import Piece, bases_of, listing, pieces_of
 
 RETURN_REGISTER = 31
+QUIET = (5, 6)  # the SP registers of a DMA that is full or busy, which no DMA here is
 STEP = 16  # bytes of a vector
 
 
@@ -48,6 +49,32 @@ class Counter:
         if self.step > 0:
             return f"register s.registers {self.register} + {counted} < 2 ^ 32"
         return f"{counted} < 2 ^ 31" if self.branch == "bgtz" else ""
+
+
+@dataclass(frozen=True)
+class Wait:
+    """A loop that reads an SP register until a bit of it is clear, or until one is set. Nothing but an
+    instruction changes that register here, so the wait ends in its first round or never.
+    """
+
+    number: int  # of the SP register
+    mask: int | None  # the bits that an ANDI keeps
+    tested: int  # the scalar register that the branch compares with 0
+    until_set: bool
+
+    @property
+    def is_quiet(self) -> bool:
+        """Whether the register always reads 0."""
+        return self.number in QUIET
+
+    def value(self, state: str) -> str:
+        """What the branch compares."""
+        word = f"read_value {self.number} {state}.sp"
+        return word if self.mask is None else f"bit_and ({word}) {self.mask}"
+
+    def ready(self, state: str) -> str:
+        """The premise: with it the wait ends at once."""
+        return f"{self.value(state)} {'≢' if self.until_set else '≡'} 0"
 
 
 @dataclass(frozen=True)
@@ -96,6 +123,7 @@ class Routine(Text):
     counter: Counter | None
     far: dict[int, int]  # the base registers that stay aligned, and how much a round adds to each
     returns: bool
+    wait: Wait | None = None
 
     @property
     def rounds(self) -> Counter:
@@ -146,6 +174,10 @@ class Joined(Text):
         return self.loop.counter
 
     @property
+    def wait(self) -> Wait | None:
+        return self.loop.wait
+
+    @property
     def steps(self) -> tuple[int, int, int]:
         """The instructions before the loop, in it, and after it."""
         before, after = (len(it.code) if it else 0 for it in (self.front, self.back))
@@ -155,7 +187,8 @@ class Joined(Text):
     def later_steps(self) -> str:
         """The steps of n rounds, and those after them."""
         _, each, after = self.steps
-        return f"n * {each} + {after}" if after else f"n * {each}"
+        rounds = f"{each}" if self.wait else f"n * {each}"
+        return f"{rounds} + {after}" if after else rounds
 
     @property
     def all_steps(self) -> str:
@@ -164,7 +197,10 @@ class Joined(Text):
     @property
     def entry(self) -> str:
         """The state that the loop's premises are about: the first, if no code before it writes their
-        registers."""
+        registers. Those of a wait are about SP registers, which no code here writes.
+        """
+        if self.wait:
+            return "s"
         read = {*self.loop.bases, self.loop.rounds.register, self.loop.rounds.other} - {0}
         written = {it.scalar for it in self.front.code} if self.front else set()
         return f"(steps_of {self.steps[0]} s)" if read & written else "s"
@@ -191,6 +227,11 @@ def routine_of(name: str, lines: list[str], words: list[int], shown: list[str]) 
     back = [number for number in turns if code[number].form.startswith("branch")]
     if not turns or turns == [len(code) - 2] and not back:
         return straight(text, code)
+    if has_two_exits(code, back):
+        stop(
+            "the loop has two exits: give the code up to each branch, with its delay slot, as a block of the"
+            " law `block_runs`, and join the rounds by `rounds_of_steps` (docs/PROVING.md, Two exits)"
+        )
     first = back[0] + 1 - (0x10000 - code[back[0]].fields["imm"]) if len(back) == 1 else -1
     end = back[0] + 2 if back else 0
     if not 0 <= first < end - 1 or {*turns} - {back[0], len(code) - 2} or end - 1 in turns:
@@ -207,6 +248,15 @@ def routine_of(name: str, lines: list[str], words: list[int], shown: list[str]) 
     return Joined(name, lines, text.comments, code, straight(text, front) if front else None, loop, after)
 
 
+def has_two_exits(code: list[Instruction], branches: list[int]) -> bool:
+    """Whether these are a branch out of a loop, and the loop's own branch back."""
+    if len(branches) != 2:
+        return False
+    out, back = branches
+    begin, end = (number + 1 + signed(code[number].fields["imm"]) for number in (back, out))
+    return 0 <= begin <= out and end >= back + 2
+
+
 def straight(text: Text, code: list[Instruction], steady: dict[int, int] | None = None) -> Routine:
     """Straight code, which may return. Its base registers are `steady` where it begins, or all are."""
     turns = [it for it in code if it.is_branch]
@@ -219,17 +269,39 @@ def straight(text: Text, code: list[Instruction], steady: dict[int, int] | None 
 
 
 def loop_of(text: Text, code: list[Instruction]) -> Routine:
-    far = steady_in_loop(code)
-    return Routine(
-        text.name, text.lines, text.comments, code, pieces_of(code[:-2], far), counter_of(code), far, False
-    )
+    wait = wait_of(code)
+    far = {} if wait else steady_in_loop(code)
+    counter = None if wait else counter_of(code)
+    pieces = pieces_of(code[:-2], far)
+    return Routine(text.name, text.lines, text.comments, code, pieces, counter, far, False, wait)
+
+
+def wait_of(code: list[Instruction]) -> Wait | None:
+    """The wait that a loop is, if it is MFC0, maybe ANDI, and BNE or BEQ with register 0."""
+    branch, body = code[-2], [it for it in code[:-2] if it.word]  # NOP is the word 0
+    if branch.form != "branch two" or not body or body[0].form != "from sp":
+        return None
+    tested, mask = body[0].fields["t"], None
+    if len(body) == 2 and body[1].name == "andi" and body[1].fields["s"] == tested:
+        tested, mask = body[1].fields["t"], body[1].fields["imm"]
+    elif len(body) > 1:
+        return None
+    if not tested or {branch.fields["s"], branch.fields["t"]} != {0, tested}:
+        return None
+    wait = Wait(body[0].fields["c"], mask, tested, branch.name == "beq")
+    if wait.is_quiet and wait.until_set:
+        stop(f"the wait never ends: SP register {wait.number} reads 0")
+    return wait
 
 
 def counter_of(code: list[Instruction]) -> Counter:
     """What counts the rounds of a loop. Code that is none ends the script with a sentence."""
     branch, slot = code[-2:]
     if branch.name not in ("bne", "bgtz"):
-        stop("the branch of a loop has to be `bne $A, $B` or `bgtz $C`")
+        stop(
+            "the branch of a loop has to be `bne $A, $B` or `bgtz $C`, or the loop a wait: `mfc0`, maybe"
+            " `andi`, and `bne` or `beq` that compares with $0"
+        )
     compared = [branch.fields["s"], branch.fields.get("t", 0)]
     moved = [it for it in compared if any(one.scalar == it for one in code) and it]
     steps = [it for it in code if len(moved) == 1 and it.scalar == moved[0]]

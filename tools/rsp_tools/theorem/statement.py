@@ -7,16 +7,18 @@ from .loops import after_rounds, needs_bound
 from .routine import Joined, Routine
 
 KIT = """\
-use Rattle.std.specs.Prelude.{ℕ, ℤ, pos, ◌≡◌, ◌<◌, ◌+◌, ◌-◌, ◌*◌, ◌/◌, ◌%◌, ◌^◌, ◌+ℤ◌, ◌-ℤ◌, ◌*ℤ◌, ◌++◌}
+use Rattle.std.specs.Prelude.{ℕ, ℤ, pos, ◌≡◌, ◌≢◌, ◌<◌, ◌+◌, ◌-◌, ◌*◌, ◌/◌, ◌%◌, ◌^◌, ◌+ℤ◌, ◌-ℤ◌, ◌*ℤ◌, ◌++◌}
 use Rattle.std.specs.Prelude.{true, false, List, [], ◌∷◌, codes, slice_index}
 use Rattle.std.specs.Int.Bits.{bit_and, bit_or, bit_xor}
-use Rattle.rsp_numbers.specs.Numbers.{s16, s32, s48, sixteen_bits, clamp16, floor_div}
+use Rattle.rsp_numbers.specs.Numbers.{s16, s32, s48, bit_set, sixteen_bits, clamp16, floor_div}
 use Rattle.rsp_memory.specs.Memory.{byte_at, word_at}
-use Rattle.rsp_lanes.specs.Lanes.{each_lane}
+use Rattle.rsp_lanes.specs.Lanes.{each_lane, source_lane}
 use Rattle.rsp_loadstore.specs.File.{vector, with_vector}
 use Rattle.rsp_microcode.specs.Lanes.{lanes_at, IsOutside}
 use Rattle.rsp_microcode.specs.Buffers.{IsBuffer, SparesBuffer, IsFilled}
 use Rattle.rsp_microcode.specs.Fixed.{fixed, limited, fixed_product}
+use Rattle.rsp_microcode.specs.Clips.{codes_of, is_below, is_above}
+use Rattle.rsp_regs.specs.Sp.{read_value}
 use Rattle.rsp_scalar.specs.Registers.{register}
 use Rattle.rsp_machine.specs.State.{State, IsState}
 use Rattle.rsp_machine.specs.Laws.{steps_of}
@@ -30,7 +32,8 @@ use Rattle.rsp_microcode.specs.Text.{line}
 
 def statement(it: Routine | Joined) -> str:
     text = "\n    ++ ".join(f'line (codes "{line}")' for line in it.lines)
-    loop = it.loop if isinstance(it, Joined) else it if it.counter else None
+    inner = it.loop if isinstance(it, Joined) else it
+    loop = inner if inner.counter else None
     what, rounds = f"the {len(it.code)} steps from s to t do", ""
     if loop:
         what, rounds = "all steps from s to t do", " (n : ℕ)"
@@ -124,7 +127,7 @@ def changed_fields(it: Routine | Joined) -> list[str]:
 
 def claim(it: Routine | Joined) -> str:
     does, steps = f"{it.module}Does words s", len(it.code)
-    if isinstance(it, Joined):
+    if isinstance(it, Joined) and not it.wait:
         rounds = f"(n : ℕ) → {it.module}Entered {it.entry} n"
         return f"{premises(it)}{rounds} → {does} (steps_of ({it.all_steps}) s) n"
     if it.counter:
@@ -133,6 +136,9 @@ def claim(it: Routine | Joined) -> str:
 
 
 def premises(it: Routine | Joined) -> str:
-    """That the addresses of straight code are aligned."""
+    """That the addresses of straight code are aligned, and that a wait ends."""
     bases = it.straight_bases if isinstance(it, Joined) else it.bases
-    return "".join(f"register s.registers {base} % 16 ≡ 0 → " for base in bases)
+    facts = [f"register s.registers {base} % 16 ≡ 0" for base in bases]
+    if it.wait and not it.wait.is_quiet:
+        facts.append(it.wait.ready("s"))
+    return "".join(f"{fact} → " for fact in facts)

@@ -42,7 +42,7 @@ abbrev {pieces} : List Piece
 
 def record_text(it: Routine, kind: str, name: str, fact: str) -> str:
     """A Routine or a Loop of this name, and that its words are its pieces."""
-    branch = f"  branch = {it.code[-2].term};\n" if it.counter else ""
+    branch = f"  branch = {it.code[-2].term};\n" if it.counter or it.wait else ""
     return f"""\
 {definitions(it.pieces)}abbrev {name} : {kind}
 {name} = record {{
@@ -66,7 +66,8 @@ unfolding inst_of row_of
 
 def does(it: Routine, words: str, pieces: str, law: str) -> str:
     """The theorem: the law that runs the pieces, and the frame."""
-    is_opened = it.bases and any(piece.kind == "rows" for piece in it.pieces)
+    kinds = {piece.kind for piece in it.pieces}
+    is_opened = "rows" in kinds and (it.bases or "clips" in kinds)
     facts = "".join(f" a{base}" for base in it.bases)
     return f"""\
 pub does : SumsOfProducts → Does{it.module} {words}
