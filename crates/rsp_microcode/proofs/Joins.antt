@@ -47,13 +47,13 @@ addresses_joined : (a b : List ℕ) (p : ℕ) → address_after_words (a ++ b) p
 addresses_joined [] b p = refl
 addresses_joined (w ∷ ws) b p = addresses_joined ws b (address_after p)
 
-spares_joined : (a b : List Inst) (s t u : State) → Spares a s t → Spares b t u → Spares (a ++ b) s u
+pub spares_joined : (a b : List Inst) (s t u : State) → Spares a s t → Spares b t u → Spares (a ++ b) s u
 spares_joined a b s t u p q = record {
   scalars = λ n h. let parts = all_parts (λ i. not (register_of i == n)) a b h in q.scalars n parts.1 ∙ p.scalars n parts.0;
   vectors = λ n h. let parts = all_parts (spares_vector n) a b h in q.vectors n parts.1 ∙ p.vectors n parts.0;
 }
 
-frames_joined : (a b : List Inst) (s t u : State) → t ≡ with_parts (of_rows a) s t → u ≡ with_parts (of_rows b) t u → u ≡ with_parts (of_rows (a ++ b)) s u
+pub frames_joined : (a b : List Inst) (s t u : State) → t ≡ with_parts (of_rows a) s t → u ≡ with_parts (of_rows b) t u → u ≡ with_parts (of_rows (a ++ b)) s u
 frames_joined a b s t u p q = chained (of_rows a) (of_rows b) s t u p q ∙ ap (λ k. with_parts k s u) (sym (rows_joined a b))
 
 pub blocks_join : BlocksJoin

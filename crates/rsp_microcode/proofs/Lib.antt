@@ -16,6 +16,7 @@ pub mod Calls
 pub mod Blocks
 pub mod Joins
 pub mod Branches
+pub mod Exits
 pub mod Kept
 pub mod Halves
 pub mod FlagsKept

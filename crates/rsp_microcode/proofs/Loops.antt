@@ -75,7 +75,7 @@ or_same : (b : Bool) → (b || b) ≡ b
 or_same true = refl
 or_same false = refl
 
-both_same : (k : Touch) → both k k ≡ k
+pub both_same : (k : Touch) → both k k ≡ k
 both_same k = rw (or_same k.registers, or_same k.vectors, or_same k.accumulators, or_same k.flags, or_same k.divider, or_same k.dmem) refl
 
 -- a branch fits a word, and so does a loop

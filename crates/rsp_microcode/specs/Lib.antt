@@ -13,6 +13,7 @@ pub mod Buffers
 pub mod Calls
 pub mod Blocks
 pub mod Branches
+pub mod Exits
 pub mod Kept
 pub mod Fixed
 pub mod Clips
