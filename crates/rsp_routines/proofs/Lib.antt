@@ -31,3 +31,4 @@ pub mod MixLanesRuns
 pub mod MixBuffersRuns
 pub mod AddLanesRuns
 pub mod AddLanesDiffer
+pub mod FindZeroRuns

@@ -20,3 +20,4 @@ pub mod FetchRow
 pub mod MixLanes
 pub mod MixBuffers
 pub mod AddLanes
+pub mod FindZero

@@ -15,6 +15,7 @@ pub mod dot_buffers;
 pub mod fetch_row;
 pub mod fill;
 pub mod filter;
+pub mod find_zero;
 pub mod mix;
 pub mod mix_buffers;
 pub mod mix_lanes;
