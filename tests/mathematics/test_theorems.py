@@ -2,9 +2,10 @@
 
 They fail if one isn't proved as it is written, or a text that it can't take doesn't get its sentence. The
 program rsp assembles the texts. tools/theorem runs in a temporary copy of the crates: on straight code with
-an instruction of each kind, on loops, on routines that return, and on the first example of docs/PROVING.md.
-One `rt check` then has to prove both functions of each. It also has to prove what the loop of docs/PROVING.md
-fills, after the edits that the page says. Every instruction of the table is known.
+an instruction of each kind, on loops, on waits, on routines that return, and on the examples of
+docs/PROVING.md. One `rt check` then has to prove both functions of each. It also has to prove what the page
+states of its loop and of its clip codes, after the edits that the page says. Every instruction of the table
+is known.
 """
 
 import os
@@ -12,6 +13,7 @@ import re
 import shutil
 import tempfile
 from pathlib import Path
+from textwrap import indent
 from typing import Dict, Iterable, Iterator, NamedTuple, Tuple
 
 import pytest
@@ -33,7 +35,8 @@ LOOPS = "down_to_zero down_by_eight up_to_end with_loop sets_count".split()
 WAITS = "signal_wait cleared_signal after_transfer".split()
 NAMES = ["straight_code", "codes_of_points", "called_routine", *LOOPS, *WAITS]
 TEXTS = {it: page(f"tests/mathematics/theorems/{it}.s") for it in NAMES}
-LABELS = (*TEXTS, "docs/PROVING.md's example", "docs/PROVING.md's loop")
+PAGE_LABELS = [f"docs/PROVING.md's {it}" for it in ("example", "loop", "clip codes", "wait")]
+LABELS = (*TEXTS, *PAGE_LABELS)
 # A name, a text, and a part of the sentence that refuses them.
 REFUSED = (
     ("Add", "nop", "is no name like `add_lanes`"),
@@ -49,7 +52,7 @@ REFUSED = (
     ("reserved", ".word 0x4a000012", "4a000012 is no instruction of the table"),
     ("branches", "nop\nbeq $1, $2, 0\nnop", "has to be `bne $A, $B` or `bgtz $C`"),
     ("skips", "bne $1, $2, 12\nnop\nnop", "one loop at most"),
-    ("exits", "nop\nbeq $1, $2, 20\nnop\nbne $1, $3, 0\nnop", "give the code up to each branch"),
+    ("exits", "nop\nbeq $1, $2, 20\nnop\nbne $1, $3, 0\nnop", "a block of the law `exits_run`"),
     ("never", "mfc0 $1, $c6\nbeq $1, $0, 0\nnop", "the wait never ends: SP register 6 reads 0"),
     ("reads", "mfc0 $1, $c4\naddiu $1, $1, 1\nbeq $1, $0, 0\nnop", "or the loop a wait: `mfc0`"),
     ("nests", "nop\nbne $1, $2, 0\nnop\nbne $1, $3, 0\nnop", "one loop at most"),
@@ -108,9 +111,32 @@ class Copy:
         where = {**os.environ, "RSP_PROGRAM": str(self.program)}
         return run(self.folder / "tools/theorem", name, source, env=where)
 
-    def follow_page(self) -> Tuple[str, "Ended[str]"]:
+    def follow_codes(self) -> Tuple[str, "Ended[str]"]:
+        """Does to the theorem of the page's clip codes what the page says."""
+        section = section_of("Clip codes")
+        name = search(r"`tools/theorem (\w+) codes\.s`", section)[1]
+        text, fields, number, lines = blocks_of(section)
+        begun, module = self.begin(name, text), module_of(name)
+        spec, proof = self.crate / f"specs/{module}.antt", self.crate / f"proofs/{module}Runs.antt"
+        words = spec.read_text().replace("  -- TODO: the result\n", indent(fields, "  "))
+        before = search(r"comment `([^`]*)`", " ".join(section.split()))[1]
+        spec.write_text(words.replace(f"-- {before}\n", f"{number}\n-- {before}\n"))
+        kept = proof.read_text().rstrip("\n").rpartition("\n")[0]
+        proof.write_text(f"{kept}\n{indent(lines, '    ')}")
+        return name, begun
+
+    def follow_wait(self) -> Tuple[str, "Ended[str]"]:
+        """Begins the theorem of the page's wait, whose premise is the one that the page shows."""
+        section = section_of("Waits")
+        name = search(r"`tools/theorem (\w+) signal\.s`", section)[1]
+        text, premise = blocks_of(section)
+        begun = self.begin(name, text)
+        assert f"→ {premise.strip()} →" in (self.crate / f"specs/{module_of(name)}.antt").read_text()
+        return name, begun
+
+    def follow_loop(self) -> Tuple[str, "Ended[str]"]:
         """Does to the theorem of the page's loop what the page says."""
-        section = search(r"(?ms)^## Loops\n(.*?)^## ", page(PAGE))[1]
+        section = section_of("Loops")
         name = search(r"`tools/theorem (\w+) masks\.s`", section)[1]
         text, unmark, result, lemma, _ = blocks_of(section)  # the last one is of another loop
         use = search(r"`([^`]*)` replaces the `\?`", section)[1]
@@ -123,6 +149,10 @@ class Copy:
         words = words.replace("-- what a round stores\n", rest, 1)
         proof.write_text(words.replace(" ? ", f" {use} ", 1))
         return name, begun
+
+
+def section_of(heading: str) -> str:
+    return search(rf"(?ms)^## {heading}\n(.*?)^## ", page(PAGE))[1]
 
 
 def search(pattern: str, text: str) -> "re.Match[str]":
@@ -150,7 +180,8 @@ class Proofs(NamedTuple):
 @pytest.fixture(scope="module")
 def proofs(copy: Copy) -> Proofs:
     texts = [*TEXTS.items(), example()]
-    pairs = [*((name, copy.begin(name, text)) for name, text in texts), copy.follow_page()]
+    followed = [copy.follow_loop(), copy.follow_codes(), copy.follow_wait()]
+    pairs = [*((name, copy.begin(name, text)) for name, text in texts), *followed]
     return Proofs(dict(zip(LABELS, pairs)), copy.check(name for name, _ in pairs))
 
 

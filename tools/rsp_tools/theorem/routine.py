@@ -229,8 +229,8 @@ def routine_of(name: str, lines: list[str], words: list[int], shown: list[str]) 
         return straight(text, code)
     if has_two_exits(code, back):
         stop(
-            "the loop has two exits: give the code up to each branch, with its delay slot, as a block of the"
-            " law `block_runs`, and join the rounds by `rounds_of_steps` (docs/PROVING.md, Two exits)"
+            "the loop has two exits, and which one it takes depends on your data: give the code up to each"
+            " branch, with its delay slot, as a block of the law `exits_run`, as `find_zero` does"
         )
     first = back[0] + 1 - (0x10000 - code[back[0]].fields["imm"]) if len(back) == 1 else -1
     end = back[0] + 2 if back else 0
