@@ -20,6 +20,11 @@ def unless(is_right: object, complaint: str) -> Complaints:
     return [] if is_right else [complaint]
 
 
+def printable(text: str) -> str:
+    """A text of somebody else on one line, each character that controls a terminal as its escape: \\x1b."""
+    return "".join(it if it.isprintable() else it.encode("unicode_escape").decode() for it in text)
+
+
 def counted(checks: Iterable[Complaints], start: str = "") -> int:
     """Prints the complaints of checks, and how many passed.
 
@@ -27,7 +32,7 @@ def counted(checks: Iterable[Complaints], start: str = "") -> int:
     """
     passed = failed = 0
     for found in checks:
-        print("".join(f"{start}{complaint}\n" for complaint in found), end="", flush=True)
+        print("".join(f"{start}{printable(complaint)}\n" for complaint in found), end="", flush=True)
         passed, failed = passed + (not found), failed + bool(found)
     print(f"{passed} passed, {failed} failed")
     return int(failed > 0 or not passed)

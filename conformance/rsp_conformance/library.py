@@ -10,7 +10,7 @@ line is `N passed, M failed`.
 
 import sys
 from pathlib import Path
-from typing import Any, Iterator
+from typing import Any, Iterable, Iterator
 
 from rsp_conformance import bench, steps
 from rsp_conformance.bench import Looks, Observed
@@ -58,6 +58,18 @@ def run_row(machine: Any, folder: Path, name: str) -> Iterator[Complaints]:
         yield unless(noticed, f"{entry['name']}: a false state after was answered by {found}")
 
 
+def rows(machine: Any, folder: Path, names: Iterable[str]) -> Iterator[Complaints]:
+    """The complaints of instructions. A VectorsFault if a state of a case is none."""
+    import rsp
+
+    for name in names:
+        try:
+            yield from run_row(machine, folder, name)
+        except (ValueError, KeyError, TypeError, IndexError, AttributeError, rsp.RspError) as fault:
+            what = f"{type(fault).__name__} {fault}"
+            raise VectorsFault(f"{name}: one of its cases isn't one: {what}") from None
+
+
 def main() -> None:
     words = reader("library", __doc__)
     words.add_argument("folder", nargs="?", type=Path, default=VECTORS, metavar="FOLDER")
@@ -69,8 +81,7 @@ def main() -> None:
         sys.exit(f"library: {fault}")
     try:
         with rsp.Rsp(IMAGE) as machine:
-            names = names_in(args.folder, args.names)
-            sys.exit(counted(found for name in names for found in run_row(machine, args.folder, name)))
+            sys.exit(counted(rows(machine, args.folder, names_in(args.folder, args.names))))
     except VectorsFault as fault:
         sys.exit(f"library: {fault}")
 

@@ -61,6 +61,8 @@ def complaints(entry: Entry, look: Texts) -> List[str]:
     for bank in ("dmem", "imem", "rdram"):
         if bank in look:
             found += memory_complaints(entry, bank, look[bank])
+        elif entry["after"].get(bank):
+            found.append(f"{entry['name']} ({entry['text']}), {bank}: this instruction never changes it")
     return found
 
 

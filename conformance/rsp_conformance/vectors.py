@@ -47,8 +47,24 @@ def memory_in(path: Path) -> bytes:
     return path.read_bytes()
 
 
-MEMORIES = ("dmem", "imem", "rdram")
+# The addresses that are compared after a case: of RDRAM those of its own bytes.
+MEMORIES = {
+    "dmem": range(4096),
+    "imem": range(4096),
+    "rdram": range(bench.WINDOW, bench.WINDOW + bench.WINDOW_LENGTH),
+}
 KEYS = {"before": {*bench.DEFAULT, "divided", *MEMORIES}, "after": {*bench.DEFAULT, *MEMORIES}}
+
+
+class Expected(ValueError):
+    """Why what a case says can't be compared."""
+
+
+def check_bytes(bank: str, address: str, text: str) -> None:
+    """A ValueError or TypeError if these are no bytes of a memory that are compared."""
+    at, count, known = int(address, 16), len(bytes.fromhex(text)), MEMORIES[bank]
+    if not known.start <= at <= at + count <= known.stop:
+        raise Expected(f"{bank} {address!r} isn't in {known.start:03x} to {known.stop - 1:03x}")
 
 
 def check_entry(entry: Any) -> None:
@@ -57,10 +73,9 @@ def check_entry(entry: Any) -> None:
     for when, known in KEYS.items():
         for key, value in entry[when].items():
             if key not in known:
-                raise ValueError(f"{when} has the unknown key {key!r}")
-            pieces = value.items() if key in MEMORIES else [("0", "")]
-            for address, text in pieces:
-                int(address, 16), bytes.fromhex(text)
+                raise Expected(f"{when} has the unknown key {key!r}")
+            for address, text in value.items() if key in MEMORIES else ():
+                check_bytes(key, address, text)
 
 
 def entries_in(folder: Path, name: str) -> List[Entry]:
@@ -71,7 +86,7 @@ def entries_in(folder: Path, name: str) -> List[Entry]:
             entry = json.loads(line)
             check_entry(entry)
         except (ValueError, KeyError, TypeError, AttributeError, RecursionError) as fault:
-            why = str(fault) if "unknown key" in str(fault) else repr(line[:40].decode(errors="replace"))
+            why = str(fault) if isinstance(fault, Expected) else repr(line[:40].decode(errors="replace"))
             raise VectorsFault(f"{path}, line {number}: this isn't a case: {why}") from None
         entries.append(entry)
     return entries

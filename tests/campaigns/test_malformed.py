@@ -1,6 +1,7 @@
 """Vectors and results that come from somebody else: what isn't one is refused in a sentence, or escaped.
 
-It fails if a malformed file isn't refused by its name, or text of a result becomes HTML.
+It fails if a malformed file isn't refused by its name, if an expectation is never compared, or if text of a
+result becomes HTML, or moves a terminal's cursor.
 """
 
 import json
@@ -10,9 +11,12 @@ from typing import Any, Dict, List
 
 import pytest
 
+from rsp_conformance import bench, play, steps
 from rsp_conformance.campaign import CampaignFault
+from rsp_conformance.campaign.folder import Folder
 from rsp_conformance.campaign.report import html_table, results_in, text_table
 from rsp_conformance.campaign.task import nothing
+from rsp_conformance.commands import counted
 from rsp_conformance.vectors import VectorsFault, entries_in, manifest_in, memory_in
 
 RESULT: Dict[str, Any] = {**nothing(), "instruction": "vadd", "start": 0, "size": 20}
@@ -26,11 +30,14 @@ CASE: Dict[str, Any] = {
 NESTED = "[" * 100_000
 WRONG: Dict[str, List[Any]] = {
     "instruction": [5, None, [], "vadd<b>", "../vadd"],
-    "count": ["x", None, [1]],
-    "parts": [[], {"$v1": "x"}],
+    "count": ["x", None, [1], -1, float("nan")],
+    "differ": [1 << 53, 10**400, float("inf")],
+    "processor": ["1", {}, float("nan"), float("inf"), -0.5],
+    "parts": [[], {"$v1": "x"}, {"$v1": float("nan")}, {"$v1": 10**400}],
     "shown": [5, [5], {}],
     "unseen": ["x", [[]]],
-    "start": ["0", 0.5],
+    "start": ["0", 0.5, -1],
+    "given up": [None, 5, ["x"]],
 }
 RESULTS = {
     "list": "[]",
@@ -43,7 +50,7 @@ RESULTS = {
 }
 RESULTS["nested"] = NESTED
 for key, values in WRONG.items():
-    RESULTS.update({f"{key} {it!r}": json.dumps({**RESULT, key: it}) for it in values})
+    RESULTS.update({f"{key} {it!r:.20}": json.dumps({**RESULT, key: it}) for it in values})
 
 
 @pytest.mark.parametrize("text", RESULTS.values(), ids=RESULTS)
@@ -51,6 +58,20 @@ def test_no_result(text: str, folder: Path) -> None:
     (folder / "vadd-0-20.json").write_text(text)
     with pytest.raises(CampaignFault, match="vadd-0-20.json isn't a result"):
         results_in(folder)
+
+
+@pytest.mark.parametrize("name", ("../x", "/tmp/x", "a/b", "..", "", "x\n", "\x1b[31m"))
+@pytest.mark.parametrize("is_program", (False, True), ids=("instruction", "program"))
+def test_result_of_a_worker(is_program: bool, name: str, folder: Path) -> None:
+    """A name in it that would be a file elsewhere is refused, and nothing is written."""
+    kept = Folder.__new__(Folder)
+    kept.out, kept.given = folder / "out", {"emulator": "mine", "hashes": {}}
+    kept.out.mkdir()
+    program = {"name": name if is_program else "vadd-1", "source": "", "script": ""}
+    result = {**RESULT, "count": 1, "hashes": {}, "instruction": "vadd" if is_program else name}
+    with pytest.raises(CampaignFault, match="a worker has sent a result with the name '"):
+        kept.keep({**result, "programs": [program]})
+    assert [*folder.rglob("*")] == [kept.out]
 
 
 def test_pipe_is_no_result(folder: Path) -> None:
@@ -68,27 +89,40 @@ def test_result_is_escaped(folder: Path) -> None:
 
 
 def test_result_is_shown_without_control_characters(folder: Path) -> None:
-    mark = "\x1b]0;title\x07 and \x9b31m\u202e\n"
-    result = {**RESULT, "unseen": [mark], "shown": [mark], "given up": mark}
+    mark = "\x1b]0;title\x07 and \x9b31m\u202e\n\ud800"
+    result = {**RESULT, "unseen": [mark], "shown": [mark], "parts": {mark: 1}, "given up": mark}
     (folder / "vadd-0-20.json").write_text(json.dumps(result))
-    told = text_table(results_in(folder))
-    assert told.count(r"\x1b]0;title\x07 and \x9b31m\u202e\n") == 3
+    told, page = text_table(results_in(folder)), html_table(results_in(folder), "")
+    shown = r"\x1b]0;title\x07 and \x9b31m\u202e\n\ud800"
+    assert (told.count(shown), page.count(shown)) == (3, 4)
     assert all(line.isprintable() for line in told.split("\n")) and told.count("\n") == 2
+    assert all(line.isprintable() for line in page.split("\n"))
 
 
+NO_STATES: List[Any] = [[], None, 5, "x"]
 CASES = {
-    "no case": "[]",
+    **{f"it is {text}": text for text in ("[]", "{}", "5", "null", '"x"', "NaN", "[1", "\0", "\ufeff{}")},
     "nested": NESTED,
     "name 5": json.dumps({**CASE, "name": 5}),
-    "word": json.dumps({**CASE, "word": "wxyz"}),
+    **{f"word {it!r}": json.dumps({**CASE, "word": it}) for it in ("wxyz", "", 5, None)},
+    **{f"before is {it}": json.dumps({**CASE, "before": it}) for it in NO_STATES},
     "no text": json.dumps({**CASE, "text": None}),
     "unknown register": json.dumps({**CASE, "after": {"v99": "dead"}}),
     "unknown memory": json.dumps({**CASE, "before": {"rom": {}}}),
     "divided afterwards": json.dumps({**CASE, "after": {"divided": "00000000"}}),
     "a list of bytes": json.dumps({**CASE, "before": {"dmem": [1]}}),
-    "bytes that are none": json.dumps({**CASE, "before": {"dmem": {"0": "xx"}}}),
+    **{f"bytes {it!r}": json.dumps({**CASE, "before": {"dmem": {"0": it}}}) for it in ("xx", "0", 5, None)},
     "an address that is none": json.dumps({**CASE, "before": {"dmem": {"x": "00"}}}),
 }
+# Where bytes are that no runner compares: an expectation there couldn't fail.
+NOWHERE = {
+    "dmem": {"1000": "00", "fff": "0000", "-1": "00", "ffffffffffff": "00"},
+    "imem": {"1000": "00", "ffd": "00000000"},
+    "rdram": {"00ffff": "00", "010200": "00", "0101ff": "0000"},
+}
+for bank, pieces in NOWHERE.items():
+    for address, raw in pieces.items():
+        CASES[f"{bank} {address} {raw}"] = json.dumps({**CASE, "after": {bank: {address: raw}}})
 
 
 @pytest.mark.parametrize("text", CASES.values(), ids=CASES)
@@ -97,6 +131,27 @@ def test_no_case(text: str, folder: Path) -> None:
     (folder / "steps/ADD.jsonl").write_text(f"{json.dumps(CASE)}\n{text}\n")
     with pytest.raises(VectorsFault, match="ADD.jsonl, line 2: this isn't a case"):
         entries_in(folder, "ADD")
+
+
+def test_expected_of_another_instruction() -> None:
+    """Bytes of a memory that ADD never changes, so that nobody looks at it: a complaint."""
+    entry = {**CASE, "after": {"dmem": {"000": "ff"}}}
+    told = ["ADD-000 (add $3, $0, $11), dmem: this instruction never changes it"]
+    assert steps.complaints(entry, dict(bench.DEFAULT)) == told
+
+
+def test_complaint_of_a_stranger(capsys: pytest.CaptureFixture[str]) -> None:
+    """What a case's name and text print is on one line, without control characters."""
+    entry = {**CASE, "name": "ADD-\x1b]0;title\x07", "text": "add\n\x9b31m", "after": {"pc": "000"}}
+    assert counted([steps.complaints(entry, {**bench.DEFAULT, "pc": "004"})]) == 1
+    told = r"ADD-\x1b]0;title\x07 (add\n\x9b31m), pc: expected 000, got 004"
+    assert capsys.readouterr().out == f"{told}\n0 passed, 1 failed\n"
+
+
+def test_field_without_an_end() -> None:
+    entry = {"name": "ADD-1", "cases": [], "layouts": {"L0": [["register rd", 0, 10**12]]}}
+    with pytest.raises(ValueError, match="a field of 1000000000000 bytes"):
+        play.complaints(entry, bytes(4096), bytes(4096))
 
 
 def test_no_manifest(folder: Path) -> None:

@@ -1,4 +1,4 @@
-"""Wrong words of conformance/generate, run and campaign (wrong_words.tsv): one sentence answers each."""
+"""Wrong words of conformance's generate, run, library and campaign (wrong_words.tsv): a sentence answers each."""
 
 import os
 import shutil
@@ -15,12 +15,16 @@ FILES = {
     "file": "",
     "broken/steps/ADD.jsonl": '{"name":"ADD-000"\n',
     "state/steps/ADD.jsonl": '{"name":"ADD-0","word":"00000020","text":"","before":{"r1":"zz"},"after":{}}\n',
+    "wide/steps/ADD.jsonl": '{"name":"ADD-0","word":"100000020","text":"","before":{},"after":{}}\n',
     "alone/steps/ADD.jsonl": (TOP / "conformance/vectors/steps/ADD.jsonl").read_text(),
     # of campaigns
     "full/x": "",
     "text.so": "no object",
     "spoilt/campaign.json": "{",
     "list/campaign.json": "[]",
+    "null/campaign.json": "null",
+    "half/campaign.json": '{"generator": 2}',
+    "nested/campaign.json": "[" * 100_000,
 }
 WRONG = [it.split("\t") for it in (SOURCES / "wrong_words.tsv").read_text().splitlines()[1:]]
 OF_CAMPAIGNS = [it for it in WRONG if it[0].startswith("campaign")]
@@ -37,7 +41,7 @@ def files(folder: Path) -> Path:
 
 
 @pytest.mark.parametrize("words, told", OTHERS, ids=[it[0] for it in OTHERS])
-def test_generate_and_run(words: str, told: str, files: Path, program: Path) -> None:
+def test_vectors(words: str, told: str, files: Path, program: Path, library: Path) -> None:
     tool, *more = [it.replace("FOLDER", str(files)).replace("PROG", str(program)) for it in words.split()]
     ended = run(TOP / "conformance" / tool, *more, cwd=files)
     assert (ended.returncode, ended.stdout.count("\n")) == (1, 1), ended.stdout

@@ -15,12 +15,13 @@ import time
 from pathlib import Path
 from typing import Any, Callable, List, NoReturn, Tuple
 
+from rsp_conformance.commands import printable
 from rsp_conformance.table import ROWS as INSTRUCTIONS
 
 from . import CampaignFault
 from .folder import Folder, given_in, write
 from .report import html_table, results_in, text_table
-from .shared import PROGRAM, VERSION, counted, name_of, printable
+from .shared import PROGRAM, VERSION, counted, name_of
 from .task import check
 from .workers import options_of, results
 

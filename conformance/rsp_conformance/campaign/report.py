@@ -5,10 +5,11 @@ import json
 from pathlib import Path
 from typing import Any, Dict, Iterator, List, Tuple
 
+from rsp_conformance.commands import printable
 from rsp_conformance.table import ROWS
 
 from . import CampaignFault
-from .shared import PROGRAM, Result, counted, printable
+from .shared import PROGRAM, Result, counted
 from .task import LISTS, NUMBERS, add, nothing
 
 HEADS = ("", "cases", "not shown", "differ", "choices", "faults", "first difference")
@@ -26,6 +27,7 @@ def results_in(out: Path) -> List[Result]:
     return sorted(found, key=lambda it: (it["instruction"] == PROGRAM, it["instruction"], it["start"]))
 
 
+MOST = 1 << 53  # no number of a result is as large; JSON has larger ones, and some that are none
 # What a result has, and of what type it is.
 TYPES: Dict[str, Any] = {
     **{"instruction": str, "start": int, "size": int, "parts": dict},
@@ -41,7 +43,7 @@ def is_result(found: Any) -> bool:
     texts = [found["instruction"], *found["shown"], *found["unseen"], found.get("given up", "")]
     numbers = [found["start"], found["size"], *(found[key] for key in NUMBERS), *found["parts"].values()]
     has_types = all(isinstance(it, str) for it in texts) and all(
-        isinstance(it, (int, float)) for it in numbers
+        isinstance(it, (int, float)) and 0 <= it < MOST for it in numbers
     )
     return has_types and (found["instruction"] == PROGRAM or found["instruction"] in ROWS)
 
@@ -112,7 +114,7 @@ def html_row(cells: Tuple[Any, ...], it: Result) -> str:
     name, *numbers, first = cells
     share = 100 * it["differ"] / max(numbers[0], 1)
     most = sorted(it["parts"].items(), key=lambda pair: -pair[1])[:6]
-    parts = html.escape(", ".join(f"{part} {count}" for part, count in most))
+    parts = html.escape(printable(", ".join(f"{part} {count}" for part, count in most)))
     width = max(share, 1.5 * (share > 0))
     bar = f'<div class=bar title="{share:.4f} %"><i style="width:{width:.2f}%"></i></div>'
     counts = "".join(f"<td class=n>{value or ''}" for value in numbers)

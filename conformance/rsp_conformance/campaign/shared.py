@@ -22,8 +22,3 @@ def name_of(what: str, seed: str, number: int) -> str:
 def counted(number: int, what: str) -> str:
     """A number of things: 1 step, 2 steps."""
     return f"{number} {what}{'s' * (number != 1)}"
-
-
-def printable(text: str) -> str:
-    """A text of somebody else on one line, each character that controls a terminal as its escape: \\x1b."""
-    return "".join(it if it.isprintable() else it.encode("unicode_escape").decode() for it in text)

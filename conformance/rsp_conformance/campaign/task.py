@@ -25,11 +25,12 @@ from multiprocessing import Pipe
 from typing import Iterator, Optional, Tuple
 
 from rsp_conformance import TOP
+from rsp_conformance.commands import printable
 
 from . import CampaignFault
 from .hashes import hashes
 from .search import fewest
-from .shared import BATCH, END_BYTES, SHOWN, STATUS_AT, UNDONE, Options, Result, counted, name_of, printable
+from .shared import BATCH, END_BYTES, SHOWN, STATUS_AT, UNDONE, Options, Result, counted, name_of
 
 # The emulator, the instruction, the seed, the first number, and how many.
 Task = Tuple[str, str, str, int, int]
