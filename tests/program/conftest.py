@@ -39,6 +39,9 @@ NOT_BEGUN: Dict[str, Dict[str, str]] = {
     "windows-x86_64": {
         "saves.py::test_calls_of_the_system_fail": FOREIGN_CALLS,
         "saves.py::test_folder_is_synced": FOREIGN_CALLS,
+        "bad_input.py::test_named_pipe": "Windows has no such files",
+        "bad_input.py::test_closed_stream": "wine gives its programs streams of its own",
+        "saves.py::test_four_at_once": "Windows lets no file take the name of one that is open",
         "saves.py::test_stdout_to_a_file": "Windows has no links to open files",
         "saves.py::test_open_file": "Windows has no links to open files",
         "saves.py::test_folder_without_rights": "wine runs for one user alone",

@@ -1,13 +1,16 @@
 """Hostile scripts, texts, files and streams.
 
 They fail if random code isn't run, disassembled and assembled back, if a script that breaks off at a byte
-isn't answered as far as it goes, or if pipes that close early and files without end are answered otherwise.
+isn't answered as far as it goes, if a byte, an image or a file's name isn't refused as SCRIPT and FAULTS say,
+or if streams that are closed and files without end are answered otherwise.
 """
 
+import os
 import random
 import re
 import select
 import subprocess
+import threading
 from contextlib import suppress
 from pathlib import Path
 from typing import Any, Dict, Iterator, List, Optional
@@ -120,6 +123,130 @@ def test_prefixes(name: str, rsp: Any, folder: Path) -> None:
     for length in range(len(script) + 1):
         ran = rsp(*words, script=script[:length])
         assert ran == (0, prefix_replies(name, script, replies, length), b""), f"the first {length} bytes"
+
+
+# Bytes and encodings.
+
+DONE, NOT_TEXT = b"step Done pc 004\n", b"fault 33 NotText\n"
+SCRIPTS_OF_BYTES = {
+    "a byte-order mark": (b"\xef\xbb\xbfstep\nstep\n", NOT_TEXT + DONE),
+    "UTF-16": ("step\n".encode("utf-16-le"), 2 * NOT_TEXT),
+    "half a character": (b"step # \xc3\nstep\n", NOT_TEXT + DONE),
+    "a zero after the last line": (b"step\n\0", DONE + NOT_TEXT),
+    "a line of 256 zeros": (bytes(256), NOT_TEXT),
+    "a line of 257 zeros": (bytes(257), b"fault 32 LineTooLong\n"),
+    "CR in the place of LF": (b"step\rstep\r", NOT_TEXT),
+    "LF before CR": (b"step\n\rstep\n\r", DONE + 2 * NOT_TEXT),
+    "a block in UTF-16": (b"asm 0\n" + "nop\n".encode("utf-16-le"), b"fault 10 BadLine line 3\n"),
+}
+
+
+@pytest.mark.parametrize("script, replies", SCRIPTS_OF_BYTES.values(), ids=SCRIPTS_OF_BYTES)
+def test_bytes_of_a_script(script: bytes, replies: bytes, rsp: Any) -> None:
+    assert rsp("run", script=script) == (0, replies, b"")
+
+
+def test_each_byte(rsp: Any) -> None:
+    """In a comment and in a block a tab and 20 to 7e are text, and a CR before LF is dropped."""
+    others = [it for it in range(256) if it != 0x0A]
+    script = b"".join(b"#%c\nasm 0\n#%c\nend\n" % (it, it) for it in others)
+    is_text = [it in (0x09, 0x0D) or 0x20 <= it <= 0x7E for it in others]
+    refused = NOT_TEXT + b"fault 10 BadLine line 1\n"
+    told = [b"ok 0 words\n" if it else refused for it in is_text]
+    assert rsp("run", script=script) == (0, b"".join(told), b"")
+
+
+BAD_LINE, NO_UTF_8 = b"10 BadLine line 2", b"33 NotText"
+# Bytes in a text of `rsp asm`, and the fault.
+TEXTS_OF_BYTES = {
+    **{it: BAD_LINE for it in (b"\0", b"\x0b", b"\x0c", b"\x1b[31m", b"\x7f", b"\r\r", b"\xc2\x80")},
+    **{it.encode(): BAD_LINE for it in ("\u202e", "\ufeff", "\U0010ffff")},
+    **{it: NO_UTF_8 for it in (b"\x80", b"\xc3", b"\xc0\x80", b"\xed\xa0\x80", b"\xf4\x90\x80\x80", b"\xff")},
+}
+
+
+@pytest.mark.parametrize("it", TEXTS_OF_BYTES, ids=bytes.hex)
+def test_bytes_of_a_text(it: bytes, rsp: Any, folder: Path) -> None:
+    (folder / "source").write_bytes(b"nop\nnop # " + it + b"\nfoo\n")
+    assert rsp("asm", "source", "words") == (1, b"", b"rsp: fault " + TEXTS_OF_BYTES[it] + b"\n")
+    assert content(folder / "words") is None
+
+
+# Files that aren't, and streams.
+
+
+@pytest.mark.parametrize("length", (0, 8, 56, 63, 65, 8388607))
+def test_image_of_a_wrong_size(length: int, rsp: Any, folder: Path) -> None:
+    (folder / "image").write_bytes(bytes(length))
+    ran = rsp("run", "--rdram", "image", "--save", "saved", script=b"step\n")
+    assert ran == (1, b"", b"rsp: fault 7 SizeFault\n") and content(folder / "saved") is None
+
+
+LONG, DEEP = "n" * 256, "n/" * 2100 + "n"  # longer than a name and a path may be
+# Commands with a name that no file can have, or that is taken otherwise, and the name. `source` is a file.
+READS, WRITES = (
+    "run --rdram {}|dis {}|asm {} words",
+    "run --save {}|asm source {}",
+)
+NO_FILES = {
+    READS: ("-", ".", "..", "source/", "source/x", LONG, DEEP),
+    WRITES: (".", "..", "source/", "source/x", "new/", LONG, DEEP),
+    "run --rdram={}|dis -- {}|asm -- {} words": ("-x", "--", "--at"),
+}
+
+
+@pytest.mark.parametrize(
+    "line, name",
+    [(line, it) for lines, names in NO_FILES.items() for line in lines.split("|") for it in names],
+    ids=lambda it: it[:20],
+)
+def test_name_of_no_file(line: str, name: str, rsp: Any, folder: Path) -> None:
+    (folder / "source").write_bytes(b"nop\n")
+    ran = rsp(*(it.format(name) for it in line.split()))
+    verb = "write" if line in WRITES else "read"
+    assert ran == (1, b"", f"rsp: cannot {verb} {name}\n".encode())
+    assert [*os.listdir(folder)] == ["source"] and content(folder / "source") == b"nop\n"
+
+
+# Commands that read a pipe of 64 bytes, and what they print.
+OF_A_PIPE = {
+    "run --rdram pipe": b"00003c: 6e6f700a\nfault 6 RangeFault\n",
+    "asm pipe words": b"ok 16 words\n",
+    "dis pipe": b".word 0x6e6f700a\n" * 16,
+}
+
+
+@pytest.mark.parametrize("words", OF_A_PIPE)
+def test_named_pipe(words: str, rsp: Any, folder: Path) -> None:
+    pipe = folder / "pipe"
+    os.mkfifo(pipe)
+    sender = threading.Thread(target=lambda: pipe.write_bytes(b"nop\n" * 16), daemon=True)
+    sender.start()
+    ran = rsp(*words.split(), script=b"mem rdram 60 4\nmem rdram 64 1\n")
+    sender.join(20)
+    assert ran == (0, OF_A_PIPE[words], b"")
+
+
+# Which stream is closed, the command, and how it ends.
+CLOSED = {
+    "input": (0, "run --rdram image --save image", (1, b"", b"rsp: fault 40 ReadFault\n")),
+    "output": (1, "run --rdram image --save image", (1, b"", b"rsp: fault 41 WriteFault\n")),
+    "output of asm": (1, "asm source words", (1, b"", b"rsp: fault 41 WriteFault\n")),
+    "output of dis": (1, "dis image", (1, b"", b"rsp: fault 41 WriteFault\n")),
+    "errors of a fault": (2, "dis missing", (1, b"", b"")),
+    "errors": (2, "run --rdram image --save image", (0, b"step Done pc 004\n", b"")),
+}
+
+
+@pytest.mark.parametrize("stream, words, ended", CLOSED.values(), ids=CLOSED)
+def test_closed_stream(stream: int, words: str, ended: Any, rsp: Any, folder: Path) -> None:
+    """No file that is opened takes the closed stream's place: none gets replies or messages."""
+    (folder / "image").write_bytes(bytes(range(64)))
+    (folder / "source").write_bytes(b"nop\n")
+    ran = rsp(*words.split(), script=b"step\n", preexec_fn=lambda: os.close(stream))
+    assert ran == ended
+    assert content(folder / "image") == bytes(range(64)) and content(folder / "source") == b"nop\n"
+    assert content(folder / "words") == (bytes(4) if "asm" in words else None)
 
 
 PIPES: Dict[str, Any] = {"stdin": subprocess.PIPE, "stdout": subprocess.PIPE, "stderr": subprocess.PIPE}

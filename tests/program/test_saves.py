@@ -141,6 +141,14 @@ def test_limit_of_a_file(ignoring: Trial) -> None:
     ignoring.run(setting=lambda: limited(False)).refused().kept().names("file")
 
 
+def test_limit_of_a_file_with_two_names(ignoring: Trial) -> None:
+    """It is written in place: a part of the bytes may be there, and nothing is left beside it."""
+    os.link(ignoring.file, ignoring.folder / "other")
+    ignoring.run(setting=lambda: limited(False)).refused().names("file", "other")
+    assert ignoring.writer.new.startswith(ignoring.file.read_bytes())
+    assert ignoring.file.samefile(ignoring.folder / "other")
+
+
 def test_limit_of_standard_output(ignoring: Trial) -> None:
     """Of the replies there are as many bytes as the limit allows."""
     replies, script = ignoring.folder / "replies", b"vregs\n"
@@ -345,6 +353,11 @@ exit $code
 MOUNTS = {
     "disk without room for both": ("mount -t tmpfs -o size=4k tmpfs at", True),
     "disk with room for both": ("mount -t tmpfs -o size=64k tmpfs at", False),
+    "disk without room for a name": ("mount -t tmpfs -o size=64k,nr_inodes=2 tmpfs at", True),
+    "disk that is read alone": (
+        "mount -t tmpfs -o size=64k tmpfs at && mv seed at/file && mount -o remount,ro at",
+        True,
+    ),
     "file that is a mount": ("mount --bind other at/file", False),
 }
 
@@ -401,7 +414,31 @@ def test_folder_is_synced(is_new: bool, is_far: bool, new: New, folder: Path) ->
         assert told.read() == b"file synced, renamed, folder %d synced, " % it.folder.stat().st_ino
 
 
-# Runs that are killed while they write eight megabytes.
+# Runs at once, and runs that are killed while they write eight megabytes.
+
+
+def start(number: int, words: List[object]) -> "subprocess.Popen[bytes]":
+    """A run whose script sets the first and the last byte of an image of 64 KiB. It waits for more."""
+    run = subprocess.Popen([*map(str, words)], stdin=subprocess.PIPE, stdout=subprocess.DEVNULL)
+    assert run.stdin
+    run.stdin.write(b"load rdram 0 %02x\nload rdram 65535 %02x\n" % (number, number))
+    return run
+
+
+@pytest.mark.parametrize("turn", range(10))
+def test_four_at_once(turn: int, binary: Path, folder: Path) -> None:
+    """The file has the bytes of one of them, whole, and nothing is left beside it."""
+    own, image = folder / "own", folder / "image"
+    own.mkdir()
+    image.write_bytes(bytes(65536))
+    (own / "file").write_bytes(OLD)
+    runs = [start(it, [binary, "run", "--rdram", image, "--save", own / "file"]) for it in range(1, 5)]
+    for run in runs:
+        assert run.stdin
+        run.stdin.close()
+    assert [run.wait(60) for run in runs] == [0] * 4
+    assert (own / "file").read_bytes() in [b"%c%s%c" % (it, bytes(65534), it) for it in range(1, 5)]
+    assert os.listdir(own) == ["file"]
 
 
 def kill_once(words: List[object], folder: Path, sent: signal.Signals) -> int:
