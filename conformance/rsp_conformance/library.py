@@ -14,7 +14,7 @@ from typing import Any, Iterable, Iterator
 
 from rsp_conformance import bench, steps
 from rsp_conformance.bench import Looks, Observed
-from rsp_conformance.commands import Complaints, counted, reader, unless
+from rsp_conformance.commands import Complaints, counted, printable, reader, unless
 from rsp_conformance.draws import Random
 from rsp_conformance.spoil import spoilt_entries
 from rsp_conformance.states import numbers_of, texts_of
@@ -83,7 +83,7 @@ def main() -> None:
         with rsp.Rsp(IMAGE) as machine:
             sys.exit(counted(rows(machine, args.folder, names_in(args.folder, args.names))))
     except VectorsFault as fault:
-        sys.exit(f"library: {fault}")
+        sys.exit(printable(f"library: {fault}"))
 
 
 if __name__ == "__main__":

@@ -12,7 +12,7 @@ from pathlib import Path
 from typing import Iterator
 
 from rsp_conformance import bench, play, steps
-from rsp_conformance.commands import PROGRAM, Complaints, counted, reader
+from rsp_conformance.commands import PROGRAM, Complaints, counted, printable, reader
 from rsp_conformance.vectors import VECTORS, VectorsFault, entries_in, manifest_in, names_in
 
 
@@ -44,7 +44,7 @@ def main() -> None:
         if not found:
             raise VectorsFault(f"{args.folder} has no case")
     except VectorsFault as fault:
-        sys.exit(f"run: {fault}")
+        sys.exit(printable(f"run: {fault}"))
     sys.exit(counted(found))
 
 

@@ -1,4 +1,4 @@
-"""Wrong words of conformance's generate, run, library and campaign (wrong_words.tsv): a sentence answers each."""
+"""Wrong words of the commands of conformance/ (wrong_words.tsv): one sentence answers each."""
 
 import os
 import shutil
@@ -15,6 +15,7 @@ FILES = {
     "file": "",
     "broken/steps/ADD.jsonl": '{"name":"ADD-000"\n',
     "state/steps/ADD.jsonl": '{"name":"ADD-0","word":"00000020","text":"","before":{"r1":"zz"},"after":{}}\n',
+    "red/steps/ADD.jsonl": '{"name":"ADD-0","word":"0","text":"","before":{"r1":"\\u001b[1mz"},"after":{}}\n',
     "wide/steps/ADD.jsonl": '{"name":"ADD-0","word":"100000020","text":"","before":{},"after":{}}\n',
     "alone/steps/ADD.jsonl": (TOP / "conformance/vectors/steps/ADD.jsonl").read_text(),
     # of campaigns
