@@ -113,6 +113,36 @@ def test_calls_at_work() -> None:
     assert machine.step() is Status.OK and bench.feed("step\n") == b"step Done pc 004\n"
 
 
+class Closes:
+    """A number that closes a machine when it is asked for."""
+
+    def __init__(self, number: Any, machine: rsp.Rsp) -> None:
+        self.number, self.machine = number, machine
+
+    def __index__(self) -> int:
+        self.machine.close()
+        return int(self.number)
+
+
+WITH_NUMBERS = {name: it for name, it in CALLS.items() if any(isinstance(one, int) for one in it)}
+
+
+@pytest.mark.parametrize("name", WITH_NUMBERS)
+def test_closed_by_its_number(name: str) -> None:
+    """A call whose number closes the machine is refused as one of a machine that is closed."""
+    machine = loaded("mfc0 $1, $c0\nbreak\n", 4)
+    given = [Closes(it, machine) if isinstance(it, int) else it for it in WITH_NUMBERS[name]]
+    refused(Status.NO_MACHINE, getattr(machine, name), *given)
+
+
+@pytest.mark.parametrize("name, number", (("load_words", 0), ("set_vreg", 3)))
+def test_closed_by_an_item(name: str, number: int) -> None:
+    machine = loaded("nop\nbreak\n", 4)
+    items = [*[1] * 7, Closes(1, machine)]
+    given = (rsp.DMEM, number, items) if name == "load_words" else (number, items)
+    refused(Status.NO_MACHINE, getattr(machine, name), *given)
+
+
 def test_handle_is_empty_meanwhile() -> None:
     """A short call that has passed the test just before a long one began finds no machine."""
     machine = loaded("nop\nbreak\n")
@@ -150,6 +180,26 @@ def test_three_threads(turn: int) -> None:
     is lost."""
     where = {**os.environ, "PYTHONPATH": str(TOP / "library/python")}
     assert succeeds(sys.executable, "-c", RACE, env=where) == "done\n"
+
+
+FORK = """
+import os, rsp
+machine, bench = rsp.Rsp(bytes(64), 9), rsp.Bench(bytes(64))
+machine.run(3), bench.feed("step\\nst")
+child = os.fork()
+assert machine.run(4).pc == 28 and bench.feed("ep\\n") == b"step Done pc 008\\n"
+machine.back(7)
+assert machine.get() == rsp.State() and bench.rdram == bytes(64)
+machine.close(), bench.close()
+if child:
+    print("done" if os.waitpid(child, 0)[1] == 0 else "the child failed")
+"""
+
+
+def test_child_process() -> None:
+    """A process and its child go on, each with a machine and a bench of its own."""
+    where = {**os.environ, "PYTHONPATH": str(TOP / "library/python")}
+    assert succeeds(sys.executable, "-c", FORK, env=where) == "done\n"
 
 
 def test_interrupt() -> None:

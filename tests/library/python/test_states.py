@@ -59,6 +59,15 @@ FIELDS: Tuple[Refusal, ...] = (
     (TypeError, "takes each of input, output, loaded at most once", lambda it: rsp.Divider(1, 2, 3, 4)),
     (TypeError, "rsp.Divider takes each of input, ", lambda it: rsp.Divider(1, input=2)),
 )
+
+
+def released() -> memoryview:
+    """A view of bytes that are gone."""
+    view = memoryview(bytes(4))
+    view.release()
+    return view
+
+
 MESSAGES: Tuple[Refusal, ...] = (
     (RspError, "set: pc is 4098, not a multiple of 4 below 4096", lambda it: it.set(State(pc=4098))),
     (RspError, "set: sp[0] is 0x1, which SP_MEM_ADDR can't hold", lambda it: it.set(State(sp=[1] * 16))),
@@ -70,6 +79,10 @@ MESSAGES: Tuple[Refusal, ...] = (
     (TypeError, "state_fault: state is of type dict", lambda it: ANY.state_fault({})),
     (TypeError, "set: state is of type dict", lambda it: it.set({})),
     (RspError, "run: steps is 0, not 1 to 1000000", lambda it: it.run(0)),
+    (RspError, "run: steps is 18446744073709551617", lambda it: it.run((1 << 64) + 1)),
+    (TypeError, "run: steps is of type NoneType", lambda it: it.run(None)),
+    (TypeError, "event: reads is of type list", lambda it: it.event(1, [7])),
+    (TypeError, "set_pc: pc is of type complex", lambda it: it.set_pc(4j)),
     (TypeError, "run: steps is of type str", lambda it: it.run("5")),
     (TypeError, "run: steps is of type float", lambda it: it.run(2.0)),
     (RspError, "8 bytes from 4090 on pass the end of DMEM", lambda it: it.memory(rsp.DMEM, 4090, 8)),
@@ -77,6 +90,11 @@ MESSAGES: Tuple[Refusal, ...] = (
     (TypeError, "load: bank is of type str", lambda it: it.load("dmem", 0, b"")),
     (TypeError, "load: data is of type list", lambda it: it.load(rsp.DMEM, 0, [1, 2])),
     (TypeError, "load: data is of type int", lambda it: it.load(rsp.DMEM, 0, 5)),
+    (TypeError, "load: data is of type NoneType", lambda it: it.load(rsp.DMEM, 0, None)),
+    (ValueError, "released memoryview", lambda it: it.load(rsp.DMEM, 0, released())),
+    (ZeroDivisionError, "", lambda it: it.load_words(rsp.DMEM, 0, (1 // n for n in (1, 0)))),
+    (ZeroDivisionError, "", lambda it: it.set_vreg(3, (1 // n for n in (1, 0)))),
+    (TypeError, "Rsp: image is of type str", lambda it: ANY.Rsp("image")),
     (RspError, "from 4095 on pass the end of IMEM", lambda it: it.load(rsp.IMEM, 4095, b"ab")),
     (TypeError, "load_words: words is of type bytes", lambda it: it.load_words(rsp.DMEM, 0, b"ab")),
     (TypeError, "words[1] is of type str", lambda it: it.load_words(rsp.DMEM, 0, [1, "a"])),
@@ -117,7 +135,9 @@ def test_refused_field(case: Refusal) -> None:
 
 @pytest.mark.parametrize("case", MESSAGES, ids=lambda it: it[1])
 def test_message(case: Refusal) -> None:
-    raised(*case, rsp.Rsp())
+    machine = rsp.Rsp()
+    raised(*case, machine)
+    assert machine.get() == State() and machine.memory(rsp.DMEM, 0, 4096) == bytes(4096)
 
 
 def test_fields() -> None:
@@ -285,6 +305,8 @@ def test_buffers() -> None:
         machine.load(rsp.DMEM, 0, bytes(16))
         machine.load(rsp.DMEM, 0, data)
         assert machine.memory(rsp.DMEM, 0, 12) == words.tobytes() + bytes(4), type(data)
+    machine.load(rsp.DMEM, 0, memoryview(bytes(range(24)))[::2])
+    assert machine.memory(rsp.DMEM, 0, 13) == bytes([*range(0, 24, 2), 0]), "every second byte"
     image: Any = array.array("Q", range(16))
     assert rsp.Rsp(image).memory(rsp.RDRAM, 0, 128) == image.tobytes()
 
