@@ -1,6 +1,6 @@
 //! The calls in their ranges and out of them.
 
-use rsp::{assemble, text, version, Bank, Changes, Field, Machine, MoveEnd, Reason, Refused, State, StepEnd, Stop, Traced};
+use rsp::{assemble, text, version, Bank, Bench, Changes, Field, Machine, MoveEnd, Reason, Refused, State, StepEnd, Stop, Traced};
 use std::thread;
 
 fn loaded(source: &str, depth: u32) -> Machine {
@@ -52,6 +52,24 @@ fn a_machine_in_three_threads() {
     });
     let machine = run.join().unwrap();
     assert_eq!(thread::spawn(move || machine.reg(1)).join().unwrap(), Ok(100));
+}
+
+/// A function that is ambiguous, and so not compiled, of a type that is `Sync`.
+trait IsNotSync<Kind> {
+    fn is_not_sync() {}
+}
+
+impl<T> IsNotSync<()> for T {}
+
+impl<T: Sync> IsNotSync<u8> for T {}
+
+#[test]
+fn one_thread_at_a_time() {
+    fn is_send<T: Send>() {}
+    is_send::<Machine>();
+    is_send::<Bench>();
+    <Machine as IsNotSync<_>>::is_not_sync();
+    <Bench as IsNotSync<_>>::is_not_sync();
 }
 
 #[test]

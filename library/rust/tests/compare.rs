@@ -1,6 +1,7 @@
 //! The first difference between a machine and a second one with a planted fault.
 
 use rsp::{assemble, first_difference, Bank, Emulator, Machine, Refused, State, StepEnd};
+use std::panic::{catch_unwind, AssertUnwindSafe};
 
 /// A DMA of 8 bytes into DMEM and one back, then a loop of 40 turns; at its head $2 is 40, 39, ..
 const PROGRAM: &str = "
@@ -146,6 +147,42 @@ fn an_emulator_that_keeps_nothing_differs_before_the_first_step() {
     let (mut machine, _) = pair(0, 99, lane);
     let found = first_difference(&mut machine, &mut Empty, 64, 1000).unwrap().unwrap();
     assert_eq!((found.step, found.registers.len(), found.memories[0].bank), (0, 0, Bank::Imem));
+}
+
+/// One that panics: in its first run, or when its registers are asked for.
+struct Panics {
+    is_in_run: bool,
+}
+
+impl Emulator for Panics {
+    fn run(&mut self, _: u32) {
+        assert!(!self.is_in_run, "a run");
+    }
+
+    fn get(&self) -> State {
+        assert!(self.is_in_run, "registers");
+        alone(0)
+    }
+
+    fn set(&mut self, _: &State) {}
+
+    fn memory(&self, bank: Bank, bytes: &mut [u8]) {
+        pair(0, 99, lane).0.memory(bank, 0, bytes).unwrap();
+    }
+
+    fn load(&mut self, _: Bank, _: &[u8]) {}
+}
+
+#[test]
+fn a_panic_of_an_emulator_leaves_the_machine_whole() {
+    for is_in_run in [false, true] {
+        let (mut machine, _) = pair(0, 99, lane);
+        let ended = catch_unwind(AssertUnwindSafe(|| first_difference(&mut machine, &mut Panics { is_in_run }, 1, 9)));
+        let told = if is_in_run { "a run" } else { "registers" };
+        assert_eq!(ended.unwrap_err().downcast_ref(), Some(&told));
+        assert_eq!(machine.get().unwrap(), alone(u64::from(is_in_run)));
+        assert_eq!(machine.run(9).unwrap().steps, 9);
+    }
 }
 
 /// One that spoils a lane only in runs of several steps.
