@@ -1,10 +1,10 @@
-/* Waits for a DMA that are missing in a text of microcode, as rsp.waits of the Python package finds them. docs/COOKBOOK.md has the rules. A console may
- * answer that a transfer is under way where the machine, whose DMA is done at once, answers that none is: a copy gets this answer, and is followed. */
+/* waits TEXT [IMAGE]: waits for a DMA that are missing in a text of microcode, as rsp.waits of the Python package finds them. docs/COOKBOOK.md has the
+ * rules. The machine's DMA is done at once; a copy of it gets the answer of a console where a transfer is under way, and is followed. */
 #include "rsp.h"
 #include <stdio.h>
 #include <string.h>
 
-enum { AHEAD = 1000, LIMIT = 100000, READS = 1 << 4 | 1 << 5 | 1 << 6, WRITES = 15 };
+enum { AHEAD = 10000, LIMIT = 100000, READS = 1 << 4 | 1 << 5 | 1 << 6, WRITES = 15 };
 typedef struct transfer { uint32_t place, bank, address, length, to_rdram; } transfer; /* `place`: of the MTC0 that orders it */
 typedef struct early { const char *what; uint32_t place; } early; /* what an instruction does too early, and the `place` of the transfer */
 typedef struct seen { rsp_state state; uint8_t dmem[4096]; } seen;
@@ -19,6 +19,7 @@ typedef struct walk {
     early found[1024];
 } walk;
 
+static const char loads[] = "loads";
 static rsp twin = RSP_NONE; /* makes a step once more, over other bytes */
 static int step(walk *w);
 
@@ -35,9 +36,8 @@ static void name_touch(walk *w, const transfer *t, const seen *before, const see
     early *found = &w->found[pc / 4];
     for (n = 0; n < t->length; n++) other.dmem[(t->address + n) % 4096] ^= 0xff;
     rsp_set(&twin, &other.state), rsp_load(&twin, RSP_DMEM, 0, other.dmem, sizeof other.dmem);
-    rsp_load_words(&twin, RSP_IMEM, pc, &word, 1), rsp_step(&twin);
-    look(&twin, &other);
-    if (!t->to_rdram && memcmp(&other.state, &after->state, sizeof other.state) != 0) *found = (early){ "loads", t->place };
+    rsp_load_words(&twin, RSP_IMEM, pc, &word, 1), rsp_step(&twin), look(&twin, &other);
+    if (!t->to_rdram && memcmp(&other.state, &after->state, sizeof other.state) != 0) *found = (early){ loads, t->place };
     for (n = 0, at = t->address; n < t->length; n++, at = (at + 1) % 4096) if (other.dmem[at] == after->dmem[at]) *found = (early){ "stores", t->place };
 }
 
@@ -48,8 +48,8 @@ static void take(walk *w, walk *copy)
     memset(copy->found, 0, sizeof copy->found);
 }
 
-/* Follows a copy that is answered that the last transfers are under way. It has waited if its way has parted and it reads where it has read. What comes
- * between a read and the branch at which the ways part doesn't count, because the program tests the answer there. */
+/* Follows a copy that is answered that the last transfers are under way. It has waited if its way has parted and it reads where it has read. A load
+ * between a read and the branch at which the ways part doesn't count, because the program tests the answer there, and loads again. */
 static void follow(walk *w, uint32_t last)
 {
     walk copy = { .orders = { w->orders[w->count - last], w->orders[1] }, .whose = w, .count = last };
@@ -59,7 +59,8 @@ static void follow(walk *w, uint32_t last)
     for (n = 0; !has_failed && n < AHEAD && step(&copy); n++) {
         if (copy.has_parted || rsp_step(&beside) != RSP_OK) continue;
         rsp_regs(&copy.m, &mine), rsp_regs(&beside, &its);
-        if ((copy.has_parted = mine.pc != its.pc)) memset(copy.found, 0, sizeof copy.found);
+        copy.has_parted = mine.pc != its.pc;
+        for (early *it = copy.found; copy.has_parted && it < copy.found + 1024; it++) if (it->what == loads) it->what = NULL;
     }
     take(w, &copy), rsp_free(&copy.m), rsp_free(&beside);
 }
@@ -75,8 +76,7 @@ static int make_move(walk *w, const rsp_move *at)
         w->orders[w->count++] = (transfer){ at->stop.pc, n >> 12 & 1, n & 0xfff, bytes < 4096 ? bytes : 4096, at->number == 3 };
     }
     if (!at->writes && w->whose) {
-        take(w->whose, w);
-        rsp_peek(&w->m, at->number, &n);
+        take(w->whose, w), rsp_peek(&w->m, at->number, &n);
         n |= at->number == 4 ? 4 | is_full << 3 : at->number == 5 ? is_full : 1;
         return !(w->asked[at->stop.pc / 4]++ && w->has_parted) && rsp_pass(&w->m, n) == RSP_OK;
     }
@@ -104,17 +104,17 @@ static int step(walk *w)
 int main(int argc, char **argv)
 {
     static uint8_t text[1 << 16], image[1 << 16];
-    static uint32_t words[1024], n;
+    static uint32_t words[1024], n, is_missing;
     static walk w;
     rsp_assembled out;
     rsp_line line;
-    FILE *file = argc == 2 ? fopen(argv[1], "rb") : NULL;
-    if (!file || rsp_assemble(0, text, fread(text, 1, sizeof text, file), words, 1024, &out) != RSP_OK) return 2;
-    if (rsp_new(&w.m, image, sizeof image, 0) != RSP_OK || rsp_new(&twin, image, 64, 0) != RSP_OK) return 2;
-    rsp_load_words(&w.m, RSP_IMEM, 0, words, out.count);
+    FILE *file = argc > 1 ? fopen(argv[1], "rb") : NULL, *filled = argc > 2 ? fopen(argv[2], "rb") : NULL;
+    if (!file || (argc > 2 && (!filled || !fread(image, 1, sizeof image, filled)))) return 2;
+    if (rsp_assemble(0, text, fread(text, 1, sizeof text, file), words, 1024, &out) != RSP_OK) return 2;
+    if (rsp_new(&w.m, image, sizeof image, 0) != RSP_OK || rsp_load_words(&w.m, RSP_IMEM, 0, words, out.count) != RSP_OK || rsp_new(&twin, image, 64, 0) != RSP_OK) return 2;
     for (n = 0; n < LIMIT && step(&w); n++) continue;
     for (n = 0; n < 1024; n++)
         if (w.found[n].what && rsp_listing(&w.m, 4 * n, &line, 1) == RSP_OK)
-            printf("%03x: %s: %s before the end of the transfer of %03x\n", (unsigned)(4 * n), line.text, w.found[n].what, (unsigned)w.found[n].place);
-    return 0;
+            is_missing = printf("%03x: %s: %s before the end of the transfer of %03x\n", (unsigned)(4 * n), line.text, w.found[n].what, (unsigned)w.found[n].place) > 0;
+    return (int)is_missing;
 }

@@ -16,14 +16,14 @@ The rules are ours:
 - At such a read a console may answer that all transfers are done, that the last one is under way, or that the
   last two are. The machine goes on as after the first answer. For each other one a copy goes on, and gets the
   same answer wherever it reads. Once its way has parted from the machine's, it has waited as soon as it reads
-  again at an address where it has read; else it is followed for AHEAD steps. What comes between a read and
-  the branch at which the ways part doesn't count, because the program tests the answer there.
+  again at an address where it has read; else it is followed for AHEAD steps. A load between a read and the
+  branch at which the ways part doesn't count, because the program tests the answer there, and loads again.
 - While a transfer is under way, no instruction loads a byte that it brings, stores a byte that it brings or
   takes, or is fetched from what it brings.
 - One more transfer may be ordered while one is under way. While two are, nothing writes SP registers 0 to 3.
 
-What the CPU orders is left out. A transfer that is under way when the program ends is named only if it is
-asked for, because the CPU may be what waits for it.
+What the CPU orders is left out, and so is a wait that gives up after some rounds. A transfer that is under way
+when the program ends is named only if it is asked for, because the CPU may be what waits for it.
 """
 
 from typing import Iterator, List, NamedTuple, Optional, Sequence, Set, Tuple
@@ -33,7 +33,7 @@ from . import words as _in_words
 
 __all__ = ["AHEAD", "Missing", "Transfer", "missing"]
 
-AHEAD = 1000  # steps after an answer that isn't the machine's
+AHEAD = 10000  # steps after an answer that isn't the machine's
 _READS, _WRITES, _ORDERS = 0b1110000, 0b1111, 0b1100  # of SP registers, as masks
 _STATUS, _FULL = 4, 5
 _COP0 = 16
@@ -177,7 +177,8 @@ class _Walk:
                 found, untested = found + untested, []
             untested += more
             if beside and beside.step() is Status.OK and beside.regs().pc != copy.machine.regs().pc:
-                untested, beside, copy.has_parted = [], None, True
+                untested = [it for it in untested if it.what != "loads"]
+                beside, copy.has_parted = None, True
             if not goes_on:
                 break
         return found + untested

@@ -20,7 +20,7 @@ from lib import TOP
 from lib.library.module import loaded, raised
 from lib.library.programs import built
 from lib.pages import block_with
-from lib.processes import succeeds
+from lib.processes import run, succeeds
 
 # Pieces of the programs. $2 is an address of DMEM, $1 one of RDRAM, $3 the order: 256 bytes.
 BEGIN = "ori $2, $0, 0x400\nori $1, $0, 0x800\nori $3, $0, 255\n"
@@ -76,6 +76,7 @@ nop
 {wait(6, "end")}break
 fetch: mfc0 $4, $c5
 bne $4, $0, fetch
+nop
 mtc0 $2, $c0
 mtc0 $1, $c1
 jr $31
@@ -152,6 +153,12 @@ WRONG: Dict[str, Tuple[str, Named]] = {
     "the first transfer alone": (BEGIN + GET + wait() + SECOND + GET + LOAD, LOADS),
     "the first of two alone": (BEGIN + GET + SECOND + GET + wait(5) + LOAD, LOADS),
     "a wait before the order": (BEGIN + wait() + GET + LOAD, LOADS),
+    "a store in the delay slot": (BEGIN + GET + wait().replace("nop\n", STORE) + LOAD, STORES),
+    "a store before the branch": (BEGIN + PUT + wait().replace("bne", STORE + "bne"), STORES),
+    "a move in the delay slot": (
+        BEGIN + GET + SECOND + GET + wait(5).replace("nop", "mtc0 $2, $c0"),
+        WRITES[:1],
+    ),
     "a third order": (BEGIN + GET + SECOND + GET + THIRD + GET + wait(), WRITES),
     "an overlay": (overlay(""), [("nop", "is fetched")]),
     "two buffers in turn": (
@@ -285,7 +292,13 @@ def test_in_c(folder: Path) -> None:
     right: Dict[str, Tuple[str, Named]] = {f"right: {name}": (text, []) for name, text in RIGHT.items()}
     for name, (program, wanted) in {**right, **WRONG}.items():
         text.write_text(program + "break\n")
-        told = re.findall(
-            r"(?m)^\w+: (.*): (.*) before the end of the transfer of \w+$", succeeds(made, text)
-        )
-        assert sorted({*told}) == sorted(wanted), name
+        ended = run(made, text)
+        told = re.findall(r"(?m)^\w+: (.*): (.*) before the end of the transfer of \w+$", ended.stdout)
+        assert (ended.returncode, sorted({*told})) == (int(bool(wanted)), sorted(wanted)), name
+    text.write_text(f"{BEGIN}{GET}{wait()}lw $5, 0($2)\nbeq $5, $0, end\nnop\n{GET}{LOAD}end: break\n")
+    image = folder / "image"
+    for data, status in (b"\x00" * 4096, 0), (b"\x01" * 4096, 1), (b"", 2):
+        image.write_bytes(data)
+        assert run(made, text, image).returncode == status
+    assert run(made).returncode == run(made, folder / "none").returncode == 2
+    assert run(made, text, folder / "none").returncode == 2
