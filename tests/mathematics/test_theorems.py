@@ -35,7 +35,7 @@ LOOPS = "down_to_zero down_by_eight up_to_end with_loop sets_count".split()
 WAITS = "signal_wait cleared_signal after_transfer".split()
 NAMES = ["straight_code", "codes_of_points", "called_routine", *LOOPS, *WAITS]
 TEXTS = {it: page(f"tests/mathematics/theorems/{it}.s") for it in NAMES}
-PAGE_LABELS = [f"docs/PROVING.md's {it}" for it in ("example", "loop", "clip codes", "wait")]
+PAGE_LABELS = [f"docs/PROVING.md's {it}" for it in ("example", "loop", "clip codes", "loaded codes", "wait")]
 LABELS = (*TEXTS, *PAGE_LABELS)
 # A name, a text, and a part of the sentence that refuses them.
 REFUSED = (
@@ -111,16 +111,23 @@ class Copy:
         where = {**os.environ, "RSP_PROGRAM": str(self.program)}
         return run(self.folder / "tools/theorem", name, source, env=where)
 
-    def follow_codes(self) -> Tuple[str, "Ended[str]"]:
-        """Does to the theorem of the page's clip codes what the page says."""
+    def follow_codes(self, is_loaded: bool = False) -> Tuple[str, "Ended[str]"]:
+        """Does to the theorem of the page's clip codes what the page says, of numbers in registers or in
+        DMEM.
+        """
         section = section_of("Clip codes")
         name = search(r"`tools/theorem (\w+) codes\.s`", section)[1]
-        text, fields, number, lines = blocks_of(section)
+        text, fields, number, lines, loaded, more = blocks_of(section)
+        if is_loaded:
+            name = f"loaded_{name}"
+            text = "".join(f"{it}\n" for it in re.findall(r"`(lqv .*?)`", section)) + text
+            number = number.splitlines(keepends=True)[0] + loaded
+            lines = more + "".join(lines.splitlines(keepends=True)[2:])
+            lines = lines.replace("(5 ∷ 6 ∷ [])", "(1 ∷ 2 ∷ 5 ∷ 6 ∷ [])")
         begun, module = self.begin(name, text), module_of(name)
         spec, proof = self.crate / f"specs/{module}.antt", self.crate / f"proofs/{module}Runs.antt"
         words = spec.read_text().replace("  -- TODO: the result\n", indent(fields, "  "))
-        before = search(r"comment `([^`]*)`", " ".join(section.split()))[1]
-        spec.write_text(words.replace(f"-- {before}\n", f"{number}\n-- {before}\n"))
+        spec.write_text(re.sub(r"(?m)^(-- what the \d steps from s to t do)$", rf"{number}\n\1", words))
         kept = proof.read_text().rstrip("\n").rpartition("\n")[0]
         proof.write_text(f"{kept}\n{indent(lines, '    ')}")
         return name, begun
@@ -180,7 +187,7 @@ class Proofs(NamedTuple):
 @pytest.fixture(scope="module")
 def proofs(copy: Copy) -> Proofs:
     texts = [*TEXTS.items(), example()]
-    followed = [copy.follow_loop(), copy.follow_codes(), copy.follow_wait()]
+    followed = [copy.follow_loop(), copy.follow_codes(), copy.follow_codes(True), copy.follow_wait()]
     pairs = [*((name, copy.begin(name, text)) for name, text in texts), *followed]
     return Proofs(dict(zip(LABELS, pairs)), copy.check(name for name, _ in pairs))
 

@@ -40,6 +40,7 @@ use Rattle.rsp_microcode.specs.Reads.{after_writes}
 use Rattle.rsp_microcode.specs.Loads.{WholeLoad, load, loaded}
 use Rattle.rsp_microcode.specs.Multiplies.{Term, term, sum_writes}
 use Rattle.rsp_microcode.specs.Fixed.{fixed, limited, plus_times}
+use Rattle.rsp_microcode.specs.Clips.{codes_of}
 use Rattle.rsp_microcode.specs.Buffers.{IsFilled}
 use Rattle.rsp_microcode.specs.Pieces.{Piece, takes, sums, clips, puts, rows, code_of, after_pieces}
 use Rattle.rsp_machine.specs.Laws.{steps_of}
