@@ -1,5 +1,5 @@
 -- Loops with two exits.
-use Rattle.std.proofs.Common.{◌≡◌, ℕ, ◌+◌, ◌*◌, ◌-◌, ◌%◌, ◌<◌, List, [], ◌∷◌, ◌++◌, length, length-append, map, Some, Bool, true, false, refl, ap, sym, subst, ◌∙◌, arith}
+use Rattle.std.proofs.Common.{◌≡◌, ℕ, ◌+◌, ◌*◌, ◌-◌, ◌%◌, ◌<◌, List, ◌++◌, length, length-append, map, Some, true, false, refl, ap, sym, subst, ◌∙◌, arith}
 use Rattle.std.specs.Prelude.{◌==◌}
 use Rattle.std.proofs.lemmas.Bool.{and_parts, ltb-true}
 use Rattle.std.proofs.lemmas.Bool.Decides.{nat_tests}
@@ -16,7 +16,7 @@ use Rattle.rsp_microcode.specs.Pieces.{code_of, AreAligned}
 use Rattle.rsp_microcode.specs.Loops.{Loop, loop_code, round_of}
 use Rattle.rsp_microcode.specs.Blocks.{Ran}
 use Rattle.rsp_microcode.specs.Branches.{is_block, offset_of, turns, AfterBlock}
-use Rattle.rsp_microcode.specs.Exits.{Exits, exits_words, exits_code, words_back, has_exits, GoesRound, AfterRounds, ExitsRun}
+use Rattle.rsp_microcode.specs.Exits.{Exits, exits_words, exits_code, words_back, has_exits, GoesRound, ExitsRun}
 use Rattle.rsp_microcode.proofs.Runs.{rounds_kept}
 use Rattle.rsp_microcode.proofs.Frames.{chained, unchanged}
 use Rattle.rsp_microcode.proofs.Blocks.{steps_after, first_block}
