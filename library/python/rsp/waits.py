@@ -21,6 +21,7 @@ The rules are ours:
 - While a transfer is under way, no instruction loads a byte that it brings, stores a byte that it brings or
   takes, or is fetched from what it brings.
 - One more transfer may be ordered while one is under way. While two are, nothing writes SP registers 0 to 3.
+  After a third one the first is forgotten.
 
 What the CPU orders is left out, and so is a wait that gives up after some rounds. A transfer that is under way
 when the program ends is named only if it is asked for, because the CPU may be what waits for it.
@@ -190,7 +191,7 @@ class _Walk:
         if 1 << move.number & _ORDERS:
             size = min(4096, length * ((move.value >> 12 & 0xFF) + 1))
             order = Transfer(pc, IMEM if at & 0x1000 else DMEM, at & 0xFFF, size, move.number == 3)
-            self.transfers.append(order)
+            self.transfers = [*self.transfers[-1:], order]
         self.machine.step()
         self._code = self.machine.memory_words(IMEM, 0, 1024)
         return found
