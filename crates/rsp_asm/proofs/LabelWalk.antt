@@ -1,12 +1,19 @@
 -- The labels of the lines that are left of a text, and that none of these lines has a fault.
-use Rattle.std.proofs.Common.{◌≡◌, refl, sym, ap, subst, ◌∙◌, Bool, true, false, ℕ, zero, suc, ◌+◌, ◌*◌, ◌<◌, List, [], ◌∷◌, ◌++◌, length, drop, drop-cons, drop_of_length-le, append_assoc, arith}
-use Rattle.std.specs.Prelude.{Option, Some, None, Result, IsOk, if◌then◌else◌}
+use Rattle.std.proofs.Common.{◌≡◌, refl, sym, ap, subst, ◌∙◌, Bool, true, false, ℕ, zero, suc, ◌+◌, ◌*◌, ◌<◌, ◌≤◌, List, [], ◌∷◌, ◌++◌, length, drop, drop-cons, drop_of_length-le, append_assoc, arith}
+use Rattle.std.specs.Prelude.{Option, Some, None, Result, ◌&&◌, nat_le, slice_index, IfSome, IsOk, if◌then◌else◌}
+use Rattle.std.specs.List.{list_all}
+use Rattle.std.proofs.lemmas.Bool.{and_parts}
+use Rattle.std.proofs.lemmas.Bool.Decides.{nat_tests}
 use Rattle.std.proofs.lemmas.List.{append-nil}
 use Rattle.rsp_syntax.specs.declared.fault.AsmFault.{AsmFault}
 use Rattle.rsp_syntax.specs.declared.fault.AsmFaultKind.{AsmFaultKind}
 use Rattle.rsp_syntax.specs.declared.fault.AsmFaultKind.TheVariants.{LabelTwice}
+use Rattle.rsp_syntax.specs.declared.line_bytes.Boundary.TheVariants.{Colon}
+use Rattle.rsp_syntax.specs.Chars.{is_name_start, is_name_byte, is_line}
+use Rattle.rsp_syntax.specs.Cuts.{cut}
+use Rattle.rsp_syntax.specs.Numbers.{is_label}
 use Rattle.rsp_syntax.specs.Statement.{Labels}
-use Rattle.rsp_syntax.specs.SourceLine.{LineParts, split_line, label_of, line_size, first_fault, parts_fault, is_label_taken}
+use Rattle.rsp_syntax.specs.SourceLine.{LineParts, without_comment, labelled_parts, split_line, label_in, label_of, line_size, first_fault, parts_fault, is_label_taken}
 use Rattle.rsp_syntax.specs.SourceText.{line_at, address_of_line, labelled, labels_before, all_labels, fault_of_line, or_fault, fault_before, unless, meaning_of_lines}
 use Rattle.rsp_asm.proofs.Passes.{fault_stays}
 
@@ -79,3 +86,22 @@ module _ (origin : ℕ) (ls : List (List ℕ)) where
 
   pub clean_whole : IsOk (meaning_of_lines ls origin) → AreClean origin ls
   clean_whole ok = clean_left (length ls) 0 (unfaulted (fault_before origin ls (length ls)) _ ok) (omega arith)
+
+abbrev IsShort : Option LineParts → Type 0
+IsShort p = IfSome (label_in p) (λ name. length name ≤ 32)
+
+short_if : (b : Bool) (p : Option LineParts) → (b ≡ true → IsShort p) → IsShort (if b then p else None)
+short_if true p short = short refl
+short_if false p short = tt
+
+short_parts : (o : Option (List ℕ × List ℕ)) (bs : List ℕ) → IsShort (labelled_parts o bs)
+short_parts None bs = tt
+short_parts (Some p) bs = short_if (is_label p.0) _ (λ is.
+    let rest = and_parts (is_name_start (slice_index p.0 0)) (list_all is_name_byte p.0 && nat_le (length p.0) 32) is in
+    let parts = and_parts (list_all is_name_byte p.0) (nat_le (length p.0) 32) rest.1 in
+    grind (arith, nat_tests))
+
+-- a label has at most 32 bytes
+pub short_label : (l : List ℕ) → IfSome (label_of l) (λ name. length name ≤ 32)
+unfolding label_of
+short_label l = short_if (is_line l) _ (λ _. short_parts (cut Colon (without_comment l)) (without_comment l))

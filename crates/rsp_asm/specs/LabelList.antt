@@ -1,11 +1,7 @@
 -- Labels as they are listed.
-use Rattle.std.specs.Prelude.{ℕ, ◌-◌, ◌++◌, List, length, take, replicate}
+use Rattle.std.specs.Prelude.{ℕ, ◌-◌, ◌++◌, List, length, replicate}
 use Rattle.rsp_asm.specs.declared.labels.Label.{Label}
 
--- a name and an address as an entry of a list: the first 32 bytes of the name, which has no more, and zeros after them
+-- a name, which has at most 32 bytes, and an address as an entry of a list: the name, and zeros after it
 abbrev pub listed : List ℕ × ℕ → Label
-listed l = record {
-  address = l.1;
-  len = length (take 32 l.0);
-  name = take 32 l.0 ++ replicate (36 - length (take 32 l.0)) 0;
-}
+listed l = record { address = l.1; len = length l.0; name = l.0 ++ replicate (36 - length l.0) 0 }

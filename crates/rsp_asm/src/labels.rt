@@ -1,6 +1,6 @@
 // The labels of a text, in the order of its lines.
 
-ghost use Rattle.std.specs.Prelude.{◌≡◌, ◌≤◌, ◌++◌, ◌-◌, length, map, take, replicate, option_map, IsOk, IfOk, OnOk};
+ghost use Rattle.std.specs.Prelude.{◌≡◌, ◌≤◌, ◌++◌, ◌-◌, length, map, replicate, option_map, IfSome, IsOk, IfOk, OnOk};
 ghost use Rattle.std.specs.Str.Lines.{lines};
 ghost use Rattle.rsp_syntax.specs.SourceText.{meaning_of_text, labelled, all_labels};
 ghost use Rattle.rsp_asm.specs.LabelList.{listed};
@@ -31,20 +31,11 @@ fn padded(bytes: &[u8]) -> [u8; 36]
     name
 }
 
-/// The first bytes of a text, at most `limit`.
-fn start(text: &[u8], limit: usize) -> &[u8]
-    ensures value { result.now ≡ take limit text.now }
-    ensures few { length result.now ≤ limit }
-{
-    &text[..limit.min(text.len())]
-}
-
 /// A label as it is listed.
 fn listed(name: &[u8], address: u16) -> Label
+    requires { length name.now ≤ 32 }
     ensures { result ≡ listed (name.now, address) }
 {
-    // No label has a longer name.
-    let name = start(name, 32);
     Label {
         address,
         len: name.len() as u16,
@@ -54,6 +45,7 @@ fn listed(name: &[u8], address: u16) -> Label
 
 /// Adds the label of a line, if it has one.
 fn add_label(found: &mut Vec<Label>, name: Option<&[u8]>, address: u16) -> Result<(), AllocError>
+    requires { IfSome (option_map (λ t. t.now) name) (λ n. length n ≤ 32) }
     ensures { OnOk result (found.new.items ≡ found.old.items ++ map listed (labelled (option_map (λ t. t.now) name.entry) address)) }
 {
     if let Some(name) = name {

@@ -1,7 +1,8 @@
-use Rattle.std.proofs.Common.{◌++◌, map, ap, sym, subst, ◌∙◌}
+use Rattle.std.proofs.Common.{◌++◌, ◌≤◌, length, map, ap, sym, subst, ◌∙◌}
+use Rattle.std.specs.Prelude.{IfSome}
 use Rattle.std.specs.Str.Lines.{lines}
 use Rattle.rsp_asm.specs.LabelList.{listed}
-use Rattle.rsp_asm.proofs.LabelWalk.{labels_from, AreClean, labels_whole, clean_whole}
+use Rattle.rsp_asm.proofs.LabelWalk.{labels_from, AreClean, labels_whole, clean_whole, short_label}
 use Rattle.rsp_asm.proofs.labels.labels_of.Goals as goal
 
 pub loop-line-init : goal.loop-line-init
@@ -14,3 +15,6 @@ loop-line-init c =
       clean = subst (λ t. AreClean o (lines t)) (sym same) (clean_whole o ls c.requires.assembles);
       low = c.requires.origin;
     }
+
+pub add_label-requires : goal.add_label-requires
+add_label-requires c = subst (λ o. IfSome o (λ n. length n ≤ 32)) (sym c.in-Ok.ensures.label) (short_label c.in-Some.line.now)
