@@ -1,13 +1,16 @@
 -- Consecutive bytes that are written one by one are written at once.
-use Rattle.std.proofs.Common.{◌≡◌, ℕ, zero, suc, ◌+◌, ◌-◌, ◌%◌, ◌<◌, ◌≤◌, ◌^◌, List, [], ◌∷◌, ◌++◌, length, take, drop, get_or, set, refl, sym, ◌∙◌, ap, arith, add-zero, min, inl, inr, Option, None, Some, MatchOption, Bor}
-use Rattle.std.proofs.lemmas.List.{set_past, length-set, length-take, length-drop, take-append-drop, drop_all, take_all, take_more, take_min, drop_more}
+use Rattle.std.proofs.Common.{◌≡◌, ℕ, zero, suc, ◌+◌, ◌-◌, ◌*◌, ◌%◌, ◌<◌, ◌≤◌, ◌^◌, List, [], ◌∷◌, ◌++◌, length, take, drop, get_or, set, get_or-set_same, get_or-set_other, subst, refl, sym, ◌∙◌, ap, arith, add-zero, min, inl, inr, Option, None, Some, MatchOption, Bor}
+use Rattle.std.proofs.lemmas.List.{set_past, get_or_past, length-set, length-append, length-take, length-drop, take-append-drop, drop_all, take_all, take_more, take_min, drop_more}
 use Rattle.std.proofs.lemmas.List.Edits.{sets, sets-eq}
+use Rattle.std.proofs.lemmas.List.Concat.{flat_map-cons}
+use Rattle.std.specs.Int.{to_be_bytes, w32}
 use Rattle.std.specs.Array.{IsFirstChunk}
 use Rattle.std.specs.Prelude.{slice_set}
 use Rattle.byteorder.specs.Endian.{big_bytes}
 use Rattle.std.proofs.lemmas.Bool.{cases_lt}
 use Rattle.rsp_memory.specs.Runs.{write_all}
 use Rattle.rsp_memory.specs.Splices.{spliced}
+use Rattle.rsp_memory.specs.Words.{words_bytes}
 use Rattle.rsp_memory.specs.Memory.{byte_at, bytes_at, with_byte, with_bytes, with_word}
 use Rattle.rsp_memory.specs.Image.{with_image_byte, with_image_bytes}
 
@@ -163,3 +166,37 @@ pub with_image_bytes-spliced : (m : List ℕ) (a at n : ℕ) (bs : List ℕ) →
 with_image_bytes-spliced m a at n bs h e f =
     with_image_bytes-sets m a (a % 16777216) bs refl h ∙ sets-kept m (a % 16777216) at n bs e f
     ∙ sets-eq (take n bs) m at (omega (arith, length-take n bs))
+
+-- bytes that an image has all are a part of its list
+pub with_image_bytes-inside : (m : List ℕ) (a : ℕ) (bs : List ℕ) → a + length bs ≤ length m → length m ≤ 8388608 → with_image_bytes m a bs ≡ spliced m a bs
+with_image_bytes-inside m a bs h n = with_image_bytes-sets m a a bs (omega arith) (omega arith) ∙ sets-eq bs m a (omega arith)
+
+-- a word has four bytes
+pub length-words_bytes : (words : List ℕ) → length (words_bytes words) ≡ 4 * length words
+length-words_bytes [] = refl
+length-words_bytes (w ∷ ws) =
+    ap length (flat_map-cons (to_be_bytes w32) w ws)
+    ∙ length-append (to_be_bytes w32 w) (words_bytes ws)
+    ∙ omega (arith, length-words_bytes ws)
+
+four_below : (w : ℕ) (bs : List ℕ) (i : ℕ) → ((j : ℕ) → get_or bs j 0 < 256) → get_or (to_be_bytes w32 w ++ bs) i 0 < 256
+four_below w bs zero h = omega arith
+four_below w bs (suc zero) h = omega arith
+four_below w bs (suc (suc zero)) h = omega arith
+four_below w bs (suc (suc (suc zero))) h = omega arith
+four_below w bs (suc (suc (suc (suc j)))) h = h j
+
+pub words_bytes-below : (words : List ℕ) (i : ℕ) → get_or (words_bytes words) i 0 < 256
+words_bytes-below [] i = omega arith
+words_bytes-below (w ∷ ws) i =
+    subst (λ (xs : List ℕ). get_or xs i 0 < 256) (sym (flat_map-cons (to_be_bytes w32) w ws)) (four_below w (words_bytes ws) i (words_bytes-below ws))
+
+-- bytes below 256 that are written over others
+pub spliced-below : (m bs : List ℕ) (at : ℕ) → at + length bs ≤ length m → ((i : ℕ) → get_or m i 0 < 256) → ((i : ℕ) → get_or bs i 0 < 256)
+    → (i : ℕ) → get_or (spliced m at bs) i 0 < 256
+spliced-below m bs at h below new i = rw (← sets-eq bs m at h) (sets-below bs m at i below new)
+  where
+    sets-below : (bs m : List ℕ) (at i : ℕ) → ((j : ℕ) → get_or m j 0 < 256) → ((j : ℕ) → get_or bs j 0 < 256) → get_or (sets m at bs) i 0 < 256
+    sets-below [] m at i below new = below i
+    sets-below (b ∷ bs) m at i below new =
+        sets-below bs (set m at b) (suc at) i (λ j. grind (arith, get_or-set_same m at b 0, get_or-set_other m at j b 0, below j, new 0, get_or_past (set m at b) j 0, length-set m at b, below at)) (λ j. new (suc j))

@@ -1,7 +1,8 @@
-ghost use Rattle.std.specs.Prelude.{◌≡◌, ℕ, List, length, vec_len, ◌↔◌, ◌≤◌, IsOk, IfOk, IfErr, take, drop, ◌+◌, ◌%◌};
+ghost use Rattle.std.specs.Prelude.{◌≡◌, ℕ, List, length, vec_len, ◌↔◌, ◌≤◌, IsOk, IfOk, IfErr, take, drop, ◌+◌, ◌*◌, ◌%◌};
+ghost use Rattle.rsp_memory.specs.Words.{words_bytes};
 ghost use Rattle.rsp_memory.specs.Image.{IsImage, IsImageLength, image_byte, with_image_byte, with_image_bytes};
 
-use crate::splice::splice;
+use crate::splice::{splice, splice_words};
 use std::marker::Model;
 
 /// The RDRAM image: the console's main memory, which the RSP reaches by DMA alone.
@@ -98,6 +99,15 @@ impl Rdram {
         let at = len.min((a % 16_777_216) as usize);
         let n = bytes.len().min(len - at);
         splice(&mut self.bytes, at, &bytes[..n]);
+    }
+
+    /// Writes consecutive words from address `a` on, the highest byte of each first. All must be inside the image.
+    #[inline(always)]
+    pub fn set_words(&mut self, a: u32, words: &[u32])
+        requires { a + 4 * length words.now ≤ length self.old }
+        ensures { self.new ≡ with_image_bytes self.old a (words_bytes words.now) }
+    {
+        splice_words(&mut self.bytes, a as usize, words);
     }
 
     /// The number of bytes.

@@ -1,7 +1,8 @@
-ghost use Rattle.std.specs.Prelude.{◌≡◌, ◌<◌, ◌≤◌, ◌%◌, ◌*◌, ◌/◌, ℕ, List, length, take, drop, MatchOption};
+ghost use Rattle.std.specs.Prelude.{◌≡◌, ◌<◌, ◌≤◌, ◌+◌, ◌%◌, ◌*◌, ◌/◌, ℕ, List, length, take, drop, MatchOption};
+ghost use Rattle.rsp_memory.specs.Words.{words_bytes};
 ghost use Rattle.rsp_memory.specs.Memory.{empty_memory, byte_at, half_at, word_at, with_byte, with_half, with_word, bytes_at, with_bytes};
 
-use crate::splice::splice;
+use crate::splice::{splice, splice_words};
 use byteorder::{BigEndian, ByteOrder};
 use std::marker::Model;
 
@@ -215,6 +216,15 @@ impl SpMem {
         } else {
             self.set_wrapping_bytes(a, bytes);
         }
+    }
+
+    /// Writes consecutive words from address `a` on, the highest byte of each first. None of their bytes may wrap.
+    #[inline(always)]
+    pub fn set_words(&mut self, a: u32, words: &[u32])
+        requires { a + 4 * length words.now ≤ 4096 }
+        ensures { self.new ≡ with_bytes self.old a (words_bytes words.now) }
+    {
+        splice_words(&mut self.bytes, a as usize, words);
     }
 
     /// Writes consecutive bytes, at most 4096, from address `a` on. Some of them wrap.
