@@ -1,7 +1,7 @@
 -- One more pair, one more row, and runs of pairs.
-use Rattle.std.proofs.Common.{◌≡◌, ℕ, ◌+◌, ◌%◌, ◌<◌, ◌≤◌, List, [], ◌∷◌, ◌++◌, map, length, take, drop, get_or, replicate, refl, sym, ap, ◌∙◌, arith}
+use Rattle.std.proofs.Common.{◌≡◌, ℕ, ◌+◌, ◌%◌, ◌<◌, ◌≤◌, List, [], ◌∷◌, ◌++◌, map, length, take, drop, get_or, replicate, refl, sym, ap, ◌∙◌, arith, add-zero}
 use Rattle.std.specs.List.{range_with_len, flat_map, fold}
-use Rattle.std.proofs.lemmas.List.{map-id, flat_map_more, length-take, length-drop, get_or-drop, get_or_past, length-replicate, get_or-replicate, take-replicate}
+use Rattle.std.proofs.lemmas.List.{map-id, flat_map_more, length-take, length-drop, take_all, get_or-drop, get_or-take, get_or_past, get_or-replicate}
 use Rattle.std.proofs.lemmas.List.Sums.{fold_push, fold-append}
 use Rattle.std.proofs.lemmas.List.FromFn.{map-range_with_len_more}
 use Rattle.rsp_memory.specs.Memory.{byte_at, with_byte, with_bytes}
@@ -56,13 +56,13 @@ unfolding byte_at
 byte_at-at bank a at n e = ap (λ k. get_or bank k 0) e ∙ sym (get_or-drop at bank n 0)
 
 -- a run of a row's pairs at once
-pub row_in-turn : (image bank : List ℕ) (sp dram i n : ℕ) (run now then : List ℕ) → length image ≤ 16777216
-    → run ≡ take n (drop ((dram + i) % 16777216) image) → now ≡ copied_in image bank (row_pairs sp dram i)
-    → then ≡ with_bytes now (sp + i) run → then ≡ copied_in image bank (row_pairs sp dram (i + length run))
-row_in-turn image bank sp dram i n run now then s =
-    run_turn with_byte (image_byte image) (λ k. copied_in image bank (row_pairs sp dram k)) sp dram i n _ run now then
-    (row_in-more image bank sp dram)
-    (λ k l. image_byte-at image (dram + i + k) ((dram + i) % 16777216) k (omega (arith, length-drop ((dram + i) % 16777216) image)))
+pub row_in-run : (image bank : List ℕ) (sp dram i : ℕ) (run now then : List ℕ)
+    → ((k : ℕ) → k < length run → image_byte image (dram + i + k) ≡ get_or run k 0)
+    → now ≡ copied_in image bank (row_pairs sp dram i) → then ≡ with_bytes now (sp + i) run
+    → then ≡ copied_in image bank (row_pairs sp dram (i + length run))
+row_in-run image bank sp dram i run now then bytes =
+    run_turn with_byte (image_byte image) (λ k. copied_in image bank (row_pairs sp dram k)) sp dram i (length run) run run now then
+    (row_in-more image bank sp dram) bytes (sym (take_all (length run) run (omega arith)))
 
 pub row_out-turn : (bank image : List ℕ) (sp dram i n : ℕ) (run now then : List ℕ) → length bank ≡ 4096
     → run ≡ take n (drop ((sp + i) % 4096) bank) → now ≡ copied_out bank image (row_pairs sp dram i)
@@ -72,27 +72,29 @@ row_out-turn bank image sp dram i n run now then s =
     (row_out-more bank image sp dram)
     (λ k l. byte_at-at bank (sp + i + k) ((sp + i) % 4096) k (omega (arith, length-drop ((sp + i) % 4096) bank)))
 
--- a run that the image doesn't have, and its zeros at once
-pub past_end : (image : List ℕ) (a n : ℕ) (run : List ℕ) → run ≡ take n (drop (a % 16777216) image) → 0 < n → length run ≡ 0 → length image ≤ a % 16777216
-past_end image a n run e h z = omega (arith, ap length e, length-take n (drop (a % 16777216) image), length-drop (a % 16777216) image)
+-- the bytes of a run that the image has, of a row that is inside it, and of a run after its end
+pub image_byte-run : (image : List ℕ) (a n k : ℕ) (run : List ℕ) → length image ≤ 16777216
+    → run ≡ take n (drop (a % 16777216) image) → k < length run → image_byte image (a + k) ≡ get_or run k 0
+image_byte-run image a n k run s e h =
+    let l = length-take n (drop (a % 16777216) image) in
+    image_byte-at image (a + k) (a % 16777216) k (omega (arith, ap length e, l, length-drop (a % 16777216) image))
+    ∙ sym (get_or-take n (drop (a % 16777216) image) k 0 (omega (arith, ap length e, l)))
+    ∙ ap (λ xs. get_or xs k 0) (sym e)
 
-image_byte-past : (image : List ℕ) (a k n : ℕ) → length image ≤ a % 16777216 → a % 16777216 + n ≤ 16777216 → k < n
-    → image_byte image (a + k) ≡ get_or (replicate n 0) k 0
+pub row_in-inside : (image bank : List ℕ) (sp dram n : ℕ) (run then : List ℕ) → length image ≤ 16777216
+    → dram % 16777216 + n ≤ length image → run ≡ take n (drop (dram % 16777216) image)
+    → then ≡ with_bytes bank sp run → then ≡ copied_in image bank (row_pairs sp dram n)
+row_in-inside image bank sp dram n run then s inside e f =
+    let l : 0 + length run ≡ n = omega (arith, ap length e, length-take n (drop (dram % 16777216) image), length-drop (dram % 16777216) image) in
+    row_in-run image bank sp dram 0 run bank then (λ k h. rw add-zero (image_byte-run image dram n k run s e h)) (sym (row_in-none image bank sp dram)) (rw add-zero f)
+    ∙ ap (λ k. copied_in image bank (row_pairs sp dram k)) l
+
+pub image_byte-past : (image : List ℕ) (a k n : ℕ) (run : List ℕ) → run ≡ take n (drop (a % 16777216) image) → length run ≡ 0
+    → a % 16777216 + n ≤ 16777216 → k < n → image_byte image (a + k) ≡ get_or (replicate n 0) k 0
 unfolding image_byte
-image_byte-past image a k n past room h = get_or_past image ((a + k) % 16777216) 0 (omega arith) ∙ sym (get_or-replicate n k 0 0 h)
-
-pub row_in-zeros : (image bank : List ℕ) (sp dram i n : ℕ) (run now then : List ℕ) → length image ≤ (dram + i) % 16777216
-    → (dram + i) % 16777216 + n ≤ 16777216 → run ≡ replicate n 0 → now ≡ copied_in image bank (row_pairs sp dram i)
-    → then ≡ with_bytes now (sp + i) run → then ≡ copied_in image bank (row_pairs sp dram (i + n))
-row_in-zeros image bank sp dram i n run now then past room e f g =
-    let zeros : length (replicate {A = ℕ} n 0) ≡ n = length-replicate n 0 in
-    let whole : run ≡ take n (replicate n 0) = e ∙ sym (take-replicate n n 0 (omega arith)) in
-    let all : then ≡ copied_in image bank (row_pairs sp dram (i + length run)) =
-    run_turn with_byte (image_byte image) (λ k. copied_in image bank (row_pairs sp dram k)) sp dram i n (replicate n 0) run now then
-    (row_in-more image bank sp dram)
-    (λ k l. image_byte-past image (dram + i) k n past room (omega (arith, zeros)))
-    whole f g in
-    all ∙ ap (λ k. copied_in image bank (row_pairs sp dram (i + k))) (ap length e ∙ zeros)
+image_byte-past image a k n run e z room h =
+    let past : length image ≤ a % 16777216 = omega (arith, ap length e, length-take n (drop (a % 16777216) image), length-drop (a % 16777216) image) in
+    get_or_past image ((a + k) % 16777216) 0 (omega arith) ∙ sym (get_or-replicate n k 0 0 h)
 
 -- no row, and one more
 pub rows_in-none : (image bank : List ℕ) (t : Transfer) → copied_in image bank (first_rows t 0) ≡ bank

@@ -1,8 +1,8 @@
 // A transfer moves runs of bytes by slices if its rows don't wrap; its contract is the list of byte pairs applied in
 // order.
 
-ghost use Rattle.std.specs.Prelude.{◌≡◌, ◌+◌, ◌-◌, ◌*◌, ◌%◌, ◌<◌, ◌≤◌, ◌^◌, min, replicate};
-ghost use Rattle.rsp_memory.specs.Memory.{with_bytes};
+ghost use Rattle.std.specs.Prelude.{◌≡◌, ℕ, ◌+◌, ◌<◌, ◌≤◌, ◌^◌, length, slice_index};
+ghost use Rattle.rsp_memory.specs.Image.{image_byte};
 ghost use Rattle.rsp_regs.specs.Dma.{IsTransfer, row_pairs, pairs, copied_in, copied_out};
 
 use rsp_memory::{Rdram, SpMem};
@@ -51,9 +51,27 @@ impl Transfer {
     }
 }
 
-/// Copies a row in pieces that don't wrap in the RDRAM. Bytes after the image's end are 0.
-#[tactic(auto, using(crate::proofs::Pairs::copies))]
+/// Copies a row. Most rows are inside the image, and are copied at once.
+#[inline(always)]
 fn copy_row_in(sp: u32, dram: u32, length: u32, rdram: &Rdram, bank: &mut SpMem)
+    requires sp { sp + length < 2 ^ 32 }
+    requires dram { dram + length < 2 ^ 32 }
+    requires length { length ≤ 4096 }
+    ensures { bank.new ≡ copied_in rdram.now bank.old (row_pairs sp dram length) }
+{
+    let n = length as usize;
+    if (dram % 0x100_0000) as usize + n <= rdram.len() {
+        bank.set_bytes(sp, rdram.run(dram, n));
+    } else {
+        copy_pieces_in(sp, dram, length, rdram, bank);
+    }
+}
+
+/// Copies a row in pieces that don't wrap in the RDRAM. It isn't inlined, so that a row inside the image saves no registers of the host
+/// for it.
+#[inline(never)]
+#[tactic(auto, using(crate::proofs::Pairs::copies))]
+fn copy_pieces_in(sp: u32, dram: u32, length: u32, rdram: &Rdram, bank: &mut SpMem)
     requires sp { sp + length < 2 ^ 32 }
     requires dram { dram + length < 2 ^ 32 }
     requires length { length ≤ 4096 }
@@ -61,31 +79,25 @@ fn copy_row_in(sp: u32, dram: u32, length: u32, rdram: &Rdram, bank: &mut SpMem)
 {
     let mut done = 0;
     while done < length {
-        let run = rdram.run(dram + done, (length - done) as usize);
-        if run.is_empty() {
-            done += set_zeros(sp + done, dram + done, length - done, bank);
-        } else {
-            bank.set_bytes(sp + done, run);
-            done += run.len() as u32;
-        }
+        let run = run_or_zeros(dram + done, length - done, rdram);
+        bank.set_bytes(sp + done, run);
+        done += run.len() as u32;
     }
 }
 
 /// The bytes of a row after the image's end.
 static ZEROS: [u8; 4096] = [0; 4096];
 
-/// Writes zeros for the bytes of a row after the image's end, up to the last address of RDRAM, and returns how many. It isn't inlined, so
-/// that a row inside the image costs nothing more.
-#[cold]
-#[inline(never)]
-fn set_zeros(sp: u32, dram: u32, length: u32, bank: &mut SpMem) -> u32
-    requires length { length ≤ 4096 }
-    ensures count { result ≡ min (16777216 - dram % 16777216) length }
-    ensures bank { bank.new ≡ with_bytes bank.old sp (replicate result 0) }
+/// The first bytes of a row: those up to the image's end, or zeros up to the last address if it begins after that end.
+fn run_or_zeros(dram: u32, n: u32, rdram: &Rdram) -> &[u8]
+    requires { n ≤ 4096 }
+    ensures some { 0 < n → 0 < length result.now }
+    ensures few { length result.now ≤ n }
+    ensures bytes { (k : ℕ) → k < length result.now → image_byte rdram.now (dram + k) ≡ slice_index result.now k }
 {
-    let count = (0x100_0000 - dram % 0x100_0000).min(length);
-    bank.set_bytes(sp, &ZEROS[..count as usize]);
-    count
+    let room = (0x100_0000 - dram % 0x100_0000).min(n) as usize;
+    let run = rdram.run(dram, room);
+    if run.is_empty() { &ZEROS[..room] } else { run }
 }
 
 /// Copies a row in pieces that wrap in neither memory.
