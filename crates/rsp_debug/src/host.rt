@@ -1,6 +1,7 @@
 // What a host does with the machine of a debugger: the N64's CPU, or a program that owns the SP registers.
 
-ghost use Rattle.std.specs.Prelude.{◌≡◌, ◌<◌, ◌%◌, ◌↔◌, Ok, Err, Some, None, length, OnOk, OnErr, IfErr, IsOk, IsTrue, MatchResult};
+ghost use Rattle.std.specs.Prelude.{◌≡◌, ◌<◌, ◌*◌, ◌%◌, ◌↔◌, Ok, Err, Some, None, length, OnOk, OnErr, IfErr, IsOk, IsTrue, MatchResult};
+ghost use Rattle.rsp_memory.specs.Words.{words_bytes};
 ghost use Rattle.rsp_regs.specs.Sp.{read_value};
 ghost use Rattle.rsp_regs.specs.Parts.{sp_of};
 ghost use Rattle.rsp_machine.specs.State.{IsState};
@@ -76,6 +77,18 @@ impl<A: Acc> Debugger<A> {
         ensures err { OnErr result (self.new ≡ self.old) }
     {
         self.machine.load_bytes(bank, a, bytes)?;
+        self.history.clear();
+        Ok(())
+    }
+
+    /// Writes words to a bank from an address on, as [`rsp_machine::Machine::load_words`] does, and empties the history, also if there
+    /// are no words. RangeFault, and nothing changes, if they pass the bank's end.
+    pub fn load_words(&mut self, bank: Bank, a: u32, words: &[u32]) -> Result<(), RangeFault>
+        ensures inside { IsOk result ↔ IsTrue (is_inside bank a (4 * length words.now) self.old.state) }
+        ensures ok { OnOk result (self.new ≡ set_by_host (with_bank_bytes bank a (words_bytes words.now) self.old.state) self.old) }
+        ensures err { OnErr result (self.new ≡ self.old) }
+    {
+        self.machine.load_words(bank, a, words)?;
         self.history.clear();
         Ok(())
     }

@@ -7,7 +7,6 @@ use Rattle.rsp_decode.specs.declared.scalar.MoveOp.TheVariants.{From, To}
 use Rattle.rsp_decode.specs.Table.{inst_of}
 use Rattle.rsp_memory.specs.Memory.{word_at}
 use Rattle.rsp_scalar.specs.Registers.{register, with_register}
-use Rattle.rsp_regs.specs.Sp.{is_length_register}
 use Rattle.rsp_machine.specs.State.{State, advanced}
 use Rattle.rsp_machine.specs.Step.{after_single_step, step_of}
 use Rattle.rsp_machine.specs.Transfers.{starts_dma_at}
@@ -33,13 +32,14 @@ pass_by _ value s = Err OtherWord
 unfoldable pub pass_of : ℕ → State → Result State PassFault
 pass_of value s = if s.sp.halted then Err Halted else pass_by (inst_of (word_at s.imem s.pc)) value s
 
--- the word that an instruction writes to a length register; None if it starts no DMA
-abbrev pub dma_word_by : Option Inst → State → Option ℕ
-dma_word_by (Some (MoveSp To rt n)) s = if is_length_register n then Some (register s.registers rt) else None
-dma_word_by _ s = None
+-- the value of the scalar register of a move
+abbrev pub moved_value : Option Inst → State → ℕ
+moved_value (Some (MoveSp op rt n)) s = register s.registers rt
+moved_value _ s = 0
 
+-- the word that the MTC0 at pc writes to a length register; None if the word at pc starts no DMA
 unfoldable pub dma_word_at : State → Option ℕ
-dma_word_at s = dma_word_by (inst_of (word_at s.imem s.pc)) s
+dma_word_at s = if starts_dma_at s then Some (moved_value (inst_of (word_at s.imem s.pc)) s) else None
 
 -- Passing over the DMA at pc, whose bytes the host moves: the state after the step, but with the memories as they were; or why that is
 -- refused.

@@ -1,10 +1,11 @@
 // What the host does: it reads and writes registers, loads bytes, starts tasks, sets pc, and passes over moves of SP registers.
 
-ghost use Rattle.std.specs.Prelude.{◌≡◌, ◌<◌, ◌≤◌, ◌↔◌, ◌+◌, ◌%◌, IsOk, IfErr, OnOk, OnErr, IsTrue, Ok, Err, Some, None, length, MatchResult};
+ghost use Rattle.std.specs.Prelude.{◌≡◌, ◌<◌, ◌≤◌, ◌↔◌, ◌+◌, ◌*◌, ◌%◌, IsOk, IfErr, OnOk, OnErr, IsTrue, Ok, Err, Some, None, length, MatchResult};
 ghost use Rattle.rsp_machine.specs.State.{State, IsState};
 ghost use Rattle.rsp_machine.specs.Host.{register_read, register_written, is_inside, with_bank_bytes, image_word, task_fault, with_task, single_row, with_pc};
 ghost use Rattle.rsp_machine.specs.Registers.{AreRegisters, registers_of, with_registers, registers_fault, sp_fault};
 ghost use Rattle.rsp_machine.specs.Pass.{pass_of};
+ghost use Rattle.rsp_memory.specs.Words.{words_bytes};
 ghost use Rattle.rsp_regs.specs.Parts.{sp_of};
 ghost use Rattle.rsp_regs.specs.Sp.{read_value};
 
@@ -37,18 +38,15 @@ pub enum TaskFault {
     TaskSize,
 }
 
-/// The word at an address of the RDRAM, the highest byte first.
-#[tactic(auto, unfolding(crate::specs::Host::image_word))]
+/// The word at an address of the RDRAM, the highest byte first. All its bytes are inside.
+#[tactic(auto, unfolding(crate::specs::Host::image_word, rsp_memory::specs::Image::image_byte))]
 fn image_word(rdram: &Rdram, a: u32) -> u32
-    requires { a + 4 ≤ 16777216 }
+    requires { a + 4 ≤ length rdram.now }
     ensures { result ≡ image_word rdram.now a }
 {
-    BigEndian::read_u32(&[
-        rdram.byte(a),
-        rdram.byte(a + 1),
-        rdram.byte(a + 2),
-        rdram.byte(a + 3),
-    ])
+    let at = a as usize;
+    let bytes = rdram.bytes();
+    BigEndian::read_u32(&[bytes[at], bytes[at + 1], bytes[at + 2], bytes[at + 3]])
 }
 
 impl<A: Acc> Machine<A> {
@@ -95,6 +93,17 @@ impl<A: Acc> Machine<A> {
         n <= length && a as usize <= length - n
     }
 
+    /// Whether `n` words from an address on are inside a bank, as [`Machine::is_inside`] says it of their bytes.
+    #[inline]
+    #[tactic(auto, using(crate::proofs::Banks::lengths))]
+    pub fn has_words(&self, bank: Bank, a: u32, n: usize) -> bool
+        ensures value { result ≡ is_inside bank a (4 * n) self.now }
+        ensures limit { IsTrue result → a + 4 * n ≤ 8388608 }
+    {
+        let _longest = self.rdram.len();
+        n <= 0x20_0000 && self.is_inside(bank, a, 4 * n)
+    }
+
     /// Writes bytes to a bank from an address on. If they aren't inside the bank ([`Machine::is_inside`]), it returns RangeFault
     /// and changes nothing.
     #[tactic(auto, unfolding(crate::specs::Host::with_bank_bytes))]
@@ -110,6 +119,25 @@ impl<A: Acc> Machine<A> {
             Bank::Dmem => self.dmem.set_bytes(a, bytes),
             Bank::Imem => self.imem.set_bytes(a, bytes),
             Bank::Rdram => self.rdram.set_bytes(a, bytes),
+        }
+        Ok(())
+    }
+
+    /// Writes words to a bank from an address on, the highest byte of each first. If their bytes aren't inside the bank
+    /// ([`Machine::is_inside`]), it returns RangeFault and changes nothing.
+    #[tactic(auto, unfolding(crate::specs::Host::with_bank_bytes))]
+    pub fn load_words(&mut self, bank: Bank, a: u32, words: &[u32]) -> Result<(), RangeFault>
+        ensures inside { IsOk result ↔ IsTrue (is_inside bank a (4 * length words.now) self.old) }
+        ensures ok { OnOk result (self.new ≡ with_bank_bytes bank a (words_bytes words.now) self.old) }
+        ensures err { OnErr result (self.new ≡ self.old) }
+    {
+        if !self.has_words(bank, a, words.len()) {
+            return Err(RangeFault);
+        }
+        match bank {
+            Bank::Dmem => self.dmem.set_words(a, words),
+            Bank::Imem => self.imem.set_words(a, words),
+            Bank::Rdram => self.rdram.set_words(a, words),
         }
         Ok(())
     }

@@ -19,7 +19,7 @@ pub enum PassFault {
 
 impl<A: Acc> Machine<A> {
     /// The word that the MTC0 at pc writes to a length register; None if another instruction is there.
-    #[tactic(auto, unfolding(crate::specs::Pass::dma_word_at))]
+    #[tactic(auto, unfolding(crate::specs::Pass::dma_word_at, crate::specs::Transfers::starts_dma_at))]
     fn dma_word(&self) -> Option<u32>
         ensures { result ≡ dma_word_at self.now }
     {
