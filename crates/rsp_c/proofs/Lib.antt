@@ -4,5 +4,4 @@ pub mod Holding
 pub mod Again
 pub mod Lines
 pub mod Walks
-pub mod Words
 pub mod Stores

@@ -1,7 +1,7 @@
 // The memories: bytes in and bytes out, and words, the highest byte of each first.
 
-ghost use Rattle.std.specs.Prelude.{◌≡◌, ◌+◌, ◌*◌, ◌≤◌, IfSome, length, take, drop, option_map, IsTrue, IsSomeAnd};
-ghost use Rattle.rsp_machine.specs.Host.{with_bank_bytes, is_inside};
+ghost use Rattle.std.specs.Prelude.{◌≡◌, ◌*◌, ◌↔◌, IsSome, IfSome, length, take, drop, option_map, IsTrue, IsSomeAnd};
+ghost use Rattle.rsp_machine.specs.Host.{with_bank_bytes, bank_length, is_inside};
 ghost use Rattle.rsp_debug.specs.Debugging.{set_by_host};
 ghost use Rattle.rsp_c.specs.Answers.{bank_of};
 ghost use Rattle.rsp_c.specs.Bytes.{bank_bytes};
@@ -13,25 +13,34 @@ use crate::handle::{Handle, with_held};
 use crate::status::{OK, OUT_OF_RANGE, bank_of};
 use byteorder::{BigEndian, ByteOrder};
 use rsp_acc::{Acc, PlaneAcc};
-use rsp_debug::Debugger;
 use rsp_machine::Machine;
 use rsp_memory::Bank;
 use std::alloc::Global;
 
-/// How many words become bytes at once.
-const PIECE: usize = 64;
-
-/// The bytes of a bank from an address on, `n` of them, which are all inside.
-pub fn bytes_of<A: Acc>(machine: &Machine<A>, bank: Bank, a: u32, n: usize) -> &[u8]
-    requires { IsTrue (is_inside bank a n machine.now) }
-    ensures bytes { result.now ≡ take n (drop a (bank_bytes bank machine.now)) }
-    ensures len { length result.now ≡ n }
+/// All bytes of a bank.
+fn all_bytes<A: Acc>(machine: &Machine<A>, bank: Bank) -> &[u8]
+    ensures bytes { result.now ≡ bank_bytes bank machine.now }
+    ensures len { length result.now ≡ bank_length bank machine.now }
 {
     match bank {
-        Bank::Dmem => machine.dmem().run(a, n),
-        Bank::Imem => machine.imem().run(a, n),
-        Bank::Rdram => machine.rdram().run(a, n),
+        Bank::Dmem => machine.dmem().bytes(),
+        Bank::Imem => machine.imem().bytes(),
+        Bank::Rdram => machine.rdram().bytes(),
     }
+}
+
+/// The bytes of a bank from an address on, `n` of them; None if they aren't all inside.
+pub fn bytes_of<A: Acc>(machine: &Machine<A>, bank: Bank, a: u32, n: usize) -> Option<&[u8]>
+    ensures inside { IsSome result ↔ IsTrue (is_inside bank a n machine.now) }
+    ensures bytes { IfSome result (λ bytes. bytes.now ≡ take n (drop a (bank_bytes bank machine.now))) }
+    ensures len { IfSome result (λ bytes. length bytes.now ≡ n) }
+{
+    let all = all_bytes(machine, bank);
+    let from = a as usize;
+    if n > all.len() || from > all.len() - n {
+        return None;
+    }
+    Some(&all[from..from + n])
 }
 
 /// Writes bytes to a bank from an address on, and empties the history.
@@ -71,54 +80,15 @@ pub extern "C" fn rsp_memory(
     ensures same { handle.new.debugger ≡ handle.old.debugger }
 {
     with_held!(handle, alloc, |debugger| match bank_of(number) {
-        Some(bank) if debugger.machine().is_inside(bank, address, bytes.len()) => {
-            bytes.copy_from_slice(bytes_of(debugger.machine(), bank, address, bytes.len()));
-            OK
-        }
-        _ => OUT_OF_RANGE,
+        None => OUT_OF_RANGE,
+        Some(bank) => match bytes_of(debugger.machine(), bank, address, bytes.len()) {
+            None => OUT_OF_RANGE,
+            Some(found) => {
+                bytes.copy_from_slice(found);
+                OK
+            }
+        },
     })
-}
-
-/// Whether a bank has `n` words from an address on.
-#[tactic(auto, using(crate::proofs::Words::words))]
-fn has_words(machine: &Machine<PlaneAcc>, bank: Bank, address: u32, n: usize) -> bool
-    ensures value { result ≡ is_inside bank address (4 * n) machine.now }
-    ensures few { IsTrue result → n ≤ 2097152 }
-    ensures limit { IsTrue result → address + 4 * n ≤ 8388608 }
-{
-    let _longest = machine.rdram().len();
-    n <= 0x20_0000 && machine.is_inside(bank, address, 4 * n)
-}
-
-/// Writes at most 64 words to a bank from an address on, and empties the history.
-fn put_piece(debugger: &mut Debugger<PlaneAcc>, bank: Bank, address: u32, words: &[u32])
-    requires few { length words.now ≤ 64 }
-    requires inside { IsTrue (is_inside bank address (4 * length words.now) debugger.old.state) }
-    ensures { debugger.new ≡ set_by_host (with_bank_bytes bank address (words_bytes words.now) debugger.old.state) debugger.old }
-{
-    let n = 4 * words.len();
-    let mut bytes = [0; 4 * PIECE];
-    BigEndian::write_u32_into(words, &mut bytes[..n]);
-    let Ok(()) = debugger.load_bytes(bank, address, &bytes[..n]) else {
-        unreachable!()
-    };
-}
-
-/// Writes words to a bank from an address on, and empties the history.
-fn put_words(debugger: &mut Debugger<PlaneAcc>, bank: Bank, address: u32, words: &[u32])
-    requires limit { address + 4 * length words.now ≤ 8388608 }
-    requires inside { IsTrue (is_inside bank address (4 * length words.now) debugger.old.state) }
-    ensures { debugger.new ≡ set_by_host (with_bank_bytes bank address (words_bytes words.now) debugger.old.state) debugger.old }
-{
-    let mut at = address;
-    let mut rest = words;
-    while rest.len() > PIECE {
-        let (piece, more) = rest.split_at(PIECE);
-        put_piece(debugger, bank, at, piece);
-        at += 4 * PIECE as u32;
-        rest = more;
-    }
-    put_piece(debugger, bank, at, rest);
 }
 
 /// Reads words of a bank from an address on.
@@ -126,7 +96,10 @@ fn read_words(machine: &Machine<PlaneAcc>, bank: Bank, address: u32, words: &mut
     requires { IsTrue (is_inside bank address (4 * length words.old) machine.now) }
     ensures { IsRead big_number 4 (take (4 * length words.old) (drop address (bank_bytes bank machine.now))) words.new }
 {
-    BigEndian::read_u32_into(bytes_of(machine, bank, address, 4 * words.len()), words);
+    let Some(bytes) = bytes_of(machine, bank, address, 4 * words.len()) else {
+        unreachable!()
+    };
+    BigEndian::read_u32_into(bytes, words);
 }
 
 /// Writes words to a bank from an address on, and empties the history.
@@ -143,11 +116,11 @@ pub extern "C" fn rsp_load_words(
     ensures same { (result ≡ OK → ⊥) → handle.new.debugger ≡ handle.old.debugger }
 {
     with_held!(handle, alloc, |debugger| match bank_of(number) {
-        Some(bank) if has_words(debugger.machine(), bank, address, words.len()) => {
-            put_words(&mut debugger, bank, address, words);
-            OK
-        }
-        _ => OUT_OF_RANGE,
+        None => OUT_OF_RANGE,
+        Some(bank) => match debugger.load_words(bank, address, words) {
+            Err(_) => OUT_OF_RANGE,
+            Ok(()) => OK,
+        },
     })
 }
 
@@ -166,7 +139,7 @@ pub extern "C" fn rsp_memory_words(
     ensures same { handle.new.debugger ≡ handle.old.debugger }
 {
     with_held!(handle, alloc, |debugger| match bank_of(number) {
-        Some(bank) if has_words(debugger.machine(), bank, address, words.len()) => {
+        Some(bank) if debugger.machine().has_words(bank, address, words.len()) => {
             read_words(debugger.machine(), bank, address, words);
             OK
         }

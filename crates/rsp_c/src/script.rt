@@ -176,11 +176,14 @@ pub extern "C" fn rsp_bench_memory(
     ensures same { handle.new.bench ≡ handle.old.bench }
 {
     with_held!(handle, alloc, |held| match bank_of(number) {
-        Some(bank) if held.bench.machine().is_inside(bank, address, bytes.len()) => {
-            bytes.copy_from_slice(bytes_of(held.bench.machine(), bank, address, bytes.len()));
-            OK
-        }
-        _ => OUT_OF_RANGE,
+        None => OUT_OF_RANGE,
+        Some(bank) => match bytes_of(held.bench.machine(), bank, address, bytes.len()) {
+            None => OUT_OF_RANGE,
+            Some(found) => {
+                bytes.copy_from_slice(found);
+                OK
+            }
+        },
     })
 }
 
