@@ -139,7 +139,7 @@ pub extern "C" fn rsp_memory_words(
     ensures same { handle.new.debugger ≡ handle.old.debugger }
 {
     with_held!(handle, alloc, |debugger| match bank_of(number) {
-        Some(bank) if debugger.machine().has_words(bank, address, words.len()) => {
+        Some(bank) if debugger.machine().is_inside(bank, address, 4 * words.len()) => {
             read_words(debugger.machine(), bank, address, words);
             OK
         }

@@ -111,7 +111,7 @@ impl<A: Acc> Debugger<A> {
         ensures answer { result ≡ (step_of self.old.state).0 }
         ensures next { self.new ≡ after_debugger_step self.old }
     {
-        self.history.step(&mut self.machine)
+        self.history.recorded_step(&mut self.machine)
     }
 
     /// Adds a breakpoint at an address of IMEM, a multiple of 4 below 4096: a run stops when a step leads there. BreakTwice if the

@@ -1,8 +1,7 @@
 // The records of the last steps, which undo them.
 //
-// The ring is filled once, and written in place: the push of `circular_buffer` takes a whole record by value, a copy
-// of 200 bytes and more. So the index after the newest entry, and the number of entries, are kept beside it. One
-// step takes its entry by the index; to lend the ring as one slice costs more, which a run pays once for many steps.
+// The ring is filled once, and written in place: the push of `circular_buffer` copies a whole record. So the index after the newest entry, and
+// the number of entries, are kept beside it. One step takes its entry by the index; a run lends the ring as one slice, which costs more.
 
 ghost use Rattle.std.specs.Prelude.{◌≡◌, ◌<◌, ◌≤◌, ◌+◌, ◌-◌, ◌⊎◌, ℕ, true, false, [], length, drop, slice_get, slice_index_or, option_copied, IfOk};
 ghost use Rattle.rsp_machine.specs.Step.{step_of};
@@ -113,21 +112,6 @@ impl History {
 
     /// Makes one step of a machine, and with a depth other than 0 keeps its record.
     #[inline(always)]
-    pub fn step<A: Acc>(&mut self, machine: &mut Machine<A>) -> StepEnd
-        ensures answer { result ≡ (step_of machine.old).0 }
-        ensures state { machine.new ≡ (step_of machine.old).1 }
-        ensures past { states_before machine.new self.new.newest ≡ history_after self.old.depth machine.old (states_before machine.old self.old.newest) }
-        ensures depth { self.new.depth ≡ self.old.depth }
-    {
-        if self.slots.is_empty() {
-            return machine.step();
-        }
-        self.recorded_step(machine)
-    }
-
-    /// As [`History::step`], but a depth of 0 isn't tested for ahead: then the entry isn't found. So a loop of such steps keeps more in
-    /// registers of the host.
-    #[inline(always)]
     pub fn recorded_step<A: Acc>(&mut self, machine: &mut Machine<A>) -> StepEnd
         ensures answer { result ≡ (step_of machine.old).0 }
         ensures state { machine.new ≡ (step_of machine.old).1 }
@@ -135,6 +119,9 @@ impl History {
         ensures depth { self.new.depth ≡ self.old.depth }
     {
         let depth = self.slots.len();
+        if depth == 0 {
+            return machine.step();
+        }
         let entry = if self.next == depth { 0 } else { self.next };
         let Some(record) = self.slots.get_mut(entry) else {
             return machine.step();

@@ -81,8 +81,7 @@ impl<A: Acc> Debugger<A> {
         Ok(())
     }
 
-    /// Writes words to a bank from an address on, as [`rsp_machine::Machine::load_words`] does, and empties the history, also if there
-    /// are no words. RangeFault, and nothing changes, if they pass the bank's end.
+    /// The same for words, as [`rsp_machine::Machine::load_words`] writes them.
     pub fn load_words(&mut self, bank: Bank, a: u32, words: &[u32]) -> Result<(), RangeFault>
         ensures inside { IsOk result ↔ IsTrue (is_inside bank a (4 * length words.now) self.old.state) }
         ensures ok { OnOk result (self.new ≡ set_by_host (with_bank_bytes bank a (words_bytes words.now) self.old.state) self.old) }

@@ -13,6 +13,5 @@ pub mod CountersApart
 pub mod LoopSteps
 pub mod Records
 pub mod Whole
-pub mod Banks
 pub mod Copying
 pub mod WrittenRegisters

@@ -17,7 +17,7 @@ use Rattle.rsp_machine.specs.Step.{executed, instruction_effect, moves_sp, after
 use Rattle.rsp_machine.specs.Footprint.{footprint_of, scalar_in}
 use Rattle.rsp_machine.specs.Footprints.{footprint_in, footprint_at, PassesAreSteps}
 use Rattle.rsp_machine.specs.Transfers.{starts_dma_in, starts_dma_at}
-use Rattle.rsp_machine.specs.Pass.{after_pass, pass_by, pass_of, moved_value, dma_word_at, pass_dma_of}
+use Rattle.rsp_machine.specs.Pass.{after_pass, pass_by, pass_of, pass_dma_of}
 use Rattle.rsp_machine.specs.declared.step.StepEnd.{StepEnd}
 use Rattle.rsp_machine.specs.declared.step.StepEnd.TheVariants.{Done, Halted}
 use Rattle.rsp_machine.specs.declared.pass.PassFault.{PassFault}
@@ -26,9 +26,6 @@ use Rattle.rsp_machine.proofs.Footprints.{other_register}
 
 ok_is : (x y : State) → ◌≡◌ {A = Result State PassFault} (Ok x) (Ok y) → x ≡ y
 ok_is x y e = cc
-
-some_is : (x y : ℕ) → Some x ≡ Some y → x ≡ y
-some_is x y e = cc
 
 -- the parts of a step that a write of an SP register makes
 written : (a b : Bool) (v : ℕ) (q : Sp) (s : State)
@@ -122,37 +119,22 @@ dma_step rt n s e =
     bytes_left (n % 16 == 2) (n % 16 == 3) v (after_register_write n v s.sp) s
     ∙ ap (λ (q : Sp). let t : State = record (advanced s) { sp = after_step q } in t) (length_write n v s.sp e)
 
--- the same by the instruction at pc
-dma_passed_by : (o : Option Inst) (word : ℕ) (s : State) → starts_dma_in o ≡ true
-    → record (step_by o word s).1 { dmem = s.dmem; imem = s.imem; rdram = s.rdram } ≡ after_dma_pass (moved_value o s) s
-dma_passed_by (Some (MoveSp To rt n)) word s e = dma_step rt n s e
-dma_passed_by (Some (MoveSp From rt n)) word s e = cc
-dma_passed_by (Some _) word s e = cc
-dma_passed_by None word s e = cc
+-- a pass by the instruction at pc
+pub dma_passed : (s : State) (rt n : ℕ) → s.sp.halted ≡ false → inst_of (word_at s.imem s.pc) ≡ Some (MoveSp To rt n) → is_length_register n ≡ true
+    → pass_dma_of s ≡ Ok (after_dma_pass (register s.registers rt) s)
+unfolding pass_dma_of starts_dma_at step_of
+dma_passed s rt n running e starts =
+    let word = word_at s.imem s.pc in
+    ap (λ b. if b then Err fault.Halted else if starts_dma_in (inst_of word) then Ok (record (if b then (Halted, s) else step_by (inst_of word) word s).1 { dmem = s.dmem; imem = s.imem; rdram = s.rdram }) else Err fault.OtherWord) running
+    ∙ ap (λ o. if starts_dma_in o then Ok (record (step_by o word s).1 { dmem = s.dmem; imem = s.imem; rdram = s.rdram }) else Err fault.OtherWord) e
+    ∙ ap (λ b. if b then Ok (record (step_by (Some (MoveSp To rt n)) word s).1 { dmem = s.dmem; imem = s.imem; rdram = s.rdram }) else Err fault.OtherWord) starts
+    ∙ ap Ok (dma_step rt n s starts)
 
--- whether a DMA starts, by the word that it would write
-word_given : (b : Bool) (w v : ℕ) → (if b then Some w else None) ≡ Some v → (b ≡ true) × (w ≡ v)
-word_given true w v e = (refl, some_is w v e)
-word_given false w v e = cc
-
-no_word : (b : Bool) (w : ℕ) → ◌≡◌ {A = Option ℕ} (if b then Some w else None) None → b ≡ false
-no_word true w e = cc
-no_word false w e = refl
-
-pub dma_passed : (s : State) (v : ℕ) → s.sp.halted ≡ false → dma_word_at s ≡ Some v → pass_dma_of s ≡ Ok (after_dma_pass v s)
-unfolding dma_word_at pass_dma_of starts_dma_at step_of
-dma_passed s v running e =
-    let o = inst_of (word_at s.imem s.pc) in let word = word_at s.imem s.pc in
-    let w = word_given (starts_dma_in o) (moved_value o s) v e in
-    ap (λ b. if b then Err fault.Halted else if starts_dma_in o then Ok (record (if b then (Halted, s) else step_by o word s).1 { dmem = s.dmem; imem = s.imem; rdram = s.rdram }) else Err fault.OtherWord) running
-    ∙ ap (λ b. if b then Ok (record (step_by o word s).1 { dmem = s.dmem; imem = s.imem; rdram = s.rdram }) else Err fault.OtherWord) w.0
-    ∙ ap Ok (dma_passed_by o word s w.0 ∙ ap (λ x. after_dma_pass x s) w.1)
-
-pub other_passed : (s : State) → s.sp.halted ≡ false → dma_word_at s ≡ None → pass_dma_of s ≡ Err fault.OtherWord
-unfolding dma_word_at pass_dma_of
+pub other_passed : (s : State) → s.sp.halted ≡ false → starts_dma_at s ≡ false → pass_dma_of s ≡ Err fault.OtherWord
+unfolding pass_dma_of
 other_passed s running e =
     ap (λ b. if b then Err fault.Halted else if starts_dma_at s then Ok (record (step_of s).1 { dmem = s.dmem; imem = s.imem; rdram = s.rdram }) else Err fault.OtherWord) running
-    ∙ ap (λ b. if b then Ok (record (step_of s).1 { dmem = s.dmem; imem = s.imem; rdram = s.rdram }) else Err fault.OtherWord) (no_word (starts_dma_at s) (moved_value (inst_of (word_at s.imem s.pc)) s) e)
+    ∙ ap (λ b. if b then Ok (record (step_of s).1 { dmem = s.dmem; imem = s.imem; rdram = s.rdram }) else Err fault.OtherWord) e
 
 pub halted_passed : (s : State) → s.sp.halted ≡ true → pass_dma_of s ≡ Err fault.Halted
 unfolding pass_dma_of

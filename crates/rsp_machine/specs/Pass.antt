@@ -32,15 +32,6 @@ pass_by _ value s = Err OtherWord
 unfoldable pub pass_of : ℕ → State → Result State PassFault
 pass_of value s = if s.sp.halted then Err Halted else pass_by (inst_of (word_at s.imem s.pc)) value s
 
--- the value of the scalar register of a move
-abbrev pub moved_value : Option Inst → State → ℕ
-moved_value (Some (MoveSp op rt n)) s = register s.registers rt
-moved_value _ s = 0
-
--- the word that the MTC0 at pc writes to a length register; None if the word at pc starts no DMA
-unfoldable pub dma_word_at : State → Option ℕ
-dma_word_at s = if starts_dma_at s then Some (moved_value (inst_of (word_at s.imem s.pc)) s) else None
-
 -- Passing over the DMA at pc, whose bytes the host moves: the state after the step, but with the memories as they were; or why that is
 -- refused.
 unfoldable pub pass_dma_of : State → Result State PassFault

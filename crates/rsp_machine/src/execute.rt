@@ -1,9 +1,8 @@
 // What an instruction does.
 //
-// The decoder hands each instruction to one method, `take`, and one match executes it. LLVM puts the match into each
-// arm of the decoder, so no `Option<Inst>` is written and matched again. That holds up to some 8,000 instructions of
-// LLVM's: for a longer function the kit drops `inline(always)`, and a step costs 60 host instructions more. So
-// multiplies, loads, stores and divides are `inline`, and LLVM chooses.
+// The decoder hands each instruction to one method, `take`, and one match executes it. LLVM puts the match into each arm of the decoder, so
+// no `Option<Inst>` is written and matched again. That holds up to some 8,000 instructions of LLVM's: for a longer function the kit drops
+// `inline(always)`, and a step costs 60 host instructions more. So multiplies, loads, stores and divides are `inline`, and LLVM chooses.
 
 ghost use Rattle.std.specs.Prelude.{◌≡◌, ◌<◌, Some};
 ghost use Rattle.rsp_decode.specs.Table.{IsInstruction, inst_of};

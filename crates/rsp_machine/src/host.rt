@@ -93,17 +93,6 @@ impl<A: Acc> Machine<A> {
         n <= length && a as usize <= length - n
     }
 
-    /// Whether `n` words from an address on are inside a bank, as [`Machine::is_inside`] says it of their bytes.
-    #[inline]
-    #[tactic(auto, using(crate::proofs::Banks::lengths))]
-    pub fn has_words(&self, bank: Bank, a: u32, n: usize) -> bool
-        ensures value { result ≡ is_inside bank a (4 * n) self.now }
-        ensures limit { IsTrue result → a + 4 * n ≤ 8388608 }
-    {
-        let _longest = self.rdram.len();
-        n <= 0x20_0000 && self.is_inside(bank, a, 4 * n)
-    }
-
     /// Writes bytes to a bank from an address on. If they aren't inside the bank ([`Machine::is_inside`]), it returns RangeFault
     /// and changes nothing.
     #[tactic(auto, unfolding(crate::specs::Host::with_bank_bytes))]
@@ -131,7 +120,7 @@ impl<A: Acc> Machine<A> {
         ensures ok { OnOk result (self.new ≡ with_bank_bytes bank a (words_bytes words.now) self.old) }
         ensures err { OnErr result (self.new ≡ self.old) }
     {
-        if !self.has_words(bank, a, words.len()) {
+        if !self.is_inside(bank, a, 4 * words.len()) {
             return Err(RangeFault);
         }
         match bank {

@@ -16,9 +16,8 @@ use rsp_regs::SpRegs;
 use rsp_scalar::Regs;
 use std::marker::Model;
 
-/// The signal processor, over accumulators of the kind `A`: pc and npc, 32 scalar registers, 32 vector registers of eight lanes,
-/// eight accumulators, the flags, the divider, DMEM, IMEM, the image of the RDRAM and the SP registers. Contracts see it as a
-/// `State`.
+/// The signal processor, over accumulators of the kind `A`: pc and npc, 32 scalar registers, 32 vector registers of eight lanes, eight
+/// accumulators, the flags, the divider, DMEM, IMEM, the image of the RDRAM and the SP registers. Contracts see it as a `State`.
 #[derive(Drop)]
 pub struct Machine<A: Acc> {
     pub(crate) pc: InstructionAddress,
@@ -221,8 +220,7 @@ impl<A: Acc> Machine<A> {
         let _sp = self.sp.parts();
     }
 
-    /// Reads what the ranges of the vector registers, the accumulators and the flags follow from. The compiler drops the
-    /// reads.
+    /// Reads what the ranges of the vector registers, the accumulators and the flags follow from. The compiler drops the reads.
     #[inline(always)]
     pub(crate) fn vector_ranges(&self)
         ensures { IsRanged self.now }

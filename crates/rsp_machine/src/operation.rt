@@ -1,7 +1,6 @@
-// The operation, in its group's crate, of each vector instruction. These crates don't know the instruction table, so a
-// name of the table is translated here, by one match for each group, which the compiler folds. It costs a second name
-// for 43 instructions. Scalar instructions, vector loads and stores have no operations: their crates take the `Inst`
-// itself, whose fields they read.
+// The operation, in its group's crate, of each vector instruction. These crates don't know the instruction table, so a name of the table is
+// translated here, by one match for each group, which the compiler folds. It costs a second name for 43 instructions. Scalar instructions,
+// vector loads and stores have no operations: their crates take the `Inst` itself, whose fields they read.
 
 ghost use Rattle.std.specs.Prelude.{◌≡◌};
 ghost use Rattle.rsp_machine.specs.Operations.{multiply_of, round_of, mpeg_of, add_of, select_of, clip_of, logic_of, divide_of, idle_of};

@@ -1,7 +1,7 @@
 // Passing over a DMA whose bytes the host moves; host.rt has the pass over any move of an SP register.
 
 ghost use Rattle.std.specs.Prelude.{◌≡◌, Ok, Err, IfErr, OnOk, OnErr};
-ghost use Rattle.rsp_machine.specs.Pass.{pass_dma_of, dma_word_at};
+ghost use Rattle.rsp_machine.specs.Pass.{pass_dma_of};
 
 use crate::machine::Machine;
 use rsp_acc::Acc;
@@ -18,26 +18,9 @@ pub enum PassFault {
 }
 
 impl<A: Acc> Machine<A> {
-    /// The word that the MTC0 at pc writes to a length register; None if another instruction is there.
-    #[tactic(auto, unfolding(crate::specs::Pass::dma_word_at, crate::specs::Transfers::starts_dma_at))]
-    fn dma_word(&self) -> Option<u32>
-        ensures { result ≡ dma_word_at self.now }
-    {
-        match decode(self.word_at(self.counters())) {
-            Some(
-                Inst::MoveSp {
-                    op: MoveOp::To,
-                    rt,
-                    register,
-                },
-            ) if is_length_register(u32::from(register)) => Some(self.regs.get(rt)),
-            _ => None,
-        }
-    }
-
     /// Passes over the MTC0 at pc that starts a DMA: all is as after a step, the SP registers too, but the memories
     /// stay. A host that moves the bytes passes first, since they may overwrite the word at pc.
-    #[tactic(auto, using(crate::proofs::Passing::dmas))]
+    #[tactic(auto, using(crate::proofs::Passing::dmas), unfolding(crate::specs::Transfers::starts_dma_at))]
     pub fn pass_dma(&mut self) -> Result<(), PassFault>
         ensures fault { IfErr result (λ f. pass_dma_of self.old ≡ Err f) }
         ensures ok { OnOk result (pass_dma_of self.old ≡ Ok self.new) }
@@ -46,10 +29,16 @@ impl<A: Acc> Machine<A> {
         if self.sp.halted() {
             return Err(PassFault::Halted);
         }
-        let Some(word) = self.dma_word() else {
-            return Err(PassFault::OtherWord);
+        let transfer = match decode(self.word_at(self.counters())) {
+            Some(
+                Inst::MoveSp {
+                    op: MoveOp::To,
+                    rt,
+                    register,
+                },
+            ) if is_length_register(u32::from(register)) => { self.sp.transfer(self.regs.get(rt)) }
+            _ => return Err(PassFault::OtherWord),
         };
-        let transfer = self.sp.transfer(word);
         self.sp.advance(&transfer);
         self.sp.on_step();
         let counters = self.counters().next();

@@ -66,8 +66,7 @@ impl InstructionAddress {
     }
 }
 
-/// pc and npc, the addresses of the next two instructions. The loop of steps keeps them apart from its machine, in registers of the
-/// host.
+/// pc and npc, the addresses of the next two instructions. The loop of steps keeps them apart from its machine, in registers of the host.
 #[derive(Clone, Copy, Drop)]
 pub(crate) struct ProgramCounters {
     pub(crate) pc: InstructionAddress,

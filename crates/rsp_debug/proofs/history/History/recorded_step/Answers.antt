@@ -14,6 +14,17 @@ use Rattle.rsp_debug.proofs.HistoryRecords.{past-unkept, one-written, one-put, o
 use Rattle.rsp_debug.proofs.history.History.recorded_step.Goals.{then-self-depth, else-self-depth, then-can_undo, else-can_undo}
 use Rattle.rsp_debug.proofs.history.History.recorded_step.Goals as goal
 
+pub returns-then-depth-eq0-clause-past : goal.returns-then-depth-eq0-clause-past
+returns-then-depth-eq0-clause-past g c =
+    let i = c.self.inside in let xs = i.slots.items in let s = c.args.machine.now in let rs = entries_before i.next i.count xs in
+    let none : length xs ≡ 0 = omega (arith, c.if-depth-eq0.true, c.len-depth.ensures.len) in
+    let empty : rs ≡ [] = ap (λ n. entries_before i.next n xs) (let z : i.count ≡ 0 = omega (arith, none, c.self.invariant.1) in z) in
+    ap (λ (r : Records). states_before c.step.new.self r.newest) (sym c.self.view_is)
+    ∙ ap (λ (x : State). states_before x rs) c.step.ensures.state
+    ∙ past-unkept 1 (length xs) s (step_of s).1 rs none empty
+    ∙ one-more 1 (length xs) s (states_before s rs) refl
+    ∙ ap (λ (r : Records). history_after r.depth s (states_before s r.newest)) c.self.view_is
+
 pub returns-in_default-clause-past : goal.returns-in_default-clause-past
 returns-in_default-clause-past g c =
     let i = c.self.inside in let xs = i.slots.items in let s = c.args.machine.now in let rs = entries_before i.next i.count xs in
@@ -23,7 +34,7 @@ returns-in_default-clause-past g c =
     ] in
     let none : length xs ≡ 0 = no-entry xs c.if-self-depth.entry (sym c.get_mut.ensures.value ∙ ap option_copied_mut c.in_default.is) which in
     let empty : rs ≡ [] = ap (λ n. entries_before i.next n xs) (let z : i.count ≡ 0 = omega (arith, none, c.self.invariant.1) in z) in
-    ap (λ (x : State). states_before x rs) c.step.ensures.state
+    ap (λ (x : State). states_before x rs) c.step-in_default.ensures.state
     ∙ past-unkept 1 (length xs) s (step_of s).1 rs none empty
     ∙ one-more 1 (length xs) s (states_before s rs) refl
     ∙ ap (λ (r : Records). history_after r.depth s (states_before s r.newest)) c.self.view_is
