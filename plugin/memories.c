@@ -77,11 +77,8 @@ void rows_in(rsp_unit *unit, uint32_t address, uint32_t length_word)
 {
     dma_rows rows = rows_of(address, length_word);
     for (; rows.count; rows.count--, rows.address = (rows.address + rows.stride) & 0xffffff) {
-        uint8_t bytes[4 * MEMORY_WORDS];
         uint32_t from, len = row_inside(unit->rdram_size, rows.address, rows.len, &from);
-        if (!len) continue;
-        swap_bytes(bytes, unit->memory[RSP_RDRAM] + from / 4, len / 4);
-        rsp_load(&unit->machine, RSP_RDRAM, from, bytes, len);
+        if (len) rsp_load_words(&unit->machine, RSP_RDRAM, from, unit->memory[RSP_RDRAM] + from / 4, len / 4);
     }
 }
 
