@@ -42,13 +42,20 @@ const char *ConfigGetParamString(void *section, const char *name) { return (void
 int CoreDoCommand(int command, int number, void *pointer) { return (void)command, (void)number, (void)pointer, 1; }
 static void nothing(void) {}
 
-static uint32_t word_of_rdram(uint32_t i) { return i * 2654435761u; }
+/* RDRAM as it is at first: as words of the host, and as bytes. */
+static uint32_t first_words[RDRAM];
+static uint8_t first_bytes[4 * RDRAM];
+
+static void put_word(uint8_t *to, uint32_t word)
+{
+    to[0] = (uint8_t)(word >> 24), to[1] = (uint8_t)(word >> 16), to[2] = (uint8_t)(word >> 8), to[3] = (uint8_t)word;
+}
 
 /* The machine with all memory inside, and RDRAM on both sides as it is at first. */
 static void reset_rdram(rsp *m)
 {
-    for (uint32_t i = 0; i < RDRAM; i++) memory[RSP_RDRAM][i] = word_of_rdram(i);
-    MUST(rsp_load_words(m, RSP_RDRAM, 0, memory[RSP_RDRAM], RDRAM) == RSP_OK);
+    memcpy(memory[RSP_RDRAM], first_words, sizeof first_words);
+    MUST(rsp_load(m, RSP_RDRAM, 0, first_bytes, sizeof first_bytes) == RSP_OK);
 }
 
 static void start(rsp *m)
@@ -58,6 +65,7 @@ static void start(rsp *m)
     memory[RSP_DMEM] = room(4 * MEMORY);
     memory[RSP_IMEM] = room(4 * MEMORY);
     memory[RSP_RDRAM] = room(4 * RDRAM);
+    for (uint32_t i = 0; i < RDRAM; i++) put_word(first_bytes + 4 * i, first_words[i] = i * 2654435761u);
     MUST(rsp_new(m, zeros, sizeof zeros, 0) == RSP_OK);
     reset_rdram(m);
     MUST(PluginStartup(dlopen(NULL, RTLD_NOW), NULL, NULL) == M64_SUCCESS);
@@ -114,10 +122,26 @@ static int follow(rsp *m, uint32_t steps, int *is_written)
     return 1;
 }
 
-static void see_memory(rsp *m, uint32_t bank, size_t words)
+static void see_memory(rsp *m, uint32_t bank)
 {
-    static uint32_t found[RDRAM];
-    MUST(rsp_memory_words(m, bank, 0, found, words) == RSP_OK && !memcmp(found, memory[bank], 4 * words));
+    static uint32_t found[MEMORY];
+    MUST(rsp_memory_words(m, bank, 0, found, MEMORY) == RSP_OK && !memcmp(found, memory[bank], sizeof found));
+}
+
+/* A part of RDRAM, as long as DMEM. It is compared word by word only if a side has changed it: for all of RDRAM that would take half of the time. */
+static void see_part(const uint8_t *found, uint32_t first)
+{
+    const uint32_t *words = memory[RSP_RDRAM] + first;
+    uint8_t bytes[4];
+    if (!memcmp(found, first_bytes + 4 * first, 4 * MEMORY) && !memcmp(words, first_words + first, 4 * MEMORY)) return;
+    for (uint32_t i = 0; i < MEMORY; i++) put_word(bytes, words[i]), MUST(!memcmp(bytes, found + 4 * i, 4));
+}
+
+static void see_rdram(rsp *m)
+{
+    static uint8_t found[4 * RDRAM];
+    MUST(rsp_memory(m, RSP_RDRAM, 0, found, sizeof found) == RSP_OK);
+    for (uint32_t at = 0; at < RDRAM; at += MEMORY) see_part(found + 4 * at, at);
 }
 
 /* A task on both. Returns 0 if it can't be compared. */
@@ -129,9 +153,9 @@ static int run_task(rsp *m, uint32_t most, int *is_written)
     MUST(steps <= most);
     if (!follow(m, steps, is_written)) return 0;
     MUST(rsp_regs(m, &now) == RSP_OK && registers[SP_PC] == now.pc);
-    see_memory(m, RSP_DMEM, MEMORY);
-    see_memory(m, RSP_IMEM, MEMORY);
-    if (*is_written) see_memory(m, RSP_RDRAM, RDRAM);
+    see_memory(m, RSP_DMEM);
+    see_memory(m, RSP_IMEM);
+    if (*is_written) see_rdram(m);
     return 1;
 }
 

@@ -1,5 +1,5 @@
-/* texts: assembling, disassembling and explaining. The words of a text, disassembled, assemble to the same words; so do any words. A fault and its
- * explanation agree, and a refused text fills no words. The first two bytes of an input are the origin; the others are the text, and then words. */
+/* texts: assembling, disassembling, explaining, labels. The words of a text, disassembled, assemble to the same words; so do any words. A fault and its
+ * explanation agree, and a refused text fills nothing. An input begins with the origin and the room for words; the other bytes are the text, and also words. */
 #include "fuzz.h"
 
 enum { MOST_WORDS = 1024, MOST_LABELS = 40, FRESH = 0xa5a5a5a5u };

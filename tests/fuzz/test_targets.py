@@ -50,9 +50,10 @@ def fuzzed(targets: Path, name: str, program: Path, folder: Path) -> "Ended[str]
 def test_nothing_is_found(name: str, targets: Path, folder: Path) -> None:
     ran = fuzzed(targets, name, targets / name, folder)
     runs = re.search(r"stat::number_of_executed_units: *(\d+)", ran.stdout)
-    covered = re.findall(r"cov: (\d+)", ran.stdout)
+    covered = re.findall(r"cov: (\d+) ft: (\d+) corp: (\d+)", ran.stdout)
     assert ran.returncode == 0 and runs and covered, ran.stdout[-4000:]
-    print(f"{name}: {runs[1]} runs, {covered[-1]} edges")
+    edges, features, inputs = covered[-1]
+    print(f"{name}: {runs[1]} runs, {edges} edges, {features} features, a corpus of {inputs} inputs")
 
 
 def faults() -> Iterator[Tuple[str, int]]:

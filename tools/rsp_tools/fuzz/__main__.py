@@ -22,12 +22,14 @@ from typing import List
 
 from rsp_tools import TOP
 from rsp_tools.systems import places
-from rsp_tools.systems.modules import module
+from rsp_tools.systems.modules import is_kept, keep, module
 from rsp_tools.systems.toolchain import Refused, call, llvm
 
 from .seeds import SEEDS, WITH_WORDS, dictionary
 from .targets import TARGETS, link
 
+KEPT = places.KEPT / "fuzz"
+WORDS = "-x ir -c -O1 -fPIC -fsanitize=address,fuzzer-no-link -Wno-override-module".split()
 FLAGS = (
     "-O1 -fno-omit-frame-pointer -fsanitize=address,undefined,fuzzer-no-link -fno-sanitize-recover=undefined"
 )
@@ -38,18 +40,24 @@ def compiler() -> List[str]:
     return [os.environ.get("CC", "clang"), *os.environ.get("CFLAGS", FLAGS).split()]
 
 
+def instrumented(text: Path, made: Path) -> None:
+    """Compiles a module of the kit, each of whose functions is instrumented."""
+    marked = made.with_suffix(".ll")
+    functions = r'(?m)^(attributes #\d+ = \{ )(.*"target-cpu")'
+    marked.write_text(re.sub(functions, r"\1sanitize_address \2", text.read_text()))
+    llvm("clang", *WORDS, "-o", made, marked)
+    marked.unlink()
+
+
 def library(at: Path) -> List[Path]:
-    """The library as two objects: the module, each of whose functions is instrumented, and the heap."""
-    text, made, heap = at / "library.ll", at / "library.o", at / "heap.o"
-    marked = re.sub(
-        r'(?m)^(attributes #\d+ = \{ )(.*"target-cpu")',
-        r"\1sanitize_address \2",
-        module("x86_64").text.read_text(),
-    )
-    text.write_text(marked)
-    words = ["-x", "ir", "-c", "-O1", "-fPIC", "-fsanitize=address,fuzzer-no-link", "-Wno-override-module"]
-    llvm("clang", *words, "-o", made, text)
-    text.unlink()
+    """The library as two objects: the module and the heap. The first one takes minutes, and is kept until a
+    source of the library changes."""
+    text, made, heap = module("x86_64").text, at / "library.o", at / "heap.o"
+    made_of, kept = f"{' '.join(WORDS)}\n{text.with_name('mark').read_text(errors='surrogateescape')}", KEPT
+    if not is_kept(kept, made_of):
+        instrumented(text, made)
+        keep(kept, made_of, {made.name: made})
+    shutil.copy(kept / made.name, made)
     call(compiler()[0], "-O1", "-fPIC", "-c", "-o", heap, places.PARTS / "heap.c")
     return [made, heap]
 

@@ -7,7 +7,7 @@ from itertools import product
 from typing import Callable, Dict, Iterator, List
 
 from rsp_conformance.flat import flat_bytes
-from rsp_conformance.vectors import VECTORS, entries_in
+from rsp_conformance.vectors import VECTORS, entries_in, names_in
 from rsp_tools import TOP
 
 LONGEST = 4096
@@ -66,8 +66,14 @@ def scripts() -> Iterator[bytes]:
 
 
 def texts() -> Iterator[bytes]:
-    """The first two bytes are the origin 0, and room for all words."""
-    return (b"\0\1" + it.encode() for it in short_texts())
+    """The first bytes are the origin 0, and room for all words, or for one. At the end are words of each
+    instruction, each with the address 0."""
+    for number, it in enumerate(short_texts()):
+        yield b"\0\1" + it.encode()
+        if number % 8 == 0:
+            yield b"\0\0\1" + it.encode()
+    for name in names_in(VECTORS):
+        yield b"\0\1" + b"".join(bytes.fromhex(it["word"]) + b"\0" for it in entries_in(VECTORS, name)[:16])
 
 
 def ori(register: int, number: int) -> bytes:
@@ -85,7 +91,9 @@ def plugin() -> Iterator[bytes]:
             (0, 0x3F),
             (0x3FFFF8, 0x3F),
             (0xFFFFF8, 0xFFF),
-            (0x3FF000, 0x800 << 20 | 3 << 12 | 0x7FF),
+            (0x3FF000, 0x800 << 20 | 3 << 12 | 0x7FF),  # rows with a skip
+            (0x1000, 1 << 12 | 0x7FF),  # rows that are one row, the longest
+            (0x1000, 1 << 12 | 0xFFF),  # and rows that are too long for that
         ):
             high = [struct.pack(">BH", 3 | to << 2, it >> 16) for to, it in ((1, address), (2, length))]
             words = [
@@ -102,10 +110,9 @@ def plugin() -> Iterator[bytes]:
 def runner() -> Iterator[bytes]:
     """A file of a case, and numbers of which fuzz/runner.c makes a file, which are found more often."""
     yield b"\0" + flat_bytes(entries_in(VECTORS, "SW")[:1])
-    yield from (
-        bytes([1, count, *bytes([kind, bank, 0, 8]) * count])
-        for count, kind, bank in product(range(4), (0, 1), (0, 1, 2))
-    )
+    for count, kind, bank, edge in product(range(1, 4), (0, 1), (0, 1, 2), (0, 19, 27)):  # 0, 4088 and 131064
+        yield bytes([1, count, *bytes([kind, bank, edge, 8]) * count])
+    yield bytes([1, 0])
 
 
 def program() -> Iterator[bytes]:
