@@ -17,7 +17,8 @@ from lib.install.unpacked import given, unpacked
 from lib.packages import need
 from lib.processes import succeeds
 
-RELEASES = ("first", "second")
+# Two runs of ./release, with their umask and their time zone.
+RELEASES = {"first": (0o022, "UTC"), "second": (0o077, "Pacific/Chatham")}
 
 
 def release(into: Path) -> None:
@@ -26,8 +27,12 @@ def release(into: Path) -> None:
         succeeds("rt", "run", "--", "--version", cwd=TOP / "crates/rsp_main")
     with tempfile.TemporaryDirectory() as folder:
         clone = cloned(Path(folder, "a clone"))
-        for name in RELEASES:
-            succeeds("./release", "--untested", cwd=clone)
+        for name, (mask, zone) in RELEASES.items():
+            before, where = os.umask(mask), {**os.environ, "TZ": zone}
+            try:
+                succeeds("./release", "--untested", cwd=clone, env=where)
+            finally:
+                os.umask(before)
             shutil.copytree(clone / "dist", into / name)
 
 

@@ -24,6 +24,17 @@ def given(config: pytest.Config, system: str) -> list[Path]:
     return [it for it in found if f"-{system}." in it.name]
 
 
+def check_members(members: list[tarfile.TarInfo]) -> None:
+    """Files, folders, and links to a file beside them, in one folder. All may read them, the owner alone may
+    change them, and no file runs with another's rights."""
+    assert {it.type for it in members} <= {tarfile.REGTYPE, tarfile.DIRTYPE, tarfile.SYMTYPE}
+    assert {it.mode for it in members if not it.issym()} <= {0o644, 0o755}
+    assert {it.mode for it in members if it.isdir()} <= {0o755}
+    names = [it.name.split("/") for it in members]
+    assert len({it[0] for it in names}) == 1 and not [it for it in names if {"", ".", ".."} & {*it}]
+    assert not [it for it in members if it.issym() and ("/" in it.linkname or it.linkname in (".", ".."))]
+
+
 def check_pack(archive: Path) -> None:
     """The names are sorted, all have one time, and nothing tells by whom it was made. A zip file has no
     links."""
@@ -36,6 +47,7 @@ def check_pack(archive: Path) -> None:
         with tarfile.open(archive) as tar:
             names = tar.getnames()
             about = {str((it.mtime, it.uid, it.gid, it.uname, it.gname)) for it in tar.getmembers()}
+            check_members(tar.getmembers())
     assert names == sorted(names)
     assert len(about) == 1
 
