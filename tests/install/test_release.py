@@ -46,6 +46,7 @@ def refused(*words: str, path: str) -> str:
 
 def path_with(folder: Path, *names: str) -> str:
     """A folder for PATH that has these programs alone, and a kit of which nothing is asked."""
+    folder.mkdir(exist_ok=True)
     for name in names:
         (folder / name).symlink_to(str(shutil.which(name, path="/usr/bin:/bin")))
     (folder / "rt").write_text("#!/bin/sh\nexit 9\n")
@@ -74,8 +75,11 @@ def test_missing_packages(folder: Path) -> None:
 
 @pytest.mark.needs(*LINKERS)
 def test_missing_package_of_one_system(folder: Path) -> None:
-    said = refused("--untested", "--systems", "windows-x86_64", path=path_with(folder, *FEW, *LINKERS))
-    assert said == "release: packages of Debian are missing: apt-get install gcc-mingw-w64-x86-64\n"
+    """The page is made with the library for WebAssembly, and needs what that needs."""
+    for system, package in ("windows-x86_64", "gcc-mingw-w64-x86-64"), ("page", "cmark-gfm"):
+        path = path_with(folder / system, *FEW, *LINKERS)
+        said = refused("--untested", "--systems", system, path=path)
+        assert said == f"release: packages of Debian are missing: apt-get install {package}\n"
 
 
 def test_packages_of_the_newcomer(monkeypatch: pytest.MonkeyPatch) -> None:
@@ -88,6 +92,9 @@ def test_packages_of_the_newcomer(monkeypatch: pytest.MonkeyPatch) -> None:
     monkeypatch.setattr(shutil, "which", str)
     release.check_packages([], False)
     with pytest.raises(SystemExit, match="--untested.*: apt-get install libmupen64plus-dev pkg-config$"):
+        release.check_packages([], True)
+    monkeypatch.setattr(release, "missing", lambda *_: "binutils pkg-config")
+    with pytest.raises(SystemExit, match="missing: apt-get install binutils pkg-config libmupen64plus-dev$"):
         release.check_packages([], True)
 
 

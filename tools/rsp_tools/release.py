@@ -83,15 +83,22 @@ def check_names(names: List[str]) -> None:
             fail(f"there is no system {name}: the systems are {', '.join(OTHERS)}")
 
 
+def libraries_of(names: List[str]) -> List[str]:
+    """The systems whose libraries these archives have. The page has that for WebAssembly."""
+    return [it for it in SYSTEMS if it in names or (it == "wasm64" and "page" in names)]
+
+
 def check_packages(names: List[str], is_tested: bool) -> None:
     """Ends if the kit or a package is missing that makes an archive, or that the newcomer's commands need."""
     if not shutil.which("rt"):
         fail("there is no `rt`, the command of the Rattle kit (README.md names its version)")
-    needed = (program for it in names if it in SYSTEMS for program in SYSTEMS[it].programs)
-    packages = missing(*PROGRAMS, *needed)
-    if packages:
-        fail(f"packages of Debian are missing: apt-get install {packages}")
+    packages = missing(
+        *PROGRAMS, *(program for it in libraries_of(names) for program in SYSTEMS[it].programs)
+    )
     more = said("tools/python", "lib.install.newcomer") if is_tested else ""
+    if packages:
+        both = " ".join(dict.fromkeys([*packages.split(), *more.split()]))
+        fail(f"packages of Debian are missing: apt-get install {both}")
     if more:
         fail(f"the newcomer's commands need packages of Debian (or --untested): apt-get install {more}")
 
@@ -121,9 +128,8 @@ def plugin() -> bytes:
 
 
 def every(given: Path, names: List[str], release: About) -> Iterator[Archive]:
-    """The archives, of an object file of the program, and of these other systems. The page is made with the
-    library for WebAssembly."""
-    libraries = [it for it in SYSTEMS if it in names or (it == "wasm64" and "page" in names)]
+    """The archives, of an object file of the program, and of these other systems."""
+    libraries = libraries_of(names)
     if libraries:
         succeed("tools/systems failed, so nothing is made", "tools/systems", *libraries)
     yield archives.of_native(linked_program(given), plugin(), release)
