@@ -1,8 +1,8 @@
 """What `pip install ./library/python` calls: it puts the module and library/c/librsp.so into a wheel.
 
 It needs nothing but Python, so an install needs no network, no setuptools and no compiler. Two wheels of the
-same files have the same bytes. An editable install names this folder alone, so a change of the module or the
-library is there at the next import. It fails if library/c/build hasn't made the library.
+same files and date have the same bytes. An editable install names this folder alone, so a change of the
+module or the library is there at the next import. It fails if library/c/build hasn't made the library.
 
 The wheel has the tags of glibc 2.17, manylinux2014: the library needs libc.so.6 alone, and no newer symbol,
 which tests/install sees.
@@ -12,6 +12,7 @@ import base64
 import hashlib
 import re
 import stat
+import time
 import zipfile
 from pathlib import Path
 from typing import Any, Dict, Sequence, Union
@@ -39,12 +40,15 @@ METADATA = "\n".join(
     ]
 )
 WHEEL = "Wheel-Version: 1.0\nGenerator: wheels\nRoot-Is-Purelib: false\n"
-DAY = (1980, 1, 1, 0, 0, 0)  # the first that a wheel can have
+FIRST = 315532800  # the first time that a wheel can have, 1980, in seconds since 1970
 COMMANDS = f"{NAME}.data/scripts/"  # what pip installs to be run, by its name
 
 
-def write(folder: Union[str, Path], files: Dict[str, bytes], platforms: Sequence[str] = PLATFORMS) -> str:
-    """Writes a wheel of these files to a folder, and returns its name."""
+def write(
+    folder: Union[str, Path], files: Dict[str, bytes], platforms: Sequence[str] = PLATFORMS, date: int = FIRST
+) -> str:
+    """Writes a wheel of these files to a folder, and returns its name. All files have the same date, in
+    seconds since 1970, which a wheel keeps as that of UTC."""
     info, lines, tags = f"{NAME}.dist-info", "", "".join(f"Tag: py3-none-{it}\n" for it in platforms)
     files = {**files, f"{info}/METADATA": METADATA.encode(), f"{info}/WHEEL": f"{WHEEL}{tags}".encode()}
     for path, data in files.items():
@@ -54,7 +58,7 @@ def write(folder: Union[str, Path], files: Dict[str, bytes], platforms: Sequence
     name = f"{NAME}-py3-none-{'.'.join(platforms)}.whl"
     with zipfile.ZipFile(Path(folder, name), "w", zipfile.ZIP_DEFLATED) as wheel:
         for path, data in files.items():
-            entry = zipfile.ZipInfo(path, DAY)
+            entry = zipfile.ZipInfo(path, time.gmtime(date)[:6])
             mode = stat.S_IFREG | (0o755 if path.startswith(COMMANDS) else 0o644)
             entry.compress_type, entry.external_attr = zipfile.ZIP_DEFLATED, mode << 16
             wheel.writestr(entry, data)

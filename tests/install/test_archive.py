@@ -18,7 +18,7 @@ import pytest
 
 from lib import TESTS, TOP
 from lib.cmake import check_cmake
-from lib.install.unpacked import BARE, check_common, check_pack, unpacked
+from lib.install.unpacked import BARE, check_common, check_date_of_wheel, check_pack, unpacked
 from lib.install.ways import LOOP_CODE, LOOP_TEXT, LOOP_WORDS
 from lib.library import LOCKSTEP
 from lib.links import broken
@@ -246,12 +246,13 @@ def test_needs_of_the_system(archive: Path, name: str) -> None:
     check_needs(archive / name)
 
 
-def test_library_of_the_wheel(archive: Path) -> None:
+def test_library_of_the_wheel(archive: Path, packed: Path) -> None:
     (wheel,) = (archive / "python").glob("*.whl")
     assert wheel.name.endswith("-py3-none-manylinux_2_17_x86_64.manylinux2014_x86_64.whl")
     with zipfile.ZipFile(wheel) as it:
         is_same = it.read("rsp/librsp.so") == (archive / "lib/librsp.so").read_bytes()
     assert is_same
+    check_date_of_wheel(packed, archive)
 
 
 @pytest.mark.parametrize(

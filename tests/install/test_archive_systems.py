@@ -4,6 +4,7 @@ Stand-ins are packed always: of folders as tools/systems makes them, whose files
 The archives themselves are those of --archive; `./release --systems` makes them.
 """
 
+import calendar
 import json
 import os
 import re
@@ -14,7 +15,15 @@ from typing import Iterator
 
 import pytest
 
-from lib.install.unpacked import BARE, check_common, check_pack, date, given, unpacked
+from lib.install.unpacked import (
+    BARE,
+    check_common,
+    check_date_of_wheel,
+    check_pack,
+    date,
+    given,
+    unpacked,
+)
 from lib.install.ways import LOOP_CODE, LOOP_TEXT, LOOP_WORDS
 from lib.library import LOCKSTEP
 from lib.library.typescript import OPTIONS, USE
@@ -25,7 +34,7 @@ from lib.processes import Ended, bytes_of, run, succeeds
 from lib.systems import browser, files, macos, node, rust
 from lib.systems.kinds import KINDS
 from lib.systems.runners import Runner
-from rsp_tools.packaging import archives, installed, systems
+from rsp_tools.packaging import archives, installed, repository, systems
 from rsp_tools.packaging.about import About
 from rsp_tools.systems import packages
 from rsp_tools.systems.toolchain import llvm
@@ -104,7 +113,20 @@ def test_stand_in(folder: Path, library: Path, system: str) -> None:
     committed = int(succeeds("git", "log", "-1", "--format=%ct"))
     assert 0 <= committed - date(packed) < 2
     (folder / "into").mkdir()
-    check_files(unpacked(packed, folder / "into"), system)
+    top = unpacked(packed, folder / "into")
+    check_files(top, system)
+    if system in rust.TARGETS:
+        check_date_of_wheel(packed, top)
+
+
+def test_wheel_where_there_is_no_git(folder: Path, monkeypatch: pytest.MonkeyPatch) -> None:
+    """As in an unpacked archive of the source: its files have the first time that a wheel can have."""
+    (folder / "library").touch()
+    monkeypatch.setenv("PATH", str(folder))
+    repository.committed.cache_clear()
+    packages.wheel(folder, folder / "library", "library", ["any"])
+    (wheel,) = (folder / "python").glob("*.whl")
+    assert date(wheel) == calendar.timegm((1980, 1, 1, 0, 0, 0))
 
 
 @pytest.fixture
@@ -136,8 +158,9 @@ def test_files(packed_for: Path, top: Path, system: str) -> None:
 
 
 @of(*rust.TARGETS)
-def test_wheel(top: Path, system: str) -> None:
+def test_wheel(packed_for: Path, top: Path, system: str) -> None:
     files.check_wheel(system, top)
+    check_date_of_wheel(packed_for, top)
 
 
 @pytest.mark.needs("rustc", "cargo")

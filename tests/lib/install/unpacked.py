@@ -53,12 +53,19 @@ def check_pack(archive: Path) -> None:
 
 
 def date(archive: Path) -> int:
-    """The time of an archive's files, in seconds since 1970. A zip file has times of UTC, even seconds."""
-    if archive.suffix == ".zip":
+    """The time of an archive's files, in seconds since 1970. A zip file, and so a wheel, has times of UTC,
+    even seconds."""
+    if archive.suffix in (".zip", ".whl"):
         with zipfile.ZipFile(archive) as pack:
             return calendar.timegm((*pack.infolist()[0].date_time, 0, 0, 0))
     with tarfile.open(archive) as tar:
         return int(tar.getmembers()[0].mtime)
+
+
+def check_date_of_wheel(archive: Path, top: Path) -> None:
+    """The wheel in an unpacked archive has the archive's time."""
+    (wheel,) = (top / "python").glob("*.whl")
+    assert 0 <= date(archive) - date(wheel) < 2
 
 
 def unpacked(archive: Path, into: Path) -> Path:

@@ -15,11 +15,11 @@ SYSTEM = "linux-x86_64"
 PARTS = "library/python/rsp library/rust docs examples microcode plugin tools/hardening CHANGELOG.md".split()
 
 
-def wheel(program: bytes) -> File:
+def wheel(program: bytes, date: int) -> File:
     """The Python package as a wheel, with the program as its command."""
     files = {**wheels.with_library(wheels.made(), wheels.MADE.name), **wheels.with_command("rsp", program)}
     with tempfile.TemporaryDirectory() as folder:
-        name = wheels.write(folder, files)
+        name = wheels.write(folder, files, date=date)
         return File(f"python/{name}", Path(folder, name).read_bytes())
 
 
@@ -27,7 +27,7 @@ def contents(program: bytes, plugin: bytes, about: About) -> Iterator[File]:
     """Each of its files."""
     yield installed.starter(about.lines())
     yield from installed.contents("${pcfiledir}/../..", program)
-    yield wheel(program)
+    yield wheel(program, about.time)
     yield File("plugin/mupen64plus-rsp-proved.so", plugin, True)
     yield from repository.of_systems(PARTS)
     yield File("rust/lib/librsp.a", (TOP / "library/c/librsp.a").read_bytes())

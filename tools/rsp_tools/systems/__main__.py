@@ -12,10 +12,10 @@ x86-64, or for those that are named.
                    scripts in a browser
 
 It wants a clone whose library is built (library/c/build), for linux-aarch64 also the program (./rsp run), the
-kit, and packages of Debian that it names. Each system takes some minutes of processor, and the same sources
-give the same bytes. What the
-kit's `rattle build` hands to clang is kept until a source changes. The status is 0 if all are made, 1 if
-one isn't, 2 if the words are wrong. What isn't made leaves what was there."""
+kit, and packages of Debian that it names. Each system takes some minutes of processor. The same sources of
+the same commit give the same bytes, since a wheel has the time of the commit. What the kit's `rattle build`
+hands to clang is kept until a source changes. The status is 0 if all are made, 1 if one isn't, 2 if the words
+are wrong. What isn't made leaves what was there."""
 
 import argparse
 import os

@@ -1,10 +1,12 @@
 """What lies beside a library: the header, pkg-config's file, CMake's files, and the Python wheel."""
 
 import shutil
+import subprocess
 from pathlib import Path
 from typing import Sequence
 
 import wheels
+from rsp_tools.packaging import repository
 
 from . import places
 from .header import filled
@@ -32,10 +34,18 @@ def cmake(out: Path, kind: str, system: str, processors: str, **words: str) -> N
         (folder / f"{made}.cmake").write_text(filled(places.PARTS / f"{template}.cmake.in", **words))
 
 
+def date() -> int:
+    """That of a wheel's files: the time of the commit. In an unpacked archive of the source there is none."""
+    try:
+        return repository.committed()
+    except (OSError, subprocess.CalledProcessError):
+        return wheels.FIRST
+
+
 def wheel(out: Path, library: Path, name: str, platforms: Sequence[str], *programs: Path) -> None:
     """Writes the Python package with a system's library as a wheel, and programs as its commands."""
     (out / "python").mkdir()
     files = wheels.with_library(library, name)
     for it in programs:
         files.update(wheels.with_command(it.name, it.read_bytes()))
-    wheels.write(out / "python", files, platforms)
+    wheels.write(out / "python", files, platforms, date())
