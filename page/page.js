@@ -75,6 +75,10 @@ function on_key(event) {
   open(document.activeElement === the("script") ? editor.help : line_page("", false), "help");
 }
 
+/** The bar stays in view when the page is scrolled, unless it takes more than a third of the screen, as it may with large
+ * letters. */
+function fit_bar() { the("bar").classList.toggle("high", the("bar").offsetHeight > innerHeight / 3); }
+
 function listen() {
   the("example").onchange = () => choosing.choose();
   the("script").oninput = () => choosing.edited();
@@ -91,6 +95,8 @@ function listen() {
   the("save-image").onclick = () => save("rdram.bin", [running.left]);
   on_file(the("open-script"), the("script-file"), LONGEST, (bytes, name) => choosing.take_file(bytes, name), say);
   on_file(the("open-image"), the("image-file"), LONGEST_IMAGE, take_image, say);
+  new ResizeObserver(fit_bar).observe(the("bar"));
+  window.onresize = fit_bar;
   window.onkeydown = on_key;
   window.onpageshow = ({ persisted }) => persisted && renew(); // a browser has kept the whole page
   window.onhashchange = () => choosing.show_linked();

@@ -1,12 +1,15 @@
 """Whom the page that answers scripts reaches: by keys, on a narrow screen, in light and dark, read aloud. And
 whom it asks."""
 
+import re
 import time
+from pathlib import Path
 from typing import Any
 
 import pytest
 
 from lib.systems.page import CONTROL, DOWN, ENTER, SHOWN, TAB, Host, Page, the
+from rsp_tools.systems import manual
 
 pytestmark = pytest.mark.xdist_group("page")
 # Every control that is enabled when the page has been opened, in the order of the key Tab: links by their
@@ -31,6 +34,12 @@ CONTRAST = """(() => {
   const has_text = (it) => [...it.childNodes].some((node) => node.nodeType === 3 && node.data.trim());
   return Math.min(...[...document.querySelectorAll("body *")].filter(has_text).map(contrast));
 })()"""
+
+
+def path_of(name: str, host: Host) -> Path:
+    """A page's file on the server."""
+    (path,) = (*host.folder.glob(name), *host.folder.glob(f"*/{name}"))
+    return path
 
 
 # By keys alone.
@@ -152,6 +161,19 @@ def test_contrast(scheme: str, is_alone: bool, filled: Page) -> None:
     assert (ground == "rgb(255, 255, 255)") == (scheme == "light")
 
 
+@pytest.mark.parametrize("scheme", ("light", "dark"))
+def test_contrast_of_help(scheme: str, page: Page, host: Host) -> None:
+    """Also of what a link has led to, which has a ground of its own."""
+    page.call("Emulation.setEmulatedMedia", features=[{"name": "prefers-color-scheme", "value": scheme}])
+    found = {}
+    for name in manual.PAGES:
+        page.open(f"{host.url}{path_of(f'help/{name}.html', host).relative_to(host.folder)}#fault-30")
+        page.until("document.readyState === 'complete'")
+        found[name] = page.value(CONTRAST)
+    page.call("Emulation.setEmulatedMedia", features=[])
+    assert {name: it for name, it in found.items() if it < 4.5} == {}
+
+
 # The lines of the replies whose last letter can't be reached by scrolling: what is painted there is another
 # element, or it isn't on the screen.
 CUT_OFF = f"""(() => {{
@@ -176,11 +198,34 @@ CUT_OFF = f"""(() => {{
 }})()"""
 
 
+# The texts outside the script and the replies, whose first or last letter isn't painted where it is.
+HIDDEN = """(() => {
+  const texts = document.createTreeWalker(document.body, NodeFilter.SHOW_TEXT), hidden = [];
+  const is_painted = (text, at) => {
+    const letter = document.createRange();
+    letter.setStart(text, at);
+    letter.setEnd(text, at + 1);
+    const top = letter.getBoundingClientRect().top;
+    scrollBy(0, top - innerHeight / 2);
+    const box = letter.getBoundingClientRect();
+    const seen = document.elementFromPoint((box.left + box.right) / 2, (box.top + box.bottom) / 2);
+    return !box.width || seen === text.parentElement;
+  };
+  for (let text; text = texts.nextNode();) {
+    const first = text.data.search(/\\S/), last = text.data.trimEnd().length - 1;
+    if (first < 0 || text.parentElement.closest("#editor, #shown, .read")) continue;
+    if (![first, last].every((at) => is_painted(text, at))) hidden.push(text.data);
+  }
+  return hidden;
+})()"""
+
+
 @pytest.mark.parametrize("is_alone", (True, False), ids=("replies alone", "with commands"))
 @pytest.mark.parametrize("text", (100, 200))
 @pytest.mark.parametrize("width", (320, 360, 412, 768, 960, 1280, 2560))
 def test_nothing_is_cut_off(width: int, text: int, is_alone: bool, filled: Page) -> None:
-    """Each reply's last letter can be reached, and the page itself isn't wider than the screen."""
+    """Each reply's last letter can be reached, all other texts are painted whole, the page itself isn't wider
+    than the screen, and what stays in view takes a third of it at most."""
     height = {320: 568, 360: 740, 412: 915, 768: 1024}.get(width, 800)
     screen = {"width": width, "height": height, "deviceScaleFactor": 1, "mobile": width < 900}
     filled.call("Emulation.setDeviceMetricsOverride", **screen)
@@ -189,11 +234,16 @@ def test_nothing_is_cut_off(width: int, text: int, is_alone: bool, filled: Page)
         filled.click("commands")
     filled.settle()
     wide, cut = filled.value("document.documentElement.scrollWidth"), filled.value(CUT_OFF)
+    hidden = filled.value(HIDDEN)
+    staying = filled.value(
+        f"getComputedStyle({the('bar')}).position === 'sticky' && {the('bar')}.offsetHeight"
+    )
     rows = filled.value(f"{the('replies')}.children.length")
     filled.value("(document.documentElement.style.fontSize = '')")
     filled.call("Emulation.clearDeviceMetricsOverride")
     assert wide <= width
-    assert cut == []
+    assert cut == [] and hidden == []
+    assert staying <= height / 3
     assert rows == REPLIES + (0 if is_alone else LINES)
 
 
@@ -253,11 +303,29 @@ def test_sources(page: Page, host: Host) -> None:
     assert f"{host.url}{folder}/page.js" in urls
 
 
-# What the page's rules refuse of things that the page doesn't need.
+# The rules of the page, and of the pages of help. That for workers says what the one for scripts would say.
+RULES = {
+    "index.html": "default-src 'none'; script-src 'self'; worker-src 'self'; style-src 'self'; "
+    "connect-src 'self'; img-src data:; base-uri 'none'; form-action 'none'",
+    "help/SCRIPT.html": "default-src 'none'; style-src 'self'; img-src 'self' data:; base-uri 'none'; "
+    "form-action 'none'",
+}
+rules_of = pytest.mark.parametrize("name", RULES)
+
+
+@rules_of
+def test_rules_are_there(name: str, host: Host) -> None:
+    text = path_of(name, host).read_text()
+    (rules,) = re.findall(r'Content-Security-Policy" content="([^"]*)">', text)
+    assert " ".join(rules.split()) == RULES[name]
+
+
+# What the rules refuse of things that no page needs: a form last, since it would lead elsewhere.
 REFUSED = """(async () => {
   const refused = [];
   document.addEventListener("securitypolicyviolation", (it) => refused.push(it.effectiveDirective));
-  const put = (name, values) => document.body.append(Object.assign(document.createElement(name), values));
+  const made = (name, values) => Object.assign(document.createElement(name), values);
+  const put = (...words) => document.body.appendChild(made(...words));
   put("script", { textContent: "document.title = 'changed'" });
   put("script", { src: "data:text/javascript,1" });
   put("style", { textContent: "body { color: red }" });
@@ -266,14 +334,27 @@ REFUSED = """(async () => {
   put("base", { href: "http://localhost:1/" });
   await fetch("http://localhost:1/").catch(() => {});
   try { new Worker("data:text/javascript,1"); } catch {}
+  put("form", { action: "http://localhost:1/" }).submit();
   await new Promise((done) => setTimeout(done, 300));
-  return [document.title, ...new Set(refused)].sort();
+  return [document.title, [...new Set(refused)].sort()];
 })()"""
+WANTED = """
+base-uri connect-src form-action frame-src img-src script-src-elem style-src-elem worker-src
+""".split()
+# Whether an image is shown that is in an address, as the page's empty icon is.
+IMAGE = """new Promise((done) => Object.assign(new Image(), {
+  src: "data:image/gif;base64,R0lGODlhAQABAAAAACwAAAAAAQABAAA=",
+  onload: () => done(true),
+  onerror: () => done(false),
+}))"""
 
 
-def test_rules(page: Page) -> None:
-    """The page's rules refuse what it doesn't need. That they allow what it needs all other tests show."""
-    title, *refused = page.value(REFUSED)
-    wanted = {*"script-src-elem style-src-elem img-src frame-src base-uri connect-src worker-src".split()}
-    assert {*refused, title} - wanted == {"rsp: scripts for the Nintendo 64's RSP"}
-    assert wanted <= {*refused, title}
+@rules_of
+def test_rules(name: str, page: Page, host: Host) -> None:
+    """The rules refuse what no page needs. That they allow what a page needs all other tests show, except for
+    the icon."""
+    page.open(f"{host.url}{path_of(name, host).relative_to(host.folder)}")
+    page.until("document.readyState === 'complete'")
+    title = page.value("document.title")
+    assert page.value(IMAGE)
+    assert page.value(REFUSED) == [title, WANTED]
