@@ -121,16 +121,18 @@ PAGE_OF_HOST = b"<!doctype html>\n<title>Not here</title>\n"
 LACKING = {
     "memories": (
         without_memories,
-        "rsp needs WebAssembly with 64-bit memories: Chrome and Edge have them since 133",
+        "rsp needs WebAssembly with 64-bit memories: Chrome and Edge have them since 133, Firefox since 134, "
+        "Node since 24, or since 20 with --experimental-wasm-memory64; Safari hasn't.",
     ),
-    "rsp.wasm": (absent("rsp/rsp.wasm"), "rsp.wasm isn't served: 404"),
+    "rsp.wasm": (absent("rsp/rsp.wasm"), "rsp.wasm isn't served: 404 File not found."),
     "half of rsp.wasm": (
         changed("rsp/rsp.wasm", lambda it: it[:100000]),
         "rsp.wasm isn't whole: 100000 bytes came, which are no module.",
     ),
     "HTML for rsp.wasm": (
         changed("rsp/rsp.wasm", lambda _: PAGE_OF_HOST),
-        'rsp.wasm isn\'t a module of WebAssembly: it begins with "<!doctype html>\\n", so something else',
+        'rsp.wasm isn\'t a module of WebAssembly: it begins with "<!doctype html>\\n", so something else was '
+        "served.",
     ),
     "worker.js": (
         absent("worker.js"),
@@ -164,11 +166,11 @@ def test_without(change: Callable[[Path], None], told: str, page: Page, lacking:
     odd = Host(lacking)
     try:
         page.open(odd.url)
-        page.until(f"{the('ran')}.textContent.startsWith({json.dumps(told)})")
+        page.until(f"{the('ran')}.textContent === {json.dumps(told)}")
         page.click("run")
-        assert page.ended().startswith(told)
+        assert page.ended() == told
         page.open(odd.url + linked(b"step\n"))
-        page.until(f"{the('said')}.textContent.startsWith({json.dumps(told)})")
+        page.until(f"{the('said')}.textContent === {json.dumps(told)}")
     finally:
         odd.stop()
 
@@ -179,7 +181,8 @@ def test_wrong_type(name: str, page: Page, lacking: Path) -> None:
     server = Server({"page": lacking}, {name: "text/plain"})
     try:
         page.open(f"http://127.0.0.1:{server.server_address[1]}/page/index.html")
-        told = f"{name} is served as text/plain, and browsers take modules as text/javascript: "
+        told = f"{name} is served as text/plain, and browsers take modules as text/javascript: the server "
+        told += "needs a type for .js."
         page.until(f"document.body.innerText.includes({json.dumps(told)})")
     finally:
         server.shutdown()

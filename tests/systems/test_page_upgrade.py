@@ -6,6 +6,7 @@ for long.
 """
 
 import os
+import re
 import shutil
 import time
 from pathlib import Path
@@ -151,3 +152,20 @@ def test_names() -> None:
     assert pages.name_of({"b": b"2", "a": b"1"}) == name
     others = [{"a": b"2", "b": b"2"}, {"a": b"1", "c": b"2"}, {"a": b"1"}, {"a": b"2", "b": b"1"}]
     assert len({name, *map(pages.name_of, others)}) == 5
+
+
+def test_each_file_names_the_folder(host: Host) -> None:
+    """No file of the page keeps its address if its contents change."""
+    files = pages.parts(pages.LIBRARY)
+    names = {pages.name_of({**files, it: files[it] + b" "}) for it in files}
+    assert len(files) > 30 and len({pages.name_of(files), *names}) == len(files) + 1
+
+
+def test_addresses_of_index(host: Host, folder: Path) -> None:
+    """index.html names files of its own version alone, where those of an older one are beside them."""
+    for number in (1, 2):
+        pages.write(folder, version(number))
+    named = re.findall(r'\b(?:src|href)="(?!data:)([^"]+)"', (folder / "index.html").read_text())
+    own = pages.name_of(version(2))
+    assert len(named) == 6 and [it for it in named if not it.startswith(f"{own}/")] == []
+    assert [it for it in named if not (folder / it).is_file()] == []
