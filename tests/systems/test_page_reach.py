@@ -174,8 +174,8 @@ def test_contrast_of_help(scheme: str, page: Page, host: Host) -> None:
     assert {name: it for name, it in found.items() if it < 4.5} == {}
 
 
-# The lines of the replies whose last letter can't be reached by scrolling: what is painted there is another
-# element, or it isn't on the screen.
+# The lines of the replies whose last letter can't be reached whole by scrolling: what is painted there is
+# another element, or it isn't on the screen.
 CUT_OFF = f"""(() => {{
   const scroller = {the('shown')}, list = {the('replies')}, cut = [];
   const is_scrolling = getComputedStyle(scroller).overflowX === "auto"; // what is hidden only scripts scroll
@@ -191,8 +191,11 @@ CUT_OFF = f"""(() => {{
     if (is_scrolling) scroller.scrollTo(beyond + 50, scroller.scrollTop);
     scrollBy(0, last.getBoundingClientRect().top - 0.7 * innerHeight);
     const box = last.getBoundingClientRect();
-    const seen = document.elementFromPoint((box.left + box.right) / 2, (box.top + box.bottom) / 2);
-    if (!row.contains(seen) || seen === row) cut.push(row.textContent);
+    const is_seen = (part) => {{
+      const seen = document.elementFromPoint((box.left + box.right) / 2, box.top + part * box.height);
+      return row.contains(seen) && seen !== row;
+    }};
+    if (![0.15, 0.5, 0.85].every(is_seen)) cut.push(row.textContent);
   }}
   return cut;
 }})()"""
