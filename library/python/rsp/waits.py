@@ -23,8 +23,8 @@ The rules are ours:
 - One more transfer may be ordered while one is under way. While two are, nothing writes SP registers 0 to 3.
   After a third one the first is forgotten.
 
-What the CPU orders is left out, and so is a wait that gives up after some rounds. A transfer that is under way
-when the program ends is named only if it is asked for, because the CPU may be what waits for it.
+What the CPU orders is left out, and so is a wait that gives up after some rounds. A transfer that is under
+way when the program ends is named only if it is asked for, because the CPU may be what waits for it.
 """
 
 from typing import Iterator, List, NamedTuple, Optional, Sequence, Set, Tuple

@@ -258,7 +258,7 @@ def runs(script: str) -> Iterator[rsp.waits.Missing]:
             names = {"pc": "set_pc", "task": "start_task"}
             getattr(machine, names.get(word, word))(*numbers)
         elif word in ("run", "step"):
-            yield from rsp.waits.missing(machine, *(numbers or [1]))
+            yield from rsp.waits.missing(machine, (numbers or [1])[0])
 
 
 def scripts() -> List[Path]:
