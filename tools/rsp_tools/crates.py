@@ -16,7 +16,7 @@ SECONDS = """
 rsp_numbers 8 rsp_memory 32 rsp_decode 171 rsp_scalar 28 rsp_lanes 45 rsp_acc 43 rsp_multiply 32
 rsp_compare 31 rsp_divide 22 rsp_loadstore 59 rsp_regs 38 rsp_machine 199 rsp_syntax 63 rsp_operands 59
 rsp_asm 88 rsp_dis 54 rsp_debug 180 rsp_script_io 79 rsp_commands 85 rsp_bench 153 rsp_feed 40
-rsp_advice 60 rsp_cli_args 62 rsp_cli_files 157 rsp_cli 78 rsp_main 125 rsp_c 300
+rsp_advice 45 rsp_cli_args 53 rsp_cli_files 100 rsp_cli 78 rsp_main 125 rsp_c 300
 """
 
 
