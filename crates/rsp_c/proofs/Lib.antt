@@ -4,4 +4,5 @@ pub mod Holding
 pub mod Again
 pub mod Lines
 pub mod Walks
+pub mod Words
 pub mod Stores

@@ -1,6 +1,6 @@
 // The memories: bytes in and bytes out, and words, the highest byte of each first.
 
-ghost use Rattle.std.specs.Prelude.{◌≡◌, ◌*◌, ◌↔◌, IsSome, IfSome, length, take, drop, option_map, IsTrue, IsSomeAnd};
+ghost use Rattle.std.specs.Prelude.{◌≡◌, ◌*◌, ◌≤◌, ◌↔◌, IsSome, IfSome, length, take, drop, option_map, IsTrue, IsSomeAnd};
 ghost use Rattle.rsp_machine.specs.Host.{with_bank_bytes, bank_length, is_inside};
 ghost use Rattle.rsp_debug.specs.Debugging.{set_by_host};
 ghost use Rattle.rsp_c.specs.Answers.{bank_of};
@@ -91,6 +91,16 @@ pub extern "C" fn rsp_memory(
     })
 }
 
+/// Whether a bank has `n` words from an address on. C may give any number, also one whose bytes are more than a number can count.
+#[tactic(auto, using(crate::proofs::Words::words))]
+fn has_words(machine: &Machine<PlaneAcc>, bank: Bank, address: u32, n: usize) -> bool
+    ensures value { result ≡ is_inside bank address (4 * n) machine.now }
+    ensures few { IsTrue result → n ≤ 2097152 }
+{
+    let _longest = machine.rdram().len();
+    n <= 0x20_0000 && machine.is_inside(bank, address, 4 * n)
+}
+
 /// Reads words of a bank from an address on.
 fn read_words(machine: &Machine<PlaneAcc>, bank: Bank, address: u32, words: &mut [u32])
     requires { IsTrue (is_inside bank address (4 * length words.old) machine.now) }
@@ -116,11 +126,13 @@ pub extern "C" fn rsp_load_words(
     ensures same { (result ≡ OK → ⊥) → handle.new.debugger ≡ handle.old.debugger }
 {
     with_held!(handle, alloc, |debugger| match bank_of(number) {
-        None => OUT_OF_RANGE,
-        Some(bank) => match debugger.load_words(bank, address, words) {
-            Err(_) => OUT_OF_RANGE,
-            Ok(()) => OK,
-        },
+        Some(bank) if has_words(debugger.machine(), bank, address, words.len()) => {
+            let Ok(()) = debugger.load_words(bank, address, words) else {
+                unreachable!()
+            };
+            OK
+        }
+        _ => OUT_OF_RANGE,
     })
 }
 
@@ -139,7 +151,7 @@ pub extern "C" fn rsp_memory_words(
     ensures same { handle.new.debugger ≡ handle.old.debugger }
 {
     with_held!(handle, alloc, |debugger| match bank_of(number) {
-        Some(bank) if debugger.machine().is_inside(bank, address, 4 * words.len()) => {
+        Some(bank) if has_words(debugger.machine(), bank, address, words.len()) => {
             read_words(debugger.machine(), bank, address, words);
             OK
         }
