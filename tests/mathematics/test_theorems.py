@@ -43,6 +43,7 @@ REFUSED = (
     ("loop", "nop", "is a word of the language"),
     ("run_multiply", "nop", "lib.rt has the name `run_multiply` already"),
     ("add_lanes", "nop", "`add_lanes` is used already, by src/add_lanes.rt"),
+    ("clip", "nop", "`clip` is used already, by src/clip.rt"),
     ("addlanes", "nop", "`addlanes` is too near to "),
     ("empty", "# nothing", "the text has no instruction"),
     ("wrong", "vadd $v1", "the text isn't assembled: rsp: fault"),

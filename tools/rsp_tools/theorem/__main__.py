@@ -57,13 +57,15 @@ def check_name(name: str) -> None:
     module = module_of(name)
     folders = ("src", ".rt"), ("specs", ".antt"), ("proofs", ".antt")
     files = [file for folder, end in folders for file in (CRATE / folder).glob(f"*{end}")]
-    known = {file.stem.lower(): file for file in files}
-    for mine in name, module, f"{module}Runs":
-        if other := known.get(mine.lower()):
-            file = other.relative_to(CRATE)
-            if other.stem == mine:
-                stop(f"`{name}` is used already, by {file}: take another name")
-            stop(f"`{name}` is too near to {file}: a file of it would differ from that in case alone")
+    mine = name, module, f"{module}Runs"
+    for file in files:
+        if file.stem in mine:
+            why = "take another name, or delete that routine's files and lines"
+            stop(f"`{name}` is used already, by {file.relative_to(CRATE)}: {why}")
+    for file in files:
+        if file.stem.lower() in map(str.lower, mine):
+            where = file.relative_to(CRATE)
+            stop(f"`{name}` is too near to {where}: a file of it would differ from that in case alone")
     if re.search(rf"\b{name}\b", (CRATE / "src/lib.rt").read_text()):
         stop(f"lib.rt has the name `{name}` already")
 
