@@ -13,7 +13,10 @@ import pytest
 import rsp
 from lib.pages import page
 
-pytestmark = pytest.mark.usefixtures("library")
+pytestmark = [
+    pytest.mark.usefixtures("library"),
+    pytest.mark.outside("it measures milliseconds, which other work on the processor makes longer"),
+]
 TEXT = " ".join(page("docs/EMBEDDING.md").split())
 # 256 rows of 4096 bytes with a skip; the moves to SP_RD_LEN and SP_WR_LEN, and a store.
 LARGEST, DMA_IN, DMA_OUT, STORE = 0xEC8FFFFF, 0x40811000, 0x40811800, 0xAC000000
