@@ -22,6 +22,7 @@ from typing import Any, Dict, Iterator, List, Tuple
 from rsp_conformance import HERE
 from rsp_conformance.campaign import CampaignFault
 from rsp_conformance.commands import Complaints, counted, reader, unless
+from rsp_conformance.files import read
 from rsp_conformance.otherwise import PLANTED, RULES, Case, State, complaint, state_of
 from rsp_conformance.table import ROWS, fields_of
 
@@ -35,7 +36,7 @@ def take(out: Path) -> None:
     """The data of a campaign's folder."""
     from rsp_conformance.campaign.report import results_in, summary
 
-    given, lines = json.loads((out / "campaign.json").read_text()), summary(results_in(out))
+    given, lines = json.loads(read(out / "campaign.json")), summary(results_in(out))
     lines.pop("program", None)
     data = {"seed": given["seed"], "cases": given["cases"], "instructions": lines}
     DATA.write_text(json.dumps(data, indent=1) + "\n")

@@ -16,6 +16,7 @@ from rsp_conformance import bench, steps
 from rsp_conformance.bench import Looks, Observed
 from rsp_conformance.commands import Complaints, counted, printable, reader, unless
 from rsp_conformance.draws import Random
+from rsp_conformance.files import FileFault
 from rsp_conformance.spoil import spoilt_entries
 from rsp_conformance.states import numbers_of, texts_of
 from rsp_conformance.vectors import VECTORS, VectorsFault, entries_in, names_in
@@ -65,7 +66,7 @@ def rows(machine: Any, folder: Path, names: Iterable[str]) -> Iterator[Complaint
     for name in names:
         try:
             yield from run_row(machine, folder, name)
-        except (ValueError, KeyError, TypeError, IndexError, AttributeError, rsp.RspError) as fault:
+        except (ArithmeticError, LookupError, ValueError, TypeError, AttributeError, rsp.RspError) as fault:
             what = f"{type(fault).__name__} {fault}"
             raise VectorsFault(f"{name}: one of its cases isn't one: {what}") from None
 
@@ -82,7 +83,7 @@ def main() -> None:
     try:
         with rsp.Rsp(IMAGE) as machine:
             sys.exit(counted(rows(machine, args.folder, names_in(args.folder, args.names))))
-    except VectorsFault as fault:
+    except (VectorsFault, FileFault) as fault:
         sys.exit(printable(f"library: {fault}"))
 
 

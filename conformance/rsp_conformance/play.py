@@ -90,19 +90,11 @@ def manifest_text(row: Row, entries: List[Entry]) -> str:
     return f'{{"row":"{row.name.upper()}","programs":[\n' + ",\n".join(parts) + "]}\n"
 
 
-def check_fields(entry: Entry) -> None:
-    """A ValueError if a field of a layout is longer than a memory."""
-    longest = max((length for fields in entry["layouts"].values() for _, _, length in fields), default=0)
-    if longest > MEMORY:
-        raise ValueError(f"a field of {longest} bytes")
-
-
 def complaints(entry: Entry, expected: bytes, got: bytes) -> List[str]:
     """How DMEM after a program differs from what it should be: a list of texts that name what differs."""
     if len(got) != len(expected):
         return [f"{entry['name']}: {len(got)} bytes, and {len(expected)} are expected"]
     names = {}
-    check_fields(entry)
     for case in entry["cases"]:
         for what, offset, length in entry["layouts"][case["layout"]]:
             for byte in range(length):

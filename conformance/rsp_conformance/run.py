@@ -13,6 +13,7 @@ from typing import Iterator
 
 from rsp_conformance import bench, play, steps
 from rsp_conformance.commands import PROGRAM, Complaints, counted, printable, reader
+from rsp_conformance.files import FileFault
 from rsp_conformance.vectors import VECTORS, VectorsFault, entries_in, manifest_in, names_in
 
 
@@ -25,7 +26,7 @@ def run_row(program: str, folder: Path, name: str) -> Iterator[Complaints]:
         raise VectorsFault(f"{name}: {fault}") from None
     except OSError as fault:
         raise VectorsFault(f"{fault.filename or folder} can't be read: {fault.strerror}") from None
-    except (ValueError, KeyError, TypeError, IndexError, AttributeError) as fault:
+    except (ArithmeticError, LookupError, ValueError, TypeError, AttributeError) as fault:
         what = f"{type(fault).__name__} {fault}"
         raise VectorsFault(f"{name}: one of its cases or programs isn't one: {what}") from None
 
@@ -43,7 +44,7 @@ def main() -> None:
         found = [it for name in names for it in run_row(args.program, args.folder, name)]
         if not found:
             raise VectorsFault(f"{args.folder} has no case")
-    except VectorsFault as fault:
+    except (VectorsFault, FileFault) as fault:
         sys.exit(printable(f"run: {fault}"))
     sys.exit(counted(found))
 

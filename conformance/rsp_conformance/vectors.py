@@ -1,10 +1,12 @@
 """A folder of test vectors: the instructions that it has, their cases, and their programs."""
 
 import json
+import re
 from pathlib import Path
 from typing import Any, Dict, List, Sequence
 
 from rsp_conformance import HERE, bench
+from rsp_conformance.files import read
 from rsp_conformance.steps import Entry
 from rsp_conformance.table import ROWS
 
@@ -33,18 +35,11 @@ def names_in(folder: Path, wanted: Sequence[str] = ()) -> List[str]:
     return [name.upper() for name in wanted] or found
 
 
-def plain(path: Path) -> Path:
-    """A file, and nothing that one could wait for."""
-    if path.exists() and not path.is_file():
-        raise VectorsFault(f"{path} is no file")
-    return path
-
-
 def memory_in(path: Path) -> bytes:
-    """The bytes of a memory, of which no more are read than a memory has."""
-    if plain(path).stat().st_size != 4096:
+    """The bytes of a memory."""
+    if len(data := read(path)) != MEMORY:
         raise VectorsFault(f"{path} hasn't the 4096 bytes of a memory")
-    return path.read_bytes()
+    return data
 
 
 # The addresses that are compared after a case: of RDRAM those of its own bytes.
@@ -53,50 +48,123 @@ MEMORIES = {
     "imem": range(4096),
     "rdram": range(bench.WINDOW, bench.WINDOW + bench.WINDOW_LENGTH),
 }
+MEMORY = 4096
 KEYS = {"before": {*bench.DEFAULT, "divided", *MEMORIES}, "after": {*bench.DEFAULT, *MEMORIES}}
 
 
-class Expected(ValueError):
-    """Why what a case says can't be compared."""
+class Wrong(ValueError):
+    """Why a case or a program isn't one, as a sentence."""
 
 
-def check_bytes(bank: str, address: str, text: str) -> None:
-    """A ValueError or TypeError if these are no bytes of a memory that are compared."""
-    at, count, known = int(address, 16), len(bytes.fromhex(text)), MEMORIES[bank]
-    if not known.start <= at <= at + count <= known.stop:
-        raise Expected(f"{bank} {address!r} isn't in {known.start:03x} to {known.stop - 1:03x}")
+def unless(is_right: bool, why: str) -> None:
+    """Wrong, if it isn't right."""
+    if not is_right:
+        raise Wrong(why)
 
 
-def check_entry(entry: Any) -> None:
-    """A ValueError, KeyError, TypeError or AttributeError if this is no case, or names what no state has."""
-    int(entry["word"], 16), entry["name"].lower(), entry["text"].lower()
-    for when, known in KEYS.items():
-        for key, value in entry[when].items():
-            if key not in known:
-                raise Expected(f"{when} has the unknown key {key!r}")
-            for address, text in value.items() if key in MEMORIES else ():
-                check_bytes(key, address, text)
+def is_hexadecimal(text: Any) -> bool:
+    return isinstance(text, str) and {*text} <= {*"0123456789abcdef"}
+
+
+def check_digits(what: str, text: Any, digits: int) -> None:
+    """Wrong, if this isn't a number as form 1 has it."""
+    is_right = is_hexadecimal(text) and len(text) == digits
+    unless(is_right, f"{what} is {text!r:.40}, and not {digits} of the digits 0 to 9 and a to f")
+
+
+def check_bytes(bank: str, address: str, text: Any) -> None:
+    """Wrong, if these are no bytes of a memory that are compared."""
+    is_right = is_hexadecimal(text) and len(text) % 2 == 0
+    unless(is_right, f"{bank} {address!r:.40} is {text!r:.40}, and not bytes in hexadecimal")
+    unless(is_hexadecimal(address) and 0 < len(address) <= 6, f"{bank} has the address {address!r:.40}")
+    at, count, known = int(address, 16), len(text) // 2, MEMORIES[bank]
+    is_right = known.start <= at <= at + count <= known.stop
+    unless(is_right, f"{bank} {address!r} isn't in {known.start:03x} to {known.stop - 1:03x}")
+
+
+def check_state(when: str, state: Dict[str, Any]) -> None:
+    """Wrong, TypeError or AttributeError, if a state names what none has, or isn't as form 1 has it."""
+    for key, value in state.items():
+        unless(key in KEYS[when], f"{when} has the unknown key {key!r:.40}")
+        if key not in MEMORIES:
+            check_digits(f"{key} of {when}", value, len(bench.DEFAULT.get(key, "divided!")))
+        for address, text in value.items() if key in MEMORIES else ():
+            check_bytes(key, address, text)
+
+
+def check_entry(name: str, entry: Any) -> None:
+    """Wrong, KeyError, TypeError or AttributeError, if this is no case of an instruction."""
+    row = ROWS[name.lower()]
+    check_digits("word", entry["word"], 8)
+    unless(isinstance(entry["text"], str), f"text is {entry['text']!r:.40}")
+    unless(entry["name"].startswith(f"{name}-"), f"its name, {entry['name']!r:.40}, isn't one of {name}")
+    is_right = int(entry["word"], 16) & row.mask == row.value
+    unless(is_right, f"the word {entry['word']} is no {name}")
+    for when in KEYS:
+        check_state(when, entry[when])
+
+
+NO_JSON = (
+    ValueError,
+    KeyError,
+    TypeError,
+    AttributeError,
+    RecursionError,
+)  # or not of the parts that are due
+
+
+def why(fault: Exception, data: bytes) -> str:
+    """Why data isn't what it should be: a sentence, or how the data begins."""
+    return str(fault) if isinstance(fault, Wrong) else repr(data[:40].decode(errors="replace"))
 
 
 def entries_in(folder: Path, name: str) -> List[Entry]:
     """The cases of an instruction."""
-    entries, path = [], plain(folder / "steps" / f"{name}.jsonl")
-    for number, line in enumerate(path.read_bytes().splitlines(), 1):
+    entries, path = [], folder / "steps" / f"{name}.jsonl"
+    for number, line in enumerate(read(path).splitlines(), 1):
         try:
             entry = json.loads(line)
-            check_entry(entry)
-        except (ValueError, KeyError, TypeError, AttributeError, RecursionError) as fault:
-            why = str(fault) if isinstance(fault, Expected) else repr(line[:40].decode(errors="replace"))
-            raise VectorsFault(f"{path}, line {number}: this isn't a case: {why}") from None
+            check_entry(name, entry)
+        except NO_JSON as fault:
+            raise VectorsFault(f"{path}, line {number}: this isn't a case: {why(fault, line)}") from None
         entries.append(entry)
     return entries
 
 
+def check_layouts(layouts: Dict[str, Any]) -> None:
+    """Wrong, TypeError or ValueError, if a field of a layout has no bytes, or is longer than DMEM."""
+    for layout, fields in layouts.items():
+        for what, offset, length in fields:
+            is_right = isinstance(what, str) and type(offset) is type(length) is int and 0 < length <= MEMORY
+            told = f"{offset!r:.40}, {length!r:.40}"
+            unless(is_right, f"layout {layout} has the field {what!r:.40}, {told}: a length is 1 to {MEMORY}")
+
+
+def check_program(entry: Any) -> None:
+    """Wrong, or one of NO_JSON, if this is no program of a manifest."""
+    unless(re.fullmatch(r"[\w-]+", entry["name"], re.ASCII) is not None, f"the name {entry['name']!r:.40}")
+    check_layouts(entry["layouts"])
+    lengths = {it: sum(length for _, _, length in fields) for it, fields in entry["layouts"].items()}
+    for case in entry["cases"]:
+        texts = (case["name"], case["text"])
+        unless(all(isinstance(it, str) for it in texts), f"a case has the name and text {texts!r:.40}")
+        check_digits("at", case["at"], 3)
+        unless(case["layout"] in lengths, f"there is no layout {case['layout']!r:.40}")
+    count = sum(lengths[case["layout"]] for case in entry["cases"])
+    unless(count <= MEMORY, f"the fields of its cases have {count} bytes, and DMEM has {MEMORY}")
+
+
 def manifest_in(folder: Path, name: str) -> Dict[str, Any]:
     """The manifest of an instruction's programs."""
-    path = plain(folder / "programs" / f"{name}.json")
+    path = folder / "programs" / f"{name}.json"
+    number, data = 0, read(path)
     try:
-        found: Dict[str, Any] = json.loads(path.read_bytes())
+        found: Dict[str, Any] = json.loads(data)
+        for number, entry in enumerate(found["programs"], 1):
+            check_program(entry)
         return found
-    except (ValueError, RecursionError) as fault:
-        raise VectorsFault(f"{path}: this isn't a manifest of programs: {fault}") from None
+    except NO_JSON as fault:
+        what = (
+            f", program {number}: this isn't a program" if number else ": this isn't a manifest of programs"
+        )
+        raise VectorsFault(f"{path}{what}: {why(fault, data)}") from None

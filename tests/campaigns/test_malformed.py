@@ -6,17 +6,19 @@ result becomes HTML, or moves a terminal's cursor.
 
 import json
 import os
+import resource
 from pathlib import Path
-from typing import Any, Dict, List
+from typing import Any, Callable, Dict, List, Tuple
 
 import pytest
 
-from rsp_conformance import bench, play, steps
+from rsp_conformance import bench, steps
 from rsp_conformance.campaign import CampaignFault
-from rsp_conformance.campaign.folder import Folder
+from rsp_conformance.campaign.folder import Folder, given_in
 from rsp_conformance.campaign.report import html_table, results_in, text_table
 from rsp_conformance.campaign.task import nothing
 from rsp_conformance.commands import counted
+from rsp_conformance.files import FileFault, write
 from rsp_conformance.vectors import VectorsFault, entries_in, manifest_in, memory_in
 
 RESULT: Dict[str, Any] = {**nothing(), "instruction": "vadd", "start": 0, "size": 20}
@@ -74,10 +76,82 @@ def test_result_of_a_worker(is_program: bool, name: str, folder: Path) -> None:
     assert [*folder.rglob("*")] == [kept.out]
 
 
-def test_pipe_is_no_result(folder: Path) -> None:
-    os.mkfifo(folder / "vadd-0-20.json")
-    with pytest.raises(CampaignFault, match="vadd-0-20.json isn't a result"):
-        results_in(folder)
+# What reads a file of somebody else's folder, and the file.
+READERS: Dict[str, Callable[[Path], Any]] = {
+    "vadd-0-20.json": results_in,
+    "campaign.json": given_in,
+    "steps/ADD.jsonl": lambda folder: entries_in(folder, "ADD"),
+    "programs/ADD.json": lambda folder: manifest_in(folder, "ADD"),
+    "programs/ADD-0.imem": lambda folder: memory_in(folder / "programs/ADD-0.imem"),
+}
+
+
+def sparse(size: int) -> Callable[[Path], None]:
+    """Makes a file of this size, which has no room on the disk."""
+
+    def make(path: Path) -> None:
+        path.touch()
+        os.truncate(path, size)
+
+    return make
+
+
+# What is in its place: a pipe would be waited for, the last three would fill the memory.
+NO_FILES: Dict[str, Tuple[Callable[[Path], Any], str]] = {
+    "pipe": (os.mkfifo, "is no file"),
+    "folder": (os.mkdir, "is no file"),
+    "nothing": (lambda path: path.symlink_to("nowhere"), "can't be read: No such file or directory"),
+    "zeros without an end": (lambda path: path.symlink_to("/dev/zero"), "is no file"),
+    "40 GB": (sparse(40 * 10**9), "has more than 67108864 bytes"),
+    "64 MiB and a byte": (sparse((1 << 26) + 1), "has more than 67108864 bytes"),
+}
+
+
+@pytest.mark.parametrize("make, why", NO_FILES.values(), ids=NO_FILES)
+@pytest.mark.parametrize("name", READERS)
+def test_no_file(name: str, make: Callable[[Path], Any], why: str, folder: Path) -> None:
+    """It is refused at once, by its name and with the reason."""
+    path = folder / name
+    path.parent.mkdir(exist_ok=True)
+    make(path)
+    with pytest.raises(FileFault) as refused:
+        READERS[name](folder)
+    assert str(refused.value) == f"{path} {why}"
+
+
+def test_file_is_written_beside_links(folder: Path) -> None:
+    """Neither the name nor what it has until it is whole leads to a file elsewhere."""
+    victim, out = folder / "victim", folder / "out"
+    victim.write_text("precious")
+    out.mkdir()
+    for name in ("table.txt", *(f".table.txt.{os.getpid() + n}" for n in range(-2, 3))):
+        (out / name).symlink_to(victim)
+    write(out / "table.txt", "a table")
+    assert victim.read_text() == "precious"
+    assert not (out / "table.txt").is_symlink() and (out / "table.txt").read_text() == "a table"
+
+
+def test_file_that_cannot_be_written(folder: Path) -> None:
+    """It is named, and nothing of it is left: in a folder that isn't there, and over a folder."""
+    (folder / "table.txt").mkdir()
+    for name, why in (("table.txt", "Is a directory"), ("none/table.txt", "No such file or directory")):
+        with pytest.raises(FileFault) as refused:
+            write(folder / name, "a table")
+        assert str(refused.value) == f"{folder / name} can't be written: {why}"
+    assert [*folder.rglob("*")] == [folder / "table.txt"]
+
+
+def test_file_without_room(folder: Path) -> None:
+    """A write that fails half way leaves the old file, and nothing else."""
+    (folder / "table.txt").write_text("old")
+    soft, hard = resource.getrlimit(resource.RLIMIT_FSIZE)
+    resource.setrlimit(resource.RLIMIT_FSIZE, (100, hard))
+    try:
+        with pytest.raises(FileFault, match="table.txt can't be written: File too large"):
+            write(folder / "table.txt", "x" * 101)
+    finally:
+        resource.setrlimit(resource.RLIMIT_FSIZE, (soft, hard))
+    assert [*folder.iterdir()] == [folder / "table.txt"] and (folder / "table.txt").read_text() == "old"
 
 
 def test_result_is_escaped(folder: Path) -> None:
@@ -100,6 +174,7 @@ def test_result_is_shown_without_control_characters(folder: Path) -> None:
 
 
 NO_STATES: List[Any] = [[], None, 5, "x"]
+NO_BYTES: List[Any] = ["xx", "0", "f f", "ff ", "\u0661\u0661", 5, None]
 CASES = {
     **{f"it is {text}": text for text in ("[]", "{}", "5", "null", '"x"', "NaN", "[1", "\0", "\ufeff{}")},
     "nested": NESTED,
@@ -111,9 +186,23 @@ CASES = {
     "unknown memory": json.dumps({**CASE, "before": {"rom": {}}}),
     "divided afterwards": json.dumps({**CASE, "after": {"divided": "00000000"}}),
     "a list of bytes": json.dumps({**CASE, "before": {"dmem": [1]}}),
-    **{f"bytes {it!r}": json.dumps({**CASE, "before": {"dmem": {"0": it}}}) for it in ("xx", "0", 5, None)},
-    "an address that is none": json.dumps({**CASE, "before": {"dmem": {"x": "00"}}}),
+    **{f"bytes {it!r}": json.dumps({**CASE, "before": {"dmem": {"0": it}}}) for it in NO_BYTES},
+    **{
+        f"address {it!r}": json.dumps({**CASE, "before": {"dmem": {it: "00"}}})
+        for it in ("x", "0x1", "1_0", " 1")
+    },
+    **{f"name {it!r}": json.dumps({**CASE, "name": it}) for it in ("SUB-000", "ADD", "ADDI-000", "\ud800")},
+    "a word of SUB": json.dumps({**CASE, "word": "000b1822"}),
 }
+# Values of a register of eight digits: numbers in Python that are none here, and ways into a script.
+NO_VALUES: List[Any] = [
+    5, None, [], float("inf"), float("nan"), "", "0", "0" * 9, "0x000001", "+0000001", "0000_001",
+    "\u0660" * 8, "\ud800" * 8, "0\nend\nvr", "0000000G", "0000000A",
+]  # fmt: skip
+for when in ("before", "after"):
+    for value in NO_VALUES:
+        CASES[f"{when} {value!r}"] = json.dumps({**CASE, when: {"c0": value}})
+CASES["interrupt Infinity"] = json.dumps({**CASE, "before": {"interrupt": float("inf")}})
 # Where bytes are that no runner compares: an expectation there couldn't fail.
 NOWHERE = {
     "dmem": {"1000": "00", "fff": "0000", "-1": "00", "ffffffffffff": "00"},
@@ -133,11 +222,17 @@ def test_no_case(text: str, folder: Path) -> None:
         entries_in(folder, "ADD")
 
 
-def test_expected_of_another_instruction() -> None:
-    """Bytes of a memory that ADD never changes, so that nobody looks at it: a complaint."""
+def test_memory_that_was_not_looked_at() -> None:
     entry = {**CASE, "after": {"dmem": {"000": "ff"}}}
-    told = ["ADD-000 (add $3, $0, $11), dmem: this instruction never changes it"]
+    told = ["ADD-000 (add $3, $0, $11), dmem: it wasn't looked at"]
     assert steps.complaints(entry, dict(bench.DEFAULT)) == told
+
+
+@pytest.mark.parametrize("bank, address", (("dmem", "1000"), ("rdram", "00ffff"), ("rdram", "020000")))
+def test_bytes_that_are_not_compared(bank: str, address: str) -> None:
+    """A case that nobody has checked isn't compared in part."""
+    with pytest.raises(ValueError, match=f"{bank} {address} isn't compared"):
+        steps.memory_complaints({**CASE, "after": {bank: {address: "00"}}}, bank, ["00" * 16])
 
 
 def test_complaint_of_a_stranger(capsys: pytest.CaptureFixture[str]) -> None:
@@ -148,37 +243,62 @@ def test_complaint_of_a_stranger(capsys: pytest.CaptureFixture[str]) -> None:
     assert capsys.readouterr().out == f"{told}\n0 passed, 1 failed\n"
 
 
-def test_field_without_an_end() -> None:
-    entry = {"name": "ADD-1", "cases": [], "layouts": {"L0": [["register rd", 0, 10**12]]}}
-    with pytest.raises(ValueError, match="a field of 1000000000000 bytes"):
-        play.complaints(entry, bytes(4096), bytes(4096))
+PROGRAM: Dict[str, Any] = {
+    "name": "ADD-1",
+    "layouts": {"L0": [["register rd", 0, 4]]},
+    "cases": [{"name": "ADD-000", "text": "add $3, $0, $11", "at": "200", "layout": "L0"}],
+}
+NO_FIELDS: List[Any] = [
+    [["x", 0, 10**12]], [["x", 0, 4097]], [["x", 0, 0]], [["x", 0, -1]], [["x", 0, 0.5]],
+    [["x", 0, float("inf")]], [["x", float("nan"), 1]], [["x", "0", 1]], [[5, 0, 1]], [["x", 0]], [5], 5,
+    None, [["x", 0, 4096], ["y", 0, 1]],
+]  # fmt: skip
+# Keys of a program and of its case, with values that none has.
+WRONG_PROGRAM: Dict[str, List[Any]] = {
+    "name": [5, "", "../ADD-1", "/ADD-1", "a\0b", "\ud800", "\xe9"],
+    "layouts": [5, None, [], {}, *({"L0": it} for it in NO_FIELDS)],
+    "cases": [5, None, [5], [{}], 1025 * PROGRAM["cases"]],
+}
+WRONG_CASE: Dict[str, List[Any]] = {
+    "at": [5, "", "1000", "-01", "0x1", {}],
+    "name": [5, None],
+    "text": [5, None],
+    "layout": ["L1", 5, None, []],
+}
+NO_PROGRAMS: Dict[str, Any] = {"5": 5, "None": None, "[]": [], "x": "x", "{}": {}}
+for key, values in WRONG_PROGRAM.items():
+    NO_PROGRAMS.update({f"{key} {it!r:.60}": {**PROGRAM, key: it} for it in values})
+for key, values in WRONG_CASE.items():
+    for value in values:
+        case = {**PROGRAM["cases"][0], key: value}
+        NO_PROGRAMS[f"{key} of a case {value!r}"] = {**PROGRAM, "cases": [case]}
 
 
-def test_no_manifest(folder: Path) -> None:
+@pytest.mark.parametrize("entry", NO_PROGRAMS.values(), ids=map(ascii, NO_PROGRAMS))
+def test_no_program(entry: Any, folder: Path) -> None:
+    """It is refused by its file and its number, and the one before it, which fills DMEM, isn't."""
     (folder / "programs").mkdir()
-    (folder / "programs/ADD.json").write_text(NESTED)
-    with pytest.raises(VectorsFault, match="ADD.json: this isn't a manifest"):
+    path, true = folder / "programs/ADD.json", {**PROGRAM, "cases": 1024 * PROGRAM["cases"]}
+    path.write_text(json.dumps({"programs": [true, entry]}))
+    with pytest.raises(VectorsFault) as refused:
+        manifest_in(folder, "ADD")
+    assert str(refused.value).startswith(f"{path}, program 2: this isn't a program: ")
+    path.write_text(json.dumps({"programs": [true]}))
+    assert manifest_in(folder, "ADD") == {"programs": [true]}
+
+
+@pytest.mark.parametrize(
+    "text", ("", "[]", "{}", "5", "null", '{"programs": 5}', NESTED), ids=str("{:.20}").format
+)
+def test_no_manifest(text: str, folder: Path) -> None:
+    (folder / "programs").mkdir()
+    (folder / "programs/ADD.json").write_text(text)
+    with pytest.raises(VectorsFault, match="ADD.json: this isn't a manifest of programs"):
         manifest_in(folder, "ADD")
 
 
-def test_pipes_are_no_vectors(folder: Path) -> None:
-    for name in ("steps/ADD.jsonl", "programs/ADD.json"):
-        (folder / name).parent.mkdir()
-        os.mkfifo(folder / name)
-    for read in (entries_in, manifest_in):
-        with pytest.raises(VectorsFault, match="is no file"):
-            read(folder, "ADD")
-
-
-@pytest.mark.parametrize("kind", ("pipe", "zeros without an end", "too long"))
-def test_no_memory(kind: str, folder: Path) -> None:
-    """The images of a program: a file of 4096 bytes, and nothing that has to be waited for."""
-    image = folder / "ADD-0.imem"
-    if kind == "pipe":
-        os.mkfifo(image)
-    elif kind == "too long":
-        image.write_bytes(bytes(4097))
-    else:
-        image.symlink_to("/dev/zero")
-    with pytest.raises(VectorsFault, match="ADD-0.imem (is no file|hasn't the 4096 bytes of a memory)"):
-        memory_in(image)
+@pytest.mark.parametrize("length", (0, 4095, 4097))
+def test_no_memory(length: int, folder: Path) -> None:
+    (folder / "ADD-0.imem").write_bytes(bytes(length))
+    with pytest.raises(VectorsFault, match="ADD-0.imem hasn't the 4096 bytes of a memory"):
+        memory_in(folder / "ADD-0.imem")

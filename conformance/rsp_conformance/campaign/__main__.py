@@ -16,10 +16,11 @@ from pathlib import Path
 from typing import Any, Callable, List, NoReturn, Tuple
 
 from rsp_conformance.commands import printable
+from rsp_conformance.files import FileFault, write
 from rsp_conformance.table import ROWS as INSTRUCTIONS
 
 from . import CampaignFault
-from .folder import Folder, given_in, write
+from .folder import Folder, given_in
 from .report import html_table, results_in, text_table
 from .shared import PROGRAM, VERSION, counted, name_of
 from .task import check
@@ -195,7 +196,7 @@ def main() -> None:
         stop(fault)
     try:
         show(args) if args.case else run(args)
-    except CampaignFault as fault:
+    except (CampaignFault, FileFault) as fault:
         stop(fault)
     except OSError as fault:
         stop(f"{fault.filename}: {fault.strerror}" if fault.filename else fault)

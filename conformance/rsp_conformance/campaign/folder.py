@@ -2,11 +2,12 @@
 
 import argparse
 import json
-import os
 import platform
 import re
 from pathlib import Path
 from typing import Any, Dict, List, Tuple
+
+from rsp_conformance.files import read, write
 
 from . import CampaignFault
 from .hashes import hashes
@@ -18,17 +19,10 @@ GIVEN = ("emulator", "instructions", "seed", "cases", "size", "programs", "progr
 Task = Tuple[str, int, int]  # the instruction, the first number, and how many
 
 
-def write(path: Path, text: str) -> None:
-    """Writes a file whole or not at all."""
-    waiting = path.with_name(f".{path.name}.{os.getpid()}")
-    waiting.write_text(text)
-    os.replace(waiting, path)
-
-
 def given_in(out: Path) -> Dict[str, Any]:
     """What a campaign's folder says of its campaign."""
     try:
-        given = {"generator": 1, **json.loads((out / "campaign.json").read_text())}
+        given = {"generator": 1, **json.loads(read(out / "campaign.json"))}
         return {key: given[key] for key in ("generator", *GIVEN, "hashes")}
     except (ValueError, TypeError, KeyError, RecursionError):
         raise CampaignFault(f"{out}/campaign.json isn't what a campaign wrote") from None

@@ -6,6 +6,7 @@ from pathlib import Path
 from typing import Any, Dict, Iterator, List, Tuple
 
 from rsp_conformance.commands import printable
+from rsp_conformance.files import read
 from rsp_conformance.table import ROWS
 
 from . import CampaignFault
@@ -50,7 +51,7 @@ def is_result(found: Any) -> bool:
 
 def result_in(path: Path) -> Result:
     try:
-        found: Result = json.loads(path.read_text()) if path.is_file() else None
+        found: Result = json.loads(read(path))
     except (ValueError, RecursionError):
         found = {}
     if not is_result(found):
