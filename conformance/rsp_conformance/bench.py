@@ -317,11 +317,13 @@ def differences(old: Texts, new: Texts) -> Texts:
     return found
 
 
-def banks_of(row: Row) -> Tuple[str, ...]:
-    """The memories that a case's instruction could change."""
-    if row.name == "mtc0":
-        return ("dmem", "imem", "rdram")
-    return ("dmem",) if uses_memory(row) else ()
+BANKS = ("dmem", "imem", "rdram")
+
+
+def banks_of(row: Row, state: Texts) -> List[str]:
+    """The memories that a case's instruction could change, and those that its state names."""
+    could = BANKS if row.name == "mtc0" else BANKS[:1] if uses_memory(row) else ()
+    return [bank for bank in BANKS if bank in could or bank in state]
 
 
 def observe(program: str, cases: Iterable[Observed]) -> Iterator[Looks]:
@@ -346,11 +348,11 @@ def script_of_case(row: Row, word: int, state: Texts) -> Script:
     script = Script()
     set_state(script, state, word)
     script.say(f"dis {int(state['pc'], 16)} 1", 1, ("text", "text"))
-    banks = banks_of(row)
+    banks = banks_of(row, state)
     look(script, banks, "before")
     script.say("step", 1, ("step", "step"))
     look(script, banks, "after")
-    if "rdram" in state:
+    if "rdram" in banks:
         script.load("rdram", WINDOW, "00" * WINDOW_LENGTH)
     return script
 

@@ -1,6 +1,8 @@
 """What the commands share: how words are read, and how checks are counted and printed."""
 
 import argparse
+import os
+import sys
 from typing import Iterable, List, Optional
 
 from rsp_conformance import TOP
@@ -25,6 +27,15 @@ def printable(text: str) -> str:
     return "".join(it if it.isprintable() else it.encode("unicode_escape").decode() for it in text)
 
 
+def say(text: str) -> None:
+    """Writes to standard output at once. If it takes nothing more, the command ends with a sentence."""
+    try:
+        print(text, end="", flush=True)
+    except OSError as fault:
+        os.dup2(os.open(os.devnull, os.O_WRONLY), sys.stdout.fileno())  # for what Python writes as it ends
+        sys.exit(f"standard output can't be written: {fault.strerror}")
+
+
 def counted(checks: Iterable[Complaints], start: str = "") -> int:
     """Prints the complaints of checks, and how many passed.
 
@@ -32,7 +43,7 @@ def counted(checks: Iterable[Complaints], start: str = "") -> int:
     """
     passed = failed = 0
     for found in checks:
-        print("".join(f"{start}{printable(complaint)}\n" for complaint in found), end="", flush=True)
+        say("".join(f"{start}{printable(complaint)}\n" for complaint in found))
         passed, failed = passed + (not found), failed + bool(found)
-    print(f"{passed} passed, {failed} failed")
+    say(f"{passed} passed, {failed} failed\n")
     return int(failed > 0 or not passed)

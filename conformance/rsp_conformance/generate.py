@@ -20,7 +20,8 @@ from typing import Callable, Dict, Iterator, List, Optional, Sequence, Tuple
 
 from rsp_conformance import bench, flat, full, play, steps
 from rsp_conformance.cases import small_count
-from rsp_conformance.commands import PROGRAM, reader
+from rsp_conformance.commands import PROGRAM, printable, reader, say
+from rsp_conformance.files import FileFault, write
 from rsp_conformance.table import ROWS, Row
 
 SEED = "1"
@@ -35,12 +36,12 @@ MORE: Dict[str, Tuple[str, Callable[[List[steps.Entry]], bytes]]] = {
 def write_row(program: str, row: Row, seed: str, count: int, out: Path, more: Sequence[str]) -> None:
     """Writes the files of an instruction."""
     text, name = steps.row_text(program, row, seed, count), row.name.upper()
-    (out / "steps" / f"{name}.jsonl").write_text(text)
+    write(out / "steps" / f"{name}.jsonl", text)
     for form in more:
         suffix, made = MORE[form]
-        (out / form / f"{name}.{suffix}").write_bytes(made(steps.read_row(text)))
+        write(out / form / f"{name}.{suffix}", made(steps.read_row(text)))
     for file, content in play.row_files(program, row, seed, count).items():
-        (out / "programs" / file).write_bytes(content)
+        write(out / "programs" / file, content)
 
 
 def generate(
@@ -85,14 +86,16 @@ def main() -> None:
     words.add_argument("names", nargs="*", metavar="NAME")
     args = words.parse_args()
     if refusal := refusal_of(args):
-        sys.exit(f"generate: {refusal}")
+        sys.exit(printable(f"generate: {refusal}"))
     rows = [ROWS[name.lower()] for name in args.names] or list(ROWS.values())
     try:
         errors = list(generate(args.program, rows, args.seed, args.cases, Path(args.out), args.more))
     except OSError as fault:
-        sys.exit(f"generate: {fault.filename or args.out} can't be written: {fault.strerror}")
-    print(*errors, sep="\n", end="\n" * bool(errors))
-    print(f"{len(rows) - len(errors)} of {len(rows)} instructions, {args.cases or '20 to 56'} cases each")
+        sys.exit(printable(f"generate: {fault.filename or args.out} can't be written: {fault.strerror}"))
+    except FileFault as fault:
+        sys.exit(printable(f"generate: {fault}"))
+    say("".join(f"{printable(it)}\n" for it in errors))
+    say(f"{len(rows) - len(errors)} of {len(rows)} instructions, {args.cases or '20 to 56'} cases each\n")
     sys.exit(1 if errors else 0)
 
 

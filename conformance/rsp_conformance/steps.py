@@ -58,11 +58,11 @@ def complaints(entry: Entry, look: Texts) -> List[str]:
     for key in bench.DEFAULT:
         if look[key] != expected[key]:
             found += named(entry, key, expected[key], look[key])
-    for bank in ("dmem", "imem", "rdram"):
+    for bank in bench.BANKS:
         if bank in look:
             found += memory_complaints(entry, bank, look[bank])
         elif entry["after"].get(bank):
-            found.append(f"{entry['name']} ({entry['text']}), {bank}: this instruction never changes it")
+            found.append(f"{entry['name']} ({entry['text']}), {bank}: it wasn't looked at")
     return found
 
 
@@ -100,13 +100,16 @@ def memory_complaints(entry: Entry, bank: str, lines: List[str]) -> List[str]:
     pieces = [*entry["before"].get(bank, {}).items(), *code, *entry["after"].get(bank, {}).items()]
     for address, text in pieces:
         at = int(address, 16) - start
+        if not 0 <= at <= at + len(text) // 2 <= len(expected):
+            raise ValueError(f"{bank} {address} isn't compared")
         expected[at : at + len(text) // 2] = bytes.fromhex(text)
     got = bytes.fromhex("".join(lines))
     if expected == got:
         return []
     head = f"{entry['name']} ({entry['text']}), {bank}"
     wrong = [(start + at, a, b) for at, (a, b) in enumerate(zip(expected, got)) if a != b]
-    return [f"{head} {at:03x}: expected {a:02x}, got {b:02x}" for at, a, b in wrong]
+    digits = 6 if bank == "rdram" else 3
+    return [f"{head} {at:0{digits}x}: expected {a:02x}, got {b:02x}" for at, a, b in wrong]
 
 
 def row_of(entry: Entry) -> Row:
@@ -114,8 +117,9 @@ def row_of(entry: Entry) -> Row:
 
 
 def observed_of(entry: Entry) -> bench.Observed:
-    """A case as `observe` takes it."""
-    return row_of(entry), int(entry["word"], 16), {**bench.DEFAULT, **entry["before"]}
+    """A case as `observe` takes it. A memory that only `after` names is looked at, too."""
+    named: Texts = {bank: {} for bank in bench.BANKS if bank in entry["after"]}
+    return row_of(entry), int(entry["word"], 16), {**bench.DEFAULT, **named, **entry["before"]}
 
 
 def run_entries(program: str, entries: List[Entry]) -> Iterator[List[str]]:

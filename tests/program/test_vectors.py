@@ -5,15 +5,19 @@ a state differs, if a file isn't what conformance/generate makes, or if a tool o
 planted fault. Each instruction is a test.
 """
 
+import json
+import os
 import re
+import subprocess
 from pathlib import Path
-from typing import Any, Iterable, Iterator
+from typing import Any, Dict, Iterable, Iterator
 
 import pytest
 
+from lib import TOP, devices
 from lib.pages import page
-from lib.processes import succeeds
-from rsp_conformance import check, coverage, generate
+from lib.processes import Ended, run, succeeds
+from rsp_conformance import check, coverage, generate, steps
 from rsp_conformance.commands import Complaints
 from rsp_conformance.library import IMAGE, run_row
 from rsp_conformance.table import ROWS
@@ -78,6 +82,66 @@ def test_ten_lines(name: str, program: Path) -> None:
 def test_refusals(program: Path) -> None:
     """What can't be run or made is reported in a sentence."""
     see(check.refusals(str(program)))
+
+
+# A case of ADD, which changes no memory; $11 is 0b0b0b0b where nothing else is said.
+ADD: Dict[str, Any] = {
+    "name": "ADD-000",
+    "word": "000b1820",
+    "text": "add $3, $0, $11",
+    "before": {"dmem": {"010": "aa"}},
+    "after": {"r3": "0b0b0b0b", "pc": "004", "npc": "008"},
+}
+# What is in memories after it: the first and the last bytes of each, a byte of `before`, and the word.
+THERE = {
+    "dmem": {"000": "00", "fff": "00", "010": "aa"},
+    "imem": {"000": "000b1820", "ffc": "00000000"},
+    "rdram": {"010000": "00", "0101ff": "00"},
+}
+
+
+@pytest.mark.parametrize(
+    "bank, address, raw", [(bank, *it) for bank, pieces in THERE.items() for it in pieces.items()]
+)
+def test_named_memory(bank: str, address: str, raw: str, program: Path) -> None:
+    """What a case says of a memory is compared, also if its instruction doesn't change any."""
+    wrong = f"{int(raw[:2], 16) ^ 0x40:02x}"
+    cases = [{**ADD, "after": {**ADD["after"], bank: {address: it}}} for it in (raw, wrong + raw[2:])]
+    told = f"ADD-000 (add $3, $0, $11), {bank} {address}: expected {wrong}, got {raw[:2]}"
+    assert [*steps.run_entries(str(program), cases)] == [[], [told]]
+
+
+def run_add(program: Path, folder: Path, **how: Any) -> "Ended[str]":
+    """conformance/run on a true case and a false one, whose name and text are a stranger's."""
+    text = "add\n\x9b31m\u202e\u2028\ud800"
+    false = {**ADD, "name": "ADD-\x1b]0;title\x07", "text": text, "word": "000b2020"}
+    for name, text in {
+        "steps/ADD.jsonl": "".join(f"{json.dumps(it)}\n" for it in (ADD, false)),
+        "programs/ADD.json": '{"programs": []}',
+    }.items():
+        (folder / name).parent.mkdir(parents=True)
+        (folder / name).write_text(text)
+    return run(TOP / "conformance/run", "--program", program, folder, **how)
+
+
+def test_complaints_of_a_stranger(program: Path, folder: Path) -> None:
+    """Names and texts are shown on one line, without what a terminal would obey."""
+    ran = run_add(program, folder)
+    start = r"ADD-\x1b]0;title\x07 (add\n\x9b31m\u202e\u2028\ud800), "
+    lines = ("$3: expected 0b0b0b0b, got 03030303", "$4: expected 04040404, got 0b0b0b0b")
+    told = "".join(f"{start}{it}\n" for it in lines)
+    assert (ran.returncode, ran.stdout) == (1, f"{told}1 passed, 1 failed\n")
+
+
+@pytest.mark.parametrize("is_full", (True, False), ids=("full", "closed pipe"))
+def test_output_that_takes_nothing(is_full: bool, program: Path, folder: Path) -> None:
+    """It is named in a sentence, and the status is 1."""
+    reading, writing = os.pipe()
+    os.close(reading)
+    with open(devices.full(folder) if is_full else writing, "w") as output:
+        ran = run_add(program, folder / "vectors", stdout=output, stderr=subprocess.PIPE)
+    why = "No space left on device" if is_full else "Broken pipe"
+    assert (ran.returncode, ran.stderr) == (1, f"standard output can't be written: {why}\n")
 
 
 @pytest.fixture(scope="module")
