@@ -1,6 +1,7 @@
 /* The files about a difference: rsp-task-N.txt for people, and rsp-task-N.script, which shows our side when `rsp run` plays it. Registers are written as
  * `rsp run` writes them, so the replies of the script are in the text. */
 #include "check.h"
+#include <errno.h>
 #include <string.h>
 
 /* Where the setting program finds its data in DMEM, in bytes. */
@@ -168,13 +169,16 @@ static void write_text(FILE *out, const difference *it)
     write_registers(out, &theirs);
 }
 
+/* A file that is there isn't overwritten, because it may be a link that somebody else put there, to a file of the user. */
 static void write_file(const difference *it, const char *ending, void (*write)(FILE *, const difference *))
 {
     char name[1200];
     snprintf(name, sizeof name, "%s/rsp-task-%lu.%s", options.check_folder, it->task, ending);
-    FILE *out = fopen(name, "w");
+    FILE *out = fopen(name, "wx");
+    int is_there = !out && errno == EEXIST;
     if (out) write(out, it);
-    if (!out || fclose(out)) tell(M64_ERROR, "check: cannot write %s", name);
+    if (is_there) tell(M64_ERROR, "check: %s is there already, and stays as it is", name);
+    else if (!out || fclose(out)) tell(M64_ERROR, "check: cannot write %s", name);
     else tell(M64_INFO, "check: %s", name);
 }
 

@@ -69,6 +69,18 @@ def test_folder_that_cannot_be_written(bench: Bench) -> None:
     assert said[-3:] == [*lost, "1 tasks, 1 differ"]
 
 
+def test_report_that_is_there(bench: Bench, folder: Path) -> None:
+    """A file of a report's name, or a link to another file, stays as it is."""
+    kept, link, text = folder / "kept", folder / "rsp-task-1.txt", folder / "rsp-task-1.script"
+    kept.write_text("kept")
+    link.symlink_to(kept)
+    text.write_text("earlier")
+    said = checked(bench, folder, bench.faulty(1), [products(bench)])
+    refused = [f"{it} is there already, and stays as it is" for it in (link, text)]
+    assert said[-3:] == [*refused, "1 tasks, 1 differ"]
+    assert kept.read_text() == "kept" and link.is_symlink() and text.read_text() == "earlier"
+
+
 def test_wrong_lane(bench: Bench, folder: Path) -> None:
     """VMUDM sets the lowest bit of lane 5.
 

@@ -67,10 +67,16 @@ def test_rom_on_z64(hunt: Bench) -> None:
     assert len(found) == RESULTS - 9
 
 
+def remove_reports(hunt: Bench) -> None:
+    """Removes those of an earlier run, which check mode doesn't overwrite."""
+    for report in hunt.folder.glob("rsp-task-*"):
+        report.unlink()
+
+
 @pytest.mark.needs(str(HEADERS), str(CORE))
 def test_hunt_of_page(hunt: Bench) -> None:
     """The hunt of docs/PLUGIN.md, by the same plugins on the same ROM, and the script of its difference."""
-    (hunt.folder / "rsp-task-12.script").unlink(missing_ok=True)
+    remove_reports(hunt)
     said, _ = hunt.played(hunt.folder / "all.z64", hunt.plugin, 2, "CheckAgainst=./faulty-1.so")
     found = re.findall(r"^rsp \d check: (.*)", said, re.M)
     assert len(TOLD) == 5
@@ -95,6 +101,7 @@ def typed(hunt: Bench, home: Path, command: str, last: str, **environment: str) 
 
     The ROM doesn't end by itself.
     """
+    remove_reports(hunt)
     home.mkdir(exist_ok=True)
     where = {"HOME": str(home), "PATH": "/usr/bin:/bin", "LC_ALL": "C.UTF-8", **environment}
     how: Dict[str, Any] = {"cwd": hunt.folder, "env": where, "text": True, "errors": "replace"}
