@@ -97,7 +97,7 @@ static void pass_reserved(rsp_unit *unit, const rsp_stop *at)
 {
     static int told;
     uint32_t nop = 0;
-    if (told++ < 10) tell(M64_WARNING, "the word %08x at %03x is reserved: it is executed as NOP", at->word, at->pc);
+    if (told < 10) told++, tell(M64_WARNING, "the word %08x at %03x is reserved: it is executed as NOP", at->word, at->pc);
     rsp_load_words(&unit->machine, RSP_IMEM, at->pc, &nop, 1);
     rsp_step(&unit->machine);
     rsp_load_words(&unit->machine, RSP_IMEM, at->pc, &at->word, 1);
