@@ -3,7 +3,7 @@
 #include <string.h>
 
 #define EXPORTED __attribute__((visibility("default")))
-enum { PLUGIN_VERSION = 0x010000, LONGEST_CALL = 200000000 };
+enum { PLUGIN_VERSION = 0x010000 };
 
 static m64p_rsp_info emulator;
 static rsp_unit unit;
@@ -89,7 +89,7 @@ static int is_sent_on(void)
 /* Executes the RSP from SP_PC to its halt, for at most so many instructions, or until it waits for the CPU. Returns the instructions. */
 EXPORTED unsigned DoRspCycles(unsigned cycles)
 {
-    uint32_t steps, most = cycles < LONGEST_CALL ? cycles : LONGEST_CALL;
+    uint32_t steps, most = cycles < LONGEST_TASK ? cycles : LONGEST_TASK;
     if (!is_initiated || *unit.sp[SP_STATUS] & HALTED || is_sent_on()) return 0;
     if (!begin_task(&unit)) {
         tell(M64_ERROR, "there is no memory for the machine");

@@ -11,6 +11,9 @@ enum {
 };
 enum { BREAK = 0x0000000d };
 
+/* What a stop costs beside its instruction: at most the time of so many steps, for the stop, for each row of a DMA, and for some of its bytes. */
+enum { STEPS_A_STOP = 16, STEPS_A_ROW = 8, BYTES_A_STEP = 64 };
+
 static int make_machine(rsp_unit *unit)
 {
     uint8_t *zeros = calloc(1, unit->rdram_size);
@@ -103,10 +106,18 @@ static void pass_reserved(rsp_unit *unit, const rsp_stop *at)
     rsp_load_words(&unit->machine, RSP_IMEM, at->pc, &at->word, 1);
 }
 
-/* Runs the task to its halt, for at most so many steps, or until it waits for the CPU. Returns the steps. */
+/* The steps that the machine would make while the plugin makes the move before which it has stopped. */
+static uint32_t cost_of(const rsp_move *at)
+{
+    int is_dma = at->stop.reason == RSP_AT_MOVE && at->writes && at->number < DPC_START;
+    dma_rows rows = is_dma ? rows_of(0, at->value) : (dma_rows){ 0 };
+    return STEPS_A_STOP + rows.count * (STEPS_A_ROW + rows.len / BYTES_A_STEP);
+}
+
+/* Runs the task to its halt, for at most so many steps, or until it waits for the CPU or has taken the time of LONGEST_TASK steps. Returns the steps. */
 uint32_t run_task(rsp_unit *unit, uint32_t most)
 {
-    uint32_t steps = 0;
+    uint32_t steps = 0, cost = 0;
     wait_search search;
     rsp_move at;
     begin_search(&search, 0);
@@ -116,8 +127,9 @@ uint32_t run_task(rsp_unit *unit, uint32_t most)
         rsp_run_until_move(&unit->machine, left < STEPS_AT_ONCE ? left : STEPS_AT_ONCE, compares ? STOP_AT_READS : 0, STOP_AT_WRITES, &at);
         steps += at.stop.steps;
         unit->next_pc = at.stop.pc;
-        if (at.stop.reason == RSP_AT_HALT || steps == most) break;
+        if (at.stop.reason == RSP_AT_HALT || steps == most || steps + cost >= LONGEST_TASK) break;
         if (at.stop.reason == RSP_AT_LIMIT) continue;
+        cost += cost_of(&at);
         if (at.stop.reason == RSP_AT_RESERVED) pass_reserved(unit, &at.stop);
         else if (at.writes) make_write(unit, &at), begin_search(&search, steps);
         else if (is_waiting(unit, &search, steps)) break;
