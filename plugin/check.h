@@ -49,7 +49,8 @@ void get_z64(rsp_state *state);
 int begin_lock_step(const task_start *start, uint32_t steps);
 int end_lock_step(int is_wanted);
 
-/* divider.c */
+/* divider.c; make_searcher is called before. */
+int make_searcher(void);
 const char *divided_for(const rsp_state *state, uint16_t *half);
 
 /* report.c: the files about a difference. */

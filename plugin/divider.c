@@ -18,22 +18,41 @@ static const char search[] =
     "found:  addiu $6, $0, 1\n"
     "        break\n";
 
-/* Runs the search on a machine that has nothing yet. Returns whether a half was found. */
-static int find(rsp *m, const char *name, uint16_t in, uint16_t out, uint16_t *half)
+/* What is searched with: the programs of the four instructions, and a machine with its state when it has nothing yet. */
+enum { NAMES = 4, SEARCH_WORDS = 14 };
+static const char *const names[NAMES] = { "vrcpl", "vrcp", "vrsql", "vrsq" };
+static uint32_t programs[NAMES][SEARCH_WORDS];
+static rsp searcher;
+static rsp_state fresh;
+
+static int assemble(const char *name, uint32_t *words)
 {
     char text[sizeof search + 8];
-    uint32_t words[32], len = (uint32_t)snprintf(text, sizeof text, search, name);
-    rsp_assembled program;
+    size_t len = (size_t)snprintf(text, sizeof text, search, name);
+    rsp_assembled made;
+    return rsp_assemble(0, (const uint8_t *)text, len, words, SEARCH_WORDS, &made) == RSP_OK;
+}
+
+/* Makes them. Returns 0 if there is no memory. */
+int make_searcher(void)
+{
+    static const uint8_t image[64];
+    if (searcher.at) return 1;
+    for (int i = 0; i < NAMES; i++) if (!assemble(names[i], programs[i])) return 0;
+    return rsp_new(&searcher, image, sizeof image, 0) == RSP_OK && rsp_get(&searcher, &fresh) == RSP_OK;
+}
+
+/* Runs a program. Returns whether a half was found. */
+static int find(const uint32_t *program, uint16_t in, uint16_t out, uint16_t *half)
+{
     rsp_stop stop = { 0 };
-    rsp_state s;
-    if (rsp_assemble(0, (const uint8_t *)text, len, words, 32, &program) != RSP_OK) return 0;
-    rsp_load_words(m, RSP_IMEM, 0, words, program.count);
-    rsp_get(m, &s);
+    rsp_state s = fresh;
     s.words[2] = in, s.words[3] = out, s.words[4] = 0x10000;
-    rsp_set(m, &s);
-    do rsp_run(m, 1000000, &stop);
+    rsp_load_words(&searcher, RSP_IMEM, 0, program, SEARCH_WORDS);
+    rsp_set(&searcher, &s);
+    do rsp_run(&searcher, 1000000, &stop);
     while (stop.reason == RSP_AT_LIMIT);
-    rsp_get(m, &s);
+    rsp_get(&searcher, &s);
     *half = (uint16_t)s.words[1];
     return s.words[6] == 1;
 }
@@ -41,13 +60,6 @@ static int find(rsp *m, const char *name, uint16_t in, uint16_t out, uint16_t *h
 /* Returns the instruction that leaves the state's DIV_OUT when it divides this half after DIV_IN was loaded, or NULL if none does. */
 const char *divided_for(const rsp_state *state, uint16_t *half)
 {
-    static const char *const names[] = { "vrcpl", "vrcp", "vrsql", "vrsq" };
-    static const uint8_t image[64];
-    const char *found = NULL;
-    for (int i = 0; i < 4 && !found; i++) {
-        rsp m = RSP_NONE;
-        if (rsp_new(&m, image, sizeof image, 0) == RSP_OK && find(&m, names[i], state->divider.input, state->divider.output, half)) found = names[i];
-        rsp_free(&m);
-    }
-    return found;
+    for (int i = 0; i < NAMES; i++) if (find(programs[i], state->divider.input, state->divider.output, half)) return names[i];
+    return NULL;
 }

@@ -17,9 +17,14 @@ static uint32_t n_lists;
 
 static void take_list(void) { replay_list(n_lists++, registers + DPC_START); }
 
+/* Makes the second machine, for a task of an RDRAM of this size. Returns 0 if there is no memory. It is made before there is a child: another thread of
+ * the emulator may be in malloc when that is forked, so it makes no call of the library that takes or frees memory. */
 static int make_unit(size_t rdram_size)
 {
-    if (!mine.memory[RSP_RDRAM] && !(mine.memory[RSP_RDRAM] = malloc(rdram_size))) return 0;
+    if (mine.machine.at && mine.rdram_size == rdram_size) return 1;
+    rsp_free(&mine.machine);
+    free(mine.memory[RSP_RDRAM]);
+    if (!(mine.memory[RSP_RDRAM] = malloc(rdram_size))) return 0;
     mine.memory[RSP_DMEM] = memories[RSP_DMEM];
     mine.memory[RSP_IMEM] = memories[RSP_IMEM];
     for (int n = 0; n < 16; n++) mine.sp[n] = registers + n;
@@ -28,17 +33,17 @@ static int make_unit(size_t rdram_size)
     mine.rdram_size = rdram_size;
     mine.list = take_list;
     mine.storing = use_pages;
-    return 1;
+    return make_machine(&mine);
 }
 
-/* Gives the second machine the task's beginning. Returns 0 if there is no memory. */
-static int restart(const task_start *start)
+/* Gives the second machine the task's beginning. */
+static void restart(const task_start *start)
 {
-    if (!make_unit(other.rdram_size)) return 0;
     for (size_t page = 0; page < mine.rdram_size / PAGE; page++) memcpy((uint8_t *)mine.memory[RSP_RDRAM] + page * PAGE, page_before(page), PAGE);
     memcpy(memories, start->memory, sizeof memories);
     memcpy(registers, start->registers, sizeof registers);
-    return begin_task(&mine) && rsp_set(&mine.machine, &start->state) == RSP_OK;
+    begin_task(&mine);
+    rsp_set(&mine.machine, &start->state);
 }
 
 /* Where a script can begin: after this step nothing of RDRAM has to be loaded to go on. */
@@ -184,7 +189,7 @@ static int step(unsigned long number)
 static int lock_step(const task_start *start, uint32_t steps)
 {
     unsigned long number = 1;
-    if (!restart(start)) return tell(M64_ERROR, "check: there is no memory for a second machine"), 1;
+    restart(start);
     found.task = start->task;
     begin_script_here(0);
     while (number <= steps && !step(number)) number++;
@@ -211,12 +216,13 @@ static void be_child(const task_start *start, uint32_t steps, int wait_at, int *
     _exit(lock_step(start, steps));
 }
 
-/* Makes the child, which waits. Returns 0 if there can't be one; a plugin that makes no single steps gets none. */
+/* Makes the child, which waits. Returns 0 if there can't be one; without memory, and for a plugin that makes no single steps, there is none. */
 int begin_lock_step(const task_start *start, uint32_t steps)
 {
     int to[2], from[2];
     child = 0;
     if (!other.steps_by_count && !other.steps_by_flag) return 1;
+    if (!make_unit(other.rdram_size) || !make_searcher()) return tell(M64_ERROR, "check: there is no memory for a second machine"), 1;
     if (pipe(to)) return 0;
     if (pipe(from)) return close(to[0]), close(to[1]), 0;
     child = fork();

@@ -14,7 +14,8 @@ enum { BREAK = 0x0000000d };
 /* What a stop costs beside its instruction: at most the time of so many steps, for the stop, for each row of a DMA, and for some of its bytes. */
 enum { STEPS_A_STOP = 16, STEPS_A_ROW = 8, BYTES_A_STEP = 64 };
 
-static int make_machine(rsp_unit *unit)
+/* Makes the machine, or another one in its place. Returns 0 if there is no memory. */
+int make_machine(rsp_unit *unit)
 {
     uint8_t *zeros = calloc(1, unit->rdram_size);
     uint32_t status = zeros ? rsp_new(&unit->machine, zeros, unit->rdram_size, 0) : RSP_NO_MEMORY;

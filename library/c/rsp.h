@@ -14,7 +14,8 @@
  *     its type's alignment.
  *   - No two pointers of one call overlap, and nobody writes a buffer while a call reads it.
  *   - malloc, realloc and free are of one allocator, and align as the platform's do, to 16 bytes. No call
- *     comes from a signal handler, nor from the child that a process with more than one thread forked.
+ *     comes from a signal handler. In the child that a process with more than one thread forked, no call
+ *     makes or frees a handle, reads a text, or is on a bench, since these take or free memory.
  *   - A call has RSP_STACK bytes of stack.
  *
  * Postconditions of every call: it returns, for any numbers, with a status. If that isn't RSP_OK, no

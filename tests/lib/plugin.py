@@ -74,7 +74,8 @@ class Bench:
     def faulty(self, fault: int) -> Path:
         """A plugin with a planted fault."""
         made = self.folder / f"faulty-{fault}.so"
-        wraps = "-Wl,--wrap=rsp_step,--wrap=rsp_run_until_move,--wrap=rows_out"
+        calls = ("rsp_step", "rsp_run_until_move", "rows_out", "malloc", "calloc", "realloc", "free")
+        wraps = "-Wl" + "".join(f",--wrap={it}" for it in calls)
         flags = (*FLAGS, f"-DFAULT={fault}", "-fPIC", "-fvisibility=hidden", "-shared", wraps)
         parts = (HERE / "faulty.c", *sorted((TOP / "plugin").glob("*.c")), LIBRARY, "-ldl")
         return made if made.exists() else compiled(made, *flags, *parts)

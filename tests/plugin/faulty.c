@@ -1,12 +1,29 @@
 /* The plugin with a planted fault, linked with -Wl,--wrap=rsp_step,--wrap=rsp_run_until_move,--wrap=rows_out.
  * FAULT 1: VMUDM sets the lowest bit of lane 5. FAULT 2: a DMA to RDRAM writes eight bytes more. FAULT 3: it
- * writes nothing. */
+ * writes nothing.
+ * With any of them, 0 too, a process that the plugin has forked ends as soon as the plugin or the library in it
+ * takes or frees memory. */
 #include "plugin.h"
+#include <stdlib.h>
+#include <unistd.h>
 
 uint32_t __real_rsp_step(rsp *m);
 uint32_t __real_rsp_run_until_move(rsp *m, uint32_t n, uint32_t reads, uint32_t writes, rsp_move *out);
 uint32_t __wrap_rsp_step(rsp *m);
 uint32_t __wrap_rsp_run_until_move(rsp *m, uint32_t n, uint32_t reads, uint32_t writes, rsp_move *out);
+
+void *__real_malloc(size_t len), *__real_calloc(size_t n, size_t len), *__real_realloc(void *at, size_t len);
+void *__wrap_malloc(size_t len), *__wrap_calloc(size_t n, size_t len), *__wrap_realloc(void *at, size_t len);
+void __real_free(void *at), __wrap_free(void *at);
+static pid_t loaded_by;
+
+static __attribute__((constructor)) void note_process(void) { loaded_by = getpid(); }
+static void see_process(void) { if (getpid() != loaded_by) abort(); }
+
+void *__wrap_malloc(size_t len) { return see_process(), __real_malloc(len); }
+void *__wrap_calloc(size_t n, size_t len) { return see_process(), __real_calloc(n, len); }
+void *__wrap_realloc(void *at, size_t len) { return see_process(), __real_realloc(at, len); }
+void __wrap_free(void *at) { see_process(), __real_free(at); }
 
 static uint32_t next_word(rsp *m)
 {

@@ -1,5 +1,6 @@
 """Check mode beside plugins with a planted fault (faulty.c), and beside Debian's z64, which differs."""
 
+import copy
 import re
 import shutil
 from pathlib import Path
@@ -67,6 +68,16 @@ def test_folder_that_cannot_be_written(bench: Bench) -> None:
     said = checked(bench, Path("/proc/none"), bench.faulty(1), [products(bench)])
     lost = [f"cannot write /proc/none/rsp-task-1.{it}" for it in ("txt", "script")]
     assert said[-3:] == [*lost, "1 tasks, 1 differ"]
+
+
+def test_child_takes_no_memory(bench: Bench, folder: Path) -> None:
+    """Another thread of the emulator may hold a lock of malloc when the child is forked."""
+    wary = copy.copy(bench)
+    wary.plugin = bench.faulty(0)
+    expected = checked(bench, folder, bench.faulty(1), [products(bench)])
+    for report in folder.glob("rsp-task-1.*"):
+        report.unlink()
+    assert len(expected) == 6 and checked(wary, folder, bench.faulty(1), [products(bench)]) == expected
 
 
 def test_report_that_is_there(bench: Bench, folder: Path) -> None:
