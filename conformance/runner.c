@@ -8,10 +8,20 @@ typedef struct { uint32_t size, word, has_choice; char name[16]; uint32_t pieces
 typedef struct { uint32_t is_after, bank, address, length; } piece; /* its bytes follow, up to a multiple of 4 */
 typedef struct { const uint8_t *at, *end; } rest;                   /* the bytes that nobody has taken yet */
 
-enum { RDRAM_LENGTH = 1 << 17 };
+enum { RDRAM_LENGTH = 1 << 17, LONGEST_FILE = 1 << 24 };
 static uint8_t image[RDRAM_LENGTH], expected[8192 + RDRAM_LENGTH], found[8192 + RDRAM_LENGTH];
 
 static uint32_t length_of(uint32_t bank) { return bank < 2 ? 4096 : RDRAM_LENGTH; }
+
+/* The first bytes of a name. What isn't printable ASCII is shown as `\x` and two digits, so that a terminal obeys no file. */
+static const char *shown(const char *name, size_t most)
+{
+    static char text[1 << 14];
+    size_t at = 0;
+    for (; most-- && *name && at < sizeof text - 5; name++) at += (size_t)sprintf(text + at, *name < ' ' || *name > '~' ? "\\x%02x" : "%c", (unsigned char)*name);
+    text[at] = 0;
+    return text;
+}
 
 /* Takes the next bytes. Returns 0 if there aren't so many. */
 static int take(rest *r, void *to, size_t length)
@@ -53,27 +63,30 @@ static int run(rsp *m, rest *file)
     int is_wrong = rsp_set(m, &before) != RSP_OK || rsp_step(m) != RSP_OK || rsp_get(m, &got) != RSP_OK || memcmp(&got, &after, sizeof got) != 0;
     for (uint32_t bank = 0; bank < 3; bank++) rsp_memory(m, bank, 0, found + 4096 * bank, length_of(bank));
     is_wrong |= memcmp(found, expected, sizeof found) != 0;
-    if (is_wrong) printf("%.16s (word %08x) differs\n", h.name, h.word);
+    if (is_wrong) printf("%s (word %08x) differs\n", shown(h.name, sizeof h.name), h.word);
     return is_wrong;
 }
 
 /* Runs the cases of a file, and counts them. Returns 0 if it is refused. */
-static int run_file(rsp *m, const char *name, uint32_t *cases, uint32_t *failed)
+static int run_file(rsp *m, const char *path, uint32_t *cases, uint32_t *failed)
 {
-    static uint8_t data[1 << 24];
-    FILE *file = fopen(name, "rb");
+    static uint8_t data[LONGEST_FILE];
+    FILE *file = fopen(path, "rb");
     rest r = { data, data + (file ? fread(data, 1, sizeof data, file) : 0) };
+    int is_longer = file && fgetc(file) != EOF;
     char magic[12];
     uint32_t number;
     if (file) fclose(file);
+    if (is_longer) return fprintf(stderr, "%s has more than %d bytes\n", shown(path, strlen(path)), LONGEST_FILE), 0;
     if (!take(&r, magic, sizeof magic) || memcmp(magic, "RSPCASES\1\0\0", sizeof magic) != 0 || !take(&r, &number, sizeof number))
-        return fprintf(stderr, "%s has no flat vectors\n", name), 0;
+        return fprintf(stderr, "%s has no flat vectors\n", shown(path, strlen(path))), 0;
     for (uint32_t k = 1; k <= number; k++, ++*cases) {
         int is_wrong = run(m, &r);
-        if (is_wrong < 0) return fprintf(stderr, "%s: case %u of %u isn't whole, or has a piece that no memory has\n", name, k, number), 0;
+        if (is_wrong < 0)
+            return fprintf(stderr, "%s: case %u of %u isn't whole, or has a piece that no memory has\n", shown(path, strlen(path)), k, number), 0;
         *failed += (uint32_t)is_wrong;
     }
-    if (r.at != r.end) return fprintf(stderr, "%s has bytes after its last case\n", name), 0;
+    if (r.at != r.end) return fprintf(stderr, "%s has bytes after its last case\n", shown(path, strlen(path))), 0;
     return 1;
 }
 
@@ -86,5 +99,6 @@ int main(int count, char **files)
     rsp_free(&m);
     if (is_refused) return 2;
     printf("%u passed, %u failed\n", cases - failed, failed);
+    if (fflush(stdout) || ferror(stdout)) return fprintf(stderr, "standard output takes no more\n"), 2;
     return failed || !cases;
 }

@@ -5,12 +5,13 @@ sanitizers of addresses and of undefined behaviour find something.
 """
 
 import struct
+import subprocess
 from pathlib import Path
 from typing import Dict, Tuple
 
 import pytest
 
-from lib import TOP
+from lib import TOP, devices
 from lib.processes import compiled, run, succeeds
 from lib.sanitizers import sanitizers
 
@@ -77,6 +78,37 @@ def test_changed(runner: Path, vectors: bytes, folder: Path) -> None:
     (folder / "changed.bin").write_bytes(with_number(vectors, at, 0x12345678))
     ran = run(runner, folder / "changed.bin")
     assert ran.returncode == 1 and ran.stdout.endswith("19 passed, 1 failed\n")
+
+
+def changed(vectors: bytes, name: bytes) -> bytes:
+    """Vectors whose first case has another name, and another register after it."""
+    at = HEAD - 20
+    return with_number(vectors[:at] + name.ljust(16, b"\0") + vectors[at + 16 :], HEAD + 772 + 28, 0x12345678)
+
+
+def test_name_with_control_characters(runner: Path, vectors: bytes, folder: Path) -> None:
+    """A terminal obeys neither the name of a case nor that of a file."""
+    (folder / "right.bin").write_bytes(changed(vectors, b"a\x1b[2J\r\x9b\xc2\x9b"))
+    ran = run(runner, folder / "right.bin", folder / "b\x1b[2J\n")
+    assert ran.returncode == 2 and ran.stdout.count("\n") == 2, ran.stdout
+    assert ran.stdout.startswith(f"{folder}/b\\x1b[2J\\x0a has no flat vectors\n"), ran.stdout
+    assert "\na\\x1b[2J\\x0d\\x9b\\xc2\\x9b (word" in ran.stdout
+
+
+def test_longest(runner: Path, vectors: bytes, folder: Path) -> None:
+    """A right case in a file of 16 MiB, and a false one after that."""
+    size, most = struct.unpack("<I", vectors[16:20])[0], 1 << 24
+    one = with_number(with_number(vectors[: 16 + size], 16, most - 16), 12, 1).ljust(most, b"\0")
+    (folder / "longest").write_bytes(one)
+    assert succeeds(runner, folder / "longest") == "1 passed, 0 failed\n"
+    refuses(runner, folder / "longer", one + changed(vectors, b"false")[16:])
+
+
+def test_full_device(runner: Path, vectors: bytes, folder: Path) -> None:
+    (folder / "right.bin").write_bytes(vectors)
+    with devices.full(folder).open("wb") as output:
+        ran = run(runner, folder / "right.bin", stdout=output, stderr=subprocess.PIPE)
+    assert (ran.returncode, ran.stderr) == (2, "standard output takes no more\n")
 
 
 @pytest.mark.parametrize("at, number", NUMBERS.values(), ids=NUMBERS)
