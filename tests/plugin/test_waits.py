@@ -115,7 +115,7 @@ def test_waiting(name: str, bench: Bench) -> None:
 
 
 # Loops that stop the run so often, or for DMAs so large, that they would take hours: the instructions before a
-# loop, those of a turn, and fewer instructions than which are made before the task is suspended.
+# loop, those of a turn, and a number of instructions before which the task is suspended.
 LARGEST = "ori $5, $0, 0x8000; lui $6, 0x008f; ori $6, $6, 0xffff"
 SLOW = {
     "the largest DMA from RDRAM": (LARGEST, f"{IN}; {END}", 100_000),
@@ -129,12 +129,13 @@ SLOW = {
 def test_slow_stops(name: str, bench: Bench) -> None:
     """Such a loop is suspended too, and earlier than one that doesn't stop."""
     before, turn, most = SLOW[name]
-    said = bench.drive([*begun(), f"put imem 0 {bench.words(text_of(before, turn)[0])}", f"cycles {1 << 31}"])
+    text, _steps = text_of(before, turn)
+    said = bench.drive([*begun(), f"put imem 0 {bench.words(text)}", f"cycles {1 << 31}"])
     assert 0 < int(said[-1].split()[1]) < most
 
 
 def test_slow_task_to_its_end(bench: Bench) -> None:
-    """A task of 20,000 largest DMAs, which two calls make: the second one goes on where the first one stopped."""
+    """20,000 largest DMAs take two calls: the second one continues where the first one stopped."""
     before = f"{LARGEST}; {TO}"
     text, steps = text_of(before, f"{OUT}; addiu $1, $1, -1; bne $1, $0, loop; nop")
     said = bench.drive([*begun(), f"put imem 0 {bench.words(text)}", *["cycles 4294967295"] * 3])
