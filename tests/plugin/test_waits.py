@@ -114,8 +114,8 @@ def test_waiting(name: str, bench: Bench) -> None:
     assert said[-1] == "ends waiting"
 
 
-# Loops that stop the run so often, or for DMAs so large, that they would take hours: the instructions before a
-# loop, those of a turn, and a number of instructions before which the task is suspended.
+# Loops that stop the run so often, or for DMAs so large, that they would take hours: the instructions before
+# a loop, those of a turn, and a number of instructions before which the task is suspended.
 LARGEST = "ori $5, $0, 0x8000; lui $6, 0x008f; ori $6, $6, 0xffff"
 SLOW = {
     "the largest DMA from RDRAM": (LARGEST, f"{IN}; {END}", 100_000),
