@@ -50,6 +50,7 @@ NOT_BEGUN: Dict[str, Dict[str, str]] = {
         "saves.py::test_folder_without_rights": "wine runs for one user alone",
         "saves.py::test_file_without_rights": "wine runs for one user alone",
         "saves.py::test_file_of_another": "Windows has no owners and groups of this kind",
+        "saves.py::test_folder_that_gives_its_group": "Windows has no owners and groups of this kind",
         "saves.py::test_link_of_another": "Windows has no owners and groups of this kind",
     },
 }

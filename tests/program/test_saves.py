@@ -330,6 +330,16 @@ def test_file_of_another(user: int, mode: int, new: New) -> None:
 
 
 @ROOT_ALONE
+def test_folder_that_gives_its_group(new: New) -> None:
+    """A new file there has the folder's group. The old one's stays."""
+    it = new(0o640)
+    os.chown(it.folder, -1, NOBODY)
+    it.folder.chmod(0o2755)
+    it.run().saved().mode(0o640).names("file")
+    assert it.file.stat().st_gid == os.getegid()
+
+
+@ROOT_ALONE
 def test_link_of_another_in_a_folder_for_all(new: New, folder: Path) -> None:
     if Path("/proc/sys/fs/protected_symlinks").read_text().strip() != "1":
         pytest.skip("this system follows them: fs.protected_symlinks isn't 1")

@@ -64,7 +64,7 @@ static int open_beside(const target *old, char *new)
     while ((name[start] & 0xc0) == 0x80) start--;
     for (unsigned number = 0;; number++) {
         int n = snprintf(new, PATH_ROOM, "%.*s.%.*s.rsp-save-%u", (int)folder, old->path, (int)start, name, number);
-        int file = n < PATH_ROOM ? open_path(new, TO_MAKE) : (errno = ENAMETOOLONG, -1);
+        int file = n < PATH_ROOM ? open_path(new, old->is_old ? TO_MAKE_CLOSED : TO_MAKE) : (errno = ENAMETOOLONG, -1);
         if (file >= 0 || errno != EEXIST) return file;
     }
 }
@@ -75,7 +75,7 @@ static enum found replace(const target *old, const char *name, span bytes)
     static char new[PATH_ROOM];
     int file = open_beside(old, new);
     if (file < 0) return !old->is_old || errno == EACCES || errno == EPERM || errno == EROFS || errno == ENAMETOOLONG ? IN_PLACE : CANNOT_WRITE;
-    if (old->is_old && !make_alike(new, old)) return close(file), drop(new), IN_PLACE;
+    if (old->is_old && !make_alike(file, new, old)) return close(file), drop(new), IN_PLACE;
     bool is_whole = fill(file, bytes, true);
     if (is_whole && move(new, old->path)) return TO_REPLACE;
     if (is_whole && !fill(open_path(name, TO_WRITE), bytes, false)) return CANNOT_WRITE;

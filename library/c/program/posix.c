@@ -14,13 +14,15 @@ const char separators[] = "/";
 
 int open_path(const char *path, enum opening how)
 {
-    static const int flags[] = { O_RDONLY, O_WRONLY | O_CREAT | O_TRUNC, O_WRONLY | O_CREAT | O_EXCL };
-    return open(path, flags[how] | O_CLOEXEC, 0666);
+    static const int flags[] = { O_RDONLY, O_WRONLY | O_CREAT | O_TRUNC, O_WRONLY | O_CREAT | O_EXCL, O_WRONLY | O_CREAT | O_EXCL };
+    return open(path, flags[how] | O_CLOEXEC, how == TO_MAKE_CLOSED ? 0600 : 0666);
 }
 
-bool make_alike(const char *path, const target *old)
+/* The file that is open is changed, whatever its path leads to by now. Its group may be the folder's, and the old one's is this process's. */
+bool make_alike(int file, const char *path, const target *old)
 {
-    return !chmod(path, old->mode & 07777);
+    (void)path;
+    return !fchown(file, (uid_t)-1, getegid()) && !fchmod(file, old->mode & 07777);
 }
 
 bool flush(int file)

@@ -88,12 +88,13 @@ typedef struct target {
 enum found { CANNOT_WRITE, IN_PLACE, TO_REPLACE };
 enum found find_target(const char *name, target *found);
 
-/* Opens a file, or returns -1 with errno. TO_WRITE empties it or makes it; TO_MAKE refuses one that is there. */
-enum opening { TO_READ, TO_WRITE, TO_MAKE };
+/* Opens a file, or returns -1 with errno. TO_WRITE empties it or makes it; TO_MAKE refuses one that is there, and so does TO_MAKE_CLOSED, whose file
+ * nobody else may open until it is made alike. */
+enum opening { TO_READ, TO_WRITE, TO_MAKE, TO_MAKE_CLOSED };
 int open_path(const char *path, enum opening how);
 
-/* Gives a new file what the old one has. False if it can't have that. */
-bool make_alike(const char *path, const target *old);
+/* Gives a new file, which is open and has this path, what the old one has. False if it can't have that. */
+bool make_alike(int file, const char *path, const target *old);
 bool flush(int file);
 bool move(const char *from, const char *to);
 void drop(const char *path);

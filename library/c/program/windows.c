@@ -40,13 +40,14 @@ static bool is_device(const char *path)
 
 int open_path(const char *path, enum opening how)
 {
-    static const int flags[] = { _O_RDONLY, _O_WRONLY | _O_CREAT | _O_TRUNC, _O_WRONLY | _O_CREAT | _O_EXCL };
+    static const int flags[] = { _O_RDONLY, _O_WRONLY | _O_CREAT | _O_TRUNC, _O_WRONLY | _O_CREAT | _O_EXCL, _O_WRONLY | _O_CREAT | _O_EXCL };
     if (is_device(path)) return errno = EACCES, -1;
     return _wopen(wide(path, 0), flags[how] | _O_BINARY | _O_NOINHERIT, _S_IREAD | _S_IWRITE);
 }
 
-bool make_alike(const char *path, const target *old)
+bool make_alike(int file, const char *path, const target *old)
 {
+    (void)file;
     return SetFileAttributesW(wide(path, 0), old->mode);
 }
 
