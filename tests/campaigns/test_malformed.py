@@ -21,7 +21,9 @@ from rsp_conformance.commands import counted
 from rsp_conformance.files import FileFault, write
 from rsp_conformance.vectors import VectorsFault, entries_in, manifest_in, memory_in
 
-RESULT: Dict[str, Any] = {**nothing(), "instruction": "vadd", "start": 0, "size": 20}
+HASHES = {"emulator": "a", "library": "b"}
+TASK = {"instruction": "vadd", "seed": "1", "start": 0, "size": 20}
+RESULT: Dict[str, Any] = {**nothing(), **TASK, "count": 20, "hashes": HASHES}
 CASE: Dict[str, Any] = {
     "name": "ADD-000",
     "word": "000b1820",
@@ -32,13 +34,19 @@ CASE: Dict[str, Any] = {
 NESTED = "[" * 100_000
 WRONG: Dict[str, List[Any]] = {
     "instruction": [5, None, [], "vadd<b>", "../vadd"],
-    "count": ["x", None, [1], -1, float("nan")],
-    "differ": [1 << 53, 10**400, float("inf")],
+    "count": ["x", None, [1], -20, 0, 19, 21, 0.5, float("nan")],
+    "differ": [21, -1, 10**400, float("inf")],
+    "choices": [21],
+    "unshown": [21],
+    "missing": [21],
     "processor": ["1", {}, float("nan"), float("inf"), -0.5],
-    "parts": [[], {"$v1": "x"}, {"$v1": float("nan")}, {"$v1": 10**400}],
+    "parts": [[], {"$v1": "x"}, {"$v1": float("nan")}, {"$v1": 21}, {"\ud800": 10**400}],
     "shown": [5, [5], {}],
     "unseen": ["x", [[]]],
-    "start": ["0", 0.5, -1],
+    "start": ["0", 0.5, -1, 1 << 53],
+    "size": ["20", 0, -20, 19, 21],
+    "seed": [None, 1],
+    "hashes": [None, []],
     "given up": [None, 5, ["x"]],
 }
 RESULTS = {
@@ -62,18 +70,56 @@ def test_no_result(text: str, folder: Path) -> None:
         results_in(folder)
 
 
-@pytest.mark.parametrize("name", ("../x", "/tmp/x", "a/b", "..", "", "x\n", "\x1b[31m"))
-@pytest.mark.parametrize("is_program", (False, True), ids=("instruction", "program"))
-def test_result_of_a_worker(is_program: bool, name: str, folder: Path) -> None:
-    """A name in it that would be a file elsewhere is refused, and nothing is written."""
-    kept = Folder.__new__(Folder)
-    kept.out, kept.given = folder / "out", {"emulator": "mine", "hashes": {}}
-    kept.out.mkdir()
-    program = {"name": name if is_program else "vadd-1", "source": "", "script": ""}
-    result = {**RESULT, "count": 1, "hashes": {}, "instruction": "vadd" if is_program else name}
-    with pytest.raises(CampaignFault, match="a worker has sent a result with the name '"):
-        kept.keep({**result, "programs": [program]})
-    assert [*folder.rglob("*")] == [kept.out]
+# Results that are right each for itself, and what they say otherwise than their file or their campaign.
+OTHERS: Dict[str, Tuple[str, Dict[str, Any], str]] = {
+    "instruction": ("vadd-0-20.json", {"instruction": "vsub"}, "has what vsub-0-20.json has to have"),
+    "number": ("vadd-0-20.json", {"start": 20}, "has what vadd-20-20.json has to have"),
+    "copy": ("a-b-1.json", {}, "has what vadd-0-20.json has to have"),
+    "task": ("vadd-7-20.json", {"start": 7}, "is the result of another campaign"),
+    "seed": ("vadd-0-20.json", {"seed": "2"}, "is the result of another campaign"),
+    "hashes": ("vadd-0-20.json", {"hashes": {**HASHES, "library": "c"}}, "is the result of another campaign"),
+}
+
+
+def campaign_in(folder: Path) -> Folder:
+    """A campaign of two tasks, which has no file yet."""
+    made = Folder.__new__(Folder)
+    made.out, made.given = folder, {"emulator": "mine", "hashes": HASHES, "seed": "1"}
+    made.tasks = [("vadd", 0, 20), ("vadd", 20, 20)]
+    return made
+
+
+@pytest.mark.parametrize("name, more, why", OTHERS.values(), ids=OTHERS)
+def test_result_of_another_task(name: str, more: Dict[str, Any], why: str, folder: Path) -> None:
+    """It counts for no task, and not once more for its own."""
+    campaign = campaign_in(folder)
+    campaign.keep(RESULT)
+    assert [it["start"] for it in campaign.results()] == [0] and campaign.left() == [("vadd", 20, 20)]
+    (folder / name).write_text(json.dumps({**RESULT, **more}))
+    with pytest.raises(CampaignFault) as refused:
+        campaign.results()
+    assert str(refused.value) == f"{folder / name} {why}: delete it, and start the campaign again"
+
+
+NAMES = ("../x", "/tmp/x", "a/b", "..", "", "x\n", "\x1b[31m")
+# What a worker may send, and why it is refused.
+SENT = {
+    **{f"program {it!r}": ({"programs": [{"name": it}]}, "a program with the name '") for it in NAMES},
+    **{f"instruction {it!r}": ({"instruction": it}, "what isn't a result") for it in NAMES},
+    "another instruction": ({"instruction": "vsub"}, "vsub-0-20.json, which is no task of this campaign"),
+    "another number": ({"start": 7}, "vadd-7-20.json, which is no task of this campaign"),
+    "another seed": ({"seed": "2"}, "vadd-0-20.json, which is no task of this campaign"),
+    "another count": ({"count": 1 << 30}, "what isn't a result"),
+}
+
+
+@pytest.mark.parametrize("more, why", SENT.values(), ids=SENT)
+def test_result_of_a_worker(more: Dict[str, Any], why: str, folder: Path) -> None:
+    """It is refused, and nothing is written, here or elsewhere."""
+    (folder / "out").mkdir()
+    with pytest.raises(CampaignFault, match=f"a worker has sent {why}"):
+        campaign_in(folder / "out").keep({**RESULT, **more})
+    assert [*folder.rglob("*")] == [folder / "out"]
 
 
 # What reads a file of somebody else's folder, and the file.

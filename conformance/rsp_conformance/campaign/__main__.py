@@ -15,13 +15,13 @@ import time
 from pathlib import Path
 from typing import Any, Callable, List, NoReturn, Tuple
 
-from rsp_conformance.commands import printable
+from rsp_conformance.commands import printable, say
 from rsp_conformance.files import FileFault, write
 from rsp_conformance.table import ROWS as INSTRUCTIONS
 
 from . import CampaignFault
 from .folder import Folder, given_in
-from .report import html_table, results_in, text_table
+from .report import html_table, text_table
 from .shared import PROGRAM, VERSION, counted, name_of
 from .task import check
 from .workers import options_of, results
@@ -85,18 +85,18 @@ def run(args: argparse.Namespace) -> None:
         done, differ = done + result["count"], differ + result["differ"]
         progress.tell(number, done, differ)
     progress.end()
-    report(args)
+    report(args, folder)
     if tasks_left := folder.left():
         why = lost or "-".join(map(str, tasks_left[0]))
         are = "isn't" if len(tasks_left) == 1 else "aren't"
         stop(f"{counted(len(tasks_left), 'task')} {are} done ({why}); start it again")
 
 
-def report(args: argparse.Namespace) -> None:
+def report(args: argparse.Namespace, folder: Folder) -> None:
     """Prints and writes the table."""
-    if found := results_in(args.out):
+    if found := folder.results():
         text, title = text_table(found), f"{args.emulator.rpartition('/')[2]} against the proved library"
-        print(text)
+        say(text + "\n")
         write(args.out / "table.txt", text + "\n")
         write(args.out / "table.html", html_table(found, title))
 
@@ -111,12 +111,12 @@ def show(args: argparse.Namespace) -> None:
     result = check(args.emulator, name, seed, first, last - first + 1, options)
     if "given up" in result:
         stop(f"{name_of(name, seed, first)}: {result['given up']}")
-    print(*result["shown"], sep="\n", end="\n" * bool(result["shown"]))
+    say("".join(f"{it}\n" for it in result["shown"]))
     missing = f", {result['missing']} not there" if result["missing"] else ""
-    print(f"{result['count']} done, {result['differ']} differ, {result['unshown']} not shown{missing}")
+    say(f"{result['count']} done, {result['differ']} differ, {result['unshown']} not shown{missing}\n")
     for it in result["programs"]:
-        print(f"{it['name']} is cut down to {counted(it['steps'], 'step')} from {it['pc']:03x}:")
-        print(*it["listing"], *(f"  {line}" for line in it["differs"]), sep="\n")
+        head = f"{it['name']} is cut down to {counted(it['steps'], 'step')} from {it['pc']:03x}:"
+        say("".join(f"{line}\n" for line in (head, *it["listing"], *(f"  {at}" for at in it["differs"]))))
 
 
 def number_from(least: int) -> Callable[[str], int]:

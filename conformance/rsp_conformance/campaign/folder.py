@@ -5,18 +5,17 @@ import json
 import platform
 import re
 from pathlib import Path
-from typing import Any, Dict, List, Tuple
+from typing import Any, Dict, List
 
 from rsp_conformance.files import read, write
 
 from . import CampaignFault
 from .hashes import hashes
-from .shared import PROGRAM, VERSION, Result
+from .report import AGAIN, file_of, is_result, results_in, task_of
+from .shared import PROGRAM, VERSION, Result, Task
 
 # What decides a campaign's cases and programs.
 GIVEN = ("emulator", "instructions", "seed", "cases", "size", "programs", "programs_size", "steps")
-
-Task = Tuple[str, int, int]  # the instruction, the first number, and how many
 
 
 def given_in(out: Path) -> Dict[str, Any]:
@@ -44,7 +43,7 @@ class Folder:
         ]
 
     def open(self) -> None:
-        """Makes the folder; one that holds another campaign is refused."""
+        """Makes the folder; one that holds another campaign, or another's results, is refused."""
         import numpy
 
         versions = {"python": platform.python_version(), "numpy": numpy.__version__}
@@ -59,25 +58,47 @@ class Folder:
         if other := [key for key in self.given if self.given[key] != there[key]]:
             value = json.dumps(there[other[0]])[:200]
             raise CampaignFault(f"{self.out} holds another campaign: its {other[0]} is {value}")
+        self.results()
 
     def file(self, task: Task) -> Path:
-        return self.out / f"{'-'.join(map(str, task))}.json"
+        return self.out / file_of(task)
+
+    def is_ours(self, result: Result) -> bool:
+        """Whether a result answers a task of this campaign."""
+        return task_of(result) in self.tasks and result["seed"] == self.given["seed"]
+
+    def results(self) -> List[Result]:
+        """The results that are there."""
+        found = results_in(self.out)
+        for it in found:
+            if not self.is_ours(it) or it["hashes"] != self.given["hashes"]:
+                path = self.file(task_of(it))
+                raise CampaignFault(f"{path} is the result of another campaign: {AGAIN}")
+        return found
 
     def left(self) -> List[Task]:
         return [it for it in self.tasks if not self.file(it).exists()]
 
     def keep(self, result: Result) -> None:
-        """Writes a result. It is refused if a worker has another emulator."""
+        """Writes a result. It is refused if it answers no task, or if a worker has another emulator."""
+        if not is_result(result):
+            raise CampaignFault("a worker has sent what isn't a result")
         if not result["count"] and "given up" in result:
             raise CampaignFault(f"{self.given['emulator']}: {result['given up']}")
-        if other := [key for key, value in result["hashes"].items() if value != self.given["hashes"][key]]:
+        if other := [
+            key for key, value in self.given["hashes"].items() if value != result["hashes"].get(key)
+        ]:
             raise CampaignFault(f"a worker has other files of the {other[0]} than this machine")
-        names = [str(result["instruction"]), *(str(it["name"]) for it in result["programs"])]
+        if not self.is_ours(result):
+            raise CampaignFault(
+                f"a worker has sent {file_of(task_of(result))}, which is no task of this campaign"
+            )
+        names = [str(it["name"]) for it in result["programs"]]
         if odd := [it for it in names if not re.fullmatch(r"[\w-]+", it)]:
-            raise CampaignFault(f"a worker has sent a result with the name {odd[0]!r}")
+            raise CampaignFault(f"a worker has sent a program with the name {odd[0]!r}")
         for program in result["programs"]:
             folder = self.out / "programs"
             folder.mkdir(exist_ok=True)
             write(folder / f"{program['name']}.s", program.pop("source"))
             write(folder / f"{program['name']}.script", program.pop("script"))
-        write(self.file((result["instruction"], result["start"], result["size"])), json.dumps(result) + "\n")
+        write(self.file(task_of(result)), json.dumps(result) + "\n")

@@ -10,7 +10,7 @@ from rsp_conformance.files import read
 from rsp_conformance.table import ROWS
 
 from . import CampaignFault
-from .shared import PROGRAM, Result, counted
+from .shared import PROGRAM, Result, Task, counted
 from .task import LISTS, NUMBERS, add, nothing
 
 HEADS = ("", "cases", "not shown", "differ", "choices", "faults", "first difference")
@@ -28,25 +28,44 @@ def results_in(out: Path) -> List[Result]:
     return sorted(found, key=lambda it: (it["instruction"] == PROGRAM, it["instruction"], it["start"]))
 
 
+AGAIN = "delete it, and start the campaign again"
 MOST = 1 << 53  # no number of a result is as large; JSON has larger ones, and some that are none
+COUNTS = [key for key in NUMBERS if key != "processor"]
 # What a result has, and of what type it is.
 TYPES: Dict[str, Any] = {
-    **{"instruction": str, "start": int, "size": int, "parts": dict},
-    **{key: (int, float) for key in NUMBERS},
+    **{"instruction": str, "seed": str, "parts": dict, "hashes": dict, "processor": (int, float)},
+    **{key: int for key in ("start", "size", *COUNTS)},
     **{key: list for key in LISTS},
 }
 
 
 def is_result(found: Any) -> bool:
-    """Whether this has the parts of a result, which may be somebody else's."""
+    """Whether this has the parts of a result, which may be somebody else's, and counts no case twice."""
     if not isinstance(found, dict) or any(not isinstance(found.get(key), it) for key, it in TYPES.items()):
         return False
-    texts = [found["instruction"], *found["shown"], *found["unseen"], found.get("given up", "")]
-    numbers = [found["start"], found["size"], *(found[key] for key in NUMBERS), *found["parts"].values()]
-    has_types = all(isinstance(it, str) for it in texts) and all(
-        isinstance(it, (int, float)) and 0 <= it < MOST for it in numbers
-    )
-    return has_types and (found["instruction"] == PROGRAM or found["instruction"] in ROWS)
+    texts = [*found["shown"], *found["unseen"], found.get("given up", "")]
+    counts = [*(found[key] for key in COUNTS), *found["parts"].values()]
+    has_types = all(isinstance(it, str) for it in texts) and all(isinstance(it, int) for it in counts)
+    is_known = found["instruction"] == PROGRAM or found["instruction"] in ROWS
+    return has_types and is_known and has_range(found, counts)
+
+
+def has_range(found: Result, counts: List[int]) -> bool:
+    """Whether all cases of a result are counted, or fewer if its task was given up, and each at most once."""
+    done, size = found["count"], found["size"]
+    numbers_are_right = 0 <= found["start"] < MOST and 0 < size < MOST and 0 <= found["processor"] < MOST
+    is_whole = done <= size if "given up" in found else done == size
+    return numbers_are_right and is_whole and all(0 <= it <= done for it in counts)
+
+
+def task_of(result: Result) -> Task:
+    """The task that a result answers."""
+    return result["instruction"], result["start"], result["size"]
+
+
+def file_of(task: Task) -> str:
+    """The name of the file that a task's result has."""
+    return f"{'-'.join(map(str, task))}.json"
 
 
 def result_in(path: Path) -> Result:
@@ -55,7 +74,9 @@ def result_in(path: Path) -> Result:
     except (ValueError, RecursionError):
         found = {}
     if not is_result(found):
-        raise CampaignFault(f"{path} isn't a result: delete it, and start the campaign again")
+        raise CampaignFault(f"{path} isn't a result: {AGAIN}")
+    if path.name != (name := file_of(task_of(found))):
+        raise CampaignFault(f"{path} has what {name} has to have: {AGAIN}")
     return found
 
 

@@ -1,8 +1,9 @@
 """What a campaign's processes share without numpy: names of cases, and a batch's ends in shared memory."""
 
-from typing import Any, Dict
+from typing import Any, Dict, Tuple
 
 Result = Dict[str, Any]  # of a task, of a batch of cases, or of a program: what adds up, and what is shown
+Task = Tuple[str, int, int]  # of a campaign: the instruction, the first number, and how many
 Options = Dict[str, Any]  # what a task has to know of its campaign
 
 VERSION = 2  # of the generator: a case has the same name as long as it is the same

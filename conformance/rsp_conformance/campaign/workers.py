@@ -16,8 +16,7 @@ import sys
 from typing import Any, Iterator, List, Set, Union
 
 from . import CampaignFault
-from .folder import Task
-from .shared import Options, Result
+from .shared import Options, Result, Task
 from .task import PYTHON, check
 
 COMMAND = [str(PYTHON), "rsp_conformance.campaign.task"]
