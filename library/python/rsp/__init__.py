@@ -145,11 +145,13 @@ class AssemblyError(RspError):
     """A text has a fault. `line` counts from 1, `source` is that line, and `fault` is a number from 10 to 16,
     in FAULTS with its name.
 
-    `allowed` says which operand is at fault and what it may be, if one is; the message ends with it.
+    `allowed` says which operand is at fault and what it may be, if one is; the message ends with it. The
+    message shows each character of `source` that would control a terminal as its escape: \\x1b.
     """
 
     def __init__(self, line: int, fault: int, source: str = "", allowed: str = "") -> None:
-        words = f"fault {fault} {FAULTS.get(fault, 'unknown')} line {line}: {source}"
+        shown = "".join(it if it.isprintable() or it == "\t" else ascii(it)[1:-1] for it in source)
+        words = f"fault {fault} {FAULTS.get(fault, 'unknown')} line {line}: {shown}"
         super().__init__(Status.NO_MEANING, f"assemble: {words}{f'; {allowed}' if allowed else ''}")
         self.line, self.fault, self.source, self.allowed = line, fault, source, allowed
 

@@ -151,7 +151,7 @@ def first_difference(
     4294967295, isn't in its range, or the emulator's memory has a wrong length.
     """
     every, limit = _in_words.integers("first_difference", (every, limit))
-    if not 1 <= every <= 1000000 or limit < 0:
+    if not 1 <= every <= 1000000 or not 0 <= limit < _in_words.BELOW:
         raise ValueError(_in_words.refusal(3, "first_difference", (every, limit)))
     rdram, steps = machine.image_length, 0
     seen = _seen(machine, rdram)

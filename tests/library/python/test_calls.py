@@ -440,6 +440,16 @@ def test_refused_line(line: str) -> None:
     assert caught.value.allowed == told
 
 
+def test_refused_line_of_a_stranger() -> None:
+    """The message has nothing that a terminal would obey; `source` is the line as it is."""
+    line = "foo\t\x1b]0;title\x07\x9b31m\x7f\u202e\u2028 \xfc\\"
+    with pytest.raises(rsp.AssemblyError) as caught:
+        rsp.assemble(f"nop\n{line}\n")
+    told = "foo\t\\x1b]0;title\\x07\\x9b31m\\x7f\\u202e\\u2028 \xfc\\"
+    assert str(caught.value) == f"assemble: fault 10 BadLine line 2: {told}"
+    assert caught.value.source == line
+
+
 def test_disassembly() -> None:
     assert rsp.text(0x4A631050, 4) == "vadd $v1, $v2, $v3[1q]"
     refused(OUT, rsp.text, 0, 4096)
