@@ -3,7 +3,7 @@
 #include "fuzz.h"
 
 static input given;
-static char said[4096];
+static char said[1 << 15];
 
 /* The runner's file is the input, and what it prints is kept here. */
 static FILE *open_input(void)
