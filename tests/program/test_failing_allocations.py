@@ -1,4 +1,4 @@
-"""Each allocation and growth of the program, and of the crates' tests, fails in turn.
+"""Each allocation and growth of the program, and of the crates' tests, fails in turn, and the stack is small.
 
 They fail if an answer isn't the right one, or if the answers don't come in the order of the work.
 
@@ -10,6 +10,7 @@ crate, has built.
 """
 
 import re
+import resource
 import tempfile
 from pathlib import Path
 from typing import Iterator, Optional, Sequence
@@ -17,6 +18,8 @@ from typing import Iterator, Optional, Sequence
 import pytest
 
 from lib import TOP, failing
+from lib.pages import page
+from lib.processes import bytes_of
 from lib.program import Ran, need_binary
 from lib.stored import SCRIPTS, Stored
 
@@ -143,6 +146,24 @@ def test_asm(binary: Path, calls: Path, folder: Path) -> None:
 def test_dis(binary: Path, calls: Path, folder: Path) -> None:
     (folder / "words").write_bytes(CODE)
     assert re.fullmatch(READING, answers_of(calls, [binary, "dis", folder / "words"], b"", LISTING))
+
+
+@pytest.mark.parametrize(
+    "words, script, output",
+    (
+        ("run --save {}", BLOCK, BLOCK_REPLIES),
+        ("asm {0} {0}.words", b"", b"ok 4 words\n"),
+        ("dis {}", b"", LISTING),
+    ),
+)
+def test_small_stack(words: str, script: bytes, output: bytes, binary: Path, folder: Path) -> None:
+    """The size that SECURITY.md says is enough."""
+    size = 1024 * int(re.findall(r"`rsp` needs (\d+) KiB", page("SECURITY.md"))[0])
+    (folder / "file").write_bytes(TEXT if "asm" in words else CODE)
+    command = [it.format(folder / "file") for it in words.split()]
+    limit = {"preexec_fn": lambda: resource.setrlimit(resource.RLIMIT_STACK, (size, size))}
+    ended = bytes_of(binary, command, script, **limit)
+    assert (ended.returncode, ended.stdout, ended.stderr) == (0, output, b"")
 
 
 @pytest.mark.parametrize(
