@@ -11,12 +11,14 @@ from lib.campaigns import SOURCES, campaign
 from lib.packages import is_here
 from lib.processes import run
 
+ADD = '{"name":"ADD-0","word":"00000020","text":"","before":{},"after":{}}\n'
 FILES = {
     "file": "",
-    "broken/steps/ADD.jsonl": '{"name":"ADD-000"\n',
-    "state/steps/ADD.jsonl": '{"name":"ADD-0","word":"00000020","text":"","before":{"r1":"zz"},"after":{}}\n',
-    "red/steps/ADD.jsonl": '{"name":"ADD-0","word":"0","text":"","before":{"r1":"\\u001b[1mz"},"after":{}}\n',
-    "wide/steps/ADD.jsonl": '{"name":"ADD-0","word":"100000020","text":"","before":{},"after":{}}\n',
+    "broken/steps/ADD.jsonl": '{"name":"ADD-0"\n',
+    "state/steps/ADD.jsonl": ADD.replace('"before":{}', '"before":{"r1":"zz"}'),
+    "red/steps/ADD.jsonl": ADD.replace('"before":{}', '"before":{"r1":"\\u001b[1mz"}'),
+    "wide/steps/ADD.jsonl": ADD.replace("00000020", "100000020"),
+    "odd/steps/ADD.jsonl": ADD.replace('"before":{}', '"before":{"pc":"002","npc":"006"}'),
     "alone/steps/ADD.jsonl": (TOP / "conformance/vectors/steps/ADD.jsonl").read_text(),
     # of campaigns
     "full/x": "",
