@@ -31,7 +31,8 @@ int caught_close(int file);
 int caught_fsync(int file);
 int caught_lstat(const char *path, struct stat *to);
 int caught_access(const char *path, int mode);
-int caught_chmod(const char *path, mode_t mode);
+int caught_fchown(int file, uid_t user, gid_t group);
+int caught_fchmod(int file, mode_t mode);
 int caught_rename(const char *from, const char *to);
 int caught_unlink(const char *path);
 void *caught_malloc(size_t len);
@@ -42,7 +43,8 @@ _Noreturn void caught_exit(int status) { longjmp(end, 1 + status); }
 int caught_close(int file) { return (void)file, 0; }
 int caught_fsync(int file) { return (void)file, 0; }
 int caught_access(const char *path, int mode) { return (void)path, (void)mode, 0; }
-int caught_chmod(const char *path, mode_t mode) { return (void)path, (void)mode, 0; }
+int caught_fchown(int file, uid_t user, gid_t group) { return (void)file, (void)user, (void)group, 0; }
+int caught_fchmod(int file, mode_t mode) { return (void)file, (void)mode, 0; }
 int caught_rename(const char *from, const char *to) { return (void)from, (void)to, 0; }
 int caught_unlink(const char *path) { return (void)path, 0; }
 int caught_lstat(const char *path, struct stat *to) { return (void)path, (void)to, errno = ENOENT, -1; }

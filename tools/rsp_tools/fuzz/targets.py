@@ -8,7 +8,9 @@ from rsp_tools.systems import program
 from rsp_tools.systems.toolchain import Word, call
 
 # The calls of the program in C that go to fuzz/program.c.
-CAUGHT = "exit read write open close fsync lstat access chmod rename unlink malloc calloc rsp_bench_new main"
+CAUGHT = """
+exit read write open close fsync lstat access fchown fchmod rename unlink malloc calloc rsp_bench_new main
+"""
 
 
 class Target(NamedTuple):
