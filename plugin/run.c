@@ -11,7 +11,8 @@ enum {
 };
 enum { BREAK = 0x0000000d };
 
-/* What a stop costs beside its instruction: at most the time of so many steps, for the stop, for each row of a DMA, and for some of its bytes. */
+/* What a stop costs beside its instruction: about the time of so many steps, for the stop, for each row of a DMA, and for some of its bytes. They are
+ * counted, and no clock is read, so that a task is suspended at the same instruction each time. */
 enum { STEPS_A_STOP = 16, STEPS_A_ROW = 8, BYTES_A_STEP = 64 };
 
 /* Makes the machine, or another one in its place. Returns 0 if there is no memory. */
