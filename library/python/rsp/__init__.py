@@ -150,8 +150,7 @@ class AssemblyError(RspError):
     """
 
     def __init__(self, line: int, fault: int, source: str = "", allowed: str = "") -> None:
-        shown = "".join(it if it.isprintable() or it == "\t" else ascii(it)[1:-1] for it in source)
-        words = f"fault {fault} {FAULTS.get(fault, 'unknown')} line {line}: {shown}"
+        words = f"fault {fault} {FAULTS.get(fault, 'unknown')} line {line}: {_in_words.printable(source)}"
         super().__init__(Status.NO_MEANING, f"assemble: {words}{f'; {allowed}' if allowed else ''}")
         self.line, self.fault, self.source, self.allowed = line, fault, source, allowed
 

@@ -20,7 +20,8 @@ class ScriptError(Exception):
     """
 
     def __init__(self, line: int, text: str, reply: str) -> None:
-        super().__init__(f"line {line}: {reply}: {text[:_SHOWN]}".rstrip(": "))
+        shown = _in_words.printable(text[:_SHOWN])
+        super().__init__(f"line {line}: {reply}: {shown}".rstrip(": "))
         self.line, self.text, self.reply = line, text, reply
         self.fault = int(reply.split()[1])
 

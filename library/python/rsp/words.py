@@ -13,6 +13,11 @@ FAULTS = {
 }  # fmt: skip
 
 
+def printable(text: str) -> str:
+    """A line with each character that would control a terminal as its escape: \\x1b."""
+    return "".join(it if it.isprintable() or it == "\t" else ascii(it)[1:-1] for it in text)
+
+
 class Range(NamedTuple):
     """The numbers that an argument may be."""
 

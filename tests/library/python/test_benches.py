@@ -195,6 +195,14 @@ def test_strict(script: str) -> None:
     assert reply.encode() in rsp.run_script(script, bytes(64)).replies, "without strict it is a reply"
 
 
+def test_strict_line_of_a_stranger() -> None:
+    """The message has nothing that a terminal would obey; `text` is the line as it is."""
+    with pytest.raises(rsp.ScriptError) as caught:
+        rsp.run_script("foo\t\x1b]0;title\x07\n", bytes(64), strict=True)
+    assert str(caught.value) == "line 1: fault 33 NotText: foo\t\\x1b]0;title\\x07"
+    assert caught.value.text == "foo\t\x1b]0;title\x07"
+
+
 def test_strict_without_a_fault() -> None:
     """The stored scripts, of which those that have a fault in a reply are refused at the first one."""
     faults = 0
