@@ -411,8 +411,10 @@ uint32_t rsp_labels(uint32_t origin, const uint8_t *text, size_t len, rsp_label 
 /* Disassembles a word for an address of IMEM, a multiple of 4 below 4096. Returns RSP_OUT_OF_RANGE. */
 uint32_t rsp_text(uint32_t word, uint32_t address, rsp_line *out);
 
-/* Disassembles `len` words of IMEM from an address on. Returns RSP_OUT_OF_RANGE unless the address is a
- * multiple of 4 below 4096 and the words end by IMEM's end. */
+/* Disassembles `len` words of IMEM from an address on. A jump with bits 10 to 25 set leads where it leads
+ * without them, but only `.word` assembles to it, so that is its text: rsp_text(word & 0xfc0003ff, ..) says
+ * where. Returns RSP_OUT_OF_RANGE unless the address is a multiple of 4 below 4096 and the words end by
+ * IMEM's end. */
 uint32_t rsp_listing(rsp *m, uint32_t address, rsp_line *lines, size_t len);
 
 /* What a statement takes as an operand: rsp_operand's `kind`. */

@@ -808,7 +808,11 @@ class Rsp(_Owner):
         self._see_done(status, "set_sp")
 
     def listing(self, place: int, count: int) -> List[Line]:
-        """At most 1024 words of IMEM from the address `place` on, a multiple of 4, with their disassembly."""
+        """At most 1024 words of IMEM from the address `place` on, a multiple of 4, with their disassembly.
+
+        A jump with bits 10 to 25 set leads where it leads without them, but only `.word` assembles to it, so
+        that is its text.
+        """
         numbers = place, count = _numbers("listing", place, count, most=1024)
         lines = (_Line * count)()
         self._see_free("rsp_listing")
