@@ -137,7 +137,7 @@ class Copy:
         """Begins the theorem of the page's wait, whose premise is the one that the page shows."""
         section = section_of("Waits")
         name = search(r"`tools/theorem (\w+) signal\.s`", section)[1]
-        text, premise = blocks_of(section)
+        text, premise, _ = blocks_of(section)  # the last one is of code after a wait
         begun = self.begin(name, text)
         assert f"→ {premise.strip()} →" in (self.crate / f"specs/{module_of(name)}.antt").read_text()
         return name, begun

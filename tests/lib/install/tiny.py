@@ -168,8 +168,8 @@ class Tiny:
         return Ran(ran.returncode, said, self.processes())
 
     def processes(self) -> list[int]:
-        """The processes that are still at work in the repository after ten seconds."""
-        until = time.monotonic() + 10
+        """The processes that are still at work in the repository after a time that a busy machine needs."""
+        until = time.monotonic() + 30
         while processes_in(self.at) and time.monotonic() < until:
             time.sleep(0.2)
         return processes_in(self.at)
