@@ -69,7 +69,7 @@ pub enum Request<'a> {
 enum Kind {
     /// A file that must be named, by its position.
     File,
-    /// An option with a value, for which the text stands in the help.
+    /// An option with a value, which the help calls by this name.
     Value(&'static str),
     /// An option without a value.
     Flag,
