@@ -247,13 +247,13 @@ def machine_on(program: str, name: str) -> Any:
 
 def told_by_runner(program: str, name: str, cases: Any) -> str:
     """What the runner of README.md prints about cases, on the program."""
-    found = re.search(r"\n\n(    import json(?:\n|    .*\n)*)", (HERE / "README.md").read_text())
+    found = re.search(r"(?ms)^```python\n(import json\n.*?)^```$", (HERE / "README.md").read_text())
     told = io.StringIO()
     with tempfile.NamedTemporaryFile("w", suffix=".json") as file, contextlib.redirect_stdout(told):
         json.dump(cases, file)
         file.flush()
         known = {"Rsp": machine_on(program, name), "FILE": file.name}
-        exec(re.sub("(?m)^    ", "", found[1] if found else "raise KeyError"), known)
+        exec(found[1] if found else "raise KeyError", known)
     return told.getvalue()
 
 

@@ -8,7 +8,7 @@ import pytest
 
 from lib import TOP
 from lib.campaigns import SOURCES, agreed, campaign, counts_of, results_of, said_of
-from lib.pages import page
+from lib.pages import blocks_of, page
 from lib.processes import succeeds
 from lib.z64 import PLUGIN as Z64
 from rsp_conformance.campaign.build import built
@@ -71,10 +71,9 @@ def test_sentences_about_z64(folder: Path) -> None:
 @pytest.mark.needs(Z64)
 def test_example_of_page(folder: Path) -> None:
     """What docs/CAMPAIGN.md prints of z64, except for the seconds."""
-    shown = re.findall(r"(?m)(?:^    .*\n)+", page("docs/CAMPAIGN.md"))
+    shown = blocks_of(page("docs/CAMPAIGN.md"))
     first = next(number for number, block in enumerate(shown) if "conformance/campaign plugin:" in block)
     for command, printed in (shown[first : first + 2], shown[first + 2 : first + 4]):
         words = shlex.split(command.replace("\\\n", "").replace("/tmp/first", str(folder / "first")))
-        wanted = re.sub("(?m)^    ", "", printed)
-        told, wanted = (re.sub(r"\d+ seconds?", "", it) for it in (campaign(*words[1:]).stdout, wanted))
+        told, wanted = (re.sub(r"\d+ seconds?", "", it) for it in (campaign(*words[1:]).stdout, printed))
         assert told == wanted

@@ -12,7 +12,6 @@ import tarfile
 import tempfile
 import zipfile
 from pathlib import Path
-from textwrap import dedent
 
 import pytest
 
@@ -233,8 +232,8 @@ def test_wheel(archive: Path, folder: Path) -> None:
     pip = ("own/bin/pip", "install", "--no-index", "--disable-pip-version-check")
     succeeds(*pip, *(archive / "python").glob("*.whl"), **where)
     assert succeeds("own/bin/python", archive / "examples/python/lockstep.py", **where) == LOCKSTEP
-    code, told = re.findall(r"(?s)\n\n((?:    .*?\n|\n)+)This prints `(.*?)`", DESCRIBED.read_text())[0]
-    assert succeeds("own/bin/python", "-c", dedent(code), **where) == f"{told}\n"
+    code, told = re.findall(r"(?ms)^```python\n(.*?)^```\n+This prints `(.*?)`", DESCRIBED.read_text())[0]
+    assert succeeds("own/bin/python", "-c", code, **where) == f"{told}\n"
     first = succeeds("own/bin/rsp", "run", input=page("examples/first.rsp"), **where)
     assert first == page("examples/first.out")
 
@@ -289,9 +288,9 @@ def by_rust(cargo: str) -> dict[str, str]:
 
 def write_crate(archive: Path, mine: Path) -> None:
     text = (archive / "docs/EMBEDDING.md").read_text()
-    lines, code = re.findall(r"(?ms)^    (\[dependencies\]\n.*?)\n\n(.*?)\n\n(?! )", text)[0]
+    lines, code = re.findall(r"(?ms)^```rust\n(\[dependencies\]\n.*?)\n\n(.*?)\n```$", text)[0]
     (mine / "src").mkdir(parents=True)
-    (mine / "Cargo.toml").write_text(CRATE + re.sub("(?m)^    ", "", lines))
+    (mine / "Cargo.toml").write_text(CRATE + lines)
     (mine / "src/main.rs").write_text(f"fn main() -> Result<(), rsp::Refused> {{\n{code}\n    {SHOW}\n}}\n")
 
 

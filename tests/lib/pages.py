@@ -6,17 +6,11 @@ import tempfile
 from pathlib import Path
 from typing import Iterable, Iterator, List, Optional, Sequence, Tuple
 
-from rsp_tools.pages import anchor, data, page  # noqa: F401 (for those who import them from here)
-
-
-def blocks_of(text: str) -> List[str]:
-    """The indented blocks of a text."""
-    found = re.findall(r"(?:^|\n)((?:    .*\n(?:\n(?=    ))?)+)", text)
-    return [re.sub("(?m)^    ", "", block) for block in found]
+from rsp_tools.pages import anchor, blocks_of, data, page  # noqa: F401 (for those who import them from here)
 
 
 def blocks(name: str) -> List[str]:
-    """The indented blocks of a page."""
+    """The fenced blocks of a page."""
     return blocks_of(page(name))
 
 

@@ -65,8 +65,8 @@ REFUSED = (
 
 def example() -> Tuple[str, str]:
     """The name and the text of the page's example."""
-    name = search(r"(?m)^    tools/theorem (\w+) times\.s$", page(PAGE))[1]
-    return name, search(r"here `times\.s`.*\n(?:\S.*\n)*\n((?:    .*\n)+)", page(PAGE))[1]
+    name = search(r"(?m)^tools/theorem (\w+) times\.s$", page(PAGE))[1]
+    return name, search(r"here `times\.s`.*\n(?:\S.*\n)*\n```text\n((?:.*\n)+?)```$", page(PAGE))[1]
 
 
 def link_or_copy(source: str, target: str) -> None:

@@ -24,8 +24,8 @@ RESULTS = 79  # calls of `see` in rom/cpu.c, with those in loops
 # conformance/Z64.md, at MFC0 and MTC0.
 Z64_WRONG = {0x602, 0x604, 0x605, 0x606, 0x609, 0x60A, 0x60B, 0x610, 0x611}
 HUNT = page("docs/PLUGIN.md").split("## Check a plugin of your own")[1]
-TOLD = re.findall(r"^    (RSP\D*: check: .*)", HUNT, re.M)  # what check mode says, by the page
-PLAYS = r"(?ms)^    (\S*mupen64plus --.*?[^\\])$"  # a command of the page
+TOLD = re.findall(r"^(RSP\D*: check: .*)", HUNT, re.M)  # what check mode says, by the page
+PLAYS = r"(?ms)^(\S*mupen64plus --.*?[^\\])$"  # a command of the page
 
 
 @pytest.fixture(scope="session")
@@ -85,7 +85,7 @@ def test_hunt_of_page(hunt: Bench) -> None:
     more = re.findall(r"printf '(.*?)'", HUNT)[0].replace("\\n", "\n")
     script = script[: script.index("\nregs\n") + 1] + more
     replies = run(hunt.program, "run", input=script).stdout.splitlines()[-37:]
-    shown = re.findall(r"^    (.*)", HUNT.split("| rsp run\n")[1], re.M)
+    shown = [*filter(None, HUNT.split("| rsp run\n")[1].partition("```")[0].split("\n"))]
     assert len(shown) == 8
     assert [it for it in replies if it in shown] == shown
 

@@ -10,6 +10,7 @@ from typing import Any, Dict, List, Tuple
 
 import pytest
 
+from lib.pages import blocks_of
 from lib.pages import page as text_of
 from lib.systems.page import CONTROL, ENTER, F1, FIRST, SHIFT, SHOWN, Host, Page, linked, the
 
@@ -29,8 +30,8 @@ def painted(page: Page) -> None:
 def example() -> Tuple[str, str]:
     """The README's script, and what it prints."""
     section = text_of("README.md").partition("\n## Example\n")[2].partition("\n## ")[0]
-    script, replies = re.findall(r"(?m)(?:^    .*\n)+", section)[:2]
-    return tuple(re.sub("(?m)^    ", "", it) for it in (script, replies))  # type: ignore[return-value]
+    script, replies = blocks_of(section)[:2]
+    return script, replies
 
 
 # What is there at first.

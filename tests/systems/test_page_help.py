@@ -7,6 +7,7 @@ from typing import Iterator, Set, Tuple
 
 import pytest
 
+from lib.pages import blocks_of
 from lib.pages import page as text_of
 from lib.systems.page import Host, Page
 from rsp_tools.pages import data
@@ -65,9 +66,10 @@ def test_words(name: str, page: Page, host: Host, pages: Path) -> None:
     page.open(f"{host.url}{pages.parent.name}/help/{name}.html")
     shown = page.value("document.querySelector('main').textContent")
     text = text_of(f"docs/{name}.md")
-    blocks = re.findall(r"(?m)(?:^    .*\n)+", text)
+    blocks = blocks_of(text)
     code = page.value("[...document.querySelectorAll('pre')].map((it) => it.textContent)")
     assert "".join(code).split() == re.sub(r"\s+", " ", "".join(blocks)).split()
+    text = re.sub(r"(?m)^```\w*\n", "", text)
     for form, instead in PLAIN:
         text = re.sub(form, instead, text)
     wanted, found = (re.findall(r"[A-Za-z0-9]+", it) for it in (text, shown))

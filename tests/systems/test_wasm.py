@@ -129,8 +129,7 @@ def test_lockstep(runner: Any) -> None:
 def page_code() -> List[Tuple[str, str]]:
     """The code of EMBEDDING.md's section, each with what the page says that it prints."""
     section = re.findall(r"(?ms)^## JavaScript\n(.*?)(?=^## |\Z)", page("docs/EMBEDDING.md"))[0]
-    found = re.findall(r"((?:^(?:    .*)?\n)+)It prints `([^`]*)`", section, re.M)
-    return [(re.sub(r"(?m)^    ", "", code), told) for code, told in found]
+    return re.findall(r"(?ms)^```js\n(.*?)^```\n+It prints `([^`]*)`", section)
 
 
 @on(*JAVASCRIPT)

@@ -32,6 +32,11 @@ def anchor(heading: str) -> str:
     return re.sub(r"[^\w\- ]", "", heading.lower()).replace(" ", "-")
 
 
+def blocks_of(text: str) -> List[str]:
+    """The fenced blocks of a text, without their fences."""
+    return re.findall(r"(?ms)^```\w+\n(.*?)^```$", text)
+
+
 def data(name: str) -> List[Dict[str, str]]:
     """The lines of a table of docs/data, each as its cells by the names of the columns."""
     names, *lines = [line.split("\t") for line in (DATA / f"{name}.tsv").read_text().splitlines()]
@@ -85,8 +90,8 @@ def manifest_shown() -> Iterator[Tuple[str, str]]:
         f'{{"row":"{manifest["row"]}","programs":[',
         f' {head},"layouts":{{"{case["layout"]}":{layout}}},"cases":[',
     )
-    block = "".join(f"    {it}\n" for it in (*lines, "  ..", f"  {short(case)},", "  ..]}]}"))
-    yield r'(?s)    {"row":.*?\]}\]}\n', block
+    block = "".join(f"{it}\n" for it in (*lines, "  ..", f"  {short(case)},", "  ..]}]}"))
+    yield r'(?ms)^{"row":.*?\]}\]}\n', block
     flags = (int(case["at"], 16) + vcc[1]) % programs.MEMORY
     told = (
         f"begins at {case['at']}, and its `vcc` is {vcc[1]} bytes after that, at {flags:03x}. So the byte at"
@@ -97,8 +102,8 @@ def manifest_shown() -> Iterator[Tuple[str, str]]:
 def made() -> Dict[str, str]:
     """Each page with what this writes, as a whole."""
     pages = {at: with_table(page(at), name) for name, at in TABLES.items()}
-    layers = "".join(f"    {name:19} {words}\n" for name, (words, _) in reversed(crates().items()))
-    pages[LAYERS] = replaced(page(LAYERS), r"(?ms)^## Layers\n.*?\n\n((?:    .*?\n)+)\n", layers)
+    layers = "".join(f"{name:19} {words}\n" for name, (words, _) in reversed(crates().items()))
+    pages[LAYERS] = replaced(page(LAYERS), r"(?ms)^## Layers\n.*?^```text\n(.*?)^```$", layers)
     pages[OF_VECTORS] = page(OF_VECTORS)
     for pattern, wanted in manifest_shown():
         pages[OF_VECTORS] = replaced(pages[OF_VECTORS], pattern, wanted)

@@ -15,7 +15,7 @@ import pytest
 from lib import TOP
 from lib.library import LOCKSTEP, shapes
 from lib.library.programs import COUNTED, HERE, built, by_both, main_of, passes, said_by
-from lib.pages import block_with, page
+from lib.pages import block_with, blocks_of, page
 from lib.processes import STRICT, compiled, run, succeeds
 
 pytestmark = [pytest.mark.needs("cc"), pytest.mark.usefixtures("library")]
@@ -43,7 +43,7 @@ def test_page(compiler: str, folder: Path) -> None:
     lines = re.findall(r"[Tt]his\sprints\s`([^`]*)`", section)
     begin = "static const uint8_t image[64] = { 0 };\nrsp m = RSP_NONE;\n"
     begin += "if (rsp_new(&m, image, 64, 100) != RSP_OK) return 1;\n"
-    program = main_of(begin + "\n".join(re.findall(r"(?m)^    (.*)", section)))
+    program = main_of(begin + "\n".join(blocks_of(section)))
     assert said_by(folder, program, compiler).splitlines() == lines and len(lines) == 8
 
 

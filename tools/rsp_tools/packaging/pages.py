@@ -15,20 +15,20 @@ MOVED = {
     "library/rust": "rust",
 }
 EMBEDDING, CAMPAIGN, PLUGIN = "docs/EMBEDDING.md", "docs/CAMPAIGN.md", "docs/PLUGIN.md"
-BUILD = r"    library/c/build  .*\n"
-COPY = "    cp -dR bin include lib share PREFIX     # installs it\n"
-NPM = "    npm install ./rsp-*-wasm64.tgz    # the archive for browsers and Node\n"
+BUILD = r"(?m)^library/c/build  .*\n"
+COPY = "cp -dR bin include lib share PREFIX     # installs it\n"
+NPM = "npm install ./rsp-*-wasm64.tgz    # the archive for browsers and Node\n"
 # Parts of commands: the page, what it says in the repository, and what it says in the archive.
 FORMS = (
-    (EMBEDDING, BUILD + r"    library/c/install PREFIX  .*\n", COPY),
+    (EMBEDDING, BUILD + r"library/c/install PREFIX  .*\n", COPY),
     (EMBEDDING, r"-Ilibrary/c my\.c library/c/librsp\.a", "-Iinclude my.c lib/librsp.a"),
     (EMBEDDING, r"-Ilibrary/c my\.c -Llibrary/c ", "-Iinclude my.c -Llib "),
     (EMBEDDING, r"(?<=-Wl,-rpath,\$PWD/)library/c(?=\"\n)", "lib"),
     (EMBEDDING, r"(?<=/bin/pip install )\./library/python(?=\n)", "python/rsp-*.whl"),
     (EMBEDDING, r'(?<=path = "\.\./)rsp/library(?=/rust")', "FOLDER"),
-    (EMBEDDING, r"    tools/systems wasm64  .*\n    npm install \./library/systems/wasm64\n", NPM),
+    (EMBEDDING, r"(?m)^tools/systems wasm64  .*\nnpm install \./library/systems/wasm64\n", NPM),
     (CAMPAIGN, r"(?<=-fPIC )-Ilibrary/c(?= )", "-Iinclude"),
-    (PLUGIN, BUILD + r"(?=    plugin/build  )", ""),
+    (PLUGIN, BUILD + r"(?=plugin/build  )", ""),
 )
 LINK = re.compile(r"(!?)\[([^\]]*)\]\(([^)\s#]*)(#[^)\s]*)?\)")
 

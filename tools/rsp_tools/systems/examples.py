@@ -20,17 +20,12 @@ def example(group: str, name: str, script: str) -> Example:
     return {"group": group, "name": " ".join(name.split()), "script": script}
 
 
-def unindented(block: str) -> str:
-    """A block of a page without its indentation."""
-    return re.sub("(?m)^    ", "", block).rstrip("\n") + "\n"
-
-
 def first(page: str) -> Example:
     """The README's example, by the words before it."""
-    found = re.search(r"(?m)^## Example\n\n((?:[^\s].*\n)+)\n((?:    .*\n)+)", page)
+    found = re.search(r"(?m)^## Example\n\n((?:\S.*\n)+)\n```text\n((?:.*\n)+?)```$", page)
     if not found:
         raise Refused("README.md has no section Example with a script")
-    return example("README", found[1], unindented(found[2]))
+    return example("README", found[1], found[2])
 
 
 def named(page: str) -> Dict[str, str]:
@@ -56,16 +51,14 @@ def idioms(page: str) -> Iterator[Example]:
     """The cookbook's blocks of text, by the heading or the bold words before each, assembled and listed."""
     section = page[page.index("## Idioms") : page.index("## Macros")]
     title = ""
-    for part in re.split(r"\n(?:[ \t]*\n)+", section):
-        bold = re.search(r"\*\*(.*?)\*\*", part, re.S)
-        if part.startswith("    "):
-            text = unindented(part)
+    for head, bold, text in re.findall(
+        r"(?ms)^### (.*?)$|(?<=\n\n)\*\*(.*?)\*\*|^```text\n(.*?)^```$", section
+    ):
+        if text:
             script = f"# {title}\nasm 0\n{text}end\ndis 0 {len(text.splitlines())}\n"
             yield example("Idioms of the cookbook", title, script)
-        elif part.startswith("### "):
-            title = part[len("### ") :]
-        elif bold:
-            title = " ".join(bold[1].split()).rstrip(".")
+        else:
+            title = " ".join((head or bold).split()).rstrip(".")
 
 
 def routine(path: Path) -> Example:
