@@ -24,9 +24,10 @@ def by_first_lines(names: str, values: List[Any]) -> Any:
 
 
 def test_readme(program: Path) -> None:
-    """The session. Script and replies may follow each other without a sentence: then they are one block."""
-    script, _, told = block_with("README.md", "load dmem 0  0001").partition("\n\n")
-    see_reply(replies(program, script + "\n"), told or block_with("README.md", "load dmem 0  0001", 1))
+    """The example is the script that the README's first command runs, and its replies."""
+    script, told = next(transcripts("README.md", "## Example"))
+    assert (script, f"{told}\n") == (page("examples/first.rsp"), page("examples/first.out"))
+    see_reply(replies(program, script), told)
 
 
 def test_assembly(program: Path) -> None:

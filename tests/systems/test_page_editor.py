@@ -10,7 +10,6 @@ from typing import Any, Dict, List, Tuple
 
 import pytest
 
-from lib.pages import blocks_of
 from lib.pages import page as text_of
 from lib.systems.page import CONTROL, ENTER, F1, FIRST, SHIFT, SHOWN, Host, Page, linked, the
 
@@ -27,19 +26,12 @@ def painted(page: Page) -> None:
     page.value("new Promise((done) => requestAnimationFrame(() => requestAnimationFrame(done)))")
 
 
-def example() -> Tuple[str, str]:
-    """The README's script, and what it prints."""
-    section = text_of("README.md").partition("\n## Example\n")[2].partition("\n## ")[0]
-    script, replies = blocks_of(section)[:2]
-    return script, replies
-
-
 # What is there at first.
 
 
 def test_first_example(page: Page) -> None:
     """The README's example, answered, without a question when the page is left."""
-    script, replies = example()
+    script, replies = text_of("examples/first.rsp"), text_of("examples/first.out")
     assert page.script == script
     assert page.value(CHOSEN) == FIRST
     assert page.replies() == replies
@@ -308,7 +300,7 @@ def test_undo(page: Page) -> None:
     page.click("undo")
     assert page.saved("save-script", "script.rsp") == script
     page.click("undo")
-    assert page.script == example()[0]
+    assert page.script == text_of("examples/first.rsp")
     assert page.is_disabled("undo")
 
 
@@ -322,7 +314,7 @@ def test_undo_of_typing(page: Page) -> None:
     page.press("z", CONTROL)
     assert page.script == before
     page.press("z", CONTROL)
-    assert page.script == example()[0]
+    assert page.script == text_of("examples/first.rsp")
 
 
 # Replies beside their commands, and on a telephone.
@@ -431,5 +423,5 @@ def test_link_is_not_run(page: Page) -> None:
     page.open_link(linked(b"step\n"))
     page.settle()
     assert page.script == "step\n"
-    assert page.value(SHOWN) == example()[1].count("\n")
+    assert page.value(SHOWN) == text_of("examples/first.out").count("\n")
     page.press(ENTER)

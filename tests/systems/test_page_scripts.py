@@ -11,7 +11,7 @@ import pytest
 
 import rsp
 from lib.stored import Stored, stored
-from lib.systems.page import ENTER, FIRST, LINKED, SHOWN, Host, Page, linked, the, way_of
+from lib.systems.page import ENTER, LINKED, SHOWN, Host, Page, linked, the, way_of
 from rsp_tools.systems import places
 
 pytestmark = pytest.mark.xdist_group("page")
@@ -53,14 +53,14 @@ def test_stored(opened: Tuple[Page, str], script: Stored) -> None:
 
 
 def test_examples(page: Page) -> None:
-    """Each example is a script of the repository, or assembles; the first one is the README's."""
+    """Each example is a script of the repository, or assembles."""
     options = "[...document.querySelectorAll('#example option')].slice(1).map((it) => it.textContent)"
     held, found = {it.script for it in stored()}, []
     for number, name in enumerate(page.value(options)):
         page.choose(number)
         script = page.saved("save-script", "script.rsp")
         found.append(script)
-        if name != FIRST and script not in held:
+        if script not in held:
             words = len(script.splitlines()) - len(["a comment", "asm", "end", "dis"])
             first, *listed = page.run().splitlines()
             assert (first, len(listed)) == (f"ok {words} words", words), name

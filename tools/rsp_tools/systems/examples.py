@@ -10,6 +10,7 @@ from .toolchain import Refused
 
 README = places.TOP / "README.md"
 COOKBOOK = places.TOP / "docs" / "COOKBOOK.md"
+FIRST = places.TOP / "examples" / "first.rsp"
 Example = Dict[str, str]
 
 
@@ -21,11 +22,11 @@ def example(group: str, name: str, script: str) -> Example:
 
 
 def first(page: str) -> Example:
-    """The README's example, by the words before it."""
-    found = re.search(r"(?m)^## Example\n\n((?:\S.*\n)+)\n```text\n((?:.*\n)+?)```$", page)
+    """The README's example, by the first sentence about it."""
+    found = re.search(r"(?m)^## Example\n\n([^.]*)\.", page)
     if not found:
-        raise Refused("README.md has no section Example with a script")
-    return example("README", found[1], found[2])
+        raise Refused("README.md has no section Example with a sentence")
+    return example("README", found[1], FIRST.read_text())
 
 
 def named(page: str) -> Dict[str, str]:
@@ -39,7 +40,7 @@ def named(page: str) -> Dict[str, str]:
 def scripts(page: str) -> Iterator[Example]:
     """Those of examples/: first those that show `rsp run` itself, then those of the cookbook's table."""
     said, table = named(page), {*re.findall(r"(?m)^\| \[(\w+)\.rsp\]", page)}
-    held = {it.stem: it.read_text() for it in sorted(places.TOP.glob("examples/*.rsp"))}
+    held = {it.stem: it.read_text() for it in sorted(places.TOP.glob("examples/*.rsp")) if it != FIRST}
     if missing := held.keys() - said.keys():
         raise Refused(f"docs/COOKBOOK.md says nothing of examples/{min(missing)}.rsp")
     for group, is_of in ("rsp run itself", False), ("Cookbook", True):
