@@ -89,19 +89,19 @@ struct SubcommandForm {
 const SUBCOMMANDS: [SubcommandForm; 3] = [
     SubcommandForm {
         name: "run",
-        about: "Reads a script from standard input, and writes the replies to its lines",
+        about: "Reads a script from standard input, and prints a reply to each command",
         usage: Some("rsp run [OPTIONS] < SCRIPT"),
         arguments: &RUN,
     },
     SubcommandForm {
         name: "asm",
-        about: "Assembles a text, and writes its words with the high byte first",
+        about: "Assembles source text into a file of words, each with the high byte first",
         usage: None,
         arguments: &ASM,
     },
     SubcommandForm {
         name: "dis",
-        about: "Prints the words of a file, the high byte first, as assembly text",
+        about: "Prints a file of words, each with the high byte first, as assembly text",
         usage: None,
         arguments: &DIS,
     },
@@ -111,12 +111,12 @@ const RUN: [ArgumentForm; 3] = [
     (
         "rdram",
         Kind::Value("FILE"),
-        "The image of the RDRAM; without it 4194304 zeros",
+        "The contents of RDRAM before the run; without it 4194304 zero bytes",
     ),
     (
         "save",
         Kind::Value("FILE"),
-        "Where the image is written after the run",
+        "Where the contents of RDRAM are written after the run",
     ),
     (
         "strict",
@@ -127,7 +127,7 @@ const RUN: [ArgumentForm; 3] = [
 
 const ASM: [ArgumentForm; 5] = [
     ("SRC", Kind::File, "The source text"),
-    ("OUT", Kind::File, "Where the words are written"),
+    ("OUT", Kind::File, "The file that the words are written to"),
     ADDRESS,
     (
         "listing",
@@ -137,7 +137,7 @@ const ASM: [ArgumentForm; 5] = [
     (
         "explain",
         Kind::Flag,
-        "Shows the line of a fault, its operand, and what that may be",
+        "Shows the line of a fault, its operand, and what the operand may be",
     ),
 ];
 
@@ -147,12 +147,12 @@ const DIS: [ArgumentForm; 4] = [
     (
         "places",
         Kind::Flag,
-        "Shows the place and the word before each text",
+        "Shows the address and the word before each text",
     ),
     (
         "labels",
         Kind::Flag,
-        "Names the words that jumps and branches lead to",
+        "Gives labels to the words that jumps and branches lead to",
     ),
 ];
 
@@ -160,7 +160,7 @@ const DIS: [ArgumentForm; 4] = [
 const ADDRESS: ArgumentForm = (
     "at",
     Kind::Value("ADDR"),
-    "The place of the first word in IMEM, a multiple of 4 up to 4092; without it 0",
+    "The address of the first word in IMEM, a multiple of 4 up to 4092; without it 0",
 );
 
 fn argument<'a>(alloc: Global, form: ArgumentForm) -> Arg<'a> {
@@ -203,7 +203,7 @@ fn subcommands<'a>(alloc: Global) -> Result<Vec<Command<'a>>, AllocError> {
 fn command<'a>(alloc: Global) -> Result<Command<'a>, AllocError> {
     let subcommands = subcommands(alloc)?;
     Command::new(alloc, "rsp")
-        .about("A bench for the Reality Signal Processor")
+        .about("Emulates, debugs, assembles and disassembles programs for the Nintendo 64's RSP")
         .version(VERSION)
         .subcommand_required(true)
         .subcommands(subcommands)?
