@@ -78,9 +78,11 @@ static enum found replace(const target *old, const char *name, span bytes)
     if (old->is_old && !make_alike(file, new, old)) return close(file), drop(new), IN_PLACE;
     bool is_whole = fill(file, bytes, true);
     if (is_whole && move(new, old->path)) return TO_REPLACE;
-    if (is_whole && !fill(open_path(name, TO_WRITE), bytes, false)) return CANNOT_WRITE;
+    int written = is_whole ? open_path(name, TO_WRITE) : -1;
+    /* The new file stays if it is the only whole one. */
+    if (written >= 0 && !fill(written, bytes, false)) return CANNOT_WRITE;
     drop(new);
-    return is_whole ? TO_REPLACE : CANNOT_WRITE;
+    return written >= 0 ? TO_REPLACE : CANNOT_WRITE;
 }
 
 void save_file(const char *name, span bytes)
