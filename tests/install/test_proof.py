@@ -9,7 +9,7 @@ from typing import Iterator
 import pytest
 
 from rsp_tools import proof
-from rsp_tools.crates import path_to, seconds, with_below
+from rsp_tools.crates import path_to, proved_with, seconds, with_below
 from rsp_tools.proof import Proof
 
 BUILT = ["rsp_main", "rsp_c"]
@@ -25,7 +25,7 @@ def prove(top: str, slots: int, failing: str = "") -> tuple[str, list[str]]:
     said: list[str] = []
     it = Proof(top, [], Path(), said.append)
     it.idle = it.slots = slots
-    it.left = {name: partial(task, name) for name in with_below(top)}
+    it.left = {name: partial(task, name) for name in proved_with(top)}
     return it.run(), said
 
 
@@ -38,14 +38,14 @@ def moments(said: list[str], names: list[str]) -> Iterator[tuple[str, set[str], 
             left.remove(name)
         else:
             begun.add(name)
-            ready = {it for it in left - begun if not left & {*with_below(it)[:-1]}}
+            ready = {it for it in left - begun if not left & {*proved_with(it)[:-1]}}
             yield name, begun & left - {name}, ready
 
 
 @pytest.mark.parametrize("top", BUILT)
 @pytest.mark.parametrize("slots", [1, 2, 4, 16])
 def test_order(top: str, slots: int) -> None:
-    names = with_below(top)
+    names = proved_with(top)
     failed, said = prove(top, slots)
     assert not failed
     assert sorted(line.split()[0] for line in said) == sorted([*names, *names])
@@ -53,6 +53,13 @@ def test_order(top: str, slots: int) -> None:
         assert not beside & {*with_below(name)}
         assert len(beside) < slots
         assert all(path_to(top, it) <= path_to(top, name) for it in ready)
+
+
+def test_program_without_what_only_the_library_needs() -> None:
+    failed, said = prove("rsp_main", 4, "rsp_feed")
+    assert not failed
+    assert any(line.startswith("rsp_feed is not proved") for line in said)
+    assert prove("rsp_c", 4, "rsp_feed")[0] == "rsp_feed"
 
 
 @pytest.mark.parametrize("slots", [1, 4])

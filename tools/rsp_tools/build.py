@@ -21,7 +21,7 @@ from pathlib import Path
 from typing import List, NoReturn, Optional
 
 from rsp_tools import TOOLS
-from rsp_tools.crates import CRATES, library, uses, with_below
+from rsp_tools.crates import CRATES, library, proved_with, uses, with_below
 from rsp_tools.proof import PROCESSORS, Proof
 
 LOGIC = "logic dac8208d650f15bf"
@@ -123,7 +123,7 @@ class Build:
         self.proof = Proof(self.crate, last, self.log, self.say)
         if by_parts:
             self.proof.find_left(kit_folder())
-            count, left = len(with_below(self.crate)), len(self.proof.left)
+            count, left = len(proved_with(self.crate)), len(self.proof.left)
             takes = f"takes {self.proof.to_go()} (all took {TOOK})"
             self.say(f"{count - left} of {count} crates are proved; proving the others {takes}")
         self.log.write_text("")

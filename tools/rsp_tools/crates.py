@@ -15,7 +15,7 @@ LINES = {
 SECONDS = """
 rsp_numbers 8 rsp_memory 32 rsp_decode 171 rsp_scalar 28 rsp_lanes 45 rsp_acc 43 rsp_multiply 32
 rsp_compare 31 rsp_divide 22 rsp_loadstore 59 rsp_regs 38 rsp_machine 199 rsp_syntax 63 rsp_operands 59
-rsp_asm 88 rsp_dis 54 rsp_debug 180 rsp_script_io 79 rsp_commands 85 rsp_bench 153 rsp_feed 40
+rsp_asm 88 rsp_dis 54 rsp_debug 180 rsp_script_io 79 rsp_commands 85 rsp_bench 153 rsp_feed 70
 rsp_advice 45 rsp_cli_args 53 rsp_cli_files 100 rsp_cli 78 rsp_main 125 rsp_c 300
 """
 
@@ -30,6 +30,16 @@ def with_below(name: str) -> List[str]:
     if name not in LINES:
         return []
     return [*dict.fromkeys(below for it in uses(name) for below in with_below(it)), name]
+
+
+def proved_with(name: str) -> List[str]:
+    """The crates that are proved before this one is built, and itself.
+
+    With the program's they are also the one that only the library needs: it takes a processor that is idle
+    while rsp_cli is proved, and the library's build comes next.
+    """
+    *below, name = with_below(name)
+    return [*below, *(["rsp_feed"] if name == "rsp_main" and "rsp_feed" in LINES else []), name]
 
 
 def library(name: str) -> Path:

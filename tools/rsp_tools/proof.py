@@ -21,7 +21,7 @@ from pathlib import Path
 from typing import Any, Callable, Dict, List, Optional, Tuple
 
 from rsp_tools import TOP
-from rsp_tools.crates import CRATES, path_to, seconds, with_below
+from rsp_tools.crates import CRATES, path_to, proved_with, seconds, with_below
 
 PROCESSORS, MEMORY = len(os.sched_getaffinity(0)), Path("/proc/meminfo")
 EACH = 2_000_000_000  # A crate that is being proved has been seen to take so many bytes.
@@ -73,11 +73,12 @@ class Proof:
         """Keeps other runs of the kit out of all crates, and finds those that aren't proved."""
         rtlib = program(kit).rtlib
         rtlib.guarded()  # What it starts ends with this program. To be called before there are threads.
-        top = rtlib.Crate(str(CRATES / self.top), str(TOP), {})
-        self.held = rtlib.lock([*top.below(), top])
-        for it in top.below():
+        known: Dict[str, Any] = {}
+        *below, top = [rtlib.Crate(str(CRATES / it), str(TOP), known) for it in proved_with(self.top)]
+        self.held = rtlib.lock([*below, top])
+        for it in below:
             rtlib.stop_on_links(it.folder)
-        left = {it.name: partial(self.prove, it) for it in top.below() if not it.is_built()}
+        left = {it.name: partial(self.prove, it) for it in below if not it.is_built()}
         self.left = {**left, **self.left}
 
     def prove(self, crate: Any, jobs: int) -> int:
@@ -106,7 +107,7 @@ class Proof:
         """Begins those crates of which all below are proved, as far as processors are idle."""
         for name in sorted(self.left.keys() - self.begun.keys(), key=lambda it: -path_to(self.top, it)):
             jobs = JOBS.get(name, 1) if self.slots >= max(JOBS.values()) else 1
-            if self.left.keys() & {*with_below(name)[:-1]}:
+            if self.left.keys() & {*proved_with(name)[:-1]}:
                 continue
             if jobs > self.idle:
                 return
@@ -122,11 +123,11 @@ class Proof:
             self.begin(pool)
             done = wait(self.going, SILENCE, FIRST_COMPLETED).done
             for name, jobs, status in [(*self.going.pop(it), it.result()) for it in done]:
-                if status:
+                if status and name in with_below(self.top):
                     return name
                 self.idle += jobs
                 del self.left[name]
-                self.say(f"{name} is proved after {self.seconds_of(name):.0f} s")
+                self.say(f"{name} {'is not' if status else 'is'} proved after {self.seconds_of(name):.0f} s")
             if not done:
                 self.tell_progress()
         return ""
