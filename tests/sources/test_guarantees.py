@@ -1,13 +1,19 @@
-"""The tables of docs/CONTRACTS.md against the sources, and what docs/GUARANTEES.md assumes.
+"""The tables of docs/data about contracts against the sources, and what docs/GUARANTEES.md says.
 
-It fails if a table lacks a crate, a precondition or a call that may need memory, or names one that isn't
-there. It runs nothing and proves nothing.
+It fails if a table lacks a crate, a law, a precondition or a call that may need memory, or names one that
+isn't there. It runs nothing and proves nothing.
 
-GUARANTEES names each module of the kit whose definitions the main theorem cites. "Preconditions" names each
-`requires` of each public function, and nothing else. The three tables of "Calls that allocate" name each
-public function that takes an allocator or may return AllocError, and tests that are there. "Laws" names each
-public function of each laws.rt, and "Crates without mutation tests" each crate without a file
-must-fail/*.edit. Each crate says at the head of its sources what it is.
+  docs/data/contracts.tsv         each clause is one of its call's contract
+  docs/data/laws.tsv              each public function of each laws.rt
+  docs/data/preconditions.tsv     each `requires` of each public function, and nothing else
+  docs/data/allocations.tsv       each public function that takes an allocator or may return AllocError; the
+                                  tests are there
+  docs/data/streams.tsv           each clause of run_bench
+  docs/data/without_mutants.tsv   each crate without a file must-fail/*.edit
+
+Each part of what GUARANTEES has as proved has a contract or a law in the first two, and they have no other
+part. GUARANTEES names each module of the kit whose definitions the main theorem cites. Each crate says at the
+head of its sources what it is.
 """
 
 import re
@@ -18,36 +24,34 @@ from typing import Dict, Iterator, List, Match, NamedTuple, Optional, Set, Tuple
 from lib import TESTS, TOP
 from lib.definitions import rests_on
 from lib.lists import see_same
-from lib.pages import page, tables
+from lib.pages import data, page
 from rsp_tools.pages import crates
 
-PAGE = "docs/CONTRACTS.md"
-# What a source is read by: the beginning and the end of a block of methods, a function, and a precondition.
+GUARANTEES = "docs/GUARANTEES.md"
+# What a source is read by: the beginning and the end of a block of methods, a function, a precondition, and a
+# promise, which may have no name.
 FOUND = re.compile(
     r"^(?:pub )?(?:unsafe )?(?P<kind>impl|trait)\b(?:<[^{]*?>)? ?(?:[^{\n]*? for )?(?P<owner>\w+)[^\n]*\{$"
     r"|^(?P<end>\})$"
     r"|^\s*(?P<seen>pub(?:\([^)]*\))? )?(?P<how>(?:const |unsafe |async |extern (?:\"C\" )?)*)"
     r"fn (?P<name>\w+)"
-    r"|^\s*requires\*?\s*(?:\w+ )?\{ ?(?P<clause>.*?) ?\}[;,]?$",
+    r"|^\s*requires\*?\s*(?:\w+ )?\{ ?(?P<clause>.*?) ?\}[;,]?$"
+    r"|^\s*(?P<ensures>ensures)\*?\s*(?:(?P<promise>\w+) )?\{",
     re.M | re.S,
 )
 # Where the signature of a function ends, and what in it says that the call may need memory.
 SIGNATURE_END = re.compile(r"\brequires\b|\bensures\b|\{\}?\n|;\n")
 OF_MEMORY = re.compile(r"\bGlobal\b|\bAllocError\b")
-# The tables of calls that allocate, and whether the last column names a test.
-ALLOCATING = {
-    "### What needs memory": True,
-    "### Parts of these calls that are public": True,
-    "### What takes an allocator and never allocates": False,
-}
 
 
 class Part(NamedTuple):
-    """A call that other crates can name, with its signature, and with one of its `requires` or none."""
+    """A call that other crates can name, with its signature, and with one of its `requires`, the name of one of
+    its `ensures` (`-` for none), or neither."""
 
     call: str
     signature: str
-    clause: Optional[str]
+    clause: Optional[str] = None
+    promise: Optional[str] = None
 
 
 Names = Dict[str, Optional[Set[str]]]
@@ -66,8 +70,9 @@ def passed_on(root: str) -> Names:
 
 
 def see_all_read(path: Path, text: str, found: List[Match[str]]) -> None:
-    """Fails if a source has a function or a `requires` in a form that FOUND doesn't know."""
-    for form, group in ((r"^[^/\"\n]*\bfn \w+[(<]", "name"), (r"^\s*requires\b", "clause")):
+    """Fails if a source has a function, a `requires` or an `ensures` in a form that FOUND doesn't know."""
+    forms = (r"^[^/\"\n]*\bfn \w+[(<]", "name"), (r"^\s*requires\b", "clause"), (r"^\s*ensures\b", "ensures")
+    for form, group in forms:
         read = sum(it[group] is not None for it in found)
         assert len(re.findall(form, text, re.M)) <= read, f"{path}: not each {group} can be read"
 
@@ -87,9 +92,11 @@ def parts_of(
             call = f"{owner}::{it['name']}".lstrip(":") if is_named and is_public else ""
             signature = SIGNATURE_END.split(text[it.start() :], maxsplit=1)[0]
             if call:
-                yield Part(call, signature, None)
+                yield Part(call, signature)
+        elif call and it["ensures"]:
+            yield Part(call, signature, promise=it["promise"] or "-")
         elif call:
-            yield Part(call, signature, " ".join(it["clause"].split()))
+            yield Part(call, signature, clause=" ".join(it["clause"].split()))
 
 
 def public_parts(crate: str) -> Iterator[Part]:
@@ -106,9 +113,9 @@ def public_parts(crate: str) -> Iterator[Part]:
         yield from parts_of(text, found, named.get(module, set()), types)
 
 
-def quoted(heading: str) -> List[List[List[str]]]:
-    """The lines of a table of the page, each cell as what is in backquotes."""
-    return [[re.findall(r"`([^`]*)`", cell) for cell in cells] for cells in tables(PAGE, heading)]
+def listed(name: str, *columns: str) -> List[Tuple[str, ...]]:
+    """The lines of a table of docs/data: the cells of these columns, a line for each item of a cell's list."""
+    return [it for line in data(name) for it in product(*(line[column].split("; ") for column in columns))]
 
 
 Clause = Tuple[str, ...]  # a crate, a call, and what the call requires
@@ -124,18 +131,18 @@ def is_said(written: Clause, found: Clause) -> bool:
 
 def test_preconditions() -> None:
     """The table says each clause of the sources, and no other."""
-    said = {it for cells in quoted("## Preconditions") for it in product(*cells[:3])}
+    said = {*listed("preconditions", "Crate", "Call", "Precondition")}
     parts = [(name, it) for name in crates() for it in public_parts(name)]
     found = {(name, it.call, it.clause) for name, it in parts if it.clause is not None}
     fitting = {it: {line for line in said if is_said(line, it)} for it in found}
-    lost = ["| `{}` | `{}` | `{}` | why in words |".format(*it) for it in sorted(found) if not fitting[it]]
+    lost = ["\t".join((*it, "in words")) for it in sorted(found) if not fitting[it]]
     assert found and not lost, "add these lines to the table"
     assert not said.difference(*fitting.values()), "no public function requires these: take them out"
 
 
 def test_assumed() -> None:
     """GUARANTEES names what no proof covers, and which definitions of the kit run_bench's contract cites."""
-    assumed = page("docs/GUARANTEES.md").partition("\n## Assumed\n")[2].partition("\n## ")[0]
+    assumed = page(GUARANTEES).partition("\n## Assumed\n")[2].partition("\n## ")[0]
     for words in ("`tools/packaging/start.c`", '"known to compile some correct code wrongly"'):
         assert words in " ".join(assumed.split())
     _, modules = rests_on(TOP / "crates/rsp_bench/src/run.rt")
@@ -160,26 +167,29 @@ def is_a_test(name: str) -> bool:
 
 
 def test_allocations() -> None:
-    """The three tables name each public call that may need memory, and no other.
+    """The table names each public call that may need memory, and no other.
 
     A line of `rsp_*` names each call that no other line names.
     """
-    named = {it for table in ALLOCATING for cells in quoted(table) for it in product(*cells[:2])}
+    named = {*listed("allocations", "Crate", "Call")}
     lost, used = [], set()
     for name, it in ((name, it) for name in crates() for it in public_parts(name)):
         if OF_MEMORY.search(it.signature):
             fitting = {(name, it.call), (name, f"{it.call.split('_')[0]}_*")} & named
             lost += [] if fitting else [(name, it.call)]
             used |= {(name, it.call)} & fitting or fitting
-    assert not lost, "add them to one of the tables"
+    assert not lost, "add them to the table"
     assert used and not named - used, "no such public call may need memory: take it out"
 
 
 def test_tests_of_allocations() -> None:
-    """The tests that the tables name are there."""
-    lines = [cells for heading, has_tests in ALLOCATING.items() if has_tests for cells in quoted(heading)]
-    tests = [it for cells in lines for it in cells[-1] or [""]]
+    """The test of each call that allocates is there; one that never does has none, and a reason."""
+    lines = data("allocations")
+    tests = [it["Test"] for it in lines if it["Allocates"] == "yes"]
     assert tests and not [it for it in tests if not is_a_test(it)]
+    others = [it for it in lines if it["Allocates"] != "yes"]
+    assert {(it["Allocates"], it["Test"]) for it in others} == {("never", "-")}
+    assert not [it for it in lines if (it["Allocates"] == "yes") != (it["Why it takes an allocator"] == "-")]
 
 
 def test_crates() -> None:
@@ -190,14 +200,50 @@ def test_crates() -> None:
 
 
 def test_crates_without_mutations() -> None:
-    listed = [name for cells in quoted("### Crates without mutation tests") for name in cells[0]]
-    see_same(listed, [it for it in crates() if not [*TOP.glob(f"crates/{it}/must-fail/*.edit")]])
+    named = [it["Crate"] for it in data("without_mutants")]
+    see_same(named, [it for it in crates() if not [*TOP.glob(f"crates/{it}/must-fail/*.edit")]])
 
 
 def test_laws() -> None:
     """The table of laws has each public one."""
-    named = [f"{cells[0][0]} {law}" for cells in quoted("## Laws") for law in cells[1]]
+    named = [f"{it['Crate']} {it['Law']}" for it in data("laws")]
     texts = {it.parts[-3]: it.read_text() for it in TOP.glob("crates/*/src/laws.rt")}
     see_same(
         named, [f"{crate} {law}" for crate in texts for law in re.findall(r"(?m)^pub fn (\w+)", texts[crate])]
     )
+
+
+def promises() -> Set[Tuple[str, str, str]]:
+    """Each clause of a public function: crate, call, and the clause's name."""
+    parts = ((name, it) for name in crates() for it in public_parts(name))
+    return {(name, it.call, it.promise) for name, it in parts if it.promise is not None}
+
+
+def test_contracts() -> None:
+    """Each clause of the table is one of its call, and of `rsp_*` one of some call of the library for C."""
+    there = promises()
+    there |= {(name, "rsp_*", clause) for name, call, clause in there if call.startswith("rsp_")}
+    said = listed("contracts", "Crate", "Call", "Clauses")
+    assert said and not [it for it in said if it not in there]
+
+
+def test_contracts_for_c() -> None:
+    """The table has each clause of each call of the library for C; a line of `rsp_*` has it of all calls."""
+    said = {*listed("contracts", "Crate", "Call", "Clauses")}
+    calls = [it for it in promises() if it[1].startswith("rsp_")]
+    assert calls and not [it for it in calls if not {it, (it[0], "rsp_*", it[2])} & said]
+
+
+def test_streams() -> None:
+    """The table has each clause of run_bench, by its first word."""
+    see_same(
+        {it["Clause"].split()[0] for it in data("streams")},
+        {clause for _, call, clause in promises() if call == "run_bench"},
+    )
+
+
+def test_parts() -> None:
+    """GUARANTEES has the parts of the tables of contracts and laws, and both have no other."""
+    proved = page(GUARANTEES).partition("\n## Proved, part by part\n")[2].partition("\n## ")[0]
+    parts = re.findall(r"(?m)^- \*\*([^*]*)\*\*", proved)
+    see_same(parts, {it["Part"] for name in ("contracts", "laws") for it in data(name)})
