@@ -20,10 +20,9 @@ def quoted() -> List[Tuple[str, List[str]]]:
     """The lines of each block, with the source."""
     text, start, found = page(PAGE), 0, []
     for block in blocks(PAGE):
-        lines = block.strip("\n").split("\n")
-        start = text.index("    " + lines[0].rstrip() + "\n", start)
+        start = text.index(f"\n{block}```\n", start + 1)
         sources = re.findall(r"`(rsp_\w+/[\w/-]+\.(?:antt|rt|edit))`", text[:start])
-        found.append((sources[-1] if sources else "", [line.strip() for line in lines]))
+        found.append((sources[-1] if sources else "", [line.strip() for line in block.strip("\n").split("\n")]))
     return found
 
 
