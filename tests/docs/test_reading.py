@@ -22,7 +22,8 @@ def quoted() -> List[Tuple[str, List[str]]]:
     for block in blocks(PAGE):
         start = text.index(f"\n{block}```\n", start + 1)
         sources = re.findall(r"`(rsp_\w+/[\w/-]+\.(?:antt|rt|edit))`", text[:start])
-        found.append((sources[-1] if sources else "", [line.strip() for line in block.strip("\n").split("\n")]))
+        lines = [line.strip() for line in block.strip("\n").split("\n")]
+        found.append((sources[-1] if sources else "", lines))
     return found
 
 

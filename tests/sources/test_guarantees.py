@@ -45,8 +45,8 @@ OF_MEMORY = re.compile(r"\bGlobal\b|\bAllocError\b")
 
 
 class Part(NamedTuple):
-    """A call that other crates can name, with its signature, and with one of its `requires`, the name of one of
-    its `ensures` (`-` for none), or neither."""
+    """A call that other crates can name, with its signature, and with one of its `requires`, with the name of
+    one of its `ensures` (`-` for none), or with neither."""
 
     call: str
     signature: str
@@ -71,8 +71,8 @@ def passed_on(root: str) -> Names:
 
 def see_all_read(path: Path, text: str, found: List[Match[str]]) -> None:
     """Fails if a source has a function, a `requires` or an `ensures` in a form that FOUND doesn't know."""
-    forms = (r"^[^/\"\n]*\bfn \w+[(<]", "name"), (r"^\s*requires\b", "clause"), (r"^\s*ensures\b", "ensures")
-    for form, group in forms:
+    forms = {"name": r"^[^/\"\n]*\bfn \w+[(<]", "clause": r"^\s*requires\b", "ensures": r"^\s*ensures\b"}
+    for group, form in forms.items():
         read = sum(it[group] is not None for it in found)
         assert len(re.findall(form, text, re.M)) <= read, f"{path}: not each {group} can be read"
 
@@ -114,7 +114,7 @@ def public_parts(crate: str) -> Iterator[Part]:
 
 
 def listed(name: str, *columns: str) -> List[Tuple[str, ...]]:
-    """The lines of a table of docs/data: the cells of these columns, a line for each item of a cell's list."""
+    """The cells of these columns of a table of docs/data, a line for each item of a cell that is a list."""
     return [it for line in data(name) for it in product(*(line[column].split("; ") for column in columns))]
 
 
