@@ -14,7 +14,7 @@ TYPED = 4000  # bytes that are typed: Chromium takes long for more
 LONGEST = 60  # seconds that the page may take
 # What Selenium calls these keys.
 TAB, ENTER, SHIFT, CONTROL, DOWN, F1 = "\ue004", "\ue007", "\ue008", "\ue009", "\ue015", "\ue031"
-FIRST = "This script adds eight pairs of 16-bit numbers with one instruction"  # the example that is there at first
+FIRST = "Eight sums at once"  # the example that is there at first
 
 
 def the(name: str) -> str:

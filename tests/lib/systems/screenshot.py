@@ -13,7 +13,7 @@ from rsp_tools import TOP
 from rsp_tools.systems import page as pages
 
 PICTURE = TOP / "docs/pictures/page.png"
-WIDTH, HEIGHT = 1000, 640
+WIDTH, HEIGHT = 1000, 740
 
 
 def draw(picture: Path) -> None:

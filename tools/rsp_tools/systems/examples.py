@@ -22,10 +22,10 @@ def example(group: str, name: str, script: str) -> Example:
 
 
 def first(page: str) -> Example:
-    """The README's example, by the first sentence about it."""
-    found = re.search(r"(?m)^## Example\n\n([^.]*)\.", page)
+    """The README's example, by the words in bold before it."""
+    found = re.search(r"(?m)^## Example\n\n\*\*([^*]*)\.\*\*", page)
     if not found:
-        raise Refused("README.md has no section Example with a sentence")
+        raise Refused("README.md has no section Example that begins with words in bold")
     return example("README", found[1], FIRST.read_text())
 
 
