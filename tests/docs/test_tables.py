@@ -141,6 +141,18 @@ def test_faults_of_texts() -> None:
     assert {*re.findall(r"`(1[0-6] \w+)`", page("docs/ASSEMBLY.md"))} == of_texts
 
 
+def test_faults_of_commands() -> None:
+    """The faults of a command are those whose causes begin with its name; of `end`, those of texts."""
+    listed = {
+        (it["Command"].split()[0], fault)
+        for it in data("commands")
+        for fault in re.findall("`(.*?)`", it["Faults"])
+    }
+    causes = [(it["Fault"], re.match("(`[a-z]+`(, `[a-z]+`)*): ", it["Cause"])) for it in data("faults")]
+    caused = {(name, fault) for fault, found in causes if found for name in re.findall("[a-z]+", found[1])}
+    assert listed == caused | {("end", "10 BadLine"), ("end", "16 PastEnd")}
+
+
 def test_messages() -> None:
     """FAULTS lists the program's messages."""
     source = page("crates/rsp_cli_files/src/fault.rt")

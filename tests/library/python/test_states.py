@@ -1,7 +1,7 @@
 """States in Python: checked fields, `==`, differences, shown forms, messages, buffers and numpy's arrays.
 
-They fail if a shown form differs from the replies of examples/ and of docs/SCRIPT.md, a wrong value is taken,
-or a message doesn't say what was wrong.
+They fail if a shown form differs from the replies of examples/ and of the program, a wrong value is taken, or
+a message doesn't say what was wrong.
 """
 
 import array
@@ -13,6 +13,7 @@ import operator
 import pickle
 import random
 import re
+from pathlib import Path
 from typing import Any, Callable, Dict, Iterator, List, Tuple
 from unittest import mock
 
@@ -21,7 +22,7 @@ import pytest
 import rsp
 from lib.library import LOCKSTEP, shapes
 from lib.library.module import raised
-from lib.pages import page, transcripts
+from lib.pages import page, said
 from rsp import RspError, State
 
 Refusal = Tuple[type, str, Callable[[Any], object]]  # the error, what its message has, and the call
@@ -250,13 +251,17 @@ def test_shown_as_in_examples(name: str) -> None:
         wanted = wanted[wanted.find(text) + len(text) :]
 
 
-def test_shown_state() -> None:
-    """As on a page, and in full."""
-    known = transcripts("docs/SCRIPT.md", "## My microcode is wrong")
-    script, said = next(it for it in known if it[0].endswith("\nvregs\nflags\n"))
-    vregs, flags = replies(script)
-    wanted = said.split("\n")
-    assert (vregs.splitlines()[1], flags) == (wanted[3], wanted[-1])
+# Lane 0 of $v1 is 1, and is the only one that differs from $v0.
+ONE_LANE = "asm 0\naddiu $1, $0, 1\nmtc2 $1, $v1[0]\nvne $v2, $v1, $v0\nend\nrun 3\nvregs\nflags\n"
+SHOWN_LANE = "v01 0001 0000 0000 0000 0000 0000 0000 0000"
+SHOWN_FLAGS = "vco 0000 vcc 0001 vce 00 in 0000 out 0000 loaded 0"
+
+
+def test_shown_state(program: Path) -> None:
+    """As the program replies, and in full."""
+    vregs, flags = replies(ONE_LANE)
+    assert (vregs.splitlines()[1], flags) == (SHOWN_LANE, SHOWN_FLAGS)
+    assert said(program, "run", given=ONE_LANE).splitlines()[2:] == [*vregs.splitlines(), flags]
     state = State(pc=12)
     lines, table = str(state).splitlines(), state._repr_html_()
     assert len(lines) == 9 + 32 + 1

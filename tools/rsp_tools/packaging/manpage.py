@@ -49,8 +49,8 @@ def commands() -> Iterator[Tuple[str, str]]:
     text = (TOP / "docs/SCRIPT.md").read_text()
     table = re.findall(r"(?m)^\| Command \|.*\n\|[-|]+\n((?:\|.*\n)+)", text)[0]
     for line in table.splitlines():
-        command, numbers, reply, lines = (it.strip() for it in re.split(r"(?<!\\)\|", line)[1:-1])
-        labels = (("Numbers", numbers), ("Reply lines", lines))
+        command, numbers, reply, faults, lines = (it.strip() for it in re.split(r"(?<!\\)\|", line)[1:-1])
+        labels = (("Numbers", numbers), ("Faults", faults), ("Reply lines", lines))
         more = [f"\n.br\n{label}: {marked(it)}" for label, it in labels if it]
         yield marked(command), marked(reply) + "".join(more)
 
