@@ -158,7 +158,8 @@ def test_messages() -> None:
     source = page("crates/rsp_cli_files/src/fault.rt")
     messages = {*re.findall(r'"((?:cannot|bad|faults?) [^"\\]*)', source)}
     shown = {"{}": "FILE", "{count}": "N", "{first}": "fault .."}
-    listed = [cells[1] for cells in tables("docs/FAULTS.md", "## Exit statuses and messages")]
+    cells = [it[1] for it in tables("docs/FAULTS.md", "## Exit statuses and messages")]
+    listed = [text for it in cells for text in re.findall("`(.*?)`", it)]
     assert len(messages) == 11
     for it in messages:
-        assert f"`rsp: {re.sub('{.*?}', lambda found: shown[str(found[0])], it)}`" in listed
+        assert f"rsp: {re.sub('{.*?}', lambda found: shown[str(found[0])], it)}" in listed
