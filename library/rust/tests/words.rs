@@ -27,7 +27,7 @@ fn flags_and_accumulators() {
     assert_eq!(machine.acc().unwrap().to_string(), wanted);
 }
 
-/// The source and the replies are those of a line of docs/SCRIPT.md.
+/// The source and the replies are those of `ONE_LANE` in tests/library/python/test_states.py, which asks the program.
 #[test]
 fn whole_states() {
     let machine = after("addiu $1, $0, 1\nmtc2 $1, $v1[0]\nvne $v2, $v1, $v0\n", &[], 3);
