@@ -130,7 +130,7 @@ def plugin() -> bytes:
 def every(given: Path, names: List[str], release: About) -> Iterator[Archive]:
     """The archives, of an object file of the program, and of these other systems."""
     libraries = libraries_of(names)
-    if libraries:
+    if libraries:  # each is made anew, so no archive has the library of another commit
         succeed("tools/systems failed, so nothing is made", "tools/systems", *libraries)
     yield archives.of_native(linked_program(given), plugin(), release)
     yield archives.of_conformance(release)

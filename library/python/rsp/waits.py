@@ -20,8 +20,9 @@ The rules are ours:
   branch at which the ways part doesn't count, because the program tests the answer there, and loads again.
 - While a transfer is under way, no instruction loads a byte that it brings, stores a byte that it brings or
   takes, or is fetched from what it brings.
-- One more transfer may be ordered while one is under way. While two are, nothing writes SP registers 0 to 3.
-  After a third one the first is forgotten.
+- One more transfer may be ordered while one is under way, because a console has a second set of DMA registers
+  for it, and programs that read ahead do so. While two are, nothing writes SP registers 0 to 3. After a third
+  one the first is forgotten.
 
 What the CPU orders is left out, and so is a wait that gives up after some rounds. A transfer that is under
 way when the program ends is named only if it is asked for, because the CPU may be what waits for it.
@@ -131,7 +132,8 @@ class _Walk:
 
     def _touched(self, pc: int, word: int, stores: bool) -> Tuple[List[Missing], bool]:
         """Makes the step of a load or a store. A byte that is loaded shows in registers, if it is inverted in
-        the twin; one that is stored is the same in both, if it was inverted."""
+        the twin; one that is stored is the same in both, if it was inverted. A table of what each vector load
+        touches would repeat the instructions' rules, and could be wrong."""
         before, dmem = self.machine.get(), self.machine.memory(DMEM, 0, 4096)
         goes_on = self.machine.step() is Status.OK
         after, stored = self.machine.get(), self.machine.memory(DMEM, 0, 4096)
