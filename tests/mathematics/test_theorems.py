@@ -4,8 +4,8 @@ They fail if one isn't proved as it is written, or a text that it can't take doe
 program rsp assembles the texts. tools/theorem runs in a temporary copy of the crates: on straight code with
 an instruction of each kind, on loops, on waits, on routines that return, and on the examples of
 docs/PROVING.md. One `rt check` then has to prove both functions of each. It also has to prove what the page
-states of its loop and of its clip codes, after the edits that the page says. Every instruction of the table
-is known.
+states of its first example, of its loop and of its clip codes, after the edits that the page says. Every
+instruction of the table is known.
 """
 
 import os
@@ -35,7 +35,7 @@ LOOPS = "down_to_zero down_by_eight up_to_end with_loop sets_count".split()
 WAITS = "signal_wait cleared_signal after_transfer".split()
 NAMES = ["straight_code", "codes_of_points", "called_routine", *LOOPS, *WAITS]
 TEXTS = {it: page(f"tests/mathematics/theorems/{it}.s") for it in NAMES}
-PAGE_LABELS = [f"docs/PROVING.md's {it}" for it in ("example", "loop", "clip codes", "loaded codes", "wait")]
+PAGE_LABELS = [f"docs/PROVING.md's {it}" for it in ("example", "loop", "clip codes", "wait", "loaded codes")]
 LABELS = (*TEXTS, *PAGE_LABELS)
 # A name, a text, and a part of the sentence that refuses them.
 REFUSED = (
@@ -61,12 +61,6 @@ REFUSED = (
     ("compares", "nop\nbne $1, $2, 0\nnop", "counted by one `addiu $C, $C, N`"),
     ("counts", "addiu $1, $1, 1\nbne $1, $0, 0\nnop", "has to be counted down"),
 )
-
-
-def example() -> Tuple[str, str]:
-    """The name and the text of the page's example."""
-    name = search(r"(?m)^tools/theorem (\w+) times\.s$", page(PAGE))[1]
-    return name, search(r"here `times\.s`.*\n(?:\S.*\n)*\n```text\n((?:.*\n)+?)```$", page(PAGE))[1]
 
 
 def link_or_copy(source: str, target: str) -> None:
@@ -111,6 +105,19 @@ class Copy:
         source.write_text(text)
         where = {**os.environ, "RSP_PROGRAM": str(self.program)}
         return run(self.folder / "tools/theorem", name, source, env=where)
+
+    def follow_example(self) -> Tuple[str, "Ended[str]"]:
+        """Does to the page's first theorem what the page says."""
+        text, commands, field, premise, lines, *_ = blocks_of(section_of("The first theorem, .*?"))
+        name = search(r"(?m)^tools/theorem (\w+) times\.s$", commands)[1]
+        begun, module = self.begin(name, text), module_of(name)
+        spec, proof = self.crate / f"specs/{module}.antt", self.crate / f"proofs/{module}Runs.antt"
+        words = spec.read_text().replace("  -- TODO: the result\n", indent(field, "  "))
+        claim = f"IsAt words s → {premise.strip()} "
+        spec.write_text(re.sub(r"IsAt words s → (?=.*\n\Z)", lambda _: claim, words))
+        kept = proof.read_text().partition("\ndoes law s is at")[0]
+        proof.write_text(f"{kept}\n{lines}")
+        return name, begun
 
     def follow_codes(self, is_loaded: bool = False) -> Tuple[str, "Ended[str]"]:
         """Does to the theorem of the page's clip codes what the page says, of numbers in registers or in
@@ -187,9 +194,9 @@ class Proofs(NamedTuple):
 
 @pytest.fixture(scope="module")
 def proofs(copy: Copy) -> Proofs:
-    texts = [*TEXTS.items(), example()]
-    followed = [copy.follow_loop(), copy.follow_codes(), copy.follow_codes(True), copy.follow_wait()]
-    pairs = [*((name, copy.begin(name, text)) for name, text in texts), *followed]
+    followed = (copy.follow_example, copy.follow_loop, copy.follow_codes, copy.follow_wait)
+    pairs = [(name, copy.begin(name, text)) for name, text in TEXTS.items()]
+    pairs += [*(follow() for follow in followed), copy.follow_codes(True)]
     return Proofs(dict(zip(LABELS, pairs)), copy.check(name for name, _ in pairs))
 
 
