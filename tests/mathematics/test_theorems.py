@@ -35,7 +35,7 @@ LOOPS = "down_to_zero down_by_eight up_to_end with_loop sets_count".split()
 WAITS = "signal_wait cleared_signal after_transfer".split()
 NAMES = ["straight_code", "codes_of_points", "called_routine", *LOOPS, *WAITS]
 TEXTS = {it: page(f"tests/mathematics/theorems/{it}.s") for it in NAMES}
-PAGE_LABELS = [f"docs/PROVING.md's {it}" for it in ("example", "loop", "clip codes", "wait", "loaded codes")]
+PAGE_LABELS = [f"docs/PROVING.md's {it}" for it in ("example", "loop", "clip codes", "loaded codes", "wait")]
 LABELS = (*TEXTS, *PAGE_LABELS)
 # A name, a text, and a part of the sentence that refuses them.
 REFUSED = (
@@ -194,9 +194,9 @@ class Proofs(NamedTuple):
 
 @pytest.fixture(scope="module")
 def proofs(copy: Copy) -> Proofs:
-    followed = (copy.follow_example, copy.follow_loop, copy.follow_codes, copy.follow_wait)
     pairs = [(name, copy.begin(name, text)) for name, text in TEXTS.items()]
-    pairs += [*(follow() for follow in followed), copy.follow_codes(True)]
+    pairs += [copy.follow_example(), copy.follow_loop(), copy.follow_codes(), copy.follow_codes(True)]
+    pairs += [copy.follow_wait()]
     return Proofs(dict(zip(LABELS, pairs)), copy.check(name for name, _ in pairs))
 
 
