@@ -43,6 +43,7 @@ LEFT = (
     (r"^\./release ", "it runs this test"),
     (r"^tools/|^npm", "it takes minutes; tests/systems makes and runs it"),
     (r"^sed -i", "it edits what tools/theorem writes"),
+    (r"^fuzz/", "the fuzzer takes an hour; tests/fuzz runs it for a minute"),
 )
 # What commands need besides the repository.
 NEEDS = (
