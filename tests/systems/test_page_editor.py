@@ -5,7 +5,6 @@ The colours are drawn below a text area whose letters are transparent: so they f
 where the text area has it.
 """
 
-import re
 from typing import Any, Dict, List, Tuple
 
 import pytest
