@@ -2,16 +2,17 @@
 (./rsp). It fails if a state differs, or if a tool of the suite doesn't find a planted fault.
 
   - `conformance/run` and `conformance/generate` say in a sentence why they have nothing to do.
-  - Generated anew they are the same, byte by byte, and each instruction of the table has cases in both forms.
-  - Each outcome of each instruction occurs in each lane, but for those that its rule can't give.
-    coverage.tsv has their counts (--table prints it), COVERAGE.md what can't occur (--reasons prints that).
-    For each outcome the runner names the lane of a result, or of a flag, that is planted wrong.
+  - Generated anew they are the same, byte by byte, and each instruction of the table has cases in `steps` and
+    in `programs`.
+  - Each outcome of each instruction occurs in each lane, except those that its rule can't give. coverage.tsv
+    has the counts (--table prints it), and why an outcome can't occur (--reasons prints that). For each
+    outcome the runner names the lane of a result, or of a flag, that is planted wrong.
   - The runner finds no difference in them.
   - No program has a divide instruction but those of the divide instructions, VNOP and VNULL.
-  - The cases of form 3 are those of form 1, and the runner of README.md passes them on the program, and names
-    one that is spoilt.
-  - One digit of an expected state that is changed, and one byte that is dropped, is found and named, in each
-    instruction and each form.
+  - The cases of `full` and `flat` are those of `steps`.
+  - The runners of README.md pass cases and programs on the program, and name those that are spoilt.
+  - One digit of an expected state that is changed, and one byte that is dropped, is found and named, in
+    `steps` and `programs` of each instruction.
 The last line is `N passed, M failed`.
 """
 
@@ -23,21 +24,23 @@ import re
 import subprocess
 import sys
 import tempfile
-from collections import defaultdict
 from pathlib import Path
-from typing import Any, Dict, Iterator, List
+from types import ModuleType
+from typing import Any, Dict, Iterator, List, NamedTuple
+from unittest.mock import patch
 
 from rsp_conformance import HERE, bench, coverage, flat, full, generate, planted, play, steps
 from rsp_conformance.commands import PROGRAM, Complaints, counted, reader, unless
 from rsp_conformance.draws import Random
 from rsp_conformance.programs import DIVIDING
 from rsp_conformance.spoil import spoilt_entries
-from rsp_conformance.states import numbers_of, texts_of
+from rsp_conformance.states import texts_of
 from rsp_conformance.table import ROWS
 from rsp_conformance.vectors import VECTORS, entries_in, manifest_in
 
 NAMES = [row.name.upper() for row in ROWS.values()]
 PROGRAMS = VECTORS / "programs"
+RUNNERS = re.compile(r"(?ms)^```python\n(.*?)^```$")  # the runners of README.md: of `steps`, of `programs`
 
 
 def files_of(folder: Path) -> Dict[str, bytes]:
@@ -57,7 +60,7 @@ def regenerated(program: str) -> Iterator[Complaints]:
 
 
 def has_cases(name: str) -> bool:
-    """Whether an instruction has cases in both forms."""
+    """Whether an instruction has cases in `steps` and in `programs`."""
     files = (VECTORS / "steps" / f"{name}.jsonl", PROGRAMS / f"{name}.json")
     if not all(path.is_file() for path in files) or not entries_in(VECTORS, name):
         return False
@@ -79,8 +82,18 @@ def spoilt_steps_found(program: str, names: List[str]) -> Iterator[Complaints]:
         yield unless(right, f"{entry['name']}: {kind} state after was answered by {found}")
 
 
-def spoilt_program_found(name: str) -> Iterator[Complaints]:
-    """That the byte of a program's end that is changed is named by case and field, one dropped by program."""
+class Spoilt(NamedTuple):
+    """A program, a byte in a field of one of its cases, and DMEM at its end: right, and wrong in this byte."""
+
+    entry: play.Entry
+    case: play.Entry
+    what: str
+    at: int
+    right: bytes
+    wrong: bytes
+
+
+def spoilt_program(name: str) -> Spoilt:
     random = Random("spoilt", name)
     entry = random.pick(manifest_in(VECTORS, name)["programs"])
     case = random.pick(entry["cases"])
@@ -88,6 +101,12 @@ def spoilt_program_found(name: str) -> Iterator[Complaints]:
     at = (int(case["at"], 16) + offset + random.below(length)) % play.MEMORY
     right = (PROGRAMS / f"{entry['name']}.after").read_bytes()
     wrong = right[:at] + bytes([right[at] ^ 1 << random.below(8)]) + right[at + 1 :]
+    return Spoilt(entry, case, what, at, right, wrong)
+
+
+def spoilt_program_found(name: str) -> Iterator[Complaints]:
+    """That the byte of a program's end that is changed is named by case and field, one dropped by program."""
+    entry, case, what, at, right, wrong = spoilt_program(name)
     found = play.complaints(entry, wrong, right)
     named = what in ("vco", "vcc", "vce") or (found and f", {what}, " in found[0])
     is_found = len(found) == 1 and found[0].startswith(f"{case['name']} (") and named
@@ -108,13 +127,10 @@ def table_of(found: Dict[str, coverage.Found]) -> str:
 
 
 def outcomes_shown(names: List[str]) -> Iterator[Complaints]:
-    """That each outcome occurs in each lane, that data and page say so, and that a fault in any is found."""
+    """That each outcome occurs in each lane, that the data say so, and that a fault in any is found."""
     found = {name: outcomes_of(name) for name in names}
-    table = table_of(found)
-    same = (HERE / "coverage.tsv").read_text() == table
+    same = (HERE / "coverage.tsv").read_text() == table_of(found)
     yield unless(same, "coverage.tsv isn't what `conformance/check --table` prints")
-    same = (HERE / "COVERAGE.md").read_text().endswith(f"\n\n{coverage.reasons(table)}")
-    yield unless(same, "COVERAGE.md doesn't end with what `conformance/check --reasons` prints")
     for name, outcomes in found.items():
         yield from faults_found(name, outcomes)
 
@@ -167,7 +183,7 @@ def refusals(program: str) -> Iterator[Complaints]:
 
 
 def bytes_that_differ(pairs: Any, start: int, end: int, *pieces: Dict[str, str]) -> List[int]:
-    """The addresses of a memory whose bytes aren't those that pieces of form 1 leave, one over the other."""
+    """The addresses of a memory whose bytes aren't those that pieces of `steps` leave, one over the other."""
     found = {at - start: byte for at, byte in pairs if start <= at < end and byte}
     wanted: Dict[int, int] = {}
     for address, text in (it for piece in pieces for it in piece.items()):
@@ -176,7 +192,7 @@ def bytes_that_differ(pairs: Any, start: int, end: int, *pieces: Dict[str, str])
 
 
 def full_is_the_same(name: str) -> Complaints:
-    """That the cases of form 3 are those of form 1."""
+    """That the cases of `full` are those of `steps`."""
     entries = entries_in(VECTORS, name)
     cases = json.loads(full.full_text(entries))
     wrong: List[Any] = [] if len(cases) == len(entries) else ["a case is missing"]
@@ -191,11 +207,11 @@ def full_is_the_same(name: str) -> Complaints:
             ):  # fmt: skip
                 pieces = (before.get(bank, {}), code if bank == "imem" else {}, changed.get(bank, {}))
                 wrong += bytes_that_differ(state[memory], start, end, *pieces)
-    return unless(not wrong, f"{name}: form 3 differs from form 1 in {wrong[:4]}")
+    return unless(not wrong, f"{name}: full differs from steps in {wrong[:4]}")
 
 
 def flat_is_the_same(name: str) -> Complaints:
-    """That the cases of form 4 are those of form 1."""
+    """That the cases of `flat` are those of `steps`."""
     entries = entries_in(VECTORS, name)
     cases = [*flat.cases_in(flat.flat_bytes(entries))]
     wrong: List[str] = [] if len(cases) == len(entries) else ["a case is missing"]
@@ -216,60 +232,99 @@ def flat_is_the_same(name: str) -> Complaints:
             wrong += [it for it in flat.BANKS if pieces.get((when, it), {}) != part.get(it, {})]
         is_same = (case["name"], case["word"]) == (entry["name"], int(entry["word"], 16))
         wrong += [] if is_same else [entry["name"]]
-    return unless(not wrong, f"{name}: form 4 differs from form 1 in {wrong[:4]}")
+    return unless(not wrong, f"{name}: flat differs from steps in {wrong[:4]}")
 
 
 def machine_on(program: str, name: str) -> Any:
-    """A machine as the runner of README.md wants it, whose step is one of the program."""
+    """An emulator as the runners of README.md want it. A step or a run of it is one of the program."""
+    window = slice(bench.WINDOW, bench.WINDOW + bench.WINDOW_LENGTH)
 
     class Rsp:
         def __init__(self) -> None:
-            self.ram: Dict[int, int] = defaultdict(int)
-            self.rdram: Dict[int, int] = defaultdict(int)
-            self.pc = 0
+            self.state: Dict[str, str] = {}
+            self.memories: Dict[str, bytes] = {}
+
+        def set(self, key: str, text: str) -> None:
+            self.state[key] = text
+
+        def get(self, key: str) -> str:
+            return self.state[key]
+
+        def load(self, bank: str, data: bytes) -> None:
+            self.memories[bank] = data
+
+        def memory(self, bank: str) -> bytes:
+            return self.memories[bank]
 
         def step(self) -> None:
-            memories: Dict[str, Dict[str, str]] = {"dmem": {}, "imem": {}}
-            memories["rdram"] = {f"{at:06x}": f"{byte:02x}" for at, byte in self.rdram.items()}
-            for at, byte in self.ram.items():
-                memories["imem" if at >= 4096 else "dmem"][f"{at % 4096:03x}"] = f"{byte:02x}"
-            word = int.from_bytes(bytes(self.ram[4096 + (self.pc + i) % 4096] for i in range(4)), "big")
-            case = (ROWS[name.lower()], word, {**texts_of(vars(self)), **memories})
-            (looks,) = bench.observe(program, [case])
-            vars(self).update(numbers_of(looks["after"]))
-            places = (("dmem", self.ram, 0), ("imem", self.ram, 4096), ("rdram", self.rdram, bench.WINDOW))
-            for bank, memory, start in places:
-                data = bytes.fromhex("".join(looks["after"].get(bank, [])))
-                memory.update({start + at: byte for at, byte in enumerate(data)})
+            dmem, imem, rdram = (self.memories[bank] for bank in bench.BANKS)
+            pieces = {"dmem": {"000": dmem.hex()}, "imem": {"000": imem.hex()}}
+            pieces["rdram"] = {f"{window.start:06x}": rdram[window].hex()}
+            pc = int(self.state["pc"], 16)
+            word = int.from_bytes(imem[pc : pc + 4], "big")
+            (looks,) = bench.observe(program, [(ROWS[name.lower()], word, {**self.state, **pieces})])
+            self.state = {key: looks["after"][key] for key in self.state}
+            dmem, imem, seen = (bytes.fromhex("".join(looks["after"][bank])) for bank in bench.BANKS)
+            rdram = rdram[: window.start] + seen + rdram[window.stop :]
+            self.memories = {"dmem": dmem, "imem": imem, "rdram": rdram}
+
+        def run(self) -> None:
+            script, one = bench.Script(), bench.Script()
+            play.run_images(one, self.memories["imem"], self.memories["dmem"])
+            script.append(one, 0)
+            (found,) = play.played(program, script, 1)
+            self.memories["dmem"] = bytes.fromhex(found["dmem"])
 
     return Rsp
 
 
-def told_by_runner(program: str, name: str, cases: Any) -> str:
-    """What the runner of README.md prints about cases, on the program."""
-    found = re.search(r"(?ms)^```python\n(import json\n.*?)^```$", (HERE / "README.md").read_text())
-    told = io.StringIO()
-    with tempfile.NamedTemporaryFile("w", suffix=".json") as file, contextlib.redirect_stdout(told):
-        json.dump(cases, file)
-        file.flush()
-        known = {"Rsp": machine_on(program, name), "FILE": file.name}
-        exec(found[1] if found else "raise KeyError", known)
+def told_by_runner(number: int, machine: Any, path: Path) -> str:
+    """What a runner of README.md, by its number there, prints about a file on an emulator."""
+    text = RUNNERS.findall((HERE / "README.md").read_text())[number]
+    told, mine = io.StringIO(), ModuleType("mine")  # type: io.StringIO, Any
+    mine.Rsp = machine
+    with patch.dict(sys.modules, mine=mine), patch.object(sys, "argv", ["runner.py", str(path)]):
+        with contextlib.redirect_stdout(told):
+            exec(text, {})
     return told.getvalue()
 
 
-def ten_lines_find(program: str, name: str) -> Iterator[Complaints]:
-    """That the runner of README.md passes an instruction's first cases, and names each that is spoilt."""
-    cases = json.loads(full.full_text(entries_in(VECTORS, name)[:2]))
-    told = told_by_runner(program, name, cases)
-    yield unless(not told, f"the runner of README.md says of {name}: {told[:200]}")
-    for number, case in enumerate(cases):
-        if number % 2:
-            case["final"]["v"][31][7] ^= 1
-        else:
-            case["final"]["ram"][0][1] ^= 1
-    told = told_by_runner(program, name, cases)
-    right = told.count("\n") == len(cases) and all(case["name"] in told for case in cases)
-    yield unless(right, f"the runner of README.md says of spoilt cases of {name}: {told[:200]!r}")
+def runner_of_steps_finds(program: str, name: str, path: Path) -> Iterator[Complaints]:
+    """That the runner of `steps` passes an instruction's first cases, and names each that is spoilt."""
+    machine, random = machine_on(program, name), Random("runner", name)
+
+    def told(*entries: steps.Entry) -> str:
+        path.write_text("".join(f"{json.dumps(it)}\n" for it in entries))
+        return told_by_runner(0, machine, path)
+
+    entries = entries_in(VECTORS, name)[:2]
+    yield unless(not (said := told(*entries)), f"the runner of README.md says of {name}: {said[:200]}")
+    for entry in entries:
+        for false in spoilt_entries(entry, random):
+            right = (said := told(false)).startswith(f"{entry['name']} ({entry['text']}), ")
+            yield unless(right, f"the runner of README.md says of {false}: {said[:200]!r}")
+
+
+def runner_of_programs_finds(program: str, name: str, folder: Path) -> Iterator[Complaints]:
+    """That the runner of `programs` passes an instruction's programs, and names the case of a wrong byte."""
+    machine = machine_on(program, name)
+    for path in (PROGRAMS / f"{name}.json", *PROGRAMS.glob(f"{name}-*")):
+        (folder / path.name).write_bytes(path.read_bytes())
+    said = told_by_runner(1, machine, folder / f"{name}.json")
+    yield unless(not said, f"the runner of README.md says of the programs of {name}: {said[:200]}")
+    it = spoilt_program(name)
+    (folder / f"{it.entry['name']}.after").write_bytes(it.wrong)
+    said = told_by_runner(1, machine, folder / f"{name}.json")
+    pair = f"expected {it.wrong[it.at]:02x}, got {it.right[it.at]:02x}"
+    wanted = f"{it.case['name']} ({it.case['text']}), {it.what}, DMEM {it.at:03x}: {pair}\n"
+    yield unless(said == wanted, f"the runner of README.md says of a spoilt program of {name}: {said!r:.200}")
+
+
+def runners_find(program: str, name: str) -> Iterator[Complaints]:
+    """That the runners of README.md pass what is true, and name what is spoilt."""
+    with tempfile.TemporaryDirectory() as folder:
+        yield from runner_of_steps_finds(program, name, Path(folder) / f"{name}.jsonl")
+        yield from runner_of_programs_finds(program, name, Path(folder))
 
 
 def checks(program: str) -> Iterator[Complaints]:
@@ -282,7 +337,7 @@ def checks(program: str) -> Iterator[Complaints]:
     yield from map(flat_is_the_same, names)
     yield from map(divides_where_it_may, names)
     for name in ("VADDC", "SQV", "MTC0", "BEQ"):
-        yield from ten_lines_find(program, name)
+        yield from runners_find(program, name)
     yield from spoilt_steps_found(program, names)
     for name in names:
         yield from runs_true(program, name)
@@ -292,7 +347,7 @@ def checks(program: str) -> Iterator[Complaints]:
 def main() -> None:
     words = reader("check", __doc__)
     words.add_argument("--table", action="store_true", help="prints coverage.tsv")
-    words.add_argument("--reasons", action="store_true", help="prints the table of COVERAGE.md")
+    words.add_argument("--reasons", action="store_true", help="prints what can't occur, and why")
     words.add_argument("program", nargs="?", metavar="PROGRAM", default=PROGRAM)
     args = words.parse_args()
     program = os.path.abspath(args.program)

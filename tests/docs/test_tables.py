@@ -11,17 +11,18 @@ It fails if the program does something else than a line of a table says, or if a
 
 import re
 from difflib import unified_diff
+from itertools import chain
 from pathlib import Path
-from typing import Any, Dict, Iterator, List, Tuple
+from typing import Any, Dict, Iterable, Iterator, List, Set, Tuple
 
 import pytest
 
 from lib import worked
 from lib.lists import see_same
-from lib.pages import data, page, replies, tables, words_of
+from lib.pages import cells_of, data, page, replies, tables, words_of
 from lib.processes import run
 from rsp_conformance import bench, programs
-from rsp_conformance.table import ROWS
+from rsp_conformance.table import ROWS, Row
 from rsp_conformance.vectors import VECTORS, entries_in, names_in
 from rsp_tools import pages
 
@@ -58,13 +59,22 @@ def test_cases_of_vectors() -> None:
     assert {*map(int, re.findall(r"\d+", table))} == counts
 
 
+def used_by(rows: Iterable[Row]) -> Set[str]:
+    """The instructions of the programs of these instructions, besides those that the programs test."""
+    texts = (one.lines for row in rows for one in programs.programs_of(row, "1", 20))
+    lines = [line for text in texts for line in text if not line.endswith(":")]
+    return {line.split("#")[0].split()[0].upper() for line in lines} - {"NOP", ".WORD"}
+
+
 def test_whole_programs() -> None:
     """The instructions that whole programs of the vectors use are those that the page names."""
-    (said,) = re.findall(r"(?s)Setting up uses (.*?)If all", page(OF_VECTORS))
-    texts = (one.lines for row in ROWS.values() for one in programs.programs_of(row, "1", 20))
-    lines = [line for text in texts for line in text if not line.endswith(":")]
-    used = {line.split("#")[0].split()[0].upper() for line in lines} - {"NOP", ".WORD"}
-    see_same({*re.findall(r"\b[A-Z]+[0-9]?\b", said.replace("BREAK-2", ""))}, used)
+    head = r"\| Programs of \| also use \|\n\|[-|]+\|\n"
+    (table,) = re.findall(rf"{head}((?:\|.*\n)+)", page(OF_VECTORS))
+    said = [{*re.findall(r"\b[A-Z]+[0-9]?\b", cells_of(it)[1])} for it in table.splitlines()]
+    forms = (programs.DIVIDING, (*programs.JUMPS, "break"), programs.SP_MOVES)  # of the lines after the first
+    used = [used_by(row for row in ROWS.values() if row.form in it) for it in forms]
+    others = used_by(row for row in ROWS.values() if row.form not in {*chain(*forms)})
+    assert said == [others, *(it - others for it in used)]
 
 
 @pytest.fixture(scope="module")

@@ -15,7 +15,7 @@ from typing import Any, Dict, Iterable, Iterator
 import pytest
 
 from lib import TOP, devices
-from lib.pages import page
+from lib.pages import cells_of, page
 from lib.processes import Ended, run, succeeds
 from rsp_conformance import check, coverage, generate, steps
 from rsp_conformance.commands import Complaints
@@ -44,13 +44,15 @@ def test_generated(name: str, program: Path, folder: Path) -> None:
 
 
 def test_files_and_tables() -> None:
-    """There is no other file; the table of outcomes is in the table's order, and the page has its reasons."""
+    """There is no other file; the table of outcomes is in the table's order; --reasons has those that it gives."""
     assert {it.stem.split("-")[0] for it in VECTORS.glob("*/*")} == {*check.NAMES}
     table = page("conformance/coverage.tsv")
     names = [*dict.fromkeys(line.split("\t")[0] for line in table.splitlines()[1:])]
     assert table.startswith(coverage.HEAD) and names == [it for it in check.NAMES if it in names]
-    reasons = f"\n\n{coverage.reasons(table)}"
-    assert page("conformance/COVERAGE.md")[-len(reasons) :] == reasons
+    lines = coverage.reasons(table).splitlines()[2:]
+    listed = [(name, text, why) for text, names, why in map(cells_of, lines) for name in names.split(", ")]
+    cells = [line.split("\t") for line in table.splitlines()[1:]]
+    assert sorted(listed) == sorted((it[0], it[1], it[3]) for it in cells if it[3])
 
 
 def checks_of(name: str, program: str) -> Iterator[Complaints]:
@@ -68,15 +70,15 @@ def checks_of(name: str, program: str) -> Iterator[Complaints]:
 
 @NAMES
 def test_instruction(name: str, program: Path) -> None:
-    """Its programs end as they must, all forms are the same, outcomes occur, and what is spoilt is found."""
+    """Its programs end as they must, all forms agree, outcomes occur, and what is spoilt is found."""
     assert check.has_cases(name)
     see(checks_of(name, str(program)))
 
 
 @pytest.mark.parametrize("name", ("VADDC", "SQV", "MTC0", "BEQ"))
-def test_ten_lines(name: str, program: Path) -> None:
-    """The runner of conformance/README.md passes true cases, and names spoilt ones."""
-    see(check.ten_lines_find(str(program), name))
+def test_runners_of_page(name: str, program: Path) -> None:
+    """The runners of conformance/README.md pass true cases and programs, and name spoilt ones."""
+    see(check.runners_find(str(program), name))
 
 
 def test_refusals(program: Path) -> None:
