@@ -1,4 +1,4 @@
-/* runner FILE..: runs flat test vectors (form 4), and prints each case that differs. A file that has something else is refused.
+/* runner FILE..: runs the test vectors of `flat`, and prints each case that differs. A file that has something else is refused.
  * For another machine replace the calls rsp_*. */
 #include "rsp.h"
 #include <stdio.h>

@@ -1,4 +1,4 @@
-"""Form 3: the cases of form 1 with whole states of numbers, a JSON array for each instruction, as the runners
+"""`full`: the cases of `steps` with whole states of numbers, a JSON array for each instruction, as the runners
 of other processors' tests read them.
 """
 
@@ -39,7 +39,7 @@ def memories(entry: Entry) -> Tuple[Memories, Memories]:
 
 
 def case_of(entry: Entry) -> Dict[str, Any]:
-    """A case of form 1 as one of form 3."""
+    """A case of `steps` as one of `full`."""
     before = {**bench.DEFAULT, **entry["before"]}
     old, new = memories(entry)
     case = {"name": entry["name"], "word": int(entry["word"], 16), "text": entry["text"]}

@@ -26,7 +26,7 @@ from rsp_conformance.table import ROWS, Row
 
 SEED = "1"
 
-# Forms that are made of form 1: the suffix of a file, and what it holds.
+# Forms that are made of `steps`: the suffix of a file, and what it holds.
 MORE: Dict[str, Tuple[str, Callable[[List[steps.Entry]], bytes]]] = {
     "full": ("json", lambda entries: full.full_text(entries).encode()),
     "flat": ("bin", flat.flat_bytes),

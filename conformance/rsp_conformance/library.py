@@ -1,4 +1,4 @@
-"""conformance/library [FOLDER] [NAME..]: runs form 1 of the test vectors on the library, by its module for
+"""conformance/library [FOLDER] [NAME..]: runs `steps` of the test vectors on the library, by its module for
 Python, and names what differs. It fails if a state does.
 
 FOLDER is one that `conformance/generate` made (vectors/ beside this command). A state goes in and comes out

@@ -1,10 +1,10 @@
-"""States of the library, from the numbers of form 3 and back."""
+"""States of the library, from the numbers of `full` and back."""
 
 import rsp
 
 from rsp_conformance.states import Numbers
 
-# The name in form 3, the field of a state that has it, and its field there if it is a structure.
+# The name in `full`, the field of a state that has it, and its field there if it is a structure.
 DIVIDER = {"div_in": "input", "div_out": "output", "div_loaded": "loaded"}
 FLAGS = {"vco": ("carry", "differ"), "vcc": ("compare", "clip")}
 PARTS = {"high": 32, "middle": 16, "low": 0}

@@ -1,4 +1,4 @@
-"""Form 2: whole programs for machines that can only run microcode. Each holds many cases of one instruction,
+"""`programs`: whole programs for machines that can only run microcode. Each holds many cases of one instruction,
 and stores what they left.
 
 This file writes their text and their data; play.py runs them.

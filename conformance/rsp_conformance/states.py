@@ -1,11 +1,11 @@
-"""A state as hexadecimal texts, as form 1 of the vectors and bench.py have it, and as numbers of form 3."""
+"""A state as hexadecimal texts, as `steps` of the vectors and bench.py have it, and as numbers of `full`."""
 
 from typing import Any, Dict
 
 Texts = Dict[str, Any]  # a text for each register; of a memory {address: bytes}
 Numbers = Dict[str, Any]
 
-# The names in form 3 of what has one number, with the key in form 1 and its digits; then those of lists.
+# The names in `full` of what has one number, with the key in `steps` and its digits; then those of lists.
 NUMBERS = {"pc": ("pc", 3), "npc": ("npc", 3), "vco": ("vco", 4), "vcc": ("vcc", 4), "vce": ("vce", 2),
            "div_in": ("in", 4), "div_out": ("out", 4), "div_loaded": ("loaded", 1),
            "interrupt": ("interrupt", 1)}  # fmt: skip

@@ -1,4 +1,4 @@
-"""Form 1: cases of one instruction each, as lines of JSON, a file for each instruction."""
+"""`steps`: cases of one instruction each, as lines of JSON, a file for each instruction."""
 
 import json
 from typing import Any, Dict, Iterable, Iterator, List

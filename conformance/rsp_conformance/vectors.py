@@ -67,7 +67,7 @@ def is_hexadecimal(text: Any) -> bool:
 
 
 def check_digits(what: str, text: Any, digits: int) -> None:
-    """Wrong, if this isn't a number as form 1 has it."""
+    """Wrong, if this isn't a number as `steps` has it."""
     is_right = is_hexadecimal(text) and len(text) == digits
     unless(is_right, f"{what} is {text!r:.40}, and not {digits} of the digits 0 to 9 and a to f")
 
@@ -83,7 +83,7 @@ def check_bytes(bank: str, address: str, text: Any) -> None:
 
 
 def check_state(when: str, state: Dict[str, Any]) -> None:
-    """Wrong, TypeError or AttributeError, if a state names what none has, or isn't as form 1 has it."""
+    """Wrong, TypeError or AttributeError, if a state names what none has, or isn't as `steps` has it."""
     for key, value in state.items():
         unless(key in KEYS[when], f"{when} has the unknown key {key!r:.40}")
         if key not in MEMORIES:

@@ -5,7 +5,7 @@ in it. Each test builds the core with one of them (0 is the core without a fault
 
   cases     65,536 cases of each instruction that the list names: those of the others can't differ
   programs  100 random programs of 1,000 steps, of all instructions
-  vectors   the small set of all instructions, forms 1 and 2, those of the list first
+  vectors   the small set of all instructions, `steps` and `programs`, those of the list first
 
 The list has the case, the program and the vector that show it first, or `no`; of cases also how many do.
 """
@@ -76,7 +76,7 @@ def in_programs(core: Path) -> str:
 
 
 def put(core: Core, texts: states.Texts) -> None:
-    """Puts the bytes of form 1 into the memories."""
+    """Puts the bytes of a case of `steps` into the memories."""
     for bank, start in (("dmem", DMEM), ("imem", IMEM), ("rdram", 0)):
         for address, text in texts.get(bank, {}).items():
             memory = core.rdram if bank == "rdram" else core.memory
@@ -96,7 +96,7 @@ def core_of(case: Entry, *parts: str) -> Core:
 
 
 def vectors_of(name: str, lib: ctypes.CDLL) -> Iterator[Tuple[str, bool]]:
-    """Each case of form 1 and program of form 2 of an instruction, and whether the core does as it says."""
+    """Each case of `steps` and program of `programs` of an instruction, and whether the core does as it says."""
     for case in entries_in(VECTORS, name):
         core, after = core_of(case, "before"), core_of(case, "before", "after")
         lib.core_step(ctypes.byref(core))

@@ -20,7 +20,7 @@ from rsp_tools import TOP
 DATA = TOP / "docs/data"
 TABLES = {"instructions": "docs/ROWS.md", "commands": "docs/SCRIPT.md", "faults": "docs/FAULTS.md"}
 LAYERS, OF_VECTORS = "docs/ARCHITECTURE.md", "conformance/README.md"
-EXAMPLE = "VCH-003"  # the case of form 2 that OF_VECTORS shows
+EXAMPLE = "VCH-003"  # the case of `programs` that OF_VECTORS shows
 
 
 def page(name: str) -> str:
