@@ -30,6 +30,25 @@ Data = Dict[str, Any]
 
 DATA, CASES, PAGE = HERE / "z64/campaign.json", HERE / "z64/cases.jsonl", HERE / "Z64.md"
 MOST = 84000
+# What the page begins with: of so many cases of each of so many instructions, and of this seed.
+HEAD = """
+For those who use z64, the low-level RSP plugin of mupen64plus, or compare another emulator with it. This page
+lists each instruction on which z64 differs from [INSTRUCTIONS](../docs/INSTRUCTIONS.md), with a case that
+shows the difference. It can't say which of the two a console agrees with.
+
+A [campaign](../docs/CAMPAIGN.md) compared up to {:,} cases of each of {} instructions (seed `{}`): all
+memories, and all registers, except whether the divider is loaded, and halted, broke and single step, which
+z64 doesn't show. The registers are found by their addresses in one build, Debian's mupen64plus-rsp-z64
+2.5.9+10+ga7bf40f-2 for amd64. Any other build is treated as a plugin whose registers are unknown.
+
+The letters (a, b, e, A and so on) mean what they mean in INSTRUCTIONS. The last column has the first case
+that differs: `conformance/campaign plugin:FILE --case NAME` shows it, and [campaign.json](z64/campaign.json)
+counts the parts of the state that differ. Beside each sentence a [rule](rsp_conformance/otherwise) computes
+what z64 leaves. `conformance/differences` compares the rules with cases of each instruction, and makes this
+page.
+"""
+TABLE = "| Instruction | What z64 does | Cases that differ | First |\n|---|---|---|---|\n"
+CHOSEN = "On {} z64 differs only in [what we chose ourselves](README.md#what-they-cant-show)."
 
 
 def take(out: Path) -> None:
@@ -55,8 +74,8 @@ def sentences(data: Data) -> Iterator[Complaints]:
 def share_of(it: Data, cases: int) -> str:
     """How many of an instruction's cases differ; of how many, if not of all."""
     shown = it["count"] - it["unshown"]
-    share = f"{100 * it['differ'] / max(1, shown):.3g} %"
-    of = f" of {shown}" if shown != cases else ""
+    share = f"{100 * it['differ'] / max(1, shown):.3g}%"
+    of = f" of {shown:,}" if shown != cases else ""
     return share + of + (f", {it['faults']} faults" if it["faults"] else "")
 
 
@@ -68,36 +87,24 @@ def line_of(names: List[str], data: Data, sentence: str) -> str:
     return f"| {', '.join(names).upper()} | {sentence} | {shares} | {first} |"
 
 
+def listed(names: List[str]) -> str:
+    """Names in a sentence."""
+    return " and ".join(filter(None, [", ".join(names[:-1]), *names[-1:]]))
+
+
 def page_of(data: Data) -> str:
     found = data["instructions"]
-    agree = [name.upper() for name, it in found.items() if not it["differ"]]
-    chosen = [name.upper() for name, it in found.items() if it["differ"] and it["differ"] == it["choices"]]
+    chosen = [name.upper() for name, it in found.items() if 0 < it["differ"] == it["choices"]]
     named: Dict[str, List[str]] = {}
     for rule in RULES:
         named.setdefault(rule.sentence, []).extend(name for name in rule.names if found[name]["differ"])
     lines = [line_of(names, data, sentence) for sentence, names in named.items() if names]
-    return f"""# What z64 does otherwise
-
-For those who use z64, the low-level RSP of mupen64plus, or compare another emulator with it. Find here each instruction
-that differs from the [instruction table](../docs/INSTRUCTIONS.md), with a case that shows it. A difference doesn't say
-which of the two a console agrees with.
-
-A [campaign](../docs/CAMPAIGN.md) compared up to {data["cases"]} cases of each of {len(found)} instructions (seed `{data["seed"]}`) with Debian's
-mupen64plus-rsp-z64 2.5.9+10+ga7bf40f-2: all registers and memories, but whether the divider is loaded, and halted,
-broke and single step, which z64 doesn't show. `conformance/campaign plugin:FILE --case NAME` shows a case. The
-[data](z64/campaign.json) name the parts of the state that differ.
-
-The letters are those of the table. Beside each sentence a [rule](rsp_conformance/otherwise) computes what z64 leaves,
-and cases of each instruction are compared with it. `conformance/differences` makes this page.
-
-| Instruction | What z64 does | Cases that differ | First |
-|---|---|---|---|
-{chr(10).join(lines)}
-
-{len(agree)} instructions agree in every case:
-
-{fill(", ".join(agree), 120, initial_indent="    ", subsequent_indent="    ")}
-{f"{chr(10)}Of {', '.join(chosen)} every difference is in what [the vectors](README.md#what-they-cant-show) chose themselves.{chr(10)}" if chosen else ""}"""  # noqa: E501
+    head = HEAD.strip().format(data["cases"], len(found), data["seed"]).split("\n\n")
+    agree = sum(not it["differ"] for it in found.values())
+    last = f"The other {agree} instructions agree in every case."
+    texts = [*head, f"{CHOSEN.format(listed(chosen))} {last}" if chosen else last]
+    texts = [fill(it, 120, break_on_hyphens=False) for it in texts]
+    return "\n\n".join(["# Where z64 differs", *texts[:-1], TABLE + "\n".join(lines), texts[-1]]) + "\n"
 
 
 def cases() -> Dict[str, List[Tuple[Case, State]]]:

@@ -1,4 +1,4 @@
-"""What z64 does otherwise than the instruction table: a sentence and a rule for each instruction.
+"""Where z64 differs from the instruction table: a sentence and a rule for each instruction.
 
 The sentences are those of conformance/Z64.md, in its order.
 """

@@ -16,7 +16,7 @@ def source(case: Case) -> int:
     return case.lanes(case.fields["vt"])[selected(case.fields["e"], case.fields["de"])]
 
 
-@rule("vmov", "the lane is lane 7 - de of vt under the element; the low accumulators are kept")
+@rule("vmov", "reads lane 7 - de of vt under the element; the low accumulators are unchanged")
 def moves_another_lane(case: Case) -> State:
     value = case.lanes(case.fields["vt"])[selected(case.fields["e"], 7 - case.fields["de"])]
     return {**result(case, {case.fields["de"]: value}), **case.kept(f"a{lane}" for lane in range(8))}
@@ -66,15 +66,14 @@ def takes_other_entries(case: Case) -> State:
     return divider_result(case, reciprocal(signed(lane)))
 
 
-@rule("vrcph", "the source is lane de of vt under the element")
+@rule("vrcph", "reads lane de of vt under the element")
 def loads_another_lane(case: Case) -> State:
     return {"in": source(case)}
 
 
 @rule(
     "vrcpl",
-    "the source is that of its VRCPH; a high half is taken even if none is loaded; the table is that of its"
-    " VRCP",
+    "reads the lane that VRCPH reads, and the table of VRCP; takes a high half even if none is loaded",
 )
 def takes_a_high_half(case: Case) -> State:
     x = case.before["in"] << 16 | source(case)
@@ -83,7 +82,7 @@ def takes_a_high_half(case: Case) -> State:
 
 @rule(
     "vrsqh",
-    "the source is that of its VRCPH; it has a DIV_IN and a DIV_OUT of its own, which are 0 at the start",
+    "reads the lane that VRCPH reads; has a DIV_IN and a DIV_OUT of its own, which are 0 at the start",
 )
 def reads_a_root(case: Case) -> State:
     return {**result(case, {case.fields["de"]: 0}), **case.kept(["in"])}
@@ -91,8 +90,8 @@ def reads_a_root(case: Case) -> State:
 
 @rule(
     "vrsql",
-    "the source is that of its VRCPH; it has the DIV_IN and the DIV_OUT of its VRSQH, and takes a high half"
-    " even if none is loaded",
+    "reads the lane that VRCPH reads; has DIV_IN and DIV_OUT of VRSQH; takes a high half even if none is"
+    " loaded",
 )
 def takes_a_root(case: Case) -> State:
     root = inverse_root(source(case))

@@ -26,7 +26,7 @@ def links_to_no_zero(case: Case) -> State:
 
 
 PLANTED = [
-    Rule(("jalr",), "keeps the two low bits of the register in pc", links_to_no_zero),
+    Rule(("jalr",), "pc gets the two low bits of the register too", links_to_no_zero),
     Rule(("vcr",), "-b in place of the complement of b if the signs differ", negates),
     Rule(("ssv", "slv", "sdv"), "register bytes past 15 are 0", stores_zeros),
 ]

@@ -7,7 +7,7 @@ from rsp_conformance.outcomes import signed
 from .case import LIMIT, Case, State, rule
 
 
-@rule("bgezal", "on register 31 it tests the link, so it branches; a link isn't taken modulo 4096")
+@rule("bgezal", "if s is 31 it tests the new link, so it branches; a link isn't taken modulo 4096")
 def tests_the_link(case: Case) -> State:
     target = {"npc": case.before["npc"] + 4 * simm(case) & 0xFFC}
     return {**link(case, "r31"), **(target if case.fields["s"] == 31 else {})}
@@ -28,20 +28,20 @@ def does_nothing(case: Case) -> State:
     return {**case.undone(), "pc": pc, "npc": pc + 4 & 0xFFC}
 
 
-@rule("jr", "keeps the two low bits of the register in pc")
+@rule("jr", "pc gets the two low bits of the register too")
 def keeps_low_bits(case: Case) -> State:
     return {"npc": case.reg("s") % LIMIT}
 
 
 @rule(
     "jalr",
-    "keeps the two low bits of the register in pc; a link isn't taken modulo 4096, and stays in register 0",
+    "pc gets the two low bits of the register too; a link isn't taken modulo 4096, and register 0 keeps it",
 )
 def links_to_any_register(case: Case) -> State:
     return {"npc": case.reg("s") % LIMIT, **link(case, f"r{case.fields['d']}")}
 
 
-PASSING = "an access that passes the end of DMEM goes on at the start of IMEM, and not at that of DMEM"
+PASSING = "an access that passes the end of DMEM continues in IMEM, not at the start of DMEM"
 SIZES = {"h": 2, "w": 4}
 
 

@@ -33,13 +33,13 @@ def absolute(case: Case) -> State:
     return lows(case, {lane: 0x7FFF for lane, a, b in operands(case) if signed(a) < 0 and b == 0x8000})
 
 
-@rule("vmulu", "if both numbers are -32768, the accumulator is negative, and the result is 0")
+@rule("vmulu", "if a and b are -32768, the accumulator is negative, and the result is 0")
 def multiplies_least(case: Case) -> State:
     least = [lane for lane, a, b in operands(case) if a == b == 0x8000]
     return {**result(case, dict.fromkeys(least, 0)), **{f"a{lane}": 0xFFFF80008000 for lane in least}}
 
 
-@rule("vsar", "with an element other than 8 to 10, vd is kept")
+@rule("vsar", "with an element other than 8 to 10, vd is unchanged")
 def reads_three_elements(case: Case) -> State:
     return {} if 8 <= case.fields["e"] <= 10 else case.kept([f"v{case.fields['vd']}"])
 
@@ -52,7 +52,11 @@ def compared(case: Case, compares: dict[int, bool], values: dict[int, int]) -> S
     return {**result(case, values), **lows(case, values), "vcc": vcc}
 
 
-@rule("vcl", "with carry alone, n is sa + sb modulo 2^32: compare is n <= 65536 if extra is set, else n = 0")
+@rule(
+    "vcl",
+    "with carry set and not-equal clear, compare is n <= 65536 if extra is set, else n = 0; n is sa + sb"
+    " modulo 2^32",
+)
 def clips_low(case: Case) -> State:
     vco, vce = case.before["vco"], case.before["vce"]
     carried = [it for it in operands(case) if vco >> it[0] & 0x101 == 1]
@@ -68,6 +72,6 @@ def clips_roughly(case: Case) -> State:
     return compared(case, compares, {lane: ~b if compares[lane] else a for lane, a, b in apart})
 
 
-@rule("vmrg", "VCO is kept")
+@rule("vmrg", "VCO is unchanged")
 def keeps_vco(case: Case) -> State:
     return case.kept(["vco"])
