@@ -165,7 +165,7 @@ WAYS = (
         prints="0c0000210000000d",
     ),
     Way(CAMPAIGN, "conformance/campaign plugin:", instead=(("/tmp/first", "~/first"),), prints="after"),
-    Way(CAMPAIGN, "conformance/campaign plugin:", prints="below"),
+    Way(CAMPAIGN, "conformance/campaign plugin:", prints="after"),
     Way(CAMPAIGN, "cargo build", left_out="it is for the repository, where tests/library/rust does it"),
     Way(
         CAMPAIGN,
