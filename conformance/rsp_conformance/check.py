@@ -83,7 +83,7 @@ def spoilt_steps_found(program: str, names: List[str]) -> Iterator[Complaints]:
 
 
 class Spoilt(NamedTuple):
-    """A program, a byte in a field of one of its cases, and DMEM at its end: right, and wrong in this byte."""
+    """A program, a byte in a field of a case, and DMEM at its end: right, and wrong in that byte."""
 
     entry: play.Entry
     case: play.Entry

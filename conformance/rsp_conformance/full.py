@@ -1,5 +1,5 @@
-"""`full`: the cases of `steps` with whole states of numbers, a JSON array for each instruction, as the runners
-of other processors' tests read them.
+"""`full`: the cases of `steps` with whole states of numbers, a JSON array for each instruction, as the
+runners of other processors' tests read them.
 """
 
 import json

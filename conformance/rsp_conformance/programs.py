@@ -1,5 +1,5 @@
-"""`programs`: whole programs for machines that can only run microcode. Each holds many cases of one instruction,
-and stores what they left.
+"""`programs`: whole programs for machines that can only run microcode. Each holds many cases of one
+instruction, and stores what they left.
 
 This file writes their text and their data; play.py runs them.
 """

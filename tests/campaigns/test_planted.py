@@ -96,7 +96,7 @@ def core_of(case: Entry, *parts: str) -> Core:
 
 
 def vectors_of(name: str, lib: ctypes.CDLL) -> Iterator[Tuple[str, bool]]:
-    """Each case of `steps` and program of `programs` of an instruction, and whether the core does as it says."""
+    """Each case and each program of an instruction, and whether the core does as it says."""
     for case in entries_in(VECTORS, name):
         core, after = core_of(case, "before"), core_of(case, "before", "after")
         lib.core_step(ctypes.byref(core))

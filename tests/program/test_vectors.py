@@ -44,7 +44,7 @@ def test_generated(name: str, program: Path, folder: Path) -> None:
 
 
 def test_files_and_tables() -> None:
-    """There is no other file; the table of outcomes is in the table's order; --reasons has those that it gives."""
+    """There is no other file; outcomes are in the table's order, and --reasons lists all that can't occur."""
     assert {it.stem.split("-")[0] for it in VECTORS.glob("*/*")} == {*check.NAMES}
     table = page("conformance/coverage.tsv")
     names = [*dict.fromkeys(line.split("\t")[0] for line in table.splitlines()[1:])]
