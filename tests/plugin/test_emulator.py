@@ -11,7 +11,7 @@ import pytest
 
 from lib import TOP
 from lib.packages import need
-from lib.pages import page
+from lib.pages import blocks_of, page
 from lib.plugin import CORE, FRONT_END, GRAPHICS, HEADERS, Z64, Bench, results
 from lib.processes import run, succeeds
 
@@ -85,7 +85,7 @@ def test_hunt_of_page(hunt: Bench) -> None:
     more = re.findall(r"printf '(.*?)'", HUNT)[0].replace("\\n", "\n")
     script = script[: script.index("\nregs\n") + 1] + more
     replies = run(hunt.program, "run", input=script).stdout.splitlines()[-37:]
-    shown = [*filter(None, HUNT.split("| rsp run\n")[1].partition("```")[0].split("\n"))]
+    shown = blocks_of(HUNT)[-1].splitlines()
     assert len(shown) == 8
     assert [it for it in replies if it in shown] == shown
 
