@@ -6,7 +6,7 @@ It fails, and draws nothing, if the program isn't `rsp`. Look at the pictures th
 import argparse
 from typing import Dict
 
-from drawings import accumulators, flags, moves
+from drawings import accumulators, console, flags, moves, products, slots
 from rsp_conformance.bench import refusal_of
 from rsp_tools import TOP
 
@@ -15,7 +15,8 @@ FOLDER = TOP / "docs/pictures"
 
 def pictures(program: str) -> Dict[str, str]:
     """Each picture by its name."""
-    return {**moves.pictures(program), **flags.pictures(program), **accumulators.pictures(program)}
+    modules = moves, flags, accumulators, products, slots, console
+    return {name: text for it in modules for name, text in it.pictures(program).items()}
 
 
 if __name__ == "__main__":

@@ -1,5 +1,6 @@
 """Computing instructions on lanes, accumulators and flags, and what the program leaves of them."""
 
+import subprocess
 from itertools import islice
 from random import Random
 from typing import Any, Dict, Iterator, List, Sequence, Tuple
@@ -17,6 +18,15 @@ FLAGS = {coverage.NAMES.get(flag, flag): at for flag, at in outcomes.FLAGS.items
 CLEAR = {"vco": "0000", "vcc": "0000", "vce": "00"}
 ZEROS = [0] * 8
 NAMES = [name for name, row in ROWS.items() if row.form in ("vector", "lane", "nothing")]
+
+
+def told(program: str, script: Sequence[str]) -> List[str]:
+    """The lines that a program prints in reply to those of a script."""
+    given = "".join(f"{it}\n" for it in script)
+    command = [program, "run"]
+    return subprocess.run(
+        command, input=given, capture_output=True, text=True, check=True
+    ).stdout.splitlines()
 
 
 def case(
