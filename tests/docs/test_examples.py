@@ -9,7 +9,7 @@ from typing import Any, List
 
 import pytest
 
-from lib.pages import block_with, blocks, listing, page, replies, see_reply, transcripts
+from lib.pages import block_with, blocks, listing, page, replies, see_reply, transcripts, turns_of
 from lib.processes import run, succeeds
 
 TUTORIAL, COOKBOOK = "docs/TUTORIAL.md", "docs/COOKBOOK.md"
@@ -38,27 +38,32 @@ def test_assembly(program: Path) -> None:
 
 
 def sessions() -> "list[tuple[str, str, str]]":
-    """The pairs of blocks of the tutorial, each with the commands of its session before it.
+    """The blocks of the tutorial, each between the commands of its session before it and its own commands.
 
     A block that begins with a comment is a session of its own.
     """
-    parts, session, found = [it.strip("\n") for it in blocks(TUTORIAL)], "", []
-    for commands, wanted in zip(parts[::2], parts[1::2]):
+    session, found = "", []
+    for block in blocks(TUTORIAL):
+        commands = "".join(it for it, _ in turns_of(block))
         is_alone = commands.startswith("#")
-        found.append(("" if is_alone else session, commands, wanted))
-        session = session if is_alone else f"{session}{commands}\n"
+        found.append(("" if is_alone else session, block, commands))
+        session = session if is_alone else session + commands
     return found
 
 
-@by_first_lines("before, commands, wanted", sessions())
-def test_tutorial(before: str, commands: str, wanted: str, program: Path) -> None:
-    told = replies(program, f"{before}{commands}\n")
-    see_reply(told[len(replies(program, before)) :], wanted)
+@by_first_lines("before, block, commands", sessions())
+def test_tutorial(before: str, block: str, commands: str, program: Path) -> None:
+    """Each command has its replies beside it, and each block ends with replies."""
+    told = replies(program, before)
+    for script, wanted in turns_of(block):
+        before, seen = before + script, len(told)
+        told = replies(program, before)
+        see_reply(told[seen:], wanted)
+    assert wanted, f"{commands!r} ends without replies"
 
 
 def test_blocks_of_tutorial() -> None:
-    found = blocks(TUTORIAL)
-    assert found and len(found) % 2 == 0, "commands have no replies"
+    assert len(blocks(TUTORIAL)) > 10
 
 
 @by_first_lines("script, wanted", [*transcripts(*BESIDE)])

@@ -20,13 +20,25 @@ def block_with(name: str, start: str, more: int = 0) -> str:
     return shown[next(i for i, block in enumerate(shown) if block.lstrip("\n").startswith(start)) + more]
 
 
+def turns_of(block: str) -> List[Tuple[str, str]]:
+    """A block that has replies beside its commands: the commands up to each one with replies, and these.
+
+    Three or more blanks are between a command and what is beside it, which is a remark if it begins with `#`.
+    """
+    turns: List[Tuple[str, str]] = []
+    for line in block.splitlines():
+        command, *beside = re.split(r" {3,}", line, maxsplit=1)
+        told = "".join(f"{it}\n" for it in beside if not it.startswith("#"))
+        before = turns.pop() if turns and not (command and turns[-1][1]) else ("", "")
+        turns.append((before[0] + (f"{command}\n" if command else ""), before[1] + told))
+    return turns
+
+
 def transcripts(name: str, heading: str) -> Iterator[Tuple[str, str]]:
     """The blocks of a page from a heading on that have replies beside their commands: scripts and replies."""
     for block in blocks_of(page(name).partition(f"\n{heading}\n")[2]):
-        lines = [re.split(r" {3,}", line, maxsplit=1) for line in block.splitlines()]
-        beside = [line[1] for line in lines if len(line) == 2]
-        wanted = [it for it in beside if not it.startswith("#")]
-        yield "".join(f"{line[0]}\n" for line in lines if line[0]), "\n".join(wanted)
+        script, wanted = ("".join(it) for it in zip(*turns_of(block)))
+        yield script, wanted.rstrip("\n")
 
 
 def cells_of(line: str) -> List[str]:
