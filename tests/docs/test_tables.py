@@ -173,3 +173,10 @@ def test_messages() -> None:
     assert len(messages) == 11
     for it in messages:
         assert f"rsp: {re.sub('{.*?}', lambda found: shown[str(found[0])], it)}" in listed
+
+
+def test_glossary() -> None:
+    """Its words are in the order of the alphabet, and each leads to a page."""
+    words = [cells[0] for cells in tables("docs/GLOSSARY.md")]
+    assert len(words) > 60 and all(re.fullmatch(r"\[[^]]+\]\([^)]+\)", it) for it in words)
+    assert words == sorted(words, key=lambda it: it.lower().partition("]")[0])
