@@ -4,6 +4,7 @@ It fails if the program replies otherwise, or refuses a text. The preprocessors 
 far as they are here.
 """
 
+import re
 from pathlib import Path
 from typing import Any, List
 
@@ -15,6 +16,8 @@ from lib.processes import run, succeeds
 TUTORIAL, COOKBOOK = "docs/TUTORIAL.md", "docs/COOKBOOK.md"
 # The page and the heading from which on blocks have replies beside their commands.
 BESIDE = "docs/SCRIPT.md", "## My microcode is wrong"
+# A command, or `asm` with its text and `end`, perhaps after comments.
+ONE_COMMAND = r"(?:#.*\n)*(?:asm .*\n(?:.*\n)*?end\n|.*\n)"
 
 
 def by_first_lines(names: str, values: List[Any]) -> Any:
@@ -37,29 +40,28 @@ def test_assembly(program: Path) -> None:
     see_reply(sums, block_with(name, "000 2401000a"))
 
 
-def sessions() -> "list[tuple[str, str, str]]":
-    """The blocks of the tutorial, each between the commands of its session before it and its own commands.
+def sessions() -> "list[tuple[str, str]]":
+    """The blocks of the tutorial, each with the commands of its session before it.
 
     A block that begins with a comment is a session of its own.
     """
     session, found = "", []
     for block in blocks(TUTORIAL):
-        commands = "".join(it for it, _ in turns_of(block))
-        is_alone = commands.startswith("#")
-        found.append(("" if is_alone else session, block, commands))
-        session = session if is_alone else session + commands
+        is_alone = block.startswith("#")
+        found.append((block, "" if is_alone else session))
+        session += "" if is_alone else "".join(it for it, _ in turns_of(block))
     return found
 
 
-@by_first_lines("before, block, commands", sessions())
-def test_tutorial(before: str, block: str, commands: str, program: Path) -> None:
-    """Each command has its replies beside it, and each block ends with replies."""
+@by_first_lines("block, before", sessions())
+def test_tutorial(block: str, before: str, program: Path) -> None:
+    """Each command, or block of text, has its replies beside it."""
     told = replies(program, before)
     for script, wanted in turns_of(block):
+        assert wanted and re.fullmatch(ONE_COMMAND, script), f"{script!r} lacks replies"
         before, seen = before + script, len(told)
         told = replies(program, before)
         see_reply(told[seen:], wanted)
-    assert wanted, f"{commands!r} ends without replies"
 
 
 def test_blocks_of_tutorial() -> None:
