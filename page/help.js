@@ -21,8 +21,8 @@ export function fault_page(reply) {
 export function line_page(line, is_source) {
   const word = line.replace(/[#;].*/, "").replace(/^\s*\w+:/, "").trim().split(/\s/)[0];
   if (is_source) {
-    const rule = INSTRUCTIONS.get(word.toLowerCase());
-    return rule ? address("INSTRUCTIONS", rule) : address("ASSEMBLY");
+    const name = word.toLowerCase();
+    return INSTRUCTIONS.has(name) ? address("INSTRUCTIONS", name) : address("ASSEMBLY");
   }
   return COMMANDS.has(word) ? address("SCRIPT", `command-${word}`) : address("SCRIPT", "commands");
 }

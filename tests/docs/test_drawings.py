@@ -25,6 +25,13 @@ def test_pictures(program: Path) -> None:
     assert not wrong, "draw them again by `tools/python drawings`, and look at them"
 
 
+def test_pictures_are_shown() -> None:
+    """Each is on a page of docs."""
+    pages = "".join(it.read_text() for it in FOLDER.parent.glob("*.md"))
+    shown = {*re.findall(r"!\[[^\]]+\]\(pictures/([\w-]+\.svg)\)", pages)}
+    see_same(shown, (it.name for it in FOLDER.glob("*.svg")))
+
+
 def test_table_of_flags(program: Path) -> None:
     """An instruction that isn't there keeps all flags, and reads none."""
     shown: Dict[str, Uses] = {}

@@ -69,6 +69,16 @@ def test_page(rows: Rows) -> None:
     see_same(in_instructions(), rows.values())
 
 
+def test_anchors() -> None:
+    """The page has one for each instruction, right before its name, or before the heading with its name."""
+    text = page(PAGE)
+    anchors = re.findall(r'<a id="(\w+)"></a>(?=(\w*))', text)
+    see_same((it for it, _ in anchors), (it["Instruction"].lower() for it in data("instructions")))
+    (before, heading), *others = re.findall(r"(?m)^((?:<.*></a>)+)\n\n#+ (.*)", text)
+    see_same(re.findall(r'"(\w+)"', before), heading.lower().split(", "))
+    assert not others and [it for it, name in anchors if it != name.lower()] == re.findall(r'"(\w+)"', before)
+
+
 def test_reserved_functions(rows: Rows) -> None:
     """The sentence of the page on functions that are reserved."""
     (said,) = re.findall(r"The functions ([^.]+) are reserved\.", " ".join(page(PAGE).split()))

@@ -5,6 +5,7 @@ from pathlib import Path
 from typing import Iterator, List, Tuple
 
 from lib.pages import anchor
+from rsp_tools.pages import ANCHOR
 
 NO_PAGES = ("out", "vectors", "target", "node_modules")  # folders of what is built, and of test vectors
 
@@ -17,9 +18,9 @@ def pages_below(root: Path) -> List[Path]:
 
 
 def headings(page: Path) -> List[str]:
-    """The headings of a page, as links have them."""
+    """The headings and anchors of a page, as links have them."""
     text = re.sub(r"(?ms)^```.*?^```", "", page.read_text())
-    return [anchor(it) for it in re.findall(r"(?m)^#+ +(.*?) *$", text)]
+    return [*map(anchor, re.findall(r"(?m)^#+ +(.*?) *$", text)), *ANCHOR.findall(text)]
 
 
 def links_of(page: Path) -> Iterator[Tuple[str, str]]:

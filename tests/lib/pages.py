@@ -6,7 +6,8 @@ import tempfile
 from pathlib import Path
 from typing import Iterable, Iterator, List, Optional, Sequence, Tuple
 
-from rsp_tools.pages import anchor, blocks_of, data, page  # noqa: F401 (for those who import them from here)
+from rsp_tools.pages import ANCHOR, data, page
+from rsp_tools.pages import anchor, blocks_of  # noqa: F401 (for those who import them from here)
 
 
 def blocks(name: str) -> List[str]:
@@ -42,8 +43,8 @@ def transcripts(name: str, heading: str) -> Iterator[Tuple[str, str]]:
 
 
 def cells_of(line: str) -> List[str]:
-    """The cells of a line of a table."""
-    return [cell.strip() for cell in line.strip()[1:-1].split("|")]
+    """The cells of a line of a table, without anchors."""
+    return [cell.strip() for cell in ANCHOR.sub("", line).strip()[1:-1].split("|")]
 
 
 def tables(name: str, heading: str = "") -> Iterator[List[str]]:

@@ -1,20 +1,23 @@
-"""The rules that docs/INSTRUCTIONS.md has as Python, against the program on random values.
+"""The rules that docs/INSTRUCTIONS.md has as Python, against the program on random values, and its examples.
 
-It fails if VCH, VCL, VCR, or the answers of the long divides differ from the function of the page.
+It fails if VCH, VCL, VCR, or the answers of the long divides differ from the function of the page, or if the
+program makes something else of an example in its tables.
 """
 
+import re
 from pathlib import Path
 from random import Random
 from typing import Any, Dict, Iterator, List
 
 import pytest
 
-from drawings.looks import FLAGS
+from drawings.looks import CLEAR, FLAGS, Flags, accumulators_of, after, case
 from lib.numbers import edged, packed, signed
-from lib.pages import blocks
+from lib.pages import blocks, tables
 from rsp_conformance import bench
 from rsp_conformance.table import ROWS, word_of
 
+PAGE = "docs/INSTRUCTIONS.md"
 ROUNDS = 40  # of eight lanes
 FIELDS = {"e": 0, "vt": 2, "vs": 1, "vd": 3, "de": 0}
 Look = Dict[str, Any]
@@ -23,7 +26,7 @@ Look = Dict[str, Any]
 def page_rules() -> Dict[str, Any]:
     """The functions of the page's blocks."""
     names: Dict[str, Any] = {}
-    for block in blocks("docs/INSTRUCTIONS.md"):
+    for block in blocks(PAGE):
         if block.startswith(("def ", "from math ")):
             exec(block, names)
     return names
@@ -77,3 +80,54 @@ def test_divide(name: str, program: Path) -> None:
     for x, look in zip(numbers, bench.observe(str(program), cases)):
         left = int(look["after"]["out"], 16) << 16 | lane(look["after"], "v3", 0)
         assert left == answer(x, name == "vrsql"), f"of {x}"
+
+
+# The examples of the page, each in all lanes.
+
+
+def number(cell: str) -> int:
+    """A number of an example; `any` is one that doesn't matter."""
+    return 0x1234 if cell == "any" else int(cell, 16)
+
+
+@pytest.mark.parametrize("heading", ("## Multiplies", "## MPEG coefficients"))
+def test_multiplies_of_page(heading: str, program: Path) -> None:
+    """`then` goes on with the accumulator of the line above."""
+    left, seen = "any", 0
+    for text, *before, a, b, acc, result in (it for it in tables(PAGE, heading) if len(it) > 4):
+        (name,) = re.findall(r"V[A-Z]+", text)
+        assert len(before) == (heading != "## Multiplies")
+        accs = [number(before[0] if before else left)] * 8
+        one = case(name.lower(), [number(a)] * 8, [number(b)] * 8, accs, vs=int("even" not in text))
+        (look,) = after(str(program), [one])
+        assert ("then" in text) == (name in ("VMADH", "VMADL"))
+        assert [f"{it % 2**48:012x}" for it in accumulators_of(look)] == [acc] * 8, text
+        assert look["v3"] == result * 8, text
+        left, seen = acc, seen + 1
+    assert seen > 6
+
+
+def flag_registers(cell: str) -> Flags:
+    """The registers with these flags set in all lanes, and the others clear."""
+    values = dict.fromkeys(CLEAR, 0)
+    for register, shift in (FLAGS[it] for it in filter(None, cell.split(", "))):
+        values[register] |= 255 << shift
+    return {it: f"{value:0{len(CLEAR[it])}x}" for it, value in values.items()}
+
+
+def test_clips_of_page(program: Path) -> None:
+    rows = [*tables(PAGE, "### VCH, VCL, VCR")]
+    for name, a, b, flags, result, left in rows:
+        one = case(name.lower(), [int(a)] * 8, [int(b)] * 8, flags=flag_registers(flags))
+        (look,) = after(str(program), [one])
+        assert look["v3"] == f"{int(result) % 65536:04x}" * 8, name
+        assert {it: look[it] for it in CLEAR} == flag_registers(left), name
+    assert {"VADDC", "VCH", "VCL", "VCR"} == {it[0] for it in rows}
+
+
+def test_divides_of_page(program: Path) -> None:
+    rows = [it for it in tables(PAGE, "## Divide instructions") if len(it) == 6]
+    for name, x, answer in (it[i : i + 3] for it in rows for i in (0, 3)):
+        (look,) = after(str(program), [case(name.lower(), b=[int(x)] * 8)])
+        assert look["out"] + look["v3"][:4] == answer, (name, x)
+    assert len(rows) > 3

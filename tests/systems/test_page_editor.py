@@ -389,7 +389,7 @@ def opened(page: Page) -> str:
     (
         (0, "SCRIPT.html#command-load"),
         (1, "SCRIPT.html#commands"),
-        (3, "INSTRUCTIONS.html#multiplies"),
+        (3, "INSTRUCTIONS.html#vmulf"),
         (4, "ASSEMBLY.html"),
     ),
 )

@@ -10,12 +10,18 @@ import pytest
 from lib.pages import blocks_of
 from lib.pages import page as text_of
 from lib.systems.page import Host, Page
-from rsp_tools.pages import data
+from rsp_tools.pages import ANCHOR, data
 from rsp_tools.systems import manual
 
 pytestmark = pytest.mark.xdist_group("page")
-# What of Markdown isn't shown: pictures have no words in the page's text, and links are their words.
-PLAIN = (r"!\[[^\]]*\]\([^)]*\)", ""), (r"\[([^\]]*)\]\([^)]*\)", r"\1"), (r"(?m)^\|[-|]+\|$", ""), ("`", "")
+# What of Markdown is not in the words of the page: pictures and anchors. Links are their words.
+PLAIN = (
+    (r"!\[[^\]]*\]\([^)]*\)", ""),
+    (r"\[([^\]]*)\]\([^)]*\)", r"\1"),
+    (r"(?m)^\|[-|]+\|$", ""),
+    (ANCHOR.pattern, ""),
+    ("`", ""),
+)
 
 
 @pytest.fixture
@@ -49,15 +55,14 @@ def test_links(pages: Path) -> None:
 
 
 def test_rows(pages: Path) -> None:
-    """Each command and each fault has an anchor, and each instruction's section one."""
+    """Each command, each fault and each instruction has an anchor."""
     commands = {f"command-{it['Command'].split()[0]}" for it in data("commands")}
     faults = {f"fault-{it['Fault'].split()[0]}" for it in data("faults")}
-    assert len(commands) > 20 and len(faults) > 25
+    instructions = {it["Instruction"].lower() for it in data("instructions")}
+    assert len(commands) > 20 and len(faults) > 25 and len(instructions) == 120
     assert commands <= anchors(pages / "SCRIPT.html")
     assert faults <= anchors(pages / "FAULTS.html")
-    names = (pages.parent / "names.js").read_text()
-    sections = {*re.findall(r'"[a-z0-9]+": "([a-z-]+)"', names)}
-    assert len(sections) > 5 and sections <= anchors(pages / "INSTRUCTIONS.html")
+    assert instructions <= anchors(pages / "INSTRUCTIONS.html")
 
 
 @pytest.mark.parametrize("name", ("SCRIPT", "FAULTS", "INSTRUCTIONS"))

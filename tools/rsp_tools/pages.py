@@ -1,8 +1,8 @@
 """Writes what pages have of tables, of crates.txt and of the test vectors: `tools/python rsp_tools.pages`.
 
-  docs/ROWS.md, docs/SCRIPT.md, docs/FAULTS.md   the table of docs/data: the columns that the head names
-  docs/ARCHITECTURE.md                           the list of crates, from the top
-  conformance/README.md                          the example of a manifest
+  docs/SCRIPT.md, docs/FAULTS.md   the table of docs/data: the columns that the head names
+  docs/ARCHITECTURE.md             the list of crates, from the top
+  conformance/README.md            the example of a manifest
 
 It fails, and writes nothing, if a page has no place for one of them. tests/docs/test_tables.py fails if a
 page differs from what this writes.
@@ -18,7 +18,8 @@ from rsp_conformance.vectors import VECTORS, manifest_in
 from rsp_tools import TOP
 
 DATA = TOP / "docs/data"
-TABLES = {"instructions": "docs/ROWS.md", "commands": "docs/SCRIPT.md", "faults": "docs/FAULTS.md"}
+TABLES = {"commands": "docs/SCRIPT.md", "faults": "docs/FAULTS.md"}
+ANCHOR = re.compile(r'<a id="(\w+)"></a>')  # by which a link leads to a place that isn't a heading
 LAYERS, OF_VECTORS = "docs/ARCHITECTURE.md", "conformance/README.md"
 EXAMPLE = "VCH-003"  # the case of `programs` that OF_VECTORS shows
 
@@ -61,10 +62,8 @@ def replaced(text: str, pattern: str, wanted: str) -> str:
 
 
 def shown(column: str, line: Dict[str, str]) -> str:
-    """A cell of docs/data as a page has it; an instruction's name leads to its rule."""
+    """A cell of docs/data as a page has it."""
     cell = line[column]
-    if column == "Instruction":
-        return f"[{cell}](INSTRUCTIONS.md#{anchor(line['Rule'])})"
     return f"`{cell}`" if column in ("Fault", "Command", "Example") and cell != "-" else cell
 
 

@@ -15,7 +15,7 @@ CONVERTER = "cmark-gfm"
 DOCS = places.TOP / "docs"
 TEMPLATE = places.TOP / "page" / "help.html"
 # The pages in the order in which each of them names all.
-PAGES = "SCRIPT INSTRUCTIONS FAULTS ASSEMBLY MACHINE ROWS COOKBOOK TUTORIAL GLOSSARY".split()
+PAGES = "SCRIPT INSTRUCTIONS FAULTS ASSEMBLY MACHINE COOKBOOK TUTORIAL GLOSSARY".split()
 
 
 def with_anchor(heading: Match[str]) -> str:
@@ -43,7 +43,8 @@ def converted(name: str, text: str) -> str:
     """A page's Markdown as HTML. Links lead to pages that are here, and others are their words alone."""
     pictures = {f"docs/pictures/{it.name}" for it in DOCS.glob("pictures/*.svg")}
     live = with_live_links(f"docs/{name}.md", text, pictures | {f"docs/{it}.md" for it in PAGES})
-    made = call(CONVERTER, "--extension", "table", "--to", "html", given=live)
+    # The anchors of the pages are HTML.
+    made = call(CONVERTER, "--unsafe", "--extension", "table", "--to", "html", given=live)
     made = re.sub(r"<h([1-6])>(.*?)</h\1>", with_anchor, made)
     made = re.sub(r'(<a href="\w+)\.md(?=["#])', r"\1.html", made)
     return with_rows(

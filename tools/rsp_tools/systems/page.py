@@ -7,7 +7,7 @@ import json
 from pathlib import Path
 from typing import Dict
 
-from rsp_tools.pages import anchor, data
+from rsp_tools.pages import data
 
 from . import examples, header, manual, places
 from .toolchain import Refused
@@ -32,15 +32,13 @@ def scripts() -> bytes:
 
 
 def names() -> bytes:
-    """The module with the names of commands, and of instructions with the section that explains each."""
-    commands = json.dumps([it["Command"].split()[0] for it in data("commands")])
-    rules = {it["Instruction"].lower(): anchor(it["Rule"]) for it in data("instructions")}
-    return module(
-        "Names in scripts",
-        COMMANDS=f"new Set({commands})",
-        STATEMENTS=f"new Set({json.dumps(STATEMENTS)})",
-        INSTRUCTIONS=f"new Map(Object.entries({json.dumps(rules, indent=2)}))",
-    )
+    """The module with the names of commands, and of what source text has."""
+    found = {
+        "COMMANDS": [it["Command"].split()[0] for it in data("commands")],
+        "STATEMENTS": STATEMENTS,
+        "INSTRUCTIONS": [it["Instruction"].lower() for it in data("instructions")],
+    }
+    return module("Names in scripts", **{name: f"new Set({json.dumps(it)})" for name, it in found.items()})
 
 
 def parts(library: Path) -> Files:
