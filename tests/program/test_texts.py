@@ -16,7 +16,10 @@ import pytest
 from lib import TOP
 from lib.numbers import clamped, halves
 from lib.pages import block_with, page
+from lib.processes import compiled
 
+ASSEMBLY = "docs/ASSEMBLY.md"
+MIPS = "mips-linux-gnu-gcc"
 # Opcodes with a distance in words from the delay slot, and the codes of opcode 1 that have one.
 BRANCHES = (4, 5, 6, 7)
 SIGNS = (0, 1, 16, 17)
@@ -207,7 +210,7 @@ def test_linked_elsewhere(base: int, at: int, files: Files) -> None:
         assert texts[i] == f".word {linked[i]:#010x}{comment_of(linked[i])}"
         assert f"{words[i]:#010x}" in texts[i]
     (files.folder / "linked.bin").write_bytes(packed(linked))
-    files.shell(block_with("docs/ASSEMBLY.md", "python3 -c 'code"))
+    files.shell(block_with(ASSEMBLY, "python3 -c 'code"))
     cleared = unpacked((files.folder / "ucode.bin").read_bytes())
     assert cleared == words
     see_edited(files, cleared, at)
@@ -286,7 +289,6 @@ def test_explanation_of_size(rsp: Any, folder: Path) -> None:
     (folder / "text").write_bytes(b"\n" * (limit + 1))
     told = f"rsp: fault 42 ScriptTooLong\n  size: {limit + 1} bytes or more\n  may be: 0 to {limit} bytes\n"
     assert rsp("asm", "text", "made", "--explain") == (1, b"", told.encode())
-    assert block_with("docs/ASSEMBLY.md", "rsp: fault 42 ScriptTooLong") == told
     (folder / "text").write_bytes(b"\n" * limit)
     assert rsp("asm", "text", "made", "--explain") == (0, b"ok 0 words\n", b"")
 
@@ -295,7 +297,7 @@ def test_explanation_of_size(rsp: Any, folder: Path) -> None:
 
 
 def test_labels_of_page(files: Files) -> None:
-    block, at = block_with("docs/ASSEMBLY.md", "rsp dis ucode.bin --at 0x080 --labels"), ("--at", "0x080")
+    block, at = block_with(ASSEMBLY, "rsp dis ucode.bin --at 0x080 --labels"), ("--at", "0x080")
     lines = block.split("\n\n")[1].splitlines()
     assert len(lines) == 5
     assert files.text_of(files.words_of(lines, *at), *at, "--labels") == lines
@@ -305,15 +307,90 @@ def test_labels_of_page(files: Files) -> None:
     "name, text", (("mine", "nop\nlqv $v30[0], 0x460($0)\n"), ("theirs", "vmov $v07.e1, $v08.e3\n"))
 )
 def test_explanation_of_page(name: str, text: str, rsp: Any, folder: Path) -> None:
-    block = block_with("docs/ASSEMBLY.md", f"rsp asm {name}.s {name}.bin --explain")
+    block = block_with(ASSEMBLY, f"rsp asm {name}.s {name}.bin --explain")
     told = block.partition("\n\n")[2]
     assert told.count("\n") in (4, 5)
     (folder / f"{name}.s").write_text(text)
     assert rsp("asm", f"{name}.s", f"{name}.bin", "--explain").errors.decode() == told
 
 
+# An overlay as libdragon links it: what begins at 0 adds two words of its data, and a command at 040 keeps
+# a part of its first word. `mark` is a label of data.
+OVERLAY = """
+    .set noreorder
+    .text
+    .globl _start
+_start: lw $a0, 0($0)
+    jal add
+    lw $a1, 4($0)
+    sw $v0, 8($0)
+    break
+add: jr $ra
+    addu $v0, $a0, $a1
+    .org 0x40
+command: andi $t0, $a0, 0xff
+    jr $ra
+    sw $t0, 12($0)
+    .data
+    .word 30, 12
+mark: .word 0, 0
+"""
+COMPILED = "-mabi=32 -march=mips1 -mno-abicalls -fno-pic -G0 -nostdlib -static -x assembler".split()
+LINKED = "-Wl,-Ttext=0x04001000,-Tdata=0x04000000,--build-id=none".split()
+
+
+@pytest.fixture
+def overlay(files: Files) -> Files:
+    """The files with an ELF, and what the page makes of it up to the cleared code."""
+    (files.folder / "overlay.S").write_text(OVERLAY)
+    compiled(files.folder / "rsp_mine.elf", *COMPILED, files.folder / "overlay.S", *LINKED, compiler=MIPS)
+    names = files.shell(block_with(ASSEMBLY, "mips-linux-gnu-objcopy -O binary -j .text"))
+    for it in "04000008 . mark", "04001000 T _start", "04001040 t command":
+        assert re.search(rf"(?m)^{it}$", names), names
+    files.shell(block_with(ASSEMBLY, "python3 -c 'code"))
+    return files
+
+
+def loads(files: Files) -> str:
+    """The lines that load code and data, as the page makes them."""
+    block = block_with(ASSEMBLY, "loads() {").replace("| rsp run", "")
+    assert block.endswith("echo run 1000000; echo mem dmem 0 16) \n")
+    return files.shell(block).partition("run")[0]
+
+
+@pytest.mark.needs("mips-linux-gnu-gcc")
+def test_elf_of_page(overlay: Files) -> None:
+    """The text of the code has labels, and is its bytes; and the code runs."""
+    linked, code = ((overlay.folder / f"{it}.bin").read_bytes() for it in ("linked", "ucode"))
+    assert ".word 0x0d000405" in overlay.text_of(unpacked(linked))
+    told = overlay.shell(block_with(ASSEMBLY, "rsp dis ucode.bin --labels > ucode.s"))
+    assert told == f"ok {len(code) // 4} words\n" and (overlay.folder / "ucode.bin").read_bytes() == code
+    assert "\njal L014\n" in (overlay.folder / "ucode.s").read_text()
+    assert (overlay.folder / "data.bin").read_bytes() == packed([30, 12, 0, 0])
+    told = overlay.shell(block_with(ASSEMBLY, "loads() {"))
+    assert told.endswith("stop Halted steps 7 pc 014\n000000: 0000001e0000000c0000002a00000000\n")
+
+
+@pytest.mark.needs("mips-linux-gnu-gcc")
+def test_image_of_elf(overlay: Files) -> None:
+    """Two DMAs fill both memories, and the input follows in RDRAM."""
+    (overlay.folder / "input.bin").write_bytes(packed([77, 78]))
+    script = block_with(ASSEMBLY, "write 0 0  ") + "mem rdram 8192 8\n"
+    (overlay.folder / "script").write_text(script)
+    told = overlay.shell(block_with(ASSEMBLY, "truncate -s 4096"))
+    wanted = "stop Halted steps 7 pc 014\n000000: 0000001e0000000c0000002a00000000\n"
+    assert told == "ok\n" * 5 + wanted + "002000: 0000004d0000004e\n"
+
+
+@pytest.mark.needs("mips-linux-gnu-gcc")
+def test_command_of_overlay(overlay: Files) -> None:
+    """The page's caller calls the command, which returns to it."""
+    told = overlay.replies(loads(overlay) + block_with(ASSEMBLY, "asm 0xf80"))
+    assert told.endswith("stop Halted steps 8 pc f94\n000000: 0000001e0000000c0000000000000007\n")
+
+
 def test_jump_of_page(files: Files) -> None:
-    line = block_with("docs/ASSEMBLY.md", ".word 0x09000402 #").rstrip("\n")
+    line = block_with(ASSEMBLY, ".word 0x09000402 #").rstrip("\n")
     assert files.text_of([0x09000402], "--labels") == [line]
 
 

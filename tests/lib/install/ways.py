@@ -159,6 +159,13 @@ WAYS = (
     ),
     Way(
         "docs/ASSEMBLY.md",
+        "rsp dis ucode.bin --labels",
+        first="printf 'start: j start\\nnop\\n' > ucode.s\nrsp asm ucode.s ucode.bin",
+        then="cat ucode.s",
+        prints="ok 2 words\nok 2 words\nL000:\nj L000\nnop",
+    ),
+    Way(
+        "docs/ASSEMBLY.md",
         "python3 -c",
         first=r"printf '\015\000\004\041\000\000\000\015' > linked.bin",
         then="od -An -v -tx1 ucode.bin | tr -d ' '",
