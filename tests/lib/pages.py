@@ -6,8 +6,8 @@ import tempfile
 from pathlib import Path
 from typing import Iterable, Iterator, List, Optional, Sequence, Tuple
 
-from rsp_tools.pages import ANCHOR, data, page
-from rsp_tools.pages import anchor, blocks_of  # noqa: F401 (for those who import them from here)
+from rsp_tools.pages import ANCHOR, blocks_of, page
+from rsp_tools.pages import anchor, data  # noqa: F401 (for those who import them from here)
 
 
 def blocks(name: str) -> List[str]:

@@ -335,7 +335,7 @@ command: andi $t0, $a0, 0xff
     .word 30, 12
 mark: .word 0, 0
 """
-COMPILED = "-mabi=32 -march=mips1 -mno-abicalls -fno-pic -G0 -nostdlib -static -x assembler".split()
+COMPILED = "-mabi=32 -march=vr4300 -mno-abicalls -fno-pic -G0 -nostdlib -static -x assembler".split()
 LINKED = "-Wl,-Ttext=0x04001000,-Tdata=0x04000000,--build-id=none".split()
 
 

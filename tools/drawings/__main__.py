@@ -6,7 +6,7 @@ It fails, and draws nothing, if the program isn't `rsp`. Look at the pictures th
 import argparse
 from typing import Dict
 
-from drawings import accumulators, console, flags, moves, products, slots
+from drawings import accumulators, clips, console, flags, halves, moves, products, slots
 from rsp_conformance.bench import refusal_of
 from rsp_tools import TOP
 
@@ -15,7 +15,7 @@ FOLDER = TOP / "docs/pictures"
 
 def pictures(program: str) -> Dict[str, str]:
     """Each picture by its name."""
-    modules = moves, flags, accumulators, products, slots, console
+    modules = accumulators, clips, console, flags, halves, moves, products, slots
     return {name: text for it in modules for name, text in it.pictures(program).items()}
 
 

@@ -14,9 +14,9 @@ ADDING = [*ADDERS, *ADDERS.values(), "vrndp", "vrndn"]
 CELL, LEFT = 12.5, 250  # the width of a bit of an accumulator, and where bit 47 is
 BLUE, LIGHT, ORANGE, SAND = "#7dbdf0", "#dcecfa", "#efb877", "#f7d5ab"
 WORDS = [
-    "A blue bar has the bits of the product of vs and vt, a light bar copies of its sign. Grey is 0.",
-    "At the dot VMULF and VMULU add 1, to round. VMACF to VMADH add the product alone to what is there.",
-    "What is empty is kept, but for carries of what is added.",
+    "Blue: the bits of the product of vs and vt. Light: copies of its sign. Grey bits become 0.",
+    "At the dot VMULF and VMULU add 1, to round. VMACF to VMADH add only the product to the accumulator.",
+    "Empty bits keep their value, except for carries from what is added.",
 ]
 
 
@@ -27,6 +27,7 @@ class Product(NamedTuple):
     a_signed: bool
     b_signed: bool
     rounding: int  # what it adds
+    more: int  # what it adds to a product that is negative, at that bit
 
 
 def changed(befores: Iterable[Sequence[int]], looks: Iterable[Look]) -> List[int]:
@@ -39,10 +40,14 @@ def changed(befores: Iterable[Sequence[int]], looks: Iterable[Look]) -> List[int
 
 
 def products(program: str) -> Iterator[Tuple[str, Product]]:
-    one, other = [0, 256, 32768, 256, 0, 0, 0, 0], [0, 256, 256, 32768, 0, 0, 0, 0]
+    one, other = [0, 256, 32768, 256, -16, 16, 0, 0], [0, 256, 256, 32768, 16, -16, 0, 0]
     for name, (look,) in after_each(program, {it: [case(it, one, other)] for it in (*ADDERS, "vmulq")}):
-        rounding, square, a, b = accumulators_of(look)[:4]
-        yield name, Product((square - rounding).bit_length() - 17, a < 0, b < 0, rounding)
+        rounding, square, a, b, *negative = accumulators_of(look)[:6]
+        place = (square - rounding).bit_length() - 17
+        plain = [16 * (-16 if sign < 0 else 65520) * 2 ** (place + 16) >> 16 for sign in (a, b)]
+        (more,) = {value - rounding - it for value, it in zip(negative, plain) if it < 0} or {0}
+        assert all(value == it + rounding for value, it in zip(negative, plain) if it > 0)
+        yield name, Product(place, a < 0, b < 0, rounding, more // 2**place if more else 0)
 
 
 def planes(program: str) -> Iterator[List[int]]:
@@ -106,7 +111,8 @@ def accumulator(program: str) -> str:
 
 def product_parts(name: str, it: Product, y: int) -> List[str]:
     """Where the product of a multiply comes in."""
-    signs = " by ".join("signed" if one else "unsigned" for one in (it.a_signed, it.b_signed))
+    one, other = ("signed" if sign else "unsigned" for sign in (it.a_signed, it.b_signed))
+    signs = f"both {one}" if one == other else f"{one} by {other}"
     parts = [
         svg.text(20, y + 15, f"{name} {ADDERS.get(name, '')}".upper(), "left bold"),
         svg.box(LEFT, y, 48 * CELL, 22, svg.ZERO),
@@ -119,6 +125,10 @@ def product_parts(name: str, it: Product, y: int) -> List[str]:
     first_plane = next(top for top in (47, 31, 15) if top in shown)
     parts += [bar(shown, y, BLUE), frame(y)]
     parts.append(svg.text(bit_x(first_plane) + 10, y + 15, f"product bits 31-{32 - len(shown)}", "left on"))
+    if it.more:
+        parts.append(
+            svg.text(bit_x(first_plane - 16) + 10, y + 15, f"+ {it.more} if it is negative", "left on")
+        )
     if it.rounding:
         x = bit_x(it.rounding.bit_length() - 1) + CELL / 2
         parts.append(f"<circle cx='{x:g}' cy='{y + 11}' r='4' fill='{svg.DARK}'/>")
@@ -219,7 +229,7 @@ def clamps(program: str) -> str:
         parts.append(svg.text(155, y + 56, ", ".join(users[clamp]), "left small"))
     words = [
         "h is the accumulator without its low 16 bits: its bits 47 to 16, signed.",
-        "A cell has the result of the instructions below it, for h in the range above it.",
+        "Each row shows the result of a clamp by the range of h, and the instructions that use it.",
     ]
     return svg.picture("The three clamps", words, 366, parts)
 

@@ -26,9 +26,7 @@ def elements(program: str) -> str:
     for n, count, note in zip((0, 2, 4, 8), (2, 2, 4, 8), shares):
         parts.append(f"<path class='thick' d='M669 {down[n]}h5v{30 * count - 4}h-5'/>")
         parts.append(svg.text(682, down[n] + 15 * count + 2, note, "left"))
-    told = (
-        "A cell has the number of the lane of vt, here $v2, that a computing instruction takes for this lane."
-    )
+    told = "A cell shows which lane of vt, here $v2, a computing instruction takes for the lane above it."
     return svg.picture("Elements: which lane of vt goes to which lane", [told], down[15] + 46, parts)
 
 
@@ -75,7 +73,7 @@ def flags(program: str) -> str:
         parts += [svg.grid(x, y, 336, 28, 8, "thin"), svg.grid(x, y, 336, 28, 2, "thick")]
         parts.append(svg.text(x + 168, y + 43, flag))
     parts += example_of_flags(program, 324)
-    words = ["A cell has the number of its lane. Four cells are a digit of the reply to `flags`."]
+    words = ["A cell shows the number of its lane. Four cells are a digit of the reply to `flags`."]
     return svg.picture("VCO, VCC and VCE bit by bit", words, 420, parts)
 
 

@@ -1,6 +1,6 @@
 """The pictures of vector loads and stores: which bytes of DMEM and of a register belong together."""
 
-from typing import Dict, Iterator, List
+from typing import Dict, Iterator, List, Tuple
 
 from drawings import svg
 from drawings.traced import Move, Trace, Transfer, traces
@@ -46,22 +46,23 @@ def instruction(transfer: Transfer) -> str:
 def words_of(case: Case, has_zeros: bool) -> Iterator[str]:
     """The lines below the title."""
     way = "goes to" if is_store(case) else "comes from"
-    yield f"A cell of a register has the address that its byte {way}."
-    if is_store(case):
-        yield "What is empty is kept in DMEM."
-    else:
-        yield "What is empty is kept" + (", grey becomes 0." if has_zeros else ".")
+    yield f"A cell of a register shows the address that its byte {way}."
+    yield "Empty cells keep their value" + ("; grey cells become 0." if has_zeros else ".")
     if len(case) > 1:
         first, second = (it.name.upper() for it in case)
         yield f"{first} (blue) goes to the end of its quadword, {second} (orange) begins with the next one."
 
 
 def note(moves: List[Move]) -> str:
-    """Which bits of a lane a case moves, if it moves them the same in each lane and not all of them."""
-    found = {(15 - it.bit % 16, it.width) for it in moves}
+    """Which bits of a lane a case moves, if it moves the same of each, or no whole bytes."""
+    found: Dict[Tuple[int, int], List[int]] = {}
+    for it in sorted(moves, key=lambda move: move.bit):
+        found.setdefault((15 - it.bit % 16, it.width), []).append(it.bit // 16 % 8)
+    names = {(top, width): f"bits {top} to {top - width + 1}" for top, width in found}
     if len(found) == 1 < len(moves):
-        top, width = found.pop()
-        return f"bits {top} to {top - width + 1} of a lane, "
+        return "".join(f"{name} of a lane, " for name in names.values())
+    if any(top % 8 != 7 for top, _ in found):
+        return "".join(f"{names[it]} of lanes {lanes[0]} to {lanes[-1]}, " for it, lanes in found.items())
     return ""
 
 
