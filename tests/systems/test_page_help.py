@@ -51,7 +51,7 @@ def test_links(pages: Path) -> None:
             count += 1
             assert file.is_file(), f"{path.name}: {file.name}"
             assert not anchor or anchor in anchors(file), f"{path.name}: {file.name}#{anchor}"
-    assert count > 250
+    assert count > 150
 
 
 def test_rows(pages: Path) -> None:
