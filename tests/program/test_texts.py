@@ -297,8 +297,8 @@ def test_explanation_of_size(rsp: Any, folder: Path) -> None:
 
 
 def test_labels_of_page(files: Files) -> None:
-    block, at = block_with(ASSEMBLY, "rsp dis ucode.bin --at 0x080 --labels"), ("--at", "0x080")
-    lines = block.split("\n\n")[1].splitlines()
+    block, at = block_with(ASSEMBLY, "rsp dis ucode.bin --at 0x080 --labels", 1), ("--at", "0x080")
+    lines = block.splitlines()
     assert len(lines) == 5
     assert files.text_of(files.words_of(lines, *at), *at, "--labels") == lines
 
@@ -307,8 +307,7 @@ def test_labels_of_page(files: Files) -> None:
     "name, text", (("mine", "nop\nlqv $v30[0], 0x460($0)\n"), ("theirs", "vmov $v07.e1, $v08.e3\n"))
 )
 def test_explanation_of_page(name: str, text: str, rsp: Any, folder: Path) -> None:
-    block = block_with(ASSEMBLY, f"rsp asm {name}.s {name}.bin --explain")
-    told = block.partition("\n\n")[2]
+    told = block_with(ASSEMBLY, f"rsp asm {name}.s {name}.bin --explain", 1)
     assert told.count("\n") in (4, 5)
     (folder / f"{name}.s").write_text(text)
     assert rsp("asm", f"{name}.s", f"{name}.bin", "--explain").errors.decode() == told

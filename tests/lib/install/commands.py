@@ -104,7 +104,7 @@ def check(user: User, block: Block, way: Way, before: str) -> None:
     need(*needs(lines))
     got = user.types("\n".join((before, way.first, lines, way.then)))
     assert got.returncode == 0, f"{block}: status {got.returncode}: {got.stdout[-1500:]}{got.stderr[-1500:]}"
-    shown = {"below": block.below, "below..": f"{block.below}\n..", "after": block.after}
+    shown = {"below": block.below, "after": block.after, "after..": f"{block.after}\n.."}
     texts = got.stdout, shown.get(way.prints, way.prints)
     told, wanted = (re.sub(r"\d+ seconds?", "seconds", it).strip("\n").splitlines() for it in texts)
     assert matches(told, wanted), f"{block} prints {got.stdout}, and {wanted} is wanted"

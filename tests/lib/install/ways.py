@@ -13,7 +13,8 @@ class Way(NamedTuple):
     first: str = ""  # typed before it
     instead: tuple[tuple[str, str], ...] = ()  # words of the page, and what is typed in their place
     then: str = ""  # typed after it
-    # What all that prints, `..` being any lines; `below` and `after` are what the page has there.
+    # What all that prints, `..` being any lines; `below` and `after` are what the page has there, `after..` with
+    # more lines.
     prints: str = ".."
     left_out: str = ""  # why it isn't typed
 
@@ -134,16 +135,16 @@ WAYS = (
         "rsp asm mine.s",
         first=file_of("mine.s", "nop\nlqv $v30[0], 0x460($0)\n"),
         instead=(("--explain", "--explain 2>&1 || [ $? = 1 ]"),),
-        prints="below",
+        prints="after",
     ),
     Way(
         "docs/ASSEMBLY.md",
         "rsp asm theirs.s",
         first=file_of("theirs.s", "vmov $v07.e1, $v08.e3"),
         instead=(("--explain", "--explain 2>&1 || [ $? = 1 ]"),),
-        prints="below",
+        prints="after",
     ),
-    Way("docs/ASSEMBLY.md", "rsp asm copy.s", first="cd microcode", prints="below.."),
+    Way("docs/ASSEMBLY.md", "rsp asm copy.s", first="cd microcode", prints="after.."),
     Way(
         "docs/ASSEMBLY.md",
         "rsp dis ucode.bin",
