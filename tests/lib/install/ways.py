@@ -13,8 +13,8 @@ class Way(NamedTuple):
     first: str = ""  # typed before it
     instead: tuple[tuple[str, str], ...] = ()  # words of the page, and what is typed in their place
     then: str = ""  # typed after it
-    # What all that prints, `..` being any lines; `below` and `after` are what the page has there, `after..` with
-    # more lines.
+    # What all that prints, `..` being any lines. `below` and `after` are what the page has there; so is
+    # `after..`, with more lines.
     prints: str = ".."
     left_out: str = ""  # why it isn't typed
 
