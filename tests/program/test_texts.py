@@ -371,17 +371,6 @@ def test_elf_of_page(overlay: Files) -> None:
 
 
 @pytest.mark.needs("mips-linux-gnu-gcc")
-def test_image_of_elf(overlay: Files) -> None:
-    """Two DMAs fill both memories, and the input follows in RDRAM."""
-    (overlay.folder / "input.bin").write_bytes(packed([77, 78]))
-    script = block_with(ASSEMBLY, "write 0 0  ") + "mem rdram 8192 8\n"
-    (overlay.folder / "script").write_text(script)
-    told = overlay.shell(block_with(ASSEMBLY, "truncate -s 4096"))
-    wanted = "stop Halted steps 7 pc 014\n000000: 0000001e0000000c0000002a00000000\n"
-    assert told == "ok\n" * 5 + wanted + "002000: 0000004d0000004e\n"
-
-
-@pytest.mark.needs("mips-linux-gnu-gcc")
 def test_command_of_overlay(overlay: Files) -> None:
     """The page's caller calls the command, which returns to it."""
     told = overlay.replies(loads(overlay) + block_with(ASSEMBLY, "asm 0xf80"))
