@@ -1,5 +1,5 @@
-/* rsp.hpp: a machine of rsp.h as a class of C++17. It frees its machine, can be moved, is copied by copy() alone, and throws
- * rsp::machine::refused for a status other than RSP_OK. rsp.h says what each call does, and what a call may be given. */
+/* rsp.hpp: a machine of rsp.h as a class of C++17. The class frees its machine. It can be moved, but only copy() copies it. Any status other
+ * than RSP_OK is thrown as rsp::machine::refused. rsp.h says what each call does, and what you may pass to it. */
 #ifndef RSP_HPP
 #define RSP_HPP
 
@@ -13,7 +13,7 @@ class rsp::machine {
 public:
     using bytes = std::vector<uint8_t>;
     using words = std::vector<uint32_t>;
-    /* What a refused call throws, after which the machine is as before. `fault` and `line` are those of a text. */
+    /* What a refused call throws. The machine is unchanged. `fault` and `line` are set for a text that has a fault. */
     struct refused : std::runtime_error {
         refused(uint32_t why, const rsp_assembled &of) : std::runtime_error(said(why, of)), status(why), fault(of.fault), line(of.line) {}
         uint32_t status, fault; size_t line;
@@ -24,7 +24,7 @@ public:
     machine &operator=(machine &&from) noexcept { if (this != &from) { rsp_free(&it); it = std::exchange(from.it, rsp RSP_NONE); } return *this; }
     ~machine() { rsp_free(&it); }
     machine copy() { machine made; check(rsp_copy(&made.it, &it)); return made; }
-    rsp *handle() { return &it; } /* for all other calls of rsp.h; after a move it holds no machine */
+    rsp *handle() { return &it; } /* for the calls of rsp.h that aren't here; it holds no machine after a move */
 
     rsp_state get() { rsp_state out; check(rsp_get(&it, &out)); return out; }
     void set(const rsp_state &state) { check(rsp_set(&it, &state)); }
@@ -34,7 +34,7 @@ public:
     words memory_words(uint32_t bank, uint32_t address, size_t len) { words out(room(len)); check(rsp_memory_words(&it, bank, address, at(out), len)); return out; }
     void task(uint32_t address) { check(rsp_task(&it, address)); }
     void set_pc(uint32_t pc) { check(rsp_set_pc(&it, pc)); }
-    uint32_t step() { return rsp_step(&it); } /* RSP_OK, RSP_HALTED, RSP_RESERVED; RSP_NO_MACHINE */
+    uint32_t step() { return rsp_step(&it); } /* RSP_OK, RSP_HALTED, RSP_RESERVED or RSP_NO_MACHINE */
     rsp_stop run(uint32_t n) { rsp_stop out; check(rsp_run(&it, n, &out)); return out; }
     rsp_move run_until_move(uint32_t n, uint32_t reads, uint32_t writes) { rsp_move out; check(rsp_run_until_move(&it, n, reads, writes, &out)); return out; }
     void pass(uint32_t value = 0) { check(rsp_pass(&it, value)); }
@@ -45,7 +45,7 @@ public:
     uint32_t peek(uint32_t n) { uint32_t out; check(rsp_peek(&it, n, &out)); return out; }
     void write(uint32_t n, uint32_t value) { check(rsp_write(&it, n, value)); }
 
-    /* The words of a text, of which the first one is for the address `origin`. */
+    /* The words of a text. The first is for the address `origin`. */
     static words assemble(const std::string &text, uint32_t origin = 0)
     {
         words out(1024);

@@ -1,5 +1,5 @@
-/* rsp_compare.h: the first step after which an emulator differs from a machine of rsp.h. For C and C++; nothing but this header and the
- * library is needed. The module for Python finds the same by rsp.first_difference.
+/* rsp_compare.h: finds the first step after which an emulator differs from a machine of rsp.h. For C and C++. It needs only this header and
+ * the library. In Python rsp.first_difference finds the same.
  *
  *     rsp_difference found;
  *     if (rsp_first_difference(&machine, &emulator, image_length, 64, 1000000, &found) == RSP_OK && found.count) {
@@ -20,27 +20,28 @@
 extern "C" {
 #endif
 
-/* What is called of an emulator, each time with `self`. */
+/* The functions of an emulator. Each is called with `self`. */
 typedef struct rsp_emulator {
     void *self;
-    void (*run)(void *self, uint32_t steps); /* the machine has made as many, so it isn't halted before any; BREAK is a step */
-    void (*get)(void *self, rsp_state *state); /* all registers; those that it doesn't have as `set` gave them */
+    void (*run)(void *self, uint32_t steps); /* the machine has made as many, so none of them begins halted; BREAK is a step */
+    void (*get)(void *self, rsp_state *state); /* all registers; those that the emulator lacks as `set` gave them */
     void (*set)(void *self, const rsp_state *state);
     void (*memory)(void *self, uint32_t bank, uint32_t address, uint8_t *bytes, size_t len);
     void (*load)(void *self, uint32_t bank, uint32_t address, const uint8_t *bytes, size_t len);
 } rsp_emulator;
 
-/* A part that differs: a register, such as `$3`, or a quadword of a memory, such as `DMEM 3f0`; the machine's value and the emulator's, the
- * high 64 bits first; and how many hexadecimal digits it has. */
+/* A part that differs: its name, which is that of a register, such as `$3`, or of a quadword of a memory, such as `DMEM 3f0`; the machine's
+ * value and the emulator's, the high 64 bits first; and the number of hexadecimal digits. */
 typedef struct rsp_part {
     char name[24];
     uint64_t value[2], other[2];
     unsigned digits;
 } rsp_part;
 
-/* A step after which they differ: its number, from 1; its instruction; the state before it; and what differs after it. Step 0 says that they
- * differ before the first step: the emulator hasn't kept what `set` and `load` gave it. If `steps` isn't 1, that many steps up to `step`
- * differ together, the first of them at line.place, and none does alone: the emulator has a state that `get` and `set` don't carry. */
+/* A step after which they differ: its number, from 1; its instruction; the state before it; and the parts that differ after it. Step 0 means
+ * that they differ before the first step, because the emulator didn't keep what `set` and `load` gave it. If `steps` isn't 1, that many steps
+ * up to `step` lead to a difference, but none of them alone: then the emulator has state that `get` and `set` don't carry. The first of these
+ * steps is at line.place. */
 typedef struct rsp_difference {
     uint32_t step, steps;
     rsp_line line;
@@ -144,7 +145,7 @@ static inline size_t rsp_compare_parts(const rsp_compare_seen *mine, const rsp_c
     return count;
 }
 
-/* Internal: looks at `length` bytes of memories and all registers of the machine, or of the emulator if there is one. */
+/* Internal: reads `length` bytes of memories and all registers of the machine, or of the emulator if there is one. */
 static inline void rsp_compare_see(rsp *m, const rsp_emulator *e, size_t length, rsp_compare_seen *seen)
 {
     memset(&seen->state, 0, sizeof seen->state);
@@ -267,7 +268,7 @@ static inline uint32_t rsp_compare_run(rsp *m, const rsp_emulator *e, size_t len
         status = rsp_run_until_move(m, most, 0, RSP_COMPARE_LENGTHS, &move);
         if (status != RSP_OK) return status;
         made = (uint32_t)move.stop.steps;
-        if (!made) { /* it is before a DMA, or can't go on */
+        if (!made) { /* it is before a DMA, or can't continue */
             status = rsp_compare_step(m, e, steps + 1, length, mine, its, &made, out);
             if (out->count || status != RSP_OK) return status;
             continue;
@@ -280,14 +281,14 @@ static inline uint32_t rsp_compare_run(rsp *m, const rsp_emulator *e, size_t len
     return status;
 }
 
-/* The first step after which an emulator differs from the machine, whose image of RDRAM has `image_length` bytes. out->count is 0 if there is
- * none in `limit` steps, or up to a halt or a reserved word.
+/* Finds the first step after which an emulator differs from the machine, whose image of RDRAM has `image_length` bytes. out->count is 0 if
+ * there is no such step within `limit` steps, or before a halt or a reserved word.
  *
- * The emulator is first given the machine's registers and memories. Then both run in stretches of at most `every` steps that end before a
- * DMA. After each, all registers, DMEM and IMEM are compared, and after a DMA RDRAM too. If they differ, both go back to the last
- * comparison and are stepped; they stay after the step that differs, and the machine's history is empty.
+ * First the machine's registers and memories are copied into the emulator. Then both run in stretches of at most `every` steps, which end
+ * before a DMA. After each stretch all registers, DMEM and IMEM are compared, after a DMA also RDRAM. If they differ, both go back to the last
+ * comparison and are stepped from there. Both are left after the step that differs, and the machine's history is empty.
  *
- * Returns RSP_NO_MACHINE; RSP_OUT_OF_RANGE unless `every` is 1 to 1000000; RSP_NO_MEMORY. `out` is filled in each case. */
+ * Returns RSP_NO_MACHINE; RSP_OUT_OF_RANGE unless `every` is 1 to 1000000; RSP_NO_MEMORY. `out` is filled in any case. */
 static inline uint32_t rsp_first_difference(rsp *m, const rsp_emulator *e, size_t image_length, uint32_t every, uint32_t limit,
                                             rsp_difference *out)
 {
@@ -315,7 +316,7 @@ static inline uint32_t rsp_first_difference(rsp *m, const rsp_emulator *e, size_
     return status;
 }
 
-/* Frees what rsp_first_difference has filled. */
+/* Frees what rsp_first_difference filled in. */
 static inline void rsp_difference_free(rsp_difference *found)
 {
     free(found->parts);
