@@ -285,8 +285,8 @@ static inline uint32_t rsp_compare_run(rsp *m, const rsp_emulator *e, size_t len
  * there is no such step within `limit` steps, or before a halt or a reserved word.
  *
  * First the machine's registers and memories are copied into the emulator. Then both run in stretches of at most `every` steps, which end
- * before a DMA. After each stretch all registers, DMEM and IMEM are compared, after a DMA also RDRAM. If they differ, both go back to the last
- * comparison and are stepped from there. Both are left after the step that differs, and the machine's history is empty.
+ * before a DMA. After each stretch all registers, DMEM and IMEM are compared, after a DMA also RDRAM. If they differ, both go back to the
+ * last comparison and are stepped from there. Both are left after the step that differs, and the machine's history is empty.
  *
  * Returns RSP_NO_MACHINE; RSP_OUT_OF_RANGE unless `every` is 1 to 1000000; RSP_NO_MEMORY. `out` is filled in any case. */
 static inline uint32_t rsp_first_difference(rsp *m, const rsp_emulator *e, size_t image_length, uint32_t every, uint32_t limit,

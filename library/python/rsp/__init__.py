@@ -1,6 +1,7 @@
 """The Nintendo 64's Reality Signal Processor (RSP): emulator, debugger, assembler and disassembler.
 
-The library that this package calls, librsp, is proved to follow the instruction table. The package is tested.
+The library that this package calls, librsp, is proved to follow the instruction table. The package is only
+tested.
 
     import rsp
 
@@ -9,8 +10,8 @@ The library that this package calls, librsp, is proved to follow the instruction
         stop = machine.run(100)
         print(stop.reason.name, hex(machine.reg(2)))
 
-A machine may go from thread to thread. One call at a time uses it: a second one is refused. docs/EMBEDDING.md
-says more.
+A machine may go from thread to thread, but only one call at a time uses it: a call during another one is
+refused. docs/EMBEDDING.md says more.
 """
 
 import ctypes
@@ -73,7 +74,7 @@ def __getattr__(name: str) -> Any:
 
 
 class Status(enum.IntEnum):
-    """What a call returns. The numbers are not those of faults: docs/FAULTS.md has both."""
+    """What a call returns. The numbers aren't those of faults: docs/FAULTS.md lists both."""
 
     OK = 0
     NO_MACHINE = 1
@@ -131,7 +132,7 @@ _FIELDS = {
 
 
 class RspError(Exception):
-    """A call was refused, and has changed nothing. `status` says why by its number, the message in words."""
+    """A call was refused, and has changed nothing. `status` is the reason, and the message explains it."""
 
     def __init__(self, status: Status, what: str = "") -> None:
         super().__init__(what or status.name)
@@ -143,10 +144,10 @@ class RspError(Exception):
 
 class AssemblyError(RspError):
     """A text has a fault. `line` counts from 1, `source` is that line, and `fault` is a number from 10 to 16,
-    in FAULTS with its name.
+    whose name FAULTS has.
 
-    `allowed` says which operand is at fault and what it may be, if one is; the message ends with it. The
-    message shows each character of `source` that would control a terminal as its escape: \\x1b.
+    If an operand is at fault, `allowed` says which one and what it may be; the message ends with that. In the
+    message each character of `source` that would control a terminal is shown as its escape: \\x1b.
     """
 
     def __init__(self, line: int, fault: int, source: str = "", allowed: str = "") -> None:
@@ -169,9 +170,9 @@ class Move(NamedTuple):
 
 
 class Dma(NamedTuple):
-    """A DMA: `rows` rows of `length` bytes, one after the other in a bank from `address` on, and in RDRAM
-    from `rdram` on with `skip` bytes between two rows. Addresses wrap at 4096 and at 2^24. `to_rdram` says
-    whether the bytes go to RDRAM."""
+    """A DMA: `rows` rows of `length` bytes. In the bank they follow one another from `address` on, in RDRAM
+    they begin at `rdram` and have `skip` bytes between them. Addresses wrap at 4096 and at 2^24. `to_rdram`
+    says whether the bytes go to RDRAM."""
 
     bank: Bank
     address: int
@@ -191,11 +192,11 @@ class _StopParts(NamedTuple):
 
 class Stop(_StopParts):
     """Where a run stopped: `reason`, `steps`, `pc`, and `watch`, the number of the watch at which it stopped,
-    else None.
+    or None.
 
-    `word`, which is no item of the tuple, is the reserved word at which it stopped, else None; `move` the
-    move before which `run_until_move` or `event` did. `event` also fills `dma`, the DMA that is next, else
-    None, and `status` and `interrupt`, SP_STATUS and the interrupt flag there.
+    More attributes aren't items of the tuple. `word` is the reserved word at which the run stopped, or None.
+    `move` is the move before which `run_until_move` or `event` stopped. `event` also sets `dma`, the DMA that
+    is next, or None, and `status` and `interrupt`, which are SP_STATUS and the interrupt flag there.
     """
 
     word: Optional[int] = None
@@ -217,7 +218,7 @@ class Line(NamedTuple):
 
 
 class _Handle(Structure):
-    """That of a machine, or of a bench."""
+    """The handle of a machine, or of a bench."""
 
     _fields_ = [("at", c_void_p)]
 
@@ -263,8 +264,8 @@ _NAME = {"win32": "rsp.dll", "darwin": "librsp.dylib"}.get(sys.platform, "librsp
 
 
 def _library() -> str:
-    """The library in the package; else that of the release archive; else the one that library/c/build has
-    made."""
+    """The library in the package; otherwise that of the release archive, or the one that library/c/build
+    has made."""
     here = os.path.dirname(os.path.abspath(__file__))
     for folder in ("", "../../lib", "../../bin", "../../c"):
         place = os.path.join(here, folder, _NAME)
@@ -274,7 +275,8 @@ def _library() -> str:
     raise ImportError(text)
 
 
-# A call of _quick keeps the GIL, so no other one comes in between. One of _lib may take long, and lets it go.
+# A call of _quick keeps the GIL, so no other one comes in between. One of _lib may take long, so it releases
+# the GIL.
 _lib, _quick = ctypes.CDLL(_library()), ctypes.PyDLL(_library())
 if not getattr(sys, "_is_gil_enabled", lambda: True)():
     raise ImportError("rsp needs Python's GIL: the environment variable PYTHON_GIL=1 turns it on")
@@ -325,7 +327,7 @@ def _ok(status: int, name: str = "", numbers: Sequence[int] = (), owner: str = "
 
 
 def _numbers(name: str, *given: Any, most: int = (1 << 32) - 1) -> Tuple[int, ...]:
-    """The arguments of a call. It refuses what ctypes would cut, and a last one above `most`."""
+    """The arguments of a call. It refuses numbers that ctypes would cut, and a last one above `most`."""
     numbers = _in_words.integers(name, given)
     if numbers and (min(numbers) < 0 or max(numbers) >= 1 << 32 or numbers[-1] > most):
         _ok(Status.OUT_OF_RANGE, name, numbers)
@@ -340,7 +342,7 @@ def _stop(out: Any) -> Stop:
 
 
 def _move_stop(out: _Move) -> Stop:
-    """A stop, with the move before which it is."""
+    """A stop, with the move that is next."""
     stop = _stop(out.stop)
     if stop.reason in (Reason.MOVE, Reason.DMA):
         stop.move = Move(out.word, out.number, bool(out.writes), out.value)
@@ -379,9 +381,9 @@ class Words(List[int]):
 
 
 def assemble(text: str, origin: int = 0) -> Words:
-    """The words of a text, at most 1024, the first one for the address `origin`, a multiple of 4 up to 4096.
+    """The words of a text, at most 1024. The first is for the address `origin`, a multiple of 4 up to 4096.
 
-    `assemble(text).labels["loop"]` is the address of a label. AssemblyError if the text has a fault.
+    `assemble(text).labels["loop"]` is the address of a label. Raises AssemblyError if the text has a fault.
     """
     (origin,) = _numbers("assemble", origin)
     if not isinstance(text, str):
@@ -408,7 +410,7 @@ def text(word: int, place: int = 0) -> str:
 
 
 def state_fault(state: State) -> Optional[str]:
-    """The first field for which `Rsp.set` refuses a state, else None."""
+    """The first field for which `Rsp.set` refuses a state, or None if it takes the state."""
     if not isinstance(state, State):
         raise TypeError(f"state_fault: state is of type {type(state).__name__}, not rsp.State")
     out = c_uint32()
@@ -428,8 +430,8 @@ def _made(call: str, make: Any, handle: Structure, image: Any, *more: int) -> in
 
 
 class _Owner:
-    """Has a handle, which one call at a time uses. It frees what that holds at the end of a block, or when it
-    is dropped."""
+    """Owns a handle, which one call at a time uses. What the handle holds is freed at the end of a `with`
+    block, or when the owner is dropped."""
 
     _owner, _refuses = "machine", "pickled"
 
@@ -444,10 +446,10 @@ class _Owner:
             raise RspError(Status.NO_MACHINE, told)
 
     def _alone(self, name: str, call: Callable[..., _T], *given: Any) -> _T:
-        """What a call gives that may take long and lets other threads go on, or that frees what is held.
+        """Makes a call that may take long and lets other threads continue, or that frees what is held.
 
-        It gets another handle, and the owner's is empty meanwhile, so a short call that has just passed
-        `_see_free` finds nothing. Of two of these calls that have passed it, one waits for the other.
+        The call gets another handle. The owner's is empty meanwhile, so that a short call that has just
+        passed `_see_free` finds nothing. If two such calls have passed it, one waits for the other.
         """
         self._see_free(name)
         with self._lock:
@@ -485,8 +487,8 @@ class _Owner:
 class Rsp(_Owner):
     """A machine with a copy of an image of RDRAM and a history of `depth` states, at most 4096.
 
-    The image has 64 to 8388608 bytes, a multiple of 8: `image_length`. A refused call raises RspError with
-    its status, and an argument of a wrong type TypeError; neither changes anything.
+    The image has 64 to 8388608 bytes, a multiple of 8. `image_length` is this number. A refused call raises
+    RspError with its status, an argument of a wrong type raises TypeError, and neither changes anything.
     """
 
     def __init__(self, image: bytes = bytes(64), depth: int = 0) -> None:
@@ -495,8 +497,8 @@ class Rsp(_Owner):
         self.image_length = _made("Rsp", _lib.rsp_new, self._handle, image, depth)
 
     def copy(self) -> "Rsp":
-        """A second machine in the same state, memories included, with as long a history, which is empty, and
-        without breakpoints and watches."""
+        """A second machine with the same registers and memories. Its history has room for as many states, but
+        is empty, and it has no breakpoints and no watches."""
         made = Rsp.__new__(Rsp)
         made._hold()
         self._see_free("rsp_copy")
@@ -546,8 +548,8 @@ class Rsp(_Owner):
         return self._look("rsp_get", unset(State))
 
     def set(self, state: State) -> None:
-        """Sets all registers, and empties the history. The memories stay. OUT_OF_RANGE for a state that no
-        machine can have."""
+        """Sets all registers, and empties the history. The memories stay unchanged. OUT_OF_RANGE for a state
+        that no machine can have."""
         if not isinstance(state, State):
             raise TypeError(f"set: state is of type {type(state).__name__}, not rsp.State")
         self._see_free("rsp_set")
@@ -557,8 +559,8 @@ class Rsp(_Owner):
         self._see_done(status, "set")
 
     def load(self, bank: int, address: int, data: bytes) -> None:
-        """Writes the bytes of a buffer to a memory, and empties the history. A buffer of words goes in as its
-        bytes are in this computer."""
+        """Writes the bytes of a buffer to a memory, and empties the history. The bytes of a buffer of words
+        are written in this computer's order; `load_words` writes the high byte first."""
         bank, address = _numbers("load", bank, address)
         raw = _in_words.bytes_of("load", "data", data)
         self._see_free("rsp_load")
@@ -583,10 +585,11 @@ class Rsp(_Owner):
         return bytes(out)
 
     def memory_array(self, bank: int, address: int, length: int, dtype: Any = "u1") -> Any:
-        """A copy of `length` bytes of a memory as a numpy array; a change of it doesn't change the memory.
+        """A copy of `length` bytes of a memory as a numpy array. To change the memory, pass the changed array
+        to `load`.
 
-        Its items are bytes, or of another dtype: the memories have the high byte first, so words are ">u4"
-        and lanes ">u2". `load` takes such an array back. It needs numpy.
+        The items are bytes, or of another dtype. Memories have the high byte first, so words are ">u4" and
+        lanes ">u2". This call needs numpy.
         """
         return _arrays.copied(self.memory(bank, address, length), dtype)
 
@@ -606,11 +609,11 @@ class Rsp(_Owner):
         self._call("rsp_task", address)
 
     def set_pc(self, pc: int) -> None:
-        """Goes on at an address of IMEM, a multiple of 4 below 4096, and empties the history."""
+        """Sets pc to an address of IMEM, a multiple of 4 below 4096, and empties the history."""
         self._call("rsp_set_pc", pc)
 
     def step(self) -> Status:
-        """Executes one instruction. OK, or HALTED or RESERVED if the machine can't."""
+        """Executes one instruction. Returns OK, or HALTED or RESERVED if the machine can't."""
         if self._lock.locked():
             self._see_free("step")
         status = _quick.rsp_step(self._at)
@@ -619,7 +622,7 @@ class Rsp(_Owner):
         return _STEP_ENDS[status]
 
     def step_changes(self) -> Optional[Changes]:
-        """As `step`, and returns what the step changed; None if the machine can't make it."""
+        """As `step`, but returns what the step changed, or None if the machine can't make the step."""
         out = unset(Changes)
         self._see_free("rsp_step_changes")
         status = _quick.rsp_step_changes(self._at, byref(out))
@@ -633,20 +636,20 @@ class Rsp(_Owner):
         return _stop(self._work("rsp_run", _Stop(), steps))
 
     def run_until_move(self, steps: int, reads: int, writes: int) -> Stop:
-        """As `run`, and also stops before an MFC0 whose SP register has its bit in `reads`, or an MTC0 whose
-        register has it in `writes`.
+        """As `run`, but also stops before an MFC0 from an SP register whose bit is set in `reads`, and before
+        an MTC0 to one whose bit is set in `writes`. Bit r is for register r.
 
-        It stops there before the first step too, with Reason.MOVE. `pass_move` goes past it, and `step`
-        executes it.
+        The reason is then Reason.MOVE. It may stop there before the first step. `pass_move` steps over the
+        move, and `step` executes it.
         """
         return _move_stop(self._work("rsp_run_until_move", _Move(), steps, reads, writes))
 
     def event(self, steps: int, reads: int = 0, writes: int = 0) -> Stop:
-        """Runs to the next event, for a caller that owns RDRAM: as `run_until_move`, also up to each DMA,
-        with Reason.DMA.
+        """Runs to the next event, for a caller that owns RDRAM. As `run_until_move`, but also stops before
+        each DMA, with Reason.DMA.
 
-        A move or a DMA is an event only if steps are left, so going past it by `pass_move`, `pass_dma` or
-        `step` is one of them.
+        A move or a DMA is an event only if a step is left. Stepping over it, by `pass_move`, `pass_dma` or
+        `step`, takes that step.
         """
         out = self._work("rsp_event", _Reached(), steps, reads, writes)
         stop, dma = _move_stop(out.at), out.dma
@@ -665,8 +668,8 @@ class Rsp(_Owner):
         return _stop(stop), out[: stop.steps]
 
     def iter_trace(self, limit: int = 1000000) -> "Iterator[Traced]":
-        """The entries of a trace one by one, up to a stop or `limit` steps. The machine makes up to 1024
-        steps ahead of them."""
+        """The entries of a trace one by one, up to a stop or `limit` steps. The machine may be up to 1024
+        steps ahead of the entry."""
         (limit,) = _numbers("iter_trace", limit)
         while limit:
             stop, entries = self.trace(min(limit, 1024))
@@ -678,10 +681,10 @@ class Rsp(_Owner):
         self._call("rsp_back", states)
 
     def pass_move(self, value: int = 0) -> Status:
-        """Goes past the MFC0 or MTC0 at pc without its meaning: register rt of an MFC0 becomes the value. It
-        empties the history.
+        """Steps over the MFC0 or MTC0 at pc without executing it; register rt of an MFC0 becomes the value.
+        Empties the history.
 
-        OK, or HALTED if the machine is halted. Of any other word it is refused.
+        Returns OK, or HALTED if the machine is halted. Refused if another word is at pc.
         """
         (value,) = _numbers("pass_move", value)
         self._see_free("pass_move")
@@ -691,10 +694,10 @@ class Rsp(_Owner):
         return status
 
     def pass_dma(self) -> Status:
-        """Goes past the DMA at pc, whose bytes the caller then moves: all is as after a step, the SP
-        registers too, but the memories stay. It empties the history.
+        """Steps over the DMA at pc, whose bytes the caller then moves. Everything is as after a step, SP
+        registers included, except that the memories stay unchanged. Empties the history.
 
-        OK, or HALTED if the machine is halted. Of any other word it is refused.
+        Returns OK, or HALTED if the machine is halted. Refused if the word at pc starts no DMA.
         """
         self._see_free("pass_dma")
         status = Status(_quick.rsp_pass_dma(self._at))
@@ -703,7 +706,7 @@ class Rsp(_Owner):
         return status
 
     def history(self) -> int:
-        """How many steps can be undone."""
+        """The number of steps that can be undone."""
         out = c_size_t()
         self._see_free("history")
         self._see_done(_quick.rsp_history(self._at, byref(out)), "history")
@@ -743,8 +746,8 @@ class Rsp(_Owner):
         return list(self._look("rsp_vreg", _Lanes(), number).lanes)
 
     def set_reg(self, number: int, value: int) -> None:
-        """Sets scalar register `number`, 0 to 31, to a value below 2**32, of register 0 to 0, and empties the
-        history."""
+        """Sets scalar register `number`, 0 to 31, to a value below 2**32, and empties the history. Register 0
+        takes only 0."""
         numbers = number, value = _numbers("set_reg", number, value)
         if number > 31 or value and not number:
             _ok(Status.OUT_OF_RANGE, "set_reg", numbers)
@@ -752,7 +755,7 @@ class Rsp(_Owner):
 
     def set_vreg(self, number: int, lanes: Iterable[int]) -> None:
         """Sets the eight lanes of vector register `number`, 0 to 31, to numbers below 65536, and empties the
-        history. ValueError for other lanes."""
+        history. Raises ValueError for other lanes."""
         numbers = (number,) = _numbers("set_vreg", number)
         if number > 31:
             _ok(Status.OUT_OF_RANGE, "set_vreg", numbers)
@@ -783,7 +786,7 @@ class Rsp(_Owner):
         return self._look("rsp_divider", unset(Divider))
 
     def read(self, number: int) -> int:
-        """Reads SP register `number`, modulo 16, as the CPU does: a read of the semaphore, 7, takes it and
+        """Reads SP register `number`, modulo 16, as the CPU does. A read of the semaphore, 7, takes it and
         empties the history."""
         return self._word("rsp_read", number)
 
@@ -810,8 +813,8 @@ class Rsp(_Owner):
     def listing(self, place: int, count: int) -> List[Line]:
         """At most 1024 words of IMEM from the address `place` on, a multiple of 4, with their disassembly.
 
-        A jump with bits 10 to 25 set leads where it leads without them, but only `.word` assembles to it, so
-        that is its text.
+        The machine ignores bits 10 to 25 of a jump, but no jump in source text sets them. So the text of such
+        a word is a `.word`.
         """
         numbers = place, count = _numbers("listing", place, count, most=1024)
         lines = (_Line * count)()
@@ -822,12 +825,13 @@ class Rsp(_Owner):
 
 
 def _address(data: bytes) -> int:
-    """Where bytes are in memory. They stay there as long as they are held."""
+    """The address of bytes in memory, which is valid while somebody holds them."""
     return ctypes.cast(c_char_p(data), c_void_p).value or 0
 
 
 class Bench(_Owner):
-    """Answers a script as `rsp run` does. Its machine has a copy of the image, without one 4 MiB of zeros.
+    """Answers a script as `rsp run` does, on a machine of its own with a copy of the image (4 MiB of zeros if
+    none is given).
 
     A script of more than 1048576 bytes raises RspError with TOO_LONG, as does any later `feed` or `end`.
     """
@@ -854,7 +858,7 @@ class Bench(_Owner):
         return reply
 
     def _take(self, at: int, script: bytes, parts: List[bytes]) -> int:
-        """Takes all lines of a script, and appends their replies in as many parts as there is room for."""
+        """Takes all lines of a script, and appends their replies in parts that fit into the buffer."""
         take, used, written, told = _lib.rsp_bench_take, c_size_t(), c_size_t(), 0
         used_at, written_at, room = addressof(used), addressof(written), addressof(self._replies)
         line = _address(script)
@@ -871,15 +875,15 @@ class Bench(_Owner):
                     return 0
 
     def feed(self, script: Union[str, bytes]) -> bytes:
-        """The replies to the lines that end in these bytes of the script; what follows the last LF waits for
-        more. If it raises, replies are lost that `iter_feed` would have given."""
+        """The replies to the lines that end in these bytes of the script. What follows the last LF waits for
+        more. If this raises, replies are lost that `iter_feed` would have yielded."""
         parts: List[bytes] = []
         status = self._alone("feed", self._take, _in_words.script_of("feed", script), parts)
         self._see_done(status, "feed")
         return b"".join(parts)
 
     def iter_feed(self, script: Union[str, bytes]) -> Iterator[bytes]:
-        """These replies one by one. The bench takes a line when its reply is asked for."""
+        """Yields these replies one by one. The bench takes a line when its reply is asked for."""
         raw, at, used = _in_words.script_of("feed", script), 0, c_size_t()
         begin = _address(raw)
         while True:
@@ -892,13 +896,13 @@ class Bench(_Owner):
                 return
 
     def end(self) -> bytes:
-        """Ends the script: the reply to a last line without LF, and the fault of an open `asm` block. Any
-        later `feed` or `end` is refused with ENDED."""
+        """Ends the script. Returns the reply to a last line without LF, and the fault of an open `asm` block.
+        Any later `feed` or `end` is refused with ENDED."""
         return self._answer("end", _lib.rsp_bench_end)
 
     @property
     def rdram(self) -> bytes:
-        """A copy of the image as it is."""
+        """A copy of the image in its present state."""
         out = ctypes.create_string_buffer(self._length)
         self._see_free("rdram")
         status = _quick.rsp_bench_memory(self._at, Bank.RDRAM, 0, out, self._length)
@@ -907,10 +911,10 @@ class Bench(_Owner):
 
 
 def run_script(script: Union[str, bytes], image: Optional[bytes] = None, strict: bool = False) -> Ran:
-    """The replies of `rsp run` to a script, and the image as the script leaves it: a pair, whose second item
-    is copied when it is asked for.
+    """The replies of `rsp run` to a script, and the image as the script leaves it. The result is a pair,
+    whose second item is copied only when it is asked for.
 
-    With `strict` a reply that is a fault raises ScriptError, and the lines after it aren't run.
+    With `strict` the first reply that is a fault raises ScriptError, and the lines after it aren't run.
     """
     bench = Bench(image)
     replies = _strict_replies(bench, script) if strict else bench.feed(script) + bench.end()

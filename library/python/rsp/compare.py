@@ -15,19 +15,19 @@ QUADWORD = 16
 
 
 class Emulator(Protocol):
-    """What `first_difference` calls of an emulator. A machine has all of it, so a second machine can be the
-    emulator."""
+    """The methods of an emulator that `first_difference` calls. A machine has all of them, so a second
+    machine can be the emulator."""
 
     def run(self, steps: int) -> Any:
-        """Makes this many steps. The machine has made as many, so it isn't halted before any, and no word is
-        reserved.
+        """Makes this many steps. The machine has made as many, so the emulator isn't halted before any of
+        them, and no word is reserved.
 
-        BREAK is a step: it sets bits 0 and 1 of SP_STATUS, `sp[4]`.
+        BREAK is a step, which sets bits 0 and 1 of SP_STATUS, `sp[4]`.
         """
 
     def get(self) -> State:
-        """All registers; those that the emulator doesn't have as `set` gave them. The state is neither kept
-        nor changed."""
+        """All registers; those that the emulator lacks as `set` gave them. The state that is returned is
+        neither kept nor changed."""
 
     def set(self, state: State) -> Any:
         """Sets all registers."""
@@ -41,13 +41,14 @@ class Emulator(Protocol):
 
 
 class FirstDifference(NamedTuple):
-    """A step after which they differ: its number, from 1; its instruction, by its address `place`, `word` and
-    `text`; and the state `before` it.
+    """A step after which they differ: its number `step`, from 1; its instruction, with the address `place`,
+    the `word` and its `text`; and the state `before` it.
 
-    `parts` has what differs after it, the machine's value first: registers, then quadwords of memories, such
-    as `DMEM 3f0`. Step 0 says that they differ before the first step: the emulator hasn't kept what `set` and
-    `load` gave it. If `steps` isn't 1, that many steps up to `step` differ together, the first of them at
-    `place`, and none does alone: the emulator has a state that `get` and `set` don't carry.
+    `parts` lists what differs after the step, the machine's value first: registers, then quadwords of
+    memories, such as `DMEM 3f0`. Step 0 means that they differ before the first step, because the emulator
+    didn't keep what `set` and `load` gave it. If `steps` isn't 1, that many steps up to `step` lead to a
+    difference, but none of them alone: then the emulator has state that `get` and `set` don't carry. The
+    first of these steps is at `place`.
     """
 
     step: int
@@ -75,7 +76,7 @@ class FirstDifference(NamedTuple):
 
 
 class _Seen(NamedTuple):
-    """What is compared of a side: all registers, and memories from DMEM on."""
+    """The parts of a side that are compared: all registers, and memories from DMEM on."""
 
     state: State
     memories: Tuple[bytes, ...]
@@ -89,7 +90,7 @@ def _seen(side: Emulator, rdram: int = 0) -> _Seen:
 
 
 def _put(side: Emulator, seen: _Seen) -> None:
-    """Brings a side to what was seen. The state that it is given is its own: it may keep and change it."""
+    """Sets a side to what was seen. It gets a state of its own, which it may keep and change."""
     side.set(State.from_buffer_copy(seen.state))
     for bank, data in enumerate(seen.memories):
         side.load(bank, 0, data)
@@ -138,17 +139,18 @@ def _narrowed(
 def first_difference(
     machine: "Rsp", emulator: Emulator, every: int = 64, limit: int = 1000000
 ) -> Optional[FirstDifference]:
-    """The first step after which an emulator differs from the machine; None if there is none in `limit`
-    steps, or up to a halt or a reserved word.
+    """The first step after which an emulator differs from the machine; None if there is no such step within
+    `limit` steps, or before a halt or a reserved word.
 
-    After None, `machine.step()` says which: it answers HALTED or RESERVED unless the limit ended it.
-    Breakpoints and watches don't end it.
+    After None, `machine.step()` tells these apart: it returns HALTED or RESERVED, unless the limit was the
+    end. Breakpoints and watches are ignored.
 
-    The emulator is first given the machine's registers and memories. Then both run in stretches of at most
-    `every` steps, 1 to 1000000, that end before a DMA. After each, all registers, DMEM and IMEM are compared,
-    and after a DMA RDRAM too. If they differ, both go back to the last comparison and are stepped; they stay
-    after the step that differs, and the machine's history is empty. ValueError if `every` or `limit`, 0 to
-    4294967295, isn't in its range, or the emulator's memory has a wrong length.
+    First the machine's registers and memories are copied into the emulator. Then both run in stretches of at
+    most `every` steps, 1 to 1000000, which end before a DMA. After each stretch all registers, DMEM and IMEM
+    are compared, after a DMA also RDRAM. If they differ, both go back to the last comparison and are stepped
+    from there. Both are left after the step that differs, and the machine's history is empty. Raises
+    ValueError if `every` or `limit`, 0 to 4294967295, isn't in its range, or if a memory of the emulator has
+    a wrong length.
     """
     every, limit = _in_words.integers("first_difference", (every, limit))
     if not 1 <= every <= 1000000 or not 0 <= limit < _in_words.BELOW:
@@ -173,7 +175,7 @@ def first_difference(
             if seen != its:
                 stretch = range(steps + 1, steps + made + 1)
                 return _narrowed(machine, emulator, before, stretch, _parts(seen, its))
-        else:  # it is before a DMA, or can't go on
+        else:  # it is before a DMA, or can't continue
             goes_on, found = _step(machine, emulator, steps + 1, rdram)
             if found or not goes_on:
                 return found

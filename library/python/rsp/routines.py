@@ -1,4 +1,4 @@
-"""The routines of microcode/: which one is in IMEM at pc, and which premises of its theorem don't hold.
+"""Finds the routines of microcode/ in IMEM, and the premises of their theorems that don't hold.
 
     import rsp.routines
 
@@ -7,8 +7,9 @@
         for entry in rsp.routines.entries(machine):
             print(hex(entry.place), entry.name, *entry.broken)
 
-A theorem says nothing of a run that begins with a broken premise. A premise is a formula of $1 to $31, of $v0
-to $v31 with their lanes as numbers below 65536, and of `rdram`, the bytes of RDRAM.
+A theorem says nothing about a run that begins with a broken premise. A premise is a formula about the
+registers, such as `$3 % 16 == 0`. It names $1 to $31, $v0 to $v31, whose lanes are numbers below 65536, and
+`rdram`, the number of bytes of RDRAM.
 """
 
 import re
@@ -122,7 +123,8 @@ _EVERYWHERE = ("status & 0x21 == 0", "npc == (pc + 4) % 4096")
 
 
 class Entry(NamedTuple):
-    """A routine that is about to run: its `name`, its address `place`, and the premises that are `broken`."""
+    """A routine that is about to run: its `name`, its address `place`, and the premises that are `broken`,
+    each with what its registers hold, such as `$3 % 16 == 0: $3 is 0x538`."""
 
     name: str
     place: int
@@ -156,7 +158,7 @@ def _shown(premise: str, values: Dict[str, Any]) -> str:
 
 
 def name_at_pc(machine: "Rsp") -> Optional[str]:
-    """The routine whose words are in IMEM from pc on, else None. Of two it is the longer one."""
+    """The routine whose words are in IMEM from pc on, or None. If there are two, the longer one."""
     pc = machine.regs().pc
     words = machine.memory_words(_IMEM, 0, 1024)
     ahead = words[pc // 4 :] + words[: pc // 4]
@@ -177,8 +179,7 @@ def broken(machine: "Rsp", name: str) -> Tuple[str, ...]:
 def entries(machine: "Rsp", limit: int = 1000000) -> Iterator[Entry]:
     """Makes up to `limit` steps, and yields an entry each time that pc is at a routine's first word.
 
-    The entry comes before the step. The end is a halt, or a reserved word; breakpoints and watches don't
-    count.
+    The entry comes before the step. A halt or a reserved word ends this; breakpoints and watches don't.
     """
     first = {its[0] for its in WORDS.values()}
     for _ in range(limit):

@@ -12,11 +12,11 @@ _SHOWN = 80  # how much of a line a message shows
 
 
 class ScriptError(Exception):
-    """A reply is a fault. `line` is the number of its line in the script, from 1, `text` that line, `fault`
-    the fault's number, and `reply` the whole reply.
+    """A reply is a fault. `line` is the number of the line in the script, from 1, `text` is that line,
+    `fault` the number of the fault, and `reply` the whole reply.
 
-    A fault of an `asm` block has the line of the block that is at fault, and no text if the script ends
-    before `end`.
+    For a fault of an `asm` block `line` is the line of the block that is at fault. `text` is empty if the
+    script ends before `end`.
     """
 
     def __init__(self, line: int, text: str, reply: str) -> None:
@@ -30,9 +30,9 @@ class ScriptError(Exception):
 
 
 class Ran:
-    """What a script has answered and left: `replies`, and `image`, which is copied when it is first read.
+    """The result of a script: `replies`, and `image`, which is copied when it is first read.
 
-    It unpacks, and compares, as the pair of both.
+    It unpacks and compares like the pair of both.
     """
 
     def __init__(self, replies: bytes, image: Union[bytes, "Bench"]) -> None:
@@ -68,7 +68,7 @@ class Ran:
 
 
 def strict_replies(bench: "Bench", script: Union[str, bytes]) -> bytes:
-    """The replies to a whole script. ScriptError at the first one that is a fault."""
+    """The replies to a whole script. Raises ScriptError at the first one that is a fault."""
     raw = _in_words.script_of("run_script", script)
     lines, told = raw.split(b"\n"), []
     block = 0  # the number of the line `asm` of the block that is open
@@ -84,7 +84,7 @@ def strict_replies(bench: "Bench", script: Union[str, bytes]) -> bytes:
 
 
 def _opened(lines: List[bytes], number: int) -> int:
-    """The number of a line without a reply if it opens a block, else 0."""
+    """The number of a line without a reply if it opens a block, otherwise 0."""
     return number if lines[number - 1].partition(b"#")[0].split()[:1] == [b"asm"] else 0
 
 

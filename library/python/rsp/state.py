@@ -149,7 +149,8 @@ class Flags(Plain):
 
 
 class Divider(Plain):
-    """What the divide instructions keep: DIV_IN and DIV_OUT, below 65536, and 1 or 0, if DIV_IN is loaded."""
+    """What divide instructions leave for the next one: `input` (DIV_IN) and `output` (DIV_OUT), below 65536,
+    and `loaded`, 1 if DIV_IN is loaded, otherwise 0."""
 
     _fields_ = [*alike(c_uint16, "input", "output", "loaded")]
     if TYPE_CHECKING:
@@ -162,8 +163,8 @@ class Divider(Plain):
 
 
 class SpWords(Plain):
-    """The sixteen SP registers as `peek` gives them, `words`, and `interrupt`, 1 if the interrupt flag is
-    set, else 0."""
+    """`words`, the sixteen SP registers as `peek` gives them, and `interrupt`, 1 if the interrupt flag is
+    set, otherwise 0."""
 
     _fields_ = [("words", SpItems), ("interrupt", c_uint32)]
     if TYPE_CHECKING:
@@ -180,10 +181,10 @@ class SpWords(Plain):
 class Traced(Plain):
     """An entry of a trace: the `word` at `pc` that a step executed, and what it wrote.
 
-    `scalar` is the number of the scalar register, 0 if it wrote none, and `value` what that holds after the
-    step; `vector` is the number of the vector register (of LTV the first of its group), 32 if it wrote none,
-    and `lanes` what that holds. `vco`, `vcc` and `vce` are the flags after the step. A store has `stored` 1
-    and its `address` in DMEM. What there isn't is 0.
+    `scalar` is the number of the scalar register that it wrote, 0 if none, and `value` what that register
+    holds after the step. `vector` is the number of the vector register that it wrote (for LTV the first of
+    the group), 32 if none, and `lanes` what that register holds. `vco`, `vcc` and `vce` are the flags after
+    the step. For a store `stored` is 1, and `address` its address in DMEM. Fields without a meaning are 0.
     """
 
     _fields_ = [
@@ -213,12 +214,13 @@ class Traced(Plain):
 
 
 class Changes(Plain):
-    """What a step changed: its entry in a trace, `traced`; and after the step pc and npc, the `divider`, the
+    """What a step changed: its entry in a trace, `traced`; and after the step pc, npc, the `divider` and the
     `accumulators`.
 
-    Of a store `quadword` is the address of the quadword in which its address is, and `bytes` has that
-    quadword and the next one, modulo 4096; of any other step both are 0. Besides, an LTV writes seven more
-    registers of its group; MFC0, MTC0, BREAK and single step change SP registers; and a DMA changes memories.
+    For a store `quadword` is the address of the quadword that has its address, and `bytes` has that quadword
+    and the next one, modulo 4096; for any other step both are 0. Some changes aren't here: the other seven
+    registers of the group that an LTV writes; SP registers that MFC0, MTC0, BREAK and single step change; and
+    memories that a DMA changes.
     """
 
     _fields_ = [
@@ -248,13 +250,13 @@ class Changes(Plain):
 
 
 class State(Plain):
-    """All registers. `State()` is that of a new machine, and keywords set fields in it; npc is 4 after pc if
-    it isn't given.
+    """All registers. `State()` is the state of a new machine, and keywords set fields in it; if npc isn't
+    given, it is 4 after pc.
 
-    `words` has 32 scalar registers below 2**32, the first 0; `vectors[n][lane]` 32 vectors of eight lanes
-    below 65536, lane 0 first; `sp` the sixteen SP registers as `peek` gives them; `pc` and `npc` are
-    multiples of 4 below 4096, and `interrupt` is 0 or 1. A field that is an array takes a list. `print` shows
-    the lines of the bench's `regs`, `vregs` and `flags`.
+    `words` are the 32 scalar registers, below 2**32, the first of them 0. `vectors[n][lane]` are the 32
+    vector registers of eight lanes below 65536, lane 0 first. `sp` are the sixteen SP registers as `peek`
+    gives them. `pc` and `npc` are multiples of 4 below 4096, and `interrupt` is 0 or 1. A field that is an
+    array takes a list. `print` shows the lines of `regs`, `vregs` and `flags` in scripts.
     """
 
     _fields_ = [

@@ -1,6 +1,7 @@
-"""Waits for a DMA that are missing.
+"""Finds missing waits for a DMA.
 
-The machine's DMA is done at once, so a program without its wait runs well here, and fails on a console.
+The machine finishes each DMA at once, so a program that forgets to wait runs well here, and fails on a
+console.
 
     import rsp.waits
 
@@ -9,23 +10,24 @@ The machine's DMA is done at once, so a program without its wait runs well here,
         for it in rsp.waits.missing(machine):
             print(it)
 
-The rules are ours:
+The rules are our own:
 
 - A transfer is under way from the MTC0 that orders it, until a read of SP_DMA_BUSY, SP_DMA_FULL or SP_STATUS
   shows that it is done.
 - At such a read a console may answer that all transfers are done, that the last one is under way, or that the
-  last two are. The machine goes on as after the first answer. For each other one a copy goes on, and gets the
-  same answer wherever it reads. Once its way has parted from the machine's, it has waited as soon as it reads
-  again at an address where it has read; else it is followed for AHEAD steps. A load between a read and the
-  branch at which the ways part doesn't count, because the program tests the answer there, and loads again.
-- While a transfer is under way, no instruction loads a byte that it brings, stores a byte that it brings or
-  takes, or is fetched from what it brings.
+  last two are. The machine continues with the first answer. For each other answer a copy of the machine
+  continues, and gets the same answer at all its reads. Once the copy has taken another way than the machine,
+  it has waited as soon as it reads again at an address where it has read before; otherwise it is followed for
+  AHEAD steps. A load between a read and the branch at which the ways part doesn't count, because the program
+  tests the answer there, and loads again.
+- While a transfer is under way, no instruction may load a byte that it brings, store a byte that it brings or
+  takes, or be fetched from what it brings.
 - One more transfer may be ordered while one is under way, because a console has a second set of DMA registers
-  for it, and programs that read ahead do so. While two are, nothing writes SP registers 0 to 3. After a third
-  one the first is forgotten.
+  for it, and programs that read ahead do so. While two are under way, nothing may write SP registers 0 to 3.
+  After a third one the first is forgotten.
 
-What the CPU orders is left out, and so is a wait that gives up after some rounds. A transfer that is under
-way when the program ends is named only if it is asked for, because the CPU may be what waits for it.
+Transfers that the CPU orders are left out, and so are waits that give up after some rounds. A transfer that
+is under way when the program ends is reported only if you ask for that, because the CPU may wait for it.
 """
 
 from typing import Iterator, List, NamedTuple, Optional, Sequence, Set, Tuple
@@ -46,7 +48,7 @@ _INVERTED = bytes(255 - n for n in range(256))
 
 class Transfer(NamedTuple):
     """A transfer: the address `place` of the MTC0 that orders it, and its `length` bytes of DMEM or IMEM from
-    `address` on, modulo 4096. `to_rdram` says that it takes them; else it brings them."""
+    `address` on, modulo 4096. If `to_rdram` is true it takes these bytes, otherwise it brings them."""
 
     place: int
     bank: int
@@ -71,12 +73,11 @@ class Transfer(NamedTuple):
 
 
 class Missing(NamedTuple):
-    """An instruction before which a wait is missing: the `transfer`, and the instruction by its address
-    `place` and its `text`. `what` it does is `loads`, `stores`, `is fetched`, `writes a DMA register` or
-    `ends`.
+    """An instruction before which a wait is missing: the `transfer`, the instruction's address `place` and
+    its `text`, and `what` it does: `loads`, `stores`, `is fetched`, `writes a DMA register` or `ends`.
 
-    `read` is None, or the address of the last read of an SP register before it, if it happens only where the
-    transfer is then under way.
+    `read` is None, or the address of the last read of an SP register before the instruction, if the fault
+    depends on that read: it happens only if the transfer is still under way there.
     """
 
     transfer: Transfer
