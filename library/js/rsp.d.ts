@@ -1,5 +1,5 @@
 /** The Nintendo 64's Reality Signal Processor (RSP): emulator, debugger, assembler and disassembler. The library that this
- * module calls is proved to follow the instruction table; the module is tested.
+ * module calls is proved to follow the instruction table; the module is only tested.
  *
  *     import { IMEM, Reason, Rsp, assemble } from "rsp";
  *
@@ -9,8 +9,8 @@
  *     console.log(Reason[stop.reason], machine.reg(2).toString(16));
  *     machine.free();
  *
- * The names are those of the Python module. Numbers are integers; a number that isn't one is a TypeError, and one that
- * a call doesn't take an RspError. */
+ * Names are those of the Python module. Numbers are integers: another number throws a TypeError, and an integer that a
+ * call doesn't take an RspError. */
 
 declare global {
   interface SymbolConstructor {
@@ -18,7 +18,7 @@ declare global {
   }
 }
 
-/** What a call returns. The numbers are not those of faults: docs/FAULTS.md has both. */
+/** What a call returns. The numbers aren't those of faults: docs/FAULTS.md lists both. */
 export enum Status {
   OK = 0,
   NO_MACHINE = 1,
@@ -68,14 +68,14 @@ export const VERSION: 1;
 /** The names of the faults of a text, by their numbers. */
 export const FAULTS: { readonly [fault: number]: string };
 
-/** A call was refused, and has changed nothing. `status` says why by its number, the message in words. */
+/** A call was refused, and has changed nothing. `status` is the reason, and the message explains it. */
 export class RspError extends Error {
   constructor(status: Status, message?: string);
   readonly status: Status;
 }
 
-/** A text has a fault. `line` counts from 1, `source` is that line, and `fault` is a number from 10 to 16, in FAULTS
- * with its name. `allowed` says which operand is at fault and what it may be, if one is. */
+/** A text has a fault. `line` counts from 1, `source` is that line, and `fault` is a number from 10 to 16, whose name
+ * FAULTS has. If an operand is at fault, `allowed` says which one and what it may be. */
 export class AssemblyError extends RspError {
   constructor(line: number, fault: number, source?: string, allowed?: string);
   readonly line: number;
@@ -84,9 +84,9 @@ export class AssemblyError extends RspError {
   readonly allowed: string;
 }
 
-/** A reply is a fault. `line` is the number of its line in the script, from 1, `text` that line, `fault` the fault's
- * number, and `reply` the whole reply. A fault of an `asm` block has the line of the block that is at fault, and no text
- * if the script ends before `end`. */
+/** A reply is a fault. `line` is the number of the line in the script, from 1, `text` is that line, `fault` the number
+ * of the fault, and `reply` the whole reply. For a fault of an `asm` block `line` is the line of the block that is at
+ * fault. `text` is empty if the script ends before `end`. */
 export class ScriptError extends Error {
   constructor(line: number, text: string, reply: string);
   readonly line: number;
@@ -95,8 +95,8 @@ export class ScriptError extends Error {
   readonly reply: string;
 }
 
-/** A part that differs: its name, such as `$3`, its value, the other's value, and how many hexadecimal digits it has.
- * The values of quadwords of memories are BigInts. */
+/** A part that differs: its name, such as `$3`, its value, the other's value, and the number of hexadecimal digits. The
+ * values of quadwords of memories are BigInts. */
 export class Part {
   readonly name: string;
   readonly value: number | bigint;
@@ -107,23 +107,23 @@ export class Part {
   toString(): string;
 }
 
-/** The parts that differ, in the bench's order. */
+/** The parts that differ, in the order of scripts. */
 export class Difference extends Array<Part> {
   /** A line for each part, such as `$3 is fffffff0 on the machine and 3ffffff0 in the emulator`. */
   told(here: string, there: string): string;
   toString(): string;
 }
 
-/** A struct of numbers over bytes of its own. An array of it is a typed array over them, which cuts what it is given;
- * a field that is set as a whole is checked. */
+/** A struct of numbers over bytes of its own. An array in it is a typed array over these bytes, which cuts a number that
+ * is too large; a field that you set as a whole is checked. */
 declare class Plain {
   /** The bytes of the struct, as rsp.h lays it out. */
   readonly bytes: Uint8Array;
   /** Whether all numbers are equal. */
   equals(other: this): boolean;
-  /** The parts in which they differ. TypeError if the other is another struct. */
+  /** The parts in which they differ. Throws a TypeError if the other is another struct. */
   diff(other: this): Difference;
-  /** The lines that the bench shows. */
+  /** The lines that scripts show. */
   toString(): string;
 }
 
@@ -147,8 +147,8 @@ export class Accumulators extends Plain {
   low: Uint16Array;
 }
 
-/** Flags below 256, bit i for lane i. VCO is `carry` in bits 0 to 7 and `differ` (not-equal) in 8 to 15, VCC `compare`
- * and `clip`, VCE `extra`. */
+/** Flags below 256, with bit i for lane i. Bits 0 to 7 of VCO are `carry` and bits 8 to 15 `differ` (not-equal); those of
+ * VCC are `compare` and `clip`; VCE is `extra`. */
 export class Flags extends Plain {
   constructor(fields?: Partial<Pick<Flags, "carry" | "differ" | "compare" | "clip" | "extra">>);
   static from(bytes: Uint8Array): Flags;
@@ -160,7 +160,7 @@ export class Flags extends Plain {
   extra: number;
 }
 
-/** What the divide instructions keep: DIV_IN and DIV_OUT, and 1 or 0, if DIV_IN is loaded. */
+/** What divide instructions leave for the next one: DIV_IN, DIV_OUT, and 1 if DIV_IN is loaded, otherwise 0. */
 export class Divider extends Plain {
   constructor(fields?: Partial<Pick<Divider, "input" | "output" | "loaded">>);
   static from(bytes: Uint8Array): Divider;
@@ -170,7 +170,7 @@ export class Divider extends Plain {
   loaded: number;
 }
 
-/** The sixteen SP registers as `peek` gives them, and 1 if the interrupt flag is set, else 0. */
+/** The sixteen SP registers as `peek` gives them, and 1 if the interrupt flag is set, otherwise 0. */
 export class SpWords extends Plain {
   constructor(fields?: Partial<Pick<SpWords, "words" | "interrupt">>);
   static from(bytes: Uint8Array): SpWords;
@@ -181,10 +181,10 @@ export class SpWords extends Plain {
 
 /** An entry of a trace: the `word` at `pc` that a step executed, and what it wrote.
  *
- * `scalar` is the number of the scalar register, 0 if it wrote none, and `value` what that holds after the step;
- * `vector` is the number of the vector register (of LTV the first of its group), 32 if it wrote none, and `lanes` what
- * that holds. `vco`, `vcc` and `vce` are the flags after the step. A store has `stored` 1 and its `address` in DMEM.
- * What there isn't is 0. */
+ * `scalar` is the number of the scalar register that it wrote, 0 if none, and `value` what that register holds after the
+ * step. `vector` is the number of the vector register that it wrote (for LTV the first of the group), 32 if none, and
+ * `lanes` what that register holds. `vco`, `vcc` and `vce` are the flags after the step. For a store `stored` is 1, and
+ * `address` its address in DMEM. Fields without a meaning are 0. */
 export class Traced extends Plain {
   static from(bytes: Uint8Array): Traced;
   copy(): Traced;
@@ -201,12 +201,13 @@ export class Traced extends Plain {
   readonly lanes: Uint16Array;
 }
 
-/** What a step changed: its entry in a trace, `traced`; and after the step pc and npc, the `divider`, the
+/** What a step changed: its entry in a trace, `traced`; and after the step pc, npc, the `divider` and the
  * `accumulators`.
  *
- * Of a store `quadword` is the address of the quadword in which its address is, and `stored_bytes` has that quadword
- * and the next one, modulo 4096; of any other step both are 0. Besides, an LTV writes seven more registers of its
- * group; MFC0, MTC0, BREAK and single step change SP registers; and a DMA changes memories. */
+ * For a store `quadword` is the address of the quadword that has its address, and `stored_bytes` has that quadword and
+ * the next one, modulo 4096; for any other step both are 0. Some changes aren't here: the other seven registers of the
+ * group that an LTV writes; SP registers that MFC0, MTC0, BREAK and single step change; and memories that a DMA
+ * changes. */
 export class Changes extends Plain {
   static from(bytes: Uint8Array): Changes;
   copy(): Changes;
@@ -219,8 +220,8 @@ export class Changes extends Plain {
   readonly stored_bytes: Uint8Array;
 }
 
-/** All registers. `new State()` is that of a new machine, and fields that are given are set in it; npc is 4 after pc if
- * it isn't given. `vectors[n][lane]` has lane 0 first, and `words[0]` is 0. */
+/** All registers. `new State()` is the state of a new machine, in which the given fields are set; if npc isn't given, it
+ * is 4 after pc. `vectors[n][lane]` has lane 0 first, and `words[0]` is 0. */
 export class State extends Plain {
   constructor(fields?: Partial<Omit<State, keyof Plain | "copy">>);
   static from(bytes: Uint8Array): State;
@@ -244,8 +245,8 @@ export interface Move {
   value: number;
 }
 
-/** Where a run stopped: `watch` is the number of the watch at which it did, `word` the reserved word, `move` the move
- * before which `run_until_move` did. Each is null otherwise. */
+/** Where a run stopped. `watch` is the number of the watch at which it stopped, `word` the reserved word, and `move` the
+ * move before which `run_until_move` stopped; each is null otherwise. */
 export interface Stop {
   reason: Reason;
   steps: number;
@@ -255,8 +256,8 @@ export interface Stop {
   move: Move | null;
 }
 
-/** A DMA: `rows` rows of `length` bytes, one after the other in a bank from `address` on, and in RDRAM from `rdram` on
- * with `skip` bytes between two rows. Addresses wrap at 4096 and at 2^24. */
+/** A DMA: `rows` rows of `length` bytes. In the bank they follow one another from `address` on, in RDRAM they begin at
+ * `rdram` and have `skip` bytes between them. Addresses wrap at 4096 and at 2^24. */
 export interface Dma {
   bank: Bank;
   address: number;
@@ -267,7 +268,7 @@ export interface Dma {
   to_rdram: boolean;
 }
 
-/** What `event` reached, with the DMA that is next, else null, and SP_STATUS and the interrupt flag there. */
+/** What `event` reached: the DMA that is next, or null, and SP_STATUS and the interrupt flag there. */
 export interface Event extends Stop {
   dma: Dma | null;
   status: number;
@@ -281,39 +282,39 @@ export interface Line {
   text: string;
 }
 
-/** The words of a text, at most 1024, the first one for the address `origin`, a multiple of 4 up to 4096.
+/** The words of a text, at most 1024. The first is for the address `origin`, a multiple of 4 up to 4096. Throws an
  * AssemblyError if the text has a fault. */
 export function assemble(text: string, origin?: number): Uint32Array;
 
-/** The address of each label of a text by its name. `origin` and the refusals are those of `assemble`. */
+/** The address of each label of a text by its name. `origin` and the refusals are as for `assemble`. */
 export function labels(text: string, origin?: number): Record<string, number>;
 
 /** The disassembly of a word for the address `place`, a multiple of 4 below 4096. */
 export function text(word: number, place?: number): string;
 
-/** The first field for which `Rsp.set` refuses a state, else null. */
+/** The first field for which `Rsp.set` refuses a state, or null if it takes the state. */
 export function state_fault(state: State): string | null;
 
 /** A machine with a copy of an image of RDRAM and a history of `depth` states, at most 4096.
  *
- * The image has 64 to 8388608 bytes, a multiple of 8. A machine that is dropped is freed in time; `free` does it at
- * once, and so does the end of a block that declares it with `using`. */
+ * The image has 64 to 8388608 bytes, a multiple of 8. `free` frees the machine at once, and so does the end of a block
+ * that declares it with `using`; a machine that is no longer referenced is freed in time. */
 export class Rsp {
   constructor(image?: ArrayBuffer | ArrayBufferView, depth?: number);
-  /** How many bytes the image has. */
+  /** The number of bytes of the image. */
   readonly image_length: number;
-  /** A second machine in the same state, memories included, with as long a history, which is empty, and without
-   * breakpoints and watches. */
+  /** A second machine with the same registers and memories. Its history has room for as many states, but is empty, and
+   * it has no breakpoints and no watches. */
   copy(): Rsp;
   /** Frees the machine. Any later call is refused with NO_MACHINE. */
   free(): void;
   [Symbol.dispose](): void;
   /** All registers, a copy. */
   get(): State;
-  /** Sets all registers, and empties the history. The memories stay. OUT_OF_RANGE for a state that no machine can
-   * have. */
+  /** Sets all registers, and empties the history. The memories stay unchanged. OUT_OF_RANGE for a state that no machine
+   * can have. */
   set(state: State): void;
-  /** Writes bytes to a memory, and empties the history. Words go in as their bytes are in this computer. */
+  /** Writes bytes to a memory, and empties the history. The bytes of words are written in this computer's order. */
   load(bank: Bank, address: number, data: ArrayBuffer | ArrayBufferView): void;
   /** Writes at most 1024 words, the high byte of each first, and empties the history. */
   load_words(bank: Bank, address: number, words: Iterable<number>): void;
@@ -324,35 +325,37 @@ export class Rsp {
   /** Starts the task whose structure of 64 bytes is at an address of RDRAM, a multiple of 8, and empties the
    * history. */
   start_task(address: number): void;
-  /** Goes on at an address of IMEM, a multiple of 4 below 4096, and empties the history. */
+  /** Sets pc to an address of IMEM, a multiple of 4 below 4096, and empties the history. */
   set_pc(pc: number): void;
-  /** Executes one instruction. OK, or HALTED or RESERVED if the machine can't. */
+  /** Executes one instruction. Returns OK, or HALTED or RESERVED if the machine can't. */
   step(): Status.OK | Status.HALTED | Status.RESERVED;
-  /** As `step`, and returns what the step changed; null if the machine can't make it. */
+  /** As `step`, but returns what the step changed, or null if the machine can't make the step. */
   step_changes(): Changes | null;
   /** Makes 1 to 1000000 steps, up to the first reason to stop. */
   run(steps: number): Stop;
-  /** As `run`, and also stops before an MFC0 whose SP register has its bit in `reads`, or an MTC0 whose register has
-   * it in `writes`. It stops there before the first step too. `pass_move` goes past it, and `step` executes it. */
+  /** As `run`, but also stops before an MFC0 from an SP register whose bit is set in `reads`, and before an MTC0 to one
+   * whose bit is set in `writes`: bit r is for register r. It may stop there before the first step. `pass_move` steps
+   * over the move, and `step` executes it. */
   run_until_move(steps: number, reads: number, writes: number): Stop;
-  /** Runs to the next event, for a caller that owns RDRAM: as `run_until_move`, also up to each DMA, with Reason.DMA. A
-   * move or a DMA is an event only if steps are left, so going past it by `pass_move`, `pass_dma` or `step` is one of
-   * them. */
+  /** Runs to the next event, for a caller that owns RDRAM. As `run_until_move`, but also stops before each DMA, with
+   * Reason.DMA. A move or a DMA is an event only if a step is left. Stepping over it, by `pass_move`, `pass_dma` or
+   * `step`, takes that step. */
   event(steps: number, reads?: number, writes?: number): Event;
   /** As `run`, with an entry for each step that it made. */
   trace(steps: number): [Stop, Traced[]];
-  /** The entries of a trace one by one, up to a stop or `limit` steps. The machine makes up to 1024 steps ahead of
-   * them. */
+  /** The entries of a trace one by one, up to a stop or `limit` steps. The machine may be up to 1024 steps ahead of the
+   * entry. */
   iter_trace(limit?: number): Generator<Traced, void, undefined>;
   /** Undoes 1 to 1000000 steps. SHORT_HISTORY if the history holds fewer. */
   back(states: number): void;
-  /** How many steps can be undone. */
+  /** The number of steps that can be undone. */
   history(): number;
-  /** Goes past the MFC0 or MTC0 at pc without its meaning: register rt of an MFC0 becomes the value. It empties the
-   * history. OK, or HALTED if the machine is halted. Of any other word it is refused. */
+  /** Steps over the MFC0 or MTC0 at pc without executing it; register rt of an MFC0 becomes the value. Empties the
+   * history. Returns OK, or HALTED if the machine is halted. Refused if another word is at pc. */
   pass_move(value?: number): Status.OK | Status.HALTED;
-  /** Goes past the DMA at pc, whose bytes the caller then moves: all is as after a step, the SP registers too, but the
-   * memories stay. It empties the history. OK, or HALTED if the machine is halted. Of any other word it is refused. */
+  /** Steps over the DMA at pc, whose bytes the caller then moves. Everything is as after a step, SP registers included,
+   * except that the memories stay unchanged. Empties the history. Returns OK, or HALTED if the machine is halted.
+   * Refused if the word at pc starts no DMA. */
   pass_dma(): Status.OK | Status.HALTED;
   /** Sets a breakpoint at an address of IMEM, a multiple of 4 below 4096; at most sixteen. */
   add_break(place: number): void;
@@ -368,10 +371,10 @@ export class Rsp {
   regs(): Scalars;
   /** The eight lanes of vector register `number`, 0 to 31. */
   vreg(number: number): Uint16Array;
-  /** Sets scalar register `number`, 0 to 31, to a value below 2**32, of register 0 to 0, and empties the history. */
+  /** Sets scalar register `number`, 0 to 31, to a value below 2**32, and empties the history. Register 0 takes only 0. */
   set_reg(number: number, value: number): void;
-  /** Sets the eight lanes of vector register `number`, 0 to 31, to numbers below 65536, and empties the history. A
-   * RangeError for other lanes. */
+  /** Sets the eight lanes of vector register `number`, 0 to 31, to numbers below 65536, and empties the history. Throws
+   * a RangeError for other lanes. */
   set_vreg(number: number, lanes: ArrayLike<number> & Iterable<number>): void;
   /** The accumulators. */
   acc(): Accumulators;
@@ -379,7 +382,7 @@ export class Rsp {
   flags(): Flags;
   /** DIV_IN, DIV_OUT, and whether DIV_IN is loaded. */
   divider(): Divider;
-  /** Reads SP register `number`, modulo 16, as the CPU does: a read of the semaphore, 7, takes it and empties the
+  /** Reads SP register `number`, modulo 16, as the CPU does. A read of the semaphore, 7, takes it and empties the
    * history. */
   read(number: number): number;
   /** The word that a read of SP register `number`, modulo 16, would give. */
@@ -394,7 +397,8 @@ export class Rsp {
   listing(place: number, count: number): Line[];
 }
 
-/** Answers a script as `rsp run` does. Its machine has a copy of the image, without one 4 MiB of zeros.
+/** Answers a script as `rsp run` does, on a machine of its own with a copy of the image (4 MiB of zeros if none is
+ * given).
  *
  * A script of more than 1048576 bytes throws an RspError with TOO_LONG, as does any later `feed` or `end`. */
 export class Bench {
@@ -402,30 +406,31 @@ export class Bench {
   /** Frees the bench. Any later call is refused with NO_MACHINE. */
   free(): void;
   [Symbol.dispose](): void;
-  /** The replies to the lines that end in these bytes of the script; what follows the last LF waits for more. If it
-   * throws, replies are lost that `iter_feed` would have given. */
+  /** The replies to the lines that end in these bytes of the script. What follows the last LF waits for more. If this
+   * throws, replies are lost that `iter_feed` would have yielded. */
   feed(script: string | ArrayBuffer | ArrayBufferView): Uint8Array;
-  /** These replies one by one. The bench takes a line when its reply is asked for. */
+  /** Yields these replies one by one. The bench takes a line when its reply is asked for. */
   iter_feed(script: string | ArrayBuffer | ArrayBufferView): Generator<Uint8Array, void, undefined>;
-  /** Ends the script: the reply to a last line without LF, and the fault of an open `asm` block. Any later `feed` or
-   * `end` is refused with ENDED. */
+  /** Ends the script. Returns the reply to a last line without LF, and the fault of an open `asm` block. Any later
+   * `feed` or `end` is refused with ENDED. */
   end(): Uint8Array;
-  /** A copy of the image as it is. */
+  /** A copy of the image in its present state. */
   readonly rdram: Uint8Array;
 }
 
-/** The replies of `rsp run` to a script, and the image as the script leaves it. With `strict` a reply that is a fault
- * throws a ScriptError, and the lines after it aren't run. */
+/** The replies of `rsp run` to a script, and the image as the script leaves it. With `strict` the first reply that is a
+ * fault throws a ScriptError, and the lines after it aren't run. */
 export function run_script(
   script: string | ArrayBuffer | ArrayBufferView, image?: ArrayBuffer | ArrayBufferView, strict?: boolean,
 ): [Uint8Array, Uint8Array];
 
-/** What `first_difference` calls of an emulator. A machine has all of it, so a second machine can be the emulator. */
+/** The methods of an emulator that `first_difference` calls. A machine has all of them, so a second machine can be the
+ * emulator. */
 export interface Emulator {
-  /** Makes this many steps. The machine has made as many, so it isn't halted before any, and no word is reserved. BREAK
-   * is a step: it sets bits 0 and 1 of SP_STATUS, `sp[4]`. */
+  /** Makes this many steps. The machine has made as many, so the emulator isn't halted before any of them, and no word
+   * is reserved. BREAK is a step, which sets bits 0 and 1 of SP_STATUS, `sp[4]`. */
   run(steps: number): unknown;
-  /** All registers; those that the emulator doesn't have as `set` gave them. The state is copied. */
+  /** All registers; those that the emulator lacks as `set` gave them. The state is copied. */
   get(): State;
   /** Sets all registers. The state is the emulator's own. */
   set(state: State): unknown;
@@ -435,13 +440,13 @@ export interface Emulator {
   load(bank: Bank, address: number, data: Uint8Array): unknown;
 }
 
-/** A step after which they differ: its number, from 1; its instruction, by its address `place`, `word` and `text`; and
- * the state `before` it.
+/** A step after which they differ: its number `step`, from 1; its instruction, with the address `place`, the `word` and
+ * its `text`; and the state `before` it.
  *
- * `parts` has what differs after it, the machine's value first: registers, then quadwords of memories, such as
- * `DMEM 3f0`. Step 0 says that they differ before the first step: the emulator hasn't kept what `set` and `load` gave
- * it. If `steps` isn't 1, that many steps up to `step` differ together, the first of them at `place`, and none does
- * alone: the emulator has a state that `get` and `set` don't carry. */
+ * `parts` lists what differs after the step, the machine's value first: registers, then quadwords of memories, such as
+ * `DMEM 3f0`. Step 0 means that they differ before the first step, because the emulator didn't keep what `set` and
+ * `load` gave it. If `steps` isn't 1, that many steps up to `step` lead to a difference, but none of them alone: then the
+ * emulator has state that `get` and `set` don't carry. The first of these steps is at `place`. */
 export interface FirstDifference extends Line {
   step: number;
   before: State;
@@ -450,14 +455,15 @@ export interface FirstDifference extends Line {
   toString(): string;
 }
 
-/** The first step after which an emulator differs from the machine; null if there is none in `limit` steps, or up to a
- * halt or a reserved word.
+/** The first step after which an emulator differs from the machine; null if there is no such step within `limit` steps,
+ * or before a halt or a reserved word.
  *
- * After null, `machine.step()` says which: it answers HALTED or RESERVED unless the limit ended it. Breakpoints and
- * watches don't end it. The emulator is first given the machine's registers and memories. Then both run in stretches of
- * at most `every` steps, 1 to 1000000, that end before a DMA. After each, all registers, DMEM and IMEM are compared,
- * and after a DMA RDRAM too. If they differ, both go back to the last comparison and are stepped; they stay after the
- * step that differs, and the machine's history is empty. RangeError if the emulator's memory has a wrong length. */
+ * After null, `machine.step()` tells these apart: it returns HALTED or RESERVED, unless the limit was the end.
+ * Breakpoints and watches are ignored. First the machine's registers and memories are copied into the emulator. Then
+ * both run in stretches of at most `every` steps, 1 to 1000000, which end before a DMA. After each stretch all registers,
+ * DMEM and IMEM are compared, after a DMA also RDRAM. If they differ, both go back to the last comparison and are
+ * stepped from there. Both are left after the step that differs, and the machine's history is empty. Throws a RangeError
+ * if a memory of the emulator has a wrong length. */
 export function first_difference(
   machine: Rsp, emulator: Emulator, every?: number, limit?: number,
 ): FirstDifference | null;

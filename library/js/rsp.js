@@ -1,6 +1,6 @@
 /** The Nintendo 64's Reality Signal Processor (RSP): emulator, debugger, assembler and disassembler. The library that this
- * module calls is proved to follow the instruction table; the module is tested. docs/EMBEDDING.md shows how it is used,
- * and rsp.d.ts has each call. */
+ * module calls is proved to follow the instruction table; the module is only tested. docs/EMBEDDING.md shows how to use
+ * it, and rsp.d.ts lists all calls. */
 
 import { instantiated } from "./module.js";
 import { Accumulators, Bank, Changes, Divider, FIELDS, Flags, Reason, Scalars, SpWords, State, Status, Traced, layout,

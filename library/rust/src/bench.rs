@@ -7,12 +7,12 @@ use crate::Refused;
 use std::cell::UnsafeCell;
 use std::ptr;
 
-/// How many bytes a buffer for replies has.
+/// The bytes of a buffer for replies.
 const ROOM: usize = 16384;
 
-/// Answers a script as `rsp run` does, with a machine of its own.
+/// Answers a script as `rsp run` does, on a machine of its own.
 ///
-/// A script of more than 1048576 bytes is refused with [`Refused::TooLong`], and so is any later `feed` or `end`. It is `Send`, and not `Sync`.
+/// A script of more than 1048576 bytes is refused with [`Refused::TooLong`], and so is any later `feed` or `end`. A bench is `Send`, but not `Sync`.
 // SAFETY of all calls below: as in `Machine`.
 pub struct Bench {
     handle: UnsafeCell<raw::BenchHandle>,
@@ -35,13 +35,13 @@ impl Bench {
         self.handle.get()
     }
 
-    /// The replies to the lines that end in these bytes of the script; what follows the last LF waits for more. If it is refused, replies are
-    /// lost that [`feed_iter`](Bench::feed_iter) would have given.
+    /// The replies to the lines that end in these bytes of the script. What follows the last LF waits for more. If this is refused, replies are
+    /// lost that [`feed_iter`](Bench::feed_iter) would have yielded.
     pub fn feed(&mut self, script: impl AsRef<[u8]>) -> Result<Vec<u8>, Refused> {
         Ok(self.feed_iter(script.as_ref()).collect::<Result<Vec<_>, _>>()?.concat())
     }
 
-    /// These replies one by one, up to a refusal. The bench takes a line when its reply is asked for.
+    /// Yields these replies one by one, up to a refusal. The bench takes a line when its reply is asked for.
     pub fn feed_iter<'a>(&'a mut self, script: &'a [u8]) -> impl Iterator<Item = Result<Vec<u8>, Refused>> + 'a {
         let (mut at, mut is_over) = (0, false);
         std::iter::from_fn(move || {
@@ -57,7 +57,7 @@ impl Bench {
         })
     }
 
-    /// How many bytes it takes, at most up to an LF, and the reply.
+    /// The number of bytes that the library takes, at most up to an LF, and the reply.
     fn take(&mut self, bytes: &[u8]) -> Result<(usize, Vec<u8>), Refused> {
         let (mut used, mut written, mut reply) = (0, 0, vec![0; ROOM]);
         done(unsafe { raw::rsp_bench_take(self.at(), bytes.as_ptr(), bytes.len(), &mut used, reply.as_mut_ptr(), ROOM, &mut written) })?;
@@ -65,8 +65,8 @@ impl Bench {
         Ok((used, reply))
     }
 
-    /// Ends the script: the reply to a last line without LF, and the fault of an open `asm` block. Any later `feed` or `end` is refused with
-    /// [`Refused::Ended`].
+    /// Ends the script. Returns the reply to a last line without LF, and the fault of an open `asm` block. Any later `feed` or `end` is refused
+    /// with [`Refused::Ended`].
     pub fn end(&mut self) -> Result<Vec<u8>, Refused> {
         let (mut written, mut reply) = (0, vec![0; ROOM]);
         done(unsafe { raw::rsp_bench_end(self.at(), reply.as_mut_ptr(), ROOM, &mut written) })?;
@@ -74,7 +74,7 @@ impl Bench {
         Ok(reply)
     }
 
-    /// A copy of the image as it is.
+    /// A copy of the image in its present state.
     pub fn rdram(&self) -> Result<Vec<u8>, Refused> {
         let mut bytes = vec![0; self.image_length];
         done(unsafe { raw::rsp_bench_memory(self.at(), Bank::Rdram as u32, 0, bytes.as_mut_ptr(), bytes.len()) })?;
@@ -88,7 +88,7 @@ impl Drop for Bench {
     }
 }
 
-/// The replies of `rsp run` to a script, and the image as the script leaves it. Without an image it is 4 MiB of zeros.
+/// The replies of `rsp run` to a script, and the image as the script leaves it. If you pass no image, it is 4 MiB of zeros.
 ///
 /// ```
 /// let (replies, image) = rsp::run_script("load rdram 0 0102\nstep", Some(&[0; 64]))?;

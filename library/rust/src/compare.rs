@@ -4,12 +4,12 @@ use crate::{Bank, Line, Machine, MoveEnd, Part, Refused, State, StepEnd};
 use std::fmt::{Display, Formatter};
 use std::ops::RangeInclusive;
 
-/// What [`first_difference`] calls of an emulator, and a campaign by [`cases!`](crate::cases!).
+/// The functions of an emulator that [`first_difference`] calls, and a campaign through [`cases!`](crate::cases!).
 pub trait Emulator {
-    /// Makes this many steps. The machine has made as many, so it isn't halted before any, and no word is reserved. BREAK is a step: it sets
-    /// bits 0 and 1 of SP_STATUS, `sp[4]`.
+    /// Makes this many steps. The machine has made as many, so the emulator isn't halted before any of them, and no word is reserved. BREAK is a
+    /// step, which sets bits 0 and 1 of SP_STATUS, `sp[4]`.
     fn run(&mut self, steps: u32);
-    /// All registers; those that the emulator doesn't have as `set` gave them.
+    /// All registers; those that the emulator lacks as `set` gave them.
     fn get(&self) -> State;
     /// Sets all registers.
     fn set(&mut self, state: &State);
@@ -17,8 +17,8 @@ pub trait Emulator {
     fn memory(&self, bank: Bank, bytes: &mut [u8]);
     /// Writes a memory from its beginning.
     fn load(&mut self, bank: Bank, bytes: &[u8]);
-    /// Executes the instruction of a campaign's case, and says how that ended. As it is here, by a step that is done. No case has a reserved
-    /// word, so an emulator answers [`StepEnd::Reserved`] to an instruction that it lacks: that is not there.
+    /// Executes the instruction of a campaign's case, and returns how that ended. This default makes a step, and returns that it was done. No
+    /// case has a reserved word, so an emulator returns [`StepEnd::Reserved`] for an instruction that it lacks.
     fn case(&mut self) -> StepEnd {
         self.run(1);
         StepEnd::Done
@@ -34,18 +34,18 @@ pub struct Quadword {
     pub address: usize,
     /// The machine's bytes, the first one highest.
     pub value: u128,
-    /// The emulator's.
+    /// The emulator's bytes.
     pub other: u128,
 }
 
 /// A step after which a machine and an emulator differ. The machine's values are the first ones.
 #[derive(Clone, Debug, PartialEq, Eq)]
 pub struct FirstDifference {
-    /// Its number, from 1. 0 says that they differ before the first step: the emulator hasn't kept what `set` and `load` gave it.
+    /// Its number, from 1. 0 means that they differ before the first step, because the emulator didn't keep what `set` and `load` gave it.
     pub step: u64,
     /// Its instruction.
     pub line: Line,
-    /// How many steps up to `step` differ together: 1, or more if no step alone differs. `line` is the first of them. The emulator then has a
+    /// 1, or more if no step alone leads to a difference but so many steps up to `step` do. `line` is the first of them. The emulator then has
     /// state that `get` and `set` don't carry.
     pub steps: u64,
     /// The machine's registers before it.
@@ -82,7 +82,7 @@ impl Display for FirstDifference {
 
 const BANKS: [Bank; 3] = [Bank::Dmem, Bank::Imem, Bank::Rdram];
 
-/// What is compared of a side: its registers, and its memories, of which RDRAM may be empty.
+/// The parts of a side that are compared: its registers, and its memories, of which RDRAM may be empty.
 #[derive(PartialEq)]
 struct Seen {
     state: State,
@@ -152,7 +152,7 @@ fn step(machine: &mut Machine, emulator: &mut impl Emulator, number: u64, rdram:
     Ok(mine.difference(&its, number, line, before).map_or(Both::Alike, |found| Both::Differ(Box::new(found))))
 }
 
-/// Brings an emulator to what was seen.
+/// Sets an emulator to what was seen.
 fn put(emulator: &mut impl Emulator, seen: &Seen) {
     emulator.set(&seen.state);
     seen.read().for_each(|(bank, bytes)| emulator.load(bank, bytes));
@@ -187,7 +187,7 @@ fn narrowed(
 /// A write of SP_RD_LEN or SP_WR_LEN starts a DMA.
 const LENGTHS: u16 = 1 << 2 | 1 << 3;
 
-/// Makes at most so many steps, and ends before one that starts a DMA. Returns how many it made.
+/// Makes at most so many steps, and ends before one that starts a DMA. Returns the number of steps.
 fn run_before_dma(machine: &mut Machine, steps: u32) -> Result<u32, Refused> {
     Ok(match machine.run_until_move(steps, 0, LENGTHS)? {
         MoveEnd::Stop(stop) => stop.steps,
@@ -195,12 +195,12 @@ fn run_before_dma(machine: &mut Machine, steps: u32) -> Result<u32, Refused> {
     })
 }
 
-/// The first step after which an emulator differs from the machine, or none in `limit` steps, or up to a halt or a reserved word. After none,
-/// [`Machine::step`] says which. Breakpoints and watches don't end it.
+/// The first step after which an emulator differs from the machine. `None` if there is no such step within `limit` steps, or before a halt or a
+/// reserved word; then [`Machine::step`] tells these apart. Breakpoints and watches are ignored.
 ///
-/// The emulator is first given the machine's registers and memories. Then both run in stretches of at most `every` steps, 1 to 1000000, that
-/// end before a DMA. After each, all registers, DMEM and IMEM are compared, and after a DMA RDRAM too. If they differ, both go back to the
-/// last comparison and are stepped; they stay after the step that differs, and the machine's history is empty. It is refused as
+/// First the machine's registers and memories are copied into the emulator. Then both run in stretches of at most `every` steps, 1 to 1000000,
+/// which end before a DMA. After each stretch all registers, DMEM and IMEM are compared, after a DMA also RDRAM. If they differ, both go back to
+/// the last comparison and are stepped from there. Both are left after the step that differs, and the machine's history is empty. Refused with
 /// [`Refused::OutOfRange`] if `every` isn't in its range.
 pub fn first_difference(
     machine: &mut Machine,

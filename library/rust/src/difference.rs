@@ -43,7 +43,7 @@ const SP_NAMES: [&str; 8] =
     ["SP_MEM_ADDR", "SP_DRAM_ADDR", "SP_RD_LEN", "SP_WR_LEN", "SP_STATUS", "SP_DMA_FULL", "SP_DMA_BUSY", "SP_SEMAPHORE"];
 
 impl Place {
-    /// All parts of a state, in the bench's order.
+    /// All parts of a state, in the order of scripts.
     fn all() -> impl Iterator<Item = Place> {
         let lanes = (0..32).flat_map(|vector| (0..8).map(move |lane| Place::Lane { vector, lane }));
         let flags = [Place::Vco, Place::Vcc, Place::Vce, Place::DivIn, Place::DivOut, Place::DivLoaded];
@@ -52,7 +52,7 @@ impl Place {
         scalars.chain(vectors).chain((0..16).map(Place::Sp)).chain([Place::Interrupt])
     }
 
-    /// How many hexadecimal digits it has.
+    /// The number of its hexadecimal digits.
     fn digits(self) -> usize {
         match self {
             Place::Pc | Place::Npc => 3,
@@ -132,7 +132,7 @@ impl State {
         }
     }
 
-    /// The parts in which they differ, in the bench's order.
+    /// The parts in which they differ, in the order of scripts.
     pub fn diff(&self, other: &State) -> Vec<Part> {
         let parts = Place::all().map(|place| Part { place, value: self.part(place), other: other.part(place) });
         parts.filter(|it| it.value != it.other).collect()

@@ -7,7 +7,7 @@ use std::fmt;
 /// The version of the interface for which this crate is.
 pub const VERSION: u32 = 1;
 
-/// Why a call was refused. It has changed nothing, but `TooLong` ends a bench.
+/// Why a call was refused. The call has changed nothing, except that `TooLong` ends a bench.
 #[derive(Clone, Copy, Debug, PartialEq, Eq)]
 pub enum Refused {
     /// An allocation failed.
@@ -71,7 +71,7 @@ impl fmt::Display for Refused {
     }
 }
 
-/// The fault of a text in the words of the bench, `fault 11 UnknownName line 2`, and what its operand may be.
+/// The fault of a text in the words of scripts, `fault 11 UnknownName line 2`, and what its operand may be.
 fn told(f: &mut fmt::Formatter<'_>, line: usize, fault: u32, operand: Option<Operand>) -> fmt::Result {
     write!(f, "fault {fault} ")?;
     Fault::of(fault).map_or(Ok(()), |it| write!(f, "{it:?} "))?;

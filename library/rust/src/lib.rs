@@ -1,8 +1,8 @@
 //! The Nintendo 64's Reality Signal Processor (RSP): emulator, debugger, assembler and disassembler.
 //!
-//! The library that this crate calls, librsp, is proved to follow the instruction table. The crate is tested.
+//! The library that this crate calls, librsp, is proved to follow the instruction table. The crate is only tested.
 //!
-//! A [`Machine`] may go to another thread. A refused call returns why, and has changed nothing.
+//! A [`Machine`] may go to another thread. A refused call returns the reason, and has changed nothing.
 //!
 //! ```
 //! use rsp::{assemble, Bank, Machine, Reason};

@@ -12,7 +12,7 @@ use std::ptr;
 
 /// A machine with a copy of an image of RDRAM, breakpoints, watches and a history.
 ///
-/// It is `Send`, and not `Sync`: one thread at a time uses it.
+/// It is `Send`, but not `Sync`: only one thread at a time uses it.
 // SAFETY of all calls below: the handle is RSP_NONE or as the last call left it, since nothing else writes it; it isn't copied; as it isn't
 // `Sync`, one call at a time has it; and each pointer is of a borrow with its own length.
 pub struct Machine {
@@ -32,7 +32,8 @@ impl Machine {
         Ok(machine)
     }
 
-    /// A second machine in the same state, memories included, with as long a history, which is empty, and without breakpoints and watches.
+    /// A second machine with the same registers and memories. Its history has room for as many states, but is empty, and it has no breakpoints and
+    /// no watches.
     pub fn copy(&self) -> Result<Machine, Refused> {
         let machine = Machine::none(self.image_length);
         done(unsafe { raw::rsp_copy(machine.at(), self.at()) })?;
@@ -60,12 +61,12 @@ impl Machine {
         Ok(out)
     }
 
-    /// All registers, into a state that is there.
+    /// All registers, written into an existing state.
     pub fn get_into(&self, out: &mut State) -> Result<(), Refused> {
         done(unsafe { raw::rsp_get(self.at(), out) })
     }
 
-    /// Sets all registers, and empties the history. The memories stay.
+    /// Sets all registers, and empties the history. The memories stay unchanged.
     pub fn set(&mut self, state: &State) -> Result<(), Refused> {
         done(unsafe { raw::rsp_set(self.at(), state) })
     }
@@ -80,12 +81,12 @@ impl Machine {
         done(unsafe { raw::rsp_load_words(self.at(), bank as u32, address, words.as_ptr(), words.len()) })
     }
 
-    /// Reads bytes of a memory from an address on, as many as the buffer has.
+    /// Fills a buffer with the bytes of a memory from an address on.
     pub fn memory(&self, bank: Bank, address: u32, bytes: &mut [u8]) -> Result<(), Refused> {
         done(unsafe { raw::rsp_memory(self.at(), bank as u32, address, bytes.as_mut_ptr(), bytes.len()) })
     }
 
-    /// Reads words of a memory from an address on, the high byte of each first, as many as the buffer has.
+    /// Fills a buffer with the words of a memory from an address on, the high byte of each first.
     pub fn memory_words(&self, bank: Bank, address: u32, words: &mut [u32]) -> Result<(), Refused> {
         done(unsafe { raw::rsp_memory_words(self.at(), bank as u32, address, words.as_mut_ptr(), words.len()) })
     }
@@ -95,7 +96,7 @@ impl Machine {
         done(unsafe { raw::rsp_task(self.at(), address) })
     }
 
-    /// Goes on at an address of IMEM, a multiple of 4 below 4096, and empties the history.
+    /// Sets pc to an address of IMEM, a multiple of 4 below 4096, and empties the history.
     pub fn set_pc(&mut self, pc: u32) -> Result<(), Refused> {
         done(unsafe { raw::rsp_set_pc(self.at(), pc) })
     }
@@ -105,7 +106,7 @@ impl Machine {
         step_end(unsafe { raw::rsp_step(self.at()) })
     }
 
-    /// As [`step`](Machine::step), and writes what the step changed, if it was made.
+    /// As [`step`](Machine::step), but also writes what the step changed, if it was made.
     pub fn step_changes(&mut self, out: &mut Changes) -> Result<StepEnd, Refused> {
         step_end(unsafe { raw::rsp_step_changes(self.at(), out) })
     }
@@ -117,17 +118,18 @@ impl Machine {
         Ok(seen_stop(&out))
     }
 
-    /// As [`run`](Machine::run), and also stops before an MFC0 whose SP register has its bit in `reads`, or an MTC0 whose register has it in
-    /// `writes`, also before the first step. [`pass`](Machine::pass) goes past it, and [`step`](Machine::step) executes it.
+    /// As [`run`](Machine::run), but also stops before an MFC0 from an SP register whose bit is set in `reads`, and before an MTC0 to one whose bit
+    /// is set in `writes`: bit r is for register r. It may stop there before the first step. [`pass`](Machine::pass) steps over the move, and
+    /// [`step`](Machine::step) executes it.
     pub fn run_until_move(&mut self, steps: u32, reads: u16, writes: u16) -> Result<MoveEnd, Refused> {
         let mut out = raw::Move::default();
         done(unsafe { raw::rsp_run_until_move(self.at(), steps, reads.into(), writes.into(), &mut out) })?;
         Ok(seen_move(&out))
     }
 
-    /// Runs to the next event, for a caller that owns RDRAM: as [`run_until_move`](Machine::run_until_move), also up to each DMA. A move or a
-    /// DMA is an event only if steps are left, so passing it is one of them: by [`pass`](Machine::pass), [`pass_dma`](Machine::pass_dma) or
-    /// [`step`](Machine::step).
+    /// Runs to the next event, for a caller that owns RDRAM. As [`run_until_move`](Machine::run_until_move), but also stops before each DMA. A move
+    /// or a DMA is an event only if a step is left. Stepping over it, by [`pass`](Machine::pass), [`pass_dma`](Machine::pass_dma) or
+    /// [`step`](Machine::step), takes that step.
     pub fn event(&mut self, steps: u32, reads: u16, writes: u16) -> Result<Event, Refused> {
         let mut out = raw::Reached::default();
         done(unsafe { raw::rsp_event(self.at(), steps, reads.into(), writes.into(), &mut out) })?;
@@ -135,14 +137,14 @@ impl Machine {
         Ok(Event { at: seen_move(&out.at), dma, status: out.status, interrupt: out.interrupt == 1 })
     }
 
-    /// As [`run`](Machine::run) of as many steps as there are entries, 1 to 1000000, and writes the entry of each; the others stay.
+    /// As [`run`](Machine::run) of as many steps as there are entries, 1 to 1000000, and writes an entry for each step. The other entries stay.
     pub fn trace(&mut self, entries: &mut [Traced]) -> Result<Stop, Refused> {
         let mut out = raw::Stop::default();
         done(unsafe { raw::rsp_trace(self.at(), entries.as_mut_ptr(), entries.len(), &mut out) })?;
         Ok(seen_stop(&out))
     }
 
-    /// The entries of a trace one by one, up to a stop or `limit` steps. The machine makes up to 1024 steps ahead of them.
+    /// The entries of a trace one by one, up to a stop or `limit` steps. The machine may be up to 1024 steps ahead of the entry.
     pub fn trace_iter(&mut self, limit: u64) -> impl Iterator<Item = Traced> + '_ {
         let mut left = limit;
         let some = std::iter::from_fn(move || {
@@ -160,19 +162,19 @@ impl Machine {
         done(unsafe { raw::rsp_back(self.at(), states) })
     }
 
-    /// Goes past the MFC0 or MTC0 at pc without its meaning: register rt of an MFC0 becomes the value. It empties the history. It is refused
-    /// if another word is at pc, and so never ends as Reserved.
+    /// Steps over the MFC0 or MTC0 at pc without executing it; register rt of an MFC0 becomes the value. Empties the history. Refused if another
+    /// word is at pc, so the end is never Reserved.
     pub fn pass(&mut self, value: u32) -> Result<StepEnd, Refused> {
         passed(unsafe { raw::rsp_pass(self.at(), value) })
     }
 
-    /// Goes past the DMA at pc, whose bytes the caller then moves: all is as after a step, the SP registers too, but the memories stay. It
-    /// empties the history, and is refused if the word at pc starts no DMA.
+    /// Steps over the DMA at pc, whose bytes the caller then moves. Everything is as after a step, SP registers included, except that the memories
+    /// stay unchanged. Empties the history. Refused if the word at pc starts no DMA.
     pub fn pass_dma(&mut self) -> Result<StepEnd, Refused> {
         passed(unsafe { raw::rsp_pass_dma(self.at()) })
     }
 
-    /// How many steps can be undone.
+    /// The number of steps that can be undone.
     pub fn history(&self) -> Result<usize, Refused> {
         let mut out = 0;
         done(unsafe { raw::rsp_history(self.at(), &mut out) })?;
@@ -222,7 +224,7 @@ impl Machine {
         Ok(out.lanes)
     }
 
-    /// Sets scalar register `n`, below 32, and empties the history. Register 0 holds 0 alone.
+    /// Sets scalar register `n`, below 32, and empties the history. Register 0 takes only 0.
     pub fn set_reg(&mut self, n: u32, value: u32) -> Result<(), Refused> {
         let mut state = self.get()?;
         *state.words.get_mut(n as usize).ok_or(Refused::OutOfRange)? = value;
@@ -250,14 +252,14 @@ impl Machine {
         Ok(out)
     }
 
-    /// What the divide instructions keep.
+    /// What divide instructions leave for the next one.
     pub fn divider(&self) -> Result<DivideState, Refused> {
         let mut out = DivideState::default();
         done(unsafe { raw::rsp_divider(self.at(), &mut out) })?;
         Ok(out)
     }
 
-    /// Reads SP register `n`, modulo 16, as the CPU does: a read of the semaphore, 7, takes it and empties the history.
+    /// Reads SP register `n`, modulo 16, as the CPU does. A read of the semaphore, 7, takes it and empties the history.
     pub fn read(&mut self, n: u32) -> Result<u32, Refused> {
         let mut out = 0;
         done(unsafe { raw::rsp_read(self.at(), n, &mut out) })?;

@@ -6,11 +6,11 @@ use std::fmt;
 /// The operand for which a text is refused, and what it may be.
 #[derive(Clone, Copy, Debug, PartialEq, Eq)]
 pub struct Operand {
-    /// Which one of its line it is, from 1. The line may lack it.
+    /// Which operand of the line it is, from 1. It may be missing.
     pub number: usize,
     /// What the statement takes there: an `RSP_OPERAND_` of `rsp.h`.
     pub kind: u32,
-    /// The lowest and the highest number that it may be, and the step of which each is a multiple; None of what has no range.
+    /// The lowest and the highest number that it may be, and the step of which each is a multiple; None if it has no range.
     pub range: Option<(i64, i64, u32)>,
 }
 
@@ -37,7 +37,7 @@ const BAD_OPERAND: u32 = 12;
 const LABEL_MISSING: u32 = 15;
 
 impl Operand {
-    /// The operand for which this text is refused; None if there is none, or no memory to find it.
+    /// The operand for which this text is refused; None if there is none, or if there is no memory to find it.
     pub(crate) fn of(text: &str, origin: u32) -> Option<Self> {
         let mut out = raw::Operand::default();
         // SAFETY: each pointer is of a borrow, with its own length.

@@ -1,17 +1,17 @@
-//! A script whose replies may be no faults.
+//! Scripts in which no reply may be a fault.
 
 use crate::{Bench, Refused};
 use std::error::Error;
 use std::fmt;
 
-/// Why a script has no replies, or not only good ones.
+/// Why a strict script was refused.
 #[derive(Clone, Debug, PartialEq, Eq)]
 pub enum ScriptError {
     /// A call was refused.
     Refused(Refused),
     /// A reply is a fault. The lines after it weren't run.
     Fault {
-        /// The number of the line, from 1. A fault of an `asm` block has the line of the block that is at fault.
+        /// The number of the line, from 1. For a fault of an `asm` block it is the line of the block that is at fault.
         line: usize,
         /// The line; nothing if the script ends in a block.
         text: String,

@@ -8,7 +8,7 @@ use std::mem::size_of;
 #[repr(C)]
 #[derive(Clone, Copy, Debug, Default, PartialEq, Eq)]
 pub struct Scalars {
-    /// The scalar registers; number 0 is 0.
+    /// The scalar registers; register 0 is 0.
     pub words: [u32; 32],
     /// The address of the next instruction, a multiple of 4 below 4096.
     pub pc: u16,
@@ -44,7 +44,7 @@ pub struct FlagBits {
     pub extra: u8,
 }
 
-/// What the divide instructions keep.
+/// What divide instructions leave for the next one.
 #[repr(C)]
 #[derive(Clone, Copy, Debug, Default, PartialEq, Eq)]
 pub struct DivideState {
@@ -52,15 +52,15 @@ pub struct DivideState {
     pub input: u16,
     /// DIV_OUT.
     pub output: u16,
-    /// 1 if DIV_IN is loaded, else 0.
+    /// 1 if DIV_IN is loaded, otherwise 0.
     pub loaded: u16,
 }
 
-/// All registers. The default is 0 in all of them, and no machine's: begin with [`crate::Machine::get`].
+/// All registers. In the default all are 0, which is the state of no machine, so begin with [`crate::Machine::get`].
 #[repr(C)]
 #[derive(Clone, Copy, Debug, Default, PartialEq, Eq)]
 pub struct State {
-    /// The scalar registers; number 0 is 0.
+    /// The scalar registers; register 0 is 0.
     pub words: [u32; 32],
     /// The vector registers, lane 0 first.
     pub vectors: [[u16; 8]; 32],
@@ -70,7 +70,7 @@ pub struct State {
     pub flags: FlagBits,
     /// 0 in each state of a machine; [`Machine::set`](crate::Machine::set) doesn't read it.
     pub zero: u8,
-    /// What the divide instructions keep.
+    /// What divide instructions leave for the next one.
     pub divider: DivideState,
     /// The address of the next instruction, a multiple of 4 below 4096.
     pub pc: u16,
@@ -78,7 +78,7 @@ pub struct State {
     pub npc: u16,
     /// The SP registers 0 to 7 and the DPC's, as `peek` gives them.
     pub sp: [u32; 16],
-    /// 1 if the interrupt flag is set, else 0.
+    /// 1 if the interrupt flag is set, otherwise 0.
     pub interrupt: u32,
 }
 
@@ -88,7 +88,7 @@ pub struct State {
 pub struct SpWords {
     /// Registers 0 to 7 and the DPC's, as `peek` gives them.
     pub words: [u32; 16],
-    /// 1 if the interrupt flag is set, else 0.
+    /// 1 if the interrupt flag is set, otherwise 0.
     pub interrupt: u32,
 }
 
@@ -98,11 +98,11 @@ pub struct SpWords {
 pub struct Traced {
     /// The word that was executed.
     pub word: u32,
-    /// What the scalar register holds after the step; without one 0.
+    /// What that scalar register holds after the step; 0 if none.
     pub value: u32,
     /// The address of the word.
     pub pc: u16,
-    /// Of a store its address in DMEM, below 4096; else 0.
+    /// The address of a store in DMEM, below 4096; otherwise 0.
     pub address: u16,
     /// VCO after the step.
     pub vco: u16,
@@ -112,16 +112,16 @@ pub struct Traced {
     pub vce: u8,
     /// The number of the scalar register that the step wrote, 1 to 31; 0 if none.
     pub scalar: u8,
-    /// The number of the vector register that the step wrote, of LTV the first of its group; 32 if none.
+    /// The number of the vector register that the step wrote, for LTV the first of the group; 32 if none.
     pub vector: u8,
-    /// 1 of a store, else 0.
+    /// 1 for a store, otherwise 0.
     pub stored: u8,
-    /// What the vector register holds after the step; without one 0.
+    /// What that vector register holds after the step; 0 if none.
     pub lanes: [u16; 8],
 }
 
-/// What a step changed; its bytes have no gaps. Besides, an LTV writes seven more registers of its group; MFC0, MTC0, BREAK and single step
-/// change SP registers; and a DMA changes memories.
+/// What a step changed; its bytes have no gaps. Some changes aren't here: the other seven registers of the group that an LTV writes; SP registers
+/// that MFC0, MTC0, BREAK and single step change; and memories that a DMA changes.
 #[repr(C)]
 #[derive(Clone, Copy, Debug, Default, PartialEq, Eq)]
 pub struct Changes {
@@ -131,13 +131,13 @@ pub struct Changes {
     pub pc: u16,
     /// The address of the one after it.
     pub npc: u16,
-    /// What the divide instructions keep, after the step.
+    /// What divide instructions leave for the next one, after the step.
     pub divider: DivideState,
-    /// Of a store the address of the quadword in which its address is; else 0.
+    /// The address of the quadword that has the address of a store; otherwise 0.
     pub quadword: u16,
     /// The accumulators after the step.
     pub accumulators: Accumulators,
-    /// Of a store that quadword and the next one after the step, modulo 4096; else 0.
+    /// For a store that quadword and the next one, modulo 4096, after the step; otherwise 0.
     pub bytes: [[u8; 16]; 2],
 }
 
@@ -150,7 +150,7 @@ pub enum Field {
     Loaded,
     /// `pc` isn't a multiple of 4 below 4096.
     Pc,
-    /// Nor is `npc`.
+    /// `npc` isn't a multiple of 4 below 4096.
     Npc,
     /// `interrupt` isn't 0 or 1.
     Interrupt,
@@ -172,16 +172,16 @@ impl fmt::Display for Field {
 }
 
 impl State {
-    /// How many bytes a state has.
+    /// The number of bytes of a state.
     pub const SIZE: usize = size_of::<State>();
 
-    /// A state from its bytes, which are those of an `rsp_state` of C in this computer. None unless there are [`SIZE`](State::SIZE) of them.
+    /// A state from its bytes, which are those of an `rsp_state` of C on this computer. None unless there are [`SIZE`](State::SIZE) of them.
     pub fn from_bytes(bytes: &[u8]) -> Option<State> {
         // SAFETY: there are as many bytes as a state has, and any bytes are one, since all its fields are numbers.
         (bytes.len() == State::SIZE).then(|| unsafe { bytes.as_ptr().cast::<State>().read_unaligned() })
     }
 
-    /// Its bytes, from which [`from_bytes`](State::from_bytes) makes it again.
+    /// The bytes of the state, from which [`from_bytes`](State::from_bytes) makes it again.
     pub fn as_bytes(&self) -> &[u8; State::SIZE] {
         // SAFETY: a state has no padding: `zero` stands where it would be.
         unsafe { &*(self as *const State).cast() }
@@ -247,7 +247,7 @@ pub enum Reason {
     Watch(usize),
     /// The last step came to a breakpoint.
     Break,
-    /// All steps are made.
+    /// All steps were made.
     Limit,
 }
 
@@ -256,7 +256,7 @@ pub enum Reason {
 pub struct Stop {
     /// Why.
     pub reason: Reason,
-    /// How many steps were made.
+    /// The number of steps that were made.
     pub steps: u32,
     /// The address of the next instruction.
     pub pc: u16,
@@ -271,7 +271,7 @@ pub enum MoveEnd {
     Stop(Stop),
     /// Before a move.
     Move {
-        /// How many steps were made.
+        /// The number of steps that were made.
         steps: u32,
         /// The address of the move.
         pc: u16,
@@ -286,7 +286,7 @@ pub enum MoveEnd {
     },
 }
 
-/// A DMA: rows of bytes, one after the other in a bank, and with `skip` bytes between two rows in RDRAM.
+/// A DMA: rows of bytes. In the bank they follow one another; in RDRAM there are `skip` bytes between two rows.
 #[repr(C)]
 #[derive(Clone, Copy, Debug, Default, PartialEq, Eq)]
 pub struct Dma {
@@ -296,11 +296,11 @@ pub struct Dma {
     pub address: u32,
     /// The first address in RDRAM, a multiple of 8 below 2^24. Addresses wrap there.
     pub rdram: u32,
-    /// How many bytes a row has, a multiple of 8 from 8 to 4096.
+    /// The bytes of a row, a multiple of 8 from 8 to 4096.
     pub length: u32,
-    /// How many rows there are, 1 to 256.
+    /// The number of rows, 1 to 256.
     pub rows: u32,
-    /// How many bytes of RDRAM are between two rows, a multiple of 8 below 4096.
+    /// The bytes of RDRAM between two rows, a multiple of 8 below 4096.
     pub skip: u32,
     /// 1 if the bytes go to RDRAM, 0 if they come from there.
     pub to_rdram: u32,

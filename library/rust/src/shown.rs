@@ -1,4 +1,4 @@
-//! Registers as text, in the lines of the bench, and where a run stopped in words.
+//! Registers as text, in the lines that scripts show, and where a run stopped, in words.
 
 use crate::{Accumulators, Bank, DivideState, FlagBits, Line, Machine, Reason, Scalars, State, Stop};
 use std::fmt::{Debug, Display, Formatter, Result};

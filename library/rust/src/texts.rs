@@ -13,7 +13,7 @@ pub(crate) fn seen(line: &raw::Line) -> Line {
     Line { place: line.place, word: line.word, text: String::from_utf8_lossy(&line.text[..usize::from(line.len)]).into_owned() }
 }
 
-/// The words of a text, the first one for the address `origin`, a multiple of 4 up to 4096.
+/// The words of a text. The first is for the address `origin`, a multiple of 4 up to 4096.
 pub fn assemble(text: &str, origin: u32) -> Result<Vec<u32>, Refused> {
     right_version()?;
     let mut words = vec![0; 1024];
@@ -28,7 +28,7 @@ pub fn assemble(text: &str, origin: u32) -> Result<Vec<u32>, Refused> {
     Ok(words)
 }
 
-/// The labels of a text with their addresses, in the order of their lines. `origin` is that of [`assemble`], which says why a text is refused.
+/// The labels of a text with their addresses, in the order of their lines. `origin` is as for [`assemble`], which says why a text is refused.
 pub fn labels(text: &str, origin: u32) -> Result<Vec<(String, u16)>, Refused> {
     assemble(text, origin)?;
     let mut found = vec![raw::Label { address: 0, len: 0, name: [0; 36] }; text.lines().count()];
@@ -48,7 +48,7 @@ pub fn text(word: u32, place: u32) -> Result<String, Refused> {
     Ok(seen(&line).text)
 }
 
-/// The version of the library's interface. A library of another one than [`VERSION`](crate::VERSION) is refused.
+/// The version of the library's interface. A library with another version than [`VERSION`](crate::VERSION) is refused.
 pub fn version() -> u32 {
     // SAFETY: it takes nothing.
     unsafe { raw::rsp_version() }
