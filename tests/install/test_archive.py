@@ -288,7 +288,7 @@ def by_rust(cargo: str) -> dict[str, str]:
 
 def write_crate(archive: Path, mine: Path) -> None:
     text = (archive / "docs/EMBEDDING.md").read_text()
-    lines, code = re.findall(r"(?ms)^```rust\n(\[dependencies\]\n.*?)\n\n(.*?)\n```$", text)[0]
+    lines, code = re.findall(r"(?ms)^```toml\n(\[dependencies\]\n.*?)^```\n+```rust\n(.*?)\n```$", text)[0]
     (mine / "src").mkdir(parents=True)
     (mine / "Cargo.toml").write_text(CRATE + lines)
     (mine / "src/main.rs").write_text(f"fn main() -> Result<(), rsp::Refused> {{\n{code}\n    {SHOW}\n}}\n")
