@@ -166,6 +166,9 @@ def refusal_of(program: str) -> Optional[str]:
     """Why a program doesn't serve as `rsp`, or None. It is given a script of one line."""
     try:
         ended = subprocess.run([program, "run"], input=b"pc 0\n", capture_output=True)
+    except FileNotFoundError:
+        hint = "name another program, such as bin/rsp of the archive for Linux"
+        return f"{program} can't be started, because it isn't there: {hint}"
     except OSError as fault:
         return f"{program} can't be started: {fault.strerror}"
     if ended.stdout == b"ok\n":

@@ -1,9 +1,11 @@
-"""conformance/run [--program PROGRAM] [FOLDER] [NAME..]: runs test vectors on the program rsp (./rsp), and
-names what differs. It fails if a state does.
+"""conformance/run [--program PROGRAM] [FOLDER] [NAME..]: runs test vectors on a program that answers scripts
+as rsp does, and names what differs. It fails if a state does.
 
-FOLDER is one that `conformance/generate` made (vectors/ beside this command). NAME is an instruction; without
-one all instructions of FOLDER are run. The last line is `N passed, M failed`, of cases and of whole programs.
-The status is 0 if none failed and one passed. This is also an example of a runner: one for another machine
+PROGRAM is, if none is named, the file rsp in the folder above, which a clone and an archive for Linux have.
+The archive of the vectors has none: name bin/rsp of an archive for Linux. FOLDER is one that
+`conformance/generate` made (vectors/ beside this command). NAME is an instruction; without one all
+instructions of FOLDER are run. The last line is `N passed, M failed`, of cases and of whole programs. The
+status is 0 if none failed and one passed. This is also an example of a runner: one for another machine
 replaces bench.py alone.
 """
 
