@@ -7,6 +7,7 @@ import os
 import pty
 import re
 import select
+import shlex
 import subprocess
 import time
 from pathlib import Path
@@ -52,7 +53,7 @@ def prefix(tmp_path_factory: pytest.TempPathFactory) -> Path:
 
 
 def by_bash(prefix: Path, line: str) -> Set[str]:
-    words = [it or "''" for it in line.split(" ")]
+    words = map(shlex.quote, line.split(" "))
     told = succeeds("bash", "--norc", "-c", BASH % " ".join(words), cwd=prefix)
     return {*told.split()}
 
@@ -127,8 +128,9 @@ def test_first_word(prefix: Path, program: Path, shell: str) -> None:
 
 @in_shells
 def test_files(prefix: Path, shell: str) -> None:
-    """A source text is a file; a place isn't."""
-    is_listed = {line: "text.s" in SHELLS[shell](prefix, line) for line in ("rsp asm ", "rsp asm --at ")}
+    """A source text is a file, and so is what follows a redirection; an address isn't."""
+    wanted = {"rsp asm ": True, "rsp asm --at ": False, "rsp run < ": True, "rsp run --strict > ": True}
+    is_listed = {line: "text.s" in SHELLS[shell](prefix, line) for line in wanted}
     if shell == "bash":  # bash completes files itself, where the function offers nothing
-        is_listed["rsp asm "] = SHELLS[shell](prefix, "rsp asm ") == set()
-    assert is_listed == {"rsp asm ": True, "rsp asm --at ": False}
+        is_listed.update({it: SHELLS[shell](prefix, it) == set() for it in wanted if wanted[it]})
+    assert is_listed == wanted

@@ -22,7 +22,7 @@ _rsp() {{
     esac
     case $before in
     {numbers}) compopt +o default +o bashdefault; words= ;;
-    {files}) words= ;;
+    {files} | *[\\<\\>]*) words= ;;
     esac
     mapfile -t COMPREPLY < <(compgen -W "$words" -- "$word")
 }}
