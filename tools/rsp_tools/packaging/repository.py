@@ -19,8 +19,16 @@ def said(*words: str) -> str:
 
 @functools.lru_cache(None)
 def committed() -> int:
-    """When HEAD was committed, in seconds since 1970."""
+    """When HEAD was committed, in seconds since 1970. An unpacked archive of the source may be inside another
+    repository, whose commits aren't its own: there it fails as without git."""
+    if not (TOP / ".git").exists():
+        raise FileNotFoundError(f"{TOP} isn't a repository of git")
     return int(said("git", "log", "-1", "--format=%ct"))
+
+
+def committer() -> str:
+    """Who committed HEAD, by name and address."""
+    return said("git", "log", "-1", "--format=%cn <%ce>")
 
 
 def names(*parts: str) -> Iterator[str]:
