@@ -1,8 +1,8 @@
-//! Finds librsp.a, or for MSVC rsp_static.lib. The first of these counts:
+//! Finds librsp.a, or for MSVC rsp_static.lib. The first of these that has it counts:
 //! - the folder that RSP_LIB_DIR names;
-//! - lib/TARGET/, where an archive for that target has the library, and lib/, where a package and the release archive for Linux on x86-64 do;
-//! - ../c, where `library/c/build` puts it in the repository;
-//! - where pkg-config finds it: `library/c/install` has put it there.
+//! - lib/TARGET/, where the release archives have the library, and for Linux on x86-64 also lib/;
+//! - for Linux on x86-64 ../c, where `library/c/build` puts it in the repository;
+//! - the folder that pkg-config names, where `library/c/install` has put it.
 
 use std::env;
 use std::path::{Path, PathBuf};

@@ -34,6 +34,7 @@ VERSION = r"rsp [\d.]+ \([\d-]+\), commit [0-9a-f]{40}\nproved and built by \S+"
 
 
 KINDS = ("linux-x86_64", "conformance", "source")
+IDENTITY = ("-c", "user.name=a", "-c", "user.email=a@example.org")
 
 
 def test_sums_of_dist(released: Path) -> None:
@@ -79,24 +80,34 @@ def test_archive(packed: Path, folder: Path) -> None:
 
 
 def test_source(released: Path, folder: Path) -> None:
-    """It has all files of the commit, and ./rsp and the tools work where there is no git."""
+    """It has all files of the commit, and ./rsp and the tools work where there is no git. Its README says how
+    to check it, and what else one needs."""
     (path,) = (released / "first").glob("*-source.tar.gz")
     top = unpacked(path, folder)
     listed = set(succeeds("git", "ls-files").splitlines())
     there = {str(it.relative_to(top)) for it in top.rglob("*") if it.is_file()}
     assert there == listed | {"SHA256SUMS", "rsp.spdx.json"}
     same = {it for it in listed if (top / it).read_bytes() == (TOP / it).read_bytes()}
-    assert listed == same
+    assert listed - same == {"README.md"}
+    whole = (top / "README.md").read_text()
+    assert whole.startswith(page("README.md")) and broken(top, 500) == []
+    more = whole[len(page("README.md")) :]
+    assert "sha256sum -c SHA256SUMS" in more and succeeds("rt", "version").strip() in more
     assert {it for it in listed if os.access(TOP / it, os.X_OK)} == {
         it for it in listed if os.access(top / it, os.X_OK)
     }
-    assert succeeds("./rsp", "--version", cwd=top, env=BARE).endswith("\nnot built yet\n")
+    told = succeeds("./rsp", "--version", cwd=top, env=BARE)
+    assert re.fullmatch(r"rsp [\d.]+ \([\d-]+\), commit [0-9a-f]{40}\nnot built yet\n", told)
+    succeeds("git", "init", "-q", folder)
+    succeeds("git", *IDENTITY, "commit", "-q", "--allow-empty", "-m", "another", cwd=folder)
+    assert succeeds("./rsp", "--version", cwd=top) == told, "it is the commit of the repository around it"
     assert succeeds("tools/sources", "rsp_main", cwd=top) == succeeds("tools/sources", "rsp_main")
 
 
 @pytest.mark.needs("dpkg-deb")
 def test_package(released: Path, folder: Path) -> None:
-    """The package of Debian: what it says of itself, its sums, whose its files are; its program runs."""
+    """The package of Debian: what it says of itself, its sums, whose its files are; its program runs, and the
+    links of its pages lead to where it has the files."""
     (path,) = (released / "first").glob("*.deb")
     said = succeeds("dpkg-deb", "--field", path, "Package", "Version", "Architecture", "Depends")
     fields = dict(it.split(": ") for it in said.splitlines())
@@ -116,10 +127,21 @@ def test_package(released: Path, folder: Path) -> None:
     assert len(told.splitlines()) == len(there)
     script = page("examples/first.rsp")
     assert succeeds("usr/bin/rsp", "run", input=script, cwd=folder / "root") == page("examples/first.out")
+    assert broken(folder / "root/usr/share/doc/rsp", 200) == []
+    (sender,) = succeeds("git", "log", "-1", "--format=%cn <%ce>").splitlines()
+    assert succeeds("dpkg-deb", "--field", path, "Maintainer") == f"{sender}\n"
 
 
 def test_links(archive: Path, suite: Path) -> None:
     assert broken(archive, 21) == [] and broken(suite, 5) == []
+
+
+def test_names_of_what_is_elsewhere(archive: Path) -> None:
+    """A link to a file that the archive lacks has left the name that the file has in the repository."""
+    text = (archive / "docs/EMBEDDING.md").read_text()
+    assert "`tests/library/c/script.c` is a whole program." in text
+    text = (archive / "microcode/README.md").read_text()
+    assert "Statement (`crates/rsp_routines/specs/Copy.antt`)" in text
 
 
 def test_man_page(archive: Path) -> None:
@@ -145,6 +167,22 @@ def test_version(archive: Path) -> None:
     own = succeeds("bin/rsp", "--version", cwd=archive, env=BARE).strip()
     assert re.match(VERSION, told)
     assert own and told.startswith(own)
+
+
+def test_another_processor(archive: Path, folder: Path) -> None:
+    """The script `rsp` names both processors if the program can't be started, and is silent if it ran."""
+    (folder / "uname").write_text("#!/bin/sh\necho riscv64\n")
+    (folder / "uname").chmod(0o755)
+    where = {**BARE, "PATH": f"{folder}:{BARE['PATH']}"}
+    script = shutil.copy(archive / "rsp", folder)
+    (folder / "bin").mkdir()
+    (folder / "bin/rsp").symlink_to(archive / "bin/rsp")
+    ran = run(script, "dis", "/dev/null", env=where)
+    assert (ran.returncode, ran.stdout) == (0, "")
+    (folder / "bin/rsp").unlink()
+    ran = run(script, "dis", "/dev/null", env=where)
+    assert ran.returncode == 127
+    assert ran.stdout.endswith("rsp: this program is for x86_64, and this machine is riscv64\n")
 
 
 def passes(*words: object) -> None:
@@ -263,7 +301,9 @@ def test_vectors(joined: Path, words: tuple[str, ...]) -> None:
 
 
 def test_vectors_alone(archive: Path, suite: Path) -> None:
-    """Where their archive was unpacked, on the program of the other one."""
+    """Where their archive was unpacked, on the program of the other one, which has to be named."""
+    unnamed = run("conformance/run", "conformance/vectors", "MTC0", cwd=suite, env=BARE)
+    assert unnamed.returncode == 1 and "bin/rsp of the archive for Linux" in unnamed.stdout
     words = ("conformance/run", "--program", archive / "bin/rsp", "conformance/vectors", "MTC0")
     told = succeeds(*words, cwd=suite, env=BARE)
     assert re.search(r"(?m)^[1-9]\d* passed, 0 failed$", told)

@@ -9,7 +9,7 @@ from typing import Iterator, NamedTuple
 
 import pytest
 
-from lib.install.commands import Block, blocks_in, check, in_table, is_command, lines_of, with_ways
+from lib.install.commands import Block, blocks_in, check, in_table, lines_of, with_ways
 from lib.install.unpacked import BARE
 from lib.install.ways import WAYS, Way
 from lib.library import LOCKSTEP
@@ -29,6 +29,9 @@ cc -o "$0"/lockstep examples/c/lockstep.c -lrsp
 "$0"/lockstep
 /usr/local/bin/rsp dis /dev/null
 find /usr/local ! -user root
+%s
+find /usr/local ! -type d
+! test -e /usr/local/lib/cmake/rsp
 """
 
 
@@ -78,11 +81,14 @@ def test_no_other_command(desk: Desk) -> None:
 
 @pytest.mark.needs("cc")
 def test_installed_by_root(desk: Desk, folder: Path) -> None:
-    """README's line. The files belong to another user before, and the program in C names no folder."""
+    """README's lines, which leave no file when it is removed. The files belong to another user before, and
+    the program in C names no folder."""
     enter = ("unshare", "--mount", *["--map-root-user"] * (os.getuid() != 0))
     if run(*enter, "true").returncode:
         pytest.skip("there is no mount namespace here")
-    (line,) = re.findall(r"(?m)^\| install it.*", (desk.user.at / "README.md").read_text())
-    typed = "\n".join(filter(is_command, re.findall("`([^`]*)`", line)))
+    text = (desk.user.at / "README.md").read_text()
+    lines = re.findall(r"(?m)^\| (?:install it|remove the installation) .*", text)
+    typed = tuple("\n".join(re.findall("`([^`]*)`", it)) for it in lines)
+    assert len(typed) == 2 and all("ldconfig" in it for it in typed)
     where = {**BARE, "PATH": f"/usr/sbin:/sbin:{BARE['PATH']}"}
     assert succeeds(*enter, "sh", "-c", AS_ROOT % typed, folder, cwd=desk.user.at, env=where) == LOCKSTEP

@@ -130,6 +130,7 @@ WAYS = (
         prints="..\nnop",
     ),
     Way("README.md", "sha256sum -c", prints="..\nrsp: OK\n.."),
+    Way("README.md", "./rsp --version"),
     Way(
         "docs/ASSEMBLY.md",
         "rsp asm mine.s",

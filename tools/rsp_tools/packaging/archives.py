@@ -40,7 +40,7 @@ def finished(system: str, files: Iterable[File], about: About) -> Archive:
     folder = "package" if system == "wasm64" else f"rsp-{about.version}-{system}"
     listed = [*files, spdx.file(system, about)]
     if system != "source":
-        listed = [*pages.in_archive(listed, folder)]
+        listed = [*pages.in_archive(listed, folder, f"rsp-{about.version}-{native.SYSTEM}")]
     return Archive(name, folder, packed.with_sums(listed))
 
 
@@ -63,5 +63,5 @@ def of_conformance(about: About) -> Archive:
 
 
 def of_source(about: About) -> Archive:
-    """All files of the repository, as they are."""
-    return finished("source", repository.every(), about)
+    """All files of the repository as they are, but its README says more."""
+    return finished("source", [readme.in_source(it, about) for it in repository.every()], about)

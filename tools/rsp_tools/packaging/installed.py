@@ -7,12 +7,17 @@ from rsp_tools import TOOLS, TOP
 from rsp_tools.packaging import completions, manpage
 from rsp_tools.systems import header
 
-# The script `rsp` of an archive.
+# The script `rsp` of an archive. On another processor an emulator may run the program; if none does, what the
+# shell says of it doesn't name the processor.
 STARTER = """#!/bin/sh
-# rsp: the program in bin/. --version also tells the commit that it was built from, and what proved it.
+# rsp: runs the program in bin/. --version also names the commit that it was built from, and what proved it.
 top=$(dirname -- "$(readlink -f -- "$0")")
-[ "$*" != --version ] || exec printf '%s\\n' '{}' '{}'
-exec "$top/bin/rsp" "$@"
+[ "$*" != --version ] || exec printf '%s\\n' '{built}' '{proved}'
+[ "$(uname -m)" != {processor} ] || exec "$top/bin/rsp" "$@"
+"$top/bin/rsp" "$@"
+ended=$?
+[ $ended -lt 126 ] || echo "rsp: this program is for {processor}, and this machine is $(uname -m)" >&2
+exit $ended
 """
 
 
@@ -45,9 +50,11 @@ def shared() -> Iterator[File]:
         yield File(name, text.encode())
 
 
-def starter(about: Tuple[str, str]) -> File:
-    """The script `rsp` of an archive. It says these two lines of its version."""
-    return File("rsp", STARTER.format(*about).encode(), True)
+def starter(about: Tuple[str, str], processor: str) -> File:
+    """The script `rsp` of an archive for a processor, by the name that `uname -m` gives it. It says these two
+    lines of its version."""
+    built, proved = about
+    return File("rsp", STARTER.format(built=built, proved=proved, processor=processor).encode(), True)
 
 
 def version() -> Tuple[str, str]:

@@ -23,7 +23,8 @@ SCRIPTS = """.SH SCRIPTS
 Each line of a script is one command. A line that is refused is answered by a fault, and changes nothing.
 """
 END = """.SH SEE ALSO
-The pages docs/SCRIPT.md, docs/ASSEMBLY.md and docs/EMBEDDING.md of the source or of the release archive.
+The pages docs/SCRIPT.md, docs/ASSEMBLY.md and docs/EMBEDDING.md, in the release archive and in the source.
+The package of Debian has them in /usr/share/doc/rsp.
 """
 
 

@@ -12,6 +12,7 @@ from rsp_tools.packaging.about import About
 from rsp_tools.packaging.installed import File
 
 SYSTEM = "linux-x86_64"
+TARGET = "x86_64-unknown-linux-gnu"  # what Rust calls it
 PARTS = "library/python/rsp library/rust docs examples microcode plugin tools/hardening CHANGELOG.md".split()
 
 
@@ -25,10 +26,10 @@ def wheel(program: bytes, date: int) -> File:
 
 def contents(program: bytes, plugin: bytes, about: About) -> Iterator[File]:
     """Each of its files."""
-    yield installed.starter(about.lines())
+    yield installed.starter(about.lines(), "x86_64")
     yield from installed.contents("${pcfiledir}/../..", program)
     yield wheel(program, about.time)
     yield File("plugin/mupen64plus-rsp-proved.so", plugin, True)
     yield from repository.of_systems(PARTS)
-    yield File("rust/lib/librsp.a", (TOP / "library/c/librsp.a").read_bytes())
+    yield File(f"rust/lib/{TARGET}/librsp.a", (TOP / "library/c/librsp.a").read_bytes())
     yield File("README.md", readme.linux().replace("VERSION", about.version).encode())

@@ -1,5 +1,5 @@
-"""The README of an archive for another system than Linux on x86-64. It shares lines of the table and the last
-paragraph with that of Linux on x86-64, tools/packaging/README.md."""
+"""The README of an archive for another system than Linux on x86-64, and what that of the source has more.
+Lines of the table and the last paragraphs are those of Linux on x86-64, tools/packaging/README.md."""
 
 import re
 from textwrap import fill
@@ -7,6 +7,7 @@ from typing import Dict, NamedTuple, Sequence, Tuple
 
 from rsp_tools import TOOLS
 from rsp_tools.packaging.about import About as Release
+from rsp_tools.packaging.installed import File
 
 WIDTH = 120
 Line = Tuple[str, str]  # what one wants, and what to type
@@ -16,7 +17,7 @@ PROGRAM = (
     "run a script",
     "assemble, disassemble",
     "see all options and commands",
-    "complete its words by Tab",
+    "complete words by Tab",
     "type `rsp` in any folder, as the pages do",
 )
 LIBRARY = (
@@ -26,11 +27,12 @@ LIBRARY = (
     "use it from Python",
     "use it from Rust (rustc 1.63 or newer)",
 )
-DEBIAN = "have Debian or Ubuntu install it"
-MICROCODE, EMULATOR, MADE_OF = (
+INSTALLING = ("install it", "remove the installation", "have Debian or Ubuntu install it")
+MICROCODE, EMULATOR, CHECK, MADE_OF = (
     "paste microcode that is proved",
     "test your own emulator",
-    "see what it is made of",
+    "check the download",
+    "know what it was built from",
 )
 WINDOWS: Sequence[Line] = (
     ("run a script, in cmd", r"`bin\rsp run < examples\first.rsp`"),
@@ -42,11 +44,11 @@ WINDOWS: Sequence[Line] = (
     ("use the library from C or C++, by mingw", r"`gcc -Iinclude my.c lib\librsp.a`"),
     (
         "the same in a shell of MSYS2",
-        '`export PKG_CONFIG_PATH="$PWD/lib/pkgconfig"`, then anywhere '
+        '`export PKG_CONFIG_PATH="$PWD/lib/pkgconfig"`, then in any folder '
         '`eval "gcc my.c $(pkg-config --cflags --libs rsp)"`, with `bin/rsp.dll` beside the program',
     ),
     (
-        "the same by MSVC, which was never tried",
+        "the same by MSVC (never tried)",
         r"`cl /Iinclude my.c lib\rsp.lib`, with `bin\rsp.dll` beside the program",
     ),
     (
@@ -57,6 +59,17 @@ WINDOWS: Sequence[Line] = (
     (
         "use it from Python, with the command `rsp`",
         r"`py -m pip install python\rsp-VERSION-py3-none-win_amd64.whl`, then `import rsp`",
+    ),
+)
+MACOS: Sequence[Line] = (
+    (
+        "let macOS load a library that a browser has downloaded",
+        "`xattr -d com.apple.quarantine lib/librsp.dylib`, and the same for other files that macOS refuses",
+    ),
+    ("install it", "`sudo cp -R include lib /usr/local`"),
+    (
+        "remove the installation",
+        r"`find include lib ! -type d -exec sudo rm /usr/local/{} \;`, `sudo rmdir /usr/local/lib/cmake/rsp`",
     ),
 )
 CONFORMANCE: Sequence[Line] = (
@@ -72,15 +85,16 @@ CONFORMANCE: Sequence[Line] = (
     ),
     (
         "check an emulator by millions of cases",
-        "`cp -R conformance tools ../rsp-VERSION-linux-x86_64`, the archive for Linux unpacked beside this "
-        "one; [docs/CAMPAIGN.md](docs/CAMPAIGN.md) goes on there",
+        "unpack the archive for Linux beside this one, type "
+        "`cp -R conformance tools ../rsp-VERSION-linux-x86_64`, and then there the commands of "
+        "[docs/CAMPAIGN.md](docs/CAMPAIGN.md)",
     ),
 )
 WASM: Sequence[Line] = (
     (
         "use it from Node 24 or a bundler",
-        "in your project, not in this folder: `npm install DOWNLOADS/rsp-VERSION-wasm64.tgz`, DOWNLOADS "
-        'being the folder with the archive; then `import { Rsp } from "rsp"`',
+        "in the folder of your project, not in this one: `npm install DOWNLOADS/rsp-VERSION-wasm64.tgz`, "
+        'where DOWNLOADS is the folder with the archive; then `import { Rsp } from "rsp"`',
     ),
     ("the same with Node 20 to 23", "start it by `node --experimental-wasm-memory64`"),
     ("use it without npm, or in Deno", "serve this folder, and import its `rsp.js`"),
@@ -93,7 +107,7 @@ PAGE: Sequence[Line] = (
         "try it on your own computer",
         "`python3 -m http.server --bind 127.0.0.1`, then open http://127.0.0.1:8000/",
     ),
-    ("publish it", "put all files of this folder onto a web server, and see to its headers, below"),
+    ("publish it", "put all files of this folder onto a web server, and set its headers, below"),
     (
         "publish a newer version",
         "put its files beside the old ones, index.html last; delete the old folder after some days",
@@ -102,40 +116,54 @@ PAGE: Sequence[Line] = (
 # What a page's README has below its table. nginx gives a location that has headers none of those outside it.
 HEADERS = r"""## Headers of the server
 
-All files but index.html are in a folder whose name is made of their contents. So a browser may keep them
-for ever, and should ask for index.html each time. No other site may show the page in a frame of its own, or
-reach its window. In the block `server` of nginx:
+All files except index.html are in a folder whose name is made of their contents. So a browser may keep these
+files forever, and should ask only for index.html each time. The other headers make sure that no other site
+shows the page in a frame of its own, or reaches its window. In the block `server` of nginx:
 
-    location / {
-        add_header Cache-Control "no-cache";
-        add_header Content-Security-Policy "frame-ancestors 'none'";
-        add_header Cross-Origin-Opener-Policy "same-origin";
-        add_header X-Content-Type-Options "nosniff";
-    }
-    location ~ "/[0-9a-f]{16}/" {
-        add_header Cache-Control "public, max-age=31536000, immutable";
-        add_header Content-Security-Policy "frame-ancestors 'none'";
-        add_header Cross-Origin-Opener-Policy "same-origin";
-        add_header X-Content-Type-Options "nosniff";
-    }
+```nginx
+location / {
+    add_header Cache-Control "no-cache";
+    add_header Content-Security-Policy "frame-ancestors 'none'";
+    add_header Cross-Origin-Opener-Policy "same-origin";
+    add_header X-Content-Type-Options "nosniff";
+}
+location ~ "/[0-9a-f]{16}/" {
+    add_header Cache-Control "public, max-age=31536000, immutable";
+    add_header Content-Security-Policy "frame-ancestors 'none'";
+    add_header Cross-Origin-Opener-Policy "same-origin";
+    add_header X-Content-Type-Options "nosniff";
+}
+```
 
 For Apache with mod_headers, in a file `.htaccess` in this folder:
 
-    AddType application/wasm .wasm
-    Header set Cache-Control "no-cache"
-    Header set Content-Security-Policy "frame-ancestors 'none'"
-    Header set Cross-Origin-Opener-Policy "same-origin"
-    Header set X-Content-Type-Options "nosniff"
-    <If "%{REQUEST_URI} =~ m#/[0-9a-f]{16}/#">
-        Header set Cache-Control "public, max-age=31536000, immutable"
-    </If>
+```apache
+AddType application/wasm .wasm
+Header set Cache-Control "no-cache"
+Header set Content-Security-Policy "frame-ancestors 'none'"
+Header set Cross-Origin-Opener-Policy "same-origin"
+Header set X-Content-Type-Options "nosniff"
+<If "%{REQUEST_URI} =~ m#/[0-9a-f]{16}/#">
+    Header set Cache-Control "public, max-age=31536000, immutable"
+</If>
+```
 
-The rest of the Content-Security-Policy is in the page itself. Without these lines the page asks the server
-for index.html when it is opened, and loads a newer version."""
+The rest of the Content-Security-Policy is in the page itself. Even without these headers the page asks the
+server for index.html when it is opened, and loads a newer version."""
+# What the README of the source has more than the repository's.
+OF_SOURCE = """
+## This archive
+
+The files of this archive are those of the repository, for {built}.
+`sha256sum -c SHA256SUMS` checks them; beside the archive `sha256sum --ignore-missing -c SHA256SUMS` checks
+the archive. To build them you need the Rattle kit ([Get it](#get-it)): the program and the library in the
+other archives were {proved}. `./release` and some tests need a clone,
+because they ask git which files there are. [rsp.spdx.json](rsp.spdx.json) names the commit, by SPDX.
+"""
 
 
 class About(NamedTuple):
-    """What an archive is for, what it is, where that runs and was run, and what it lacks."""
+    """What an archive is for, what it contains, what it needs and where it was run, and what it lacks."""
 
     title: str
     what: str
@@ -143,47 +171,55 @@ class About(NamedTuple):
     lacks: str
 
 
+RSP = "the Nintendo 64's Reality Signal Processor (RSP)"
+MODEL = f"an emulator, debugger, assembler and disassembler for {RSP}"
 PLUGIN = "the plugin of mupen64plus"
-MEMORIES = "It needs 64-bit memories of WebAssembly, which Chrome and Edge have since 133, Firefox since 134"
+PROCESSORS = "processors from Intel since 2009 and from AMD since 2011"
+MEMORIES = "WebAssembly with 64-bit memories, which Chrome and Edge have since version 133, Firefox since 134"
 ABOUT: Dict[str, About] = {
     "linux-aarch64": About(
         "Linux on ARM",
-        "the program `rsp` and its library",
-        "It is for glibc 2.17 or newer, and was run under qemu, never on a processor.",
+        f"the program `rsp` and its library: {MODEL}",
+        "Both need glibc 2.17 or newer. They were run under qemu, never on a processor.",
         f"It lacks {PLUGIN}, which was never run on ARM.",
     ),
     "macos": About(
         "macOS on ARM and x86-64",
-        "the library of `rsp`",
-        "It is for macOS 11 or newer, and **was never run on a Mac**: its code was taken out of the library, "
+        f"the library of `rsp`: {MODEL}",
+        "It needs macOS 11 or newer, and **was never run on a Mac**: its code was taken out of the library, "
         "and run on Linux.",
-        f"It lacks the program, {PLUGIN}.",
+        f"It lacks the program `rsp` and {PLUGIN}.",
     ),
     "windows-x86_64": About(
         "Windows on x86-64-v2",
-        "the library of `rsp`",
-        "The program `rsp.exe` is in C over the library, and only tested. Both are for processors since "
-        "about 2009, and were run under wine, never on Windows.",
-        f"It lacks {PLUGIN}, which needs Linux. The pages show the commands of Linux. The lines for "
-        "PowerShell were never tried.",
+        f"the program `rsp.exe` and the library of `rsp`: {MODEL}",
+        "The program is written in C over the library, and only tested. Both are for x86-64-v2, which means "
+        f"{PROCESSORS}. They were run under wine, never on Windows.",
+        f"It lacks {PLUGIN}, which needs Linux. The pages show commands for Linux. The lines for PowerShell "
+        "were never tried.",
     ),
     "wasm64": About(
         "browsers, Node and Deno",
-        "the library of `rsp` for JavaScript",
-        f"It was run in Chromium and in Node 20. {MEMORIES}, Node since 24, and by a flag since 20.",
-        "It lacks the program, the test vectors and the libraries for other languages.",
+        f"the library of `rsp` for JavaScript: {MODEL}",
+        f"It needs {MEMORIES} and Node since 24, or since 20 with a flag. It was run in Chromium and in Node "
+        "20.",
+        "It lacks the program, the test vectors and the libraries for other languages. The files that the "
+        "pages name for C, Python and Rust are in the archive of your system, such as "
+        "`rsp-VERSION-linux-x86_64.tar.gz`.",
     ),
     "page": About(
         "a web server",
-        "a page that answers scripts of `rsp`",
-        f"It was run in Chromium alone. {MEMORIES}.",
-        "It has the pages that explain scripts. It lacks all else: the program, libraries and test vectors.",
+        f"a page that answers scripts of `rsp` in a browser: {MODEL}",
+        f"It needs {MEMORIES}. It was run only in Chromium.",
+        "It has the pages that explain scripts, and lacks everything else: the program, the libraries and "
+        "the test vectors.",
     ),
     "conformance": About(
         "authors of emulators",
-        "test vectors of all instructions, with the tools that make and run them",
-        "The vectors are files for any system; the tools need Python 3, and were run on Linux.",
-        "It lacks the program and the library, which the archive of your system has.",
+        f"test vectors of all instructions of {RSP}, with the tools that make and run them",
+        "The vectors are files for any system. The tools need Python 3, and were run on Linux.",
+        "It lacks the program `rsp` and its library, which are in the archive of your system, such as "
+        "`rsp-VERSION-linux-x86_64.tar.gz`.",
     ),
 }
 
@@ -204,35 +240,51 @@ def of_linux(*wanted: str) -> Sequence[Line]:
 
 def lines(system: str) -> Sequence[Line]:
     """The table of a system's README."""
-    install, check = of_linux("install it", "check the download")
-    last = of_linux(MICROCODE, EMULATOR)
+    last, check = of_linux(MICROCODE, EMULATOR), of_linux(CHECK)
     if system == "linux-aarch64":
-        return (*of_linux(*PROGRAM, *LIBRARY), install, *of_linux(DEBIAN), *last, check)
+        return (*of_linux(*PROGRAM, *LIBRARY, *INSTALLING), *last, *check)
     if system == "macos":
-        install = ("install it", "`sudo cp -R include lib /usr/local`")
-        return (*of_linux(*LIBRARY), install, *last, ("check the download", "`shasum -a 256 -c SHA256SUMS`"))
+        return (*of_linux(*LIBRARY), *MACOS, *last, (CHECK, "`shasum -a 256 -c SHA256SUMS`"))
     if system == "windows-x86_64":
-        check = ("check the download", "`certutil -hashfile FILE SHA256`, beside the line of SHA256SUMS")
-        return (*WINDOWS, *of_linux(LIBRARY[-1]), *last, check)
-    return {"wasm64": WASM, "page": PAGE, "conformance": CONFORMANCE}[system]
+        by_hand = "`certutil -hashfile FILE SHA256`, and compare with the line of FILE in SHA256SUMS"
+        return (*WINDOWS, *of_linux(LIBRARY[-1]), *last, (CHECK, by_hand))
+    return (*{"wasm64": WASM, "page": PAGE, "conformance": CONFORMANCE}[system], *check)
+
+
+def last_line(system: str) -> Line:
+    """The last line of the table. Only archives with the script `rsp` answer with the commit."""
+    (wanted, typed), *_ = of_linux(MADE_OF)
+    listed = "[rsp.spdx.json](rsp.spdx.json), which lists all parts, by SPDX"
+    return (wanted, typed if system == "linux-aarch64" else listed)
+
+
+def last_paragraphs(system: str) -> str:
+    """Where one reads on, and where the files are that pages name and the archive lacks."""
+    read_on, elsewhere = re.findall(r"(?ms)^(Read on: .*?)\n\n(.*)\n\Z", linux())[0]
+    if system == "conformance":
+        elsewhere = re.sub(r"(?s)\sThose below.*", "", elsewhere)
+    return f"{read_on}\n\n{elsewhere}" if system in SYSTEMS_OF_C else str(elsewhere)
 
 
 def page(system: str, release: Release) -> bytes:
     """The README of a system's archive."""
     it = ABOUT[system]
-    model = "the Nintendo 64's Reality Signal Processor as a machine"
-    what = it.what if system == "conformance" else f"{it.what}, {model}"
-    licence = "No licence is chosen yet; the choice is the owner's."
-    head = f"For users of this archive: {what}. {it.runs} {licence}"
-    table = "".join(f"| {wanted} | {typed} |\n" for wanted, typed in [*lines(system), *of_linux(MADE_OF)])
+    licence = "No licence has been chosen yet, so ask the owner before you reuse anything."
+    head = f"For users of this archive. It contains {it.what}. {it.runs} {licence}"
+    table = "".join(f"| {wanted} | {typed} |\n" for wanted, typed in [*lines(system), last_line(system)])
     parts = [f"# rsp {release.version} for {it.title}", fill(head, WIDTH), fill(it.lacks, WIDTH)]
     parts.append(f"| You want to | Type, in this folder |\n|---|---|\n{table.rstrip()}")
-    if system == "page":
-        parts.append(HEADERS)
-    if system in SYSTEMS_OF_C:
-        parts.append(re.findall(r"(?ms)^Read on: .*", linux())[0].rstrip())
+    parts.append(HEADERS if system == "page" else last_paragraphs(system))
     built, proved = release.lines()
     made = f"This is {built}." + f" Its library was {proved}." * (system != "conformance")
     parts.append(fill(made, WIDTH))
     text = ("\n\n".join(parts) + "\n").replace("VERSION", release.version)
     return text.replace("_amd64.deb", "_arm64.deb").encode()
+
+
+def in_source(file: File, release: Release) -> File:
+    """A file of the repository. Its README gets what is said of the archive."""
+    built, proved = release.lines()
+    if file.name != "README.md" or isinstance(file.data, str):
+        return file
+    return file._replace(data=file.data + OF_SOURCE.format(built=built, proved=proved).encode())

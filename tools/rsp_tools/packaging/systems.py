@@ -58,4 +58,4 @@ def contents(system: str, folder: Path, about: About, thin: Thin = thinned) -> I
     if system in WITH_PROGRAM:
         yield from installed.shared()
     if system == "linux-aarch64":
-        yield installed.starter(about.lines())
+        yield installed.starter(about.lines(), "aarch64")

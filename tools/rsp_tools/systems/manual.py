@@ -5,7 +5,7 @@ import html
 import re
 from typing import Dict, Iterator, Match
 
-from rsp_tools.packaging.pages import with_live_links
+from rsp_tools.packaging.pages import bare, with_links
 from rsp_tools.pages import anchor, data
 
 from . import places
@@ -42,7 +42,8 @@ def with_rows(text: str) -> str:
 def converted(name: str, text: str) -> str:
     """A page's Markdown as HTML. Links lead to pages that are here, and others are their words alone."""
     pictures = {f"docs/pictures/{it.name}" for it in DOCS.glob("pictures/*.svg")}
-    live = with_live_links(f"docs/{name}.md", text, pictures | {f"docs/{it}.md" for it in PAGES})
+    here = pictures | {f"docs/{it}.md" for it in PAGES}
+    live = with_links(f"docs/{name}.md", text, lambda it: it if it in here else "", bare)
     # The anchors of the pages are HTML.
     made = call(CONVERTER, "--unsafe", "--extension", "table", "--to", "html", given=live)
     made = re.sub(r"<h([1-6])>(.*?)</h\1>", with_anchor, made)
