@@ -20,7 +20,7 @@ from lib.cmake import check_cmake
 from lib.install.unpacked import BARE, check_common, check_date_of_wheel, check_pack, unpacked
 from lib.install.ways import LOOP_CODE, LOOP_TEXT, LOOP_WORDS
 from lib.library import LOCKSTEP
-from lib.links import broken
+from lib.links import broken, broken_in
 from lib.packages import need
 from lib.pages import page
 from lib.processes import run, succeeds
@@ -90,7 +90,7 @@ def test_source(released: Path, folder: Path) -> None:
     same = {it for it in listed if (top / it).read_bytes() == (TOP / it).read_bytes()}
     assert listed - same == {"README.md"}
     whole = (top / "README.md").read_text()
-    assert whole.startswith(page("README.md")) and broken(top, 500) == []
+    assert whole.startswith(page("README.md")) and broken_in(top / "README.md") == []
     more = whole[len(page("README.md")) :]
     assert "sha256sum -c SHA256SUMS" in more and succeeds("rt", "version").strip() in more
     assert {it for it in listed if os.access(TOP / it, os.X_OK)} == {

@@ -18,7 +18,7 @@ OF_NPM = "library/js/"
 EMBEDDING, CAMPAIGN, PLUGIN = "docs/EMBEDDING.md", "docs/CAMPAIGN.md", "docs/PLUGIN.md"
 BUILD = r"(?m)^library/c/build  .*\n"
 COPY = "cp -dR bin include lib share PREFIX     # installs it\n"
-COPY_MACOS = COPY.replace("cp -dR bin include lib share", "cp -R include lib           ")
+COPY_MACOS = "cp -R include lib PREFIX     # installs it\n"
 NPM = "npm install ./rsp-*-wasm64.tgz    # the archive for browsers and Node\n"
 # Parts of commands: the page, what it says in the repository, and what it says in the archive.
 FORMS = (

@@ -2,7 +2,7 @@
 Lines of the table and the last paragraphs are those of Linux on x86-64, tools/packaging/README.md."""
 
 import re
-from textwrap import fill
+import textwrap
 from typing import Dict, NamedTuple, Sequence, Tuple
 
 from rsp_tools import TOOLS
@@ -151,15 +151,11 @@ Header set X-Content-Type-Options "nosniff"
 The rest of the Content-Security-Policy is in the page itself. Even without these headers the page asks the
 server for index.html when it is opened, and loads a newer version."""
 # What the README of the source has more than the repository's.
-OF_SOURCE = """
-## This archive
-
-The files of this archive are those of the repository, for {built}.
-`sha256sum -c SHA256SUMS` checks them; beside the archive `sha256sum --ignore-missing -c SHA256SUMS` checks
-the archive. To build them you need the Rattle kit ([Get it](#get-it)): the program and the library in the
-other archives were {proved}. `./release` and some tests need a clone,
-because they ask git which files there are. [rsp.spdx.json](rsp.spdx.json) names the commit, by SPDX.
-"""
+OF_SOURCE = """These are the files of the repository, for {built}. `sha256sum -c SHA256SUMS` checks
+them; beside the archive `sha256sum --ignore-missing -c SHA256SUMS` checks the archive. To build them you need
+the Rattle kit ([Get it](#get-it)): the program and the library in the other archives were {proved}.
+`./release` and some tests need a clone, because they ask git which files there are.
+[rsp.spdx.json](rsp.spdx.json) names the commit, by SPDX."""
 
 
 class About(NamedTuple):
@@ -175,7 +171,9 @@ RSP = "the Nintendo 64's Reality Signal Processor (RSP)"
 MODEL = f"an emulator, debugger, assembler and disassembler for {RSP}"
 PLUGIN = "the plugin of mupen64plus"
 PROCESSORS = "processors from Intel since 2009 and from AMD since 2011"
-MEMORIES = "WebAssembly with 64-bit memories, which Chrome and Edge have since version 133, Firefox since 134"
+MEMORIES = (
+    "WebAssembly with 64-bit memories, which Chrome and Edge have since version 133 and Firefox since 134"
+)
 ABOUT: Dict[str, About] = {
     "linux-aarch64": About(
         "Linux on ARM",
@@ -201,8 +199,8 @@ ABOUT: Dict[str, About] = {
     "wasm64": About(
         "browsers, Node and Deno",
         f"the library of `rsp` for JavaScript: {MODEL}",
-        f"It needs {MEMORIES} and Node since 24, or since 20 with a flag. It was run in Chromium and in Node "
-        "20.",
+        f"It needs {MEMORIES}, Node since 24, and Node since 20 with a flag. It was run in Chromium and in "
+        "Node 20.",
         "It lacks the program, the test vectors and the libraries for other languages. The files that the "
         "pages name for C, Python and Rust are in the archive of your system, such as "
         "`rsp-VERSION-linux-x86_64.tar.gz`.",
@@ -225,6 +223,11 @@ ABOUT: Dict[str, About] = {
 
 
 SYSTEMS_OF_C = ("linux-aarch64", "macos", "windows-x86_64")
+
+
+def filled(text: str) -> str:
+    """A paragraph in lines. No name is broken."""
+    return textwrap.fill(text, WIDTH, break_on_hyphens=False, break_long_words=False)
 
 
 def linux() -> str:
@@ -272,12 +275,12 @@ def page(system: str, release: Release) -> bytes:
     licence = "No licence has been chosen yet, so ask the owner before you reuse anything."
     head = f"For users of this archive. It contains {it.what}. {it.runs} {licence}"
     table = "".join(f"| {wanted} | {typed} |\n" for wanted, typed in [*lines(system), last_line(system)])
-    parts = [f"# rsp {release.version} for {it.title}", fill(head, WIDTH), fill(it.lacks, WIDTH)]
+    parts = [f"# rsp {release.version} for {it.title}", filled(head), filled(it.lacks)]
     parts.append(f"| You want to | Type, in this folder |\n|---|---|\n{table.rstrip()}")
     parts.append(HEADERS if system == "page" else last_paragraphs(system))
     built, proved = release.lines()
     made = f"This is {built}." + f" Its library was {proved}." * (system != "conformance")
-    parts.append(fill(made, WIDTH))
+    parts.append(filled(made))
     text = ("\n\n".join(parts) + "\n").replace("VERSION", release.version)
     return text.replace("_amd64.deb", "_arm64.deb").encode()
 
@@ -287,4 +290,5 @@ def in_source(file: File, release: Release) -> File:
     built, proved = release.lines()
     if file.name != "README.md" or isinstance(file.data, str):
         return file
-    return file._replace(data=file.data + OF_SOURCE.format(built=built, proved=proved).encode())
+    text = filled(OF_SOURCE.format(built=built, proved=proved))
+    return file._replace(data=file.data + f"\n## This archive\n\n{text}\n".encode())
