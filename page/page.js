@@ -85,6 +85,7 @@ function listen() {
   the("script").onkeydown = on_script_key;
   the("undo").onclick = () => choosing.undo();
   the("link").onclick = () => choosing.make_link();
+  the("explain").onclick = () => open(editor.help, "help");
   the("run").onclick = run;
   the("stop").onclick = () => running.stop();
   the("faults").onclick = () => running.lead_to_fault();
@@ -115,6 +116,7 @@ async function loaded() {
  * which alone is run. What the browser lacks is said at once. */
 async function begin() {
   the("absent").remove();
+  the("ran").textContent = "";
   listen();
   await loaded();
   if (!choosing.show_linked(false) && ["", EXAMPLES[0].script].includes(the("script").value)) {

@@ -21,5 +21,8 @@ globalThis.why_not = async (url) => {
 globalThis.document?.addEventListener("error", async ({ target }) => {
   if (!target.src || location.protocol === "file:") return;
   const sentence = `${await why_not(target.src)}.`, absent = document.getElementById("absent");
-  if (absent) absent.textContent = sentence;
+  if (!absent) return;
+  absent.textContent = sentence;
+  absent.style.animation = "none";
+  document.getElementById("ran").textContent = "";
 }, true);

@@ -402,6 +402,28 @@ def test_help_by_a_key(line: int, wanted: str, page: Page, host: Host) -> None:
     assert opened(page).endswith(f"/help/{wanted}")
 
 
+def test_help_without_a_key(page: Page) -> None:
+    """So does a button, for those who have no such key."""
+    page.type("load dmem 0 00\nstep\n")
+    page.value(f"({the('script')}.focus(), {the('script')}.setSelectionRange(16, 16))")
+    page.click("explain")
+    assert opened(page).endswith("/help/SCRIPT.html#command-step")
+
+
+@pytest.mark.parametrize("word", ("command", "mnemonic", "register", "number"))
+def test_letters_take_no_clicks(word: str, page: Page) -> None:
+    """A finger or a mouse on a coloured letter reaches the text area, and sets the caret there."""
+    page.type("load dmem 0 00\nasm 0\nvmulf $v1, $v2, $v3\nend\n")
+    place = f"const it = document.querySelector('#colours .{word}').getBoundingClientRect()"
+    x, y = page.value(f"(() => {{ {place}; return [it.x + it.width / 2, it.y + it.height / 2]; }})()")
+    assert page.value(f"document.elementFromPoint({x}, {y}).id") == "script"
+    page.value(f"{the('script')}.blur()")
+    for kind in "mousePressed", "mouseReleased":
+        page.call("Input.dispatchMouseEvent", type=kind, x=x, y=y, button="left", clickCount=1)
+    assert page.value("document.activeElement.id") == "script"
+    assert 0 < page.value(f"{the('script')}.selectionStart") < len(page.script)
+
+
 def test_help_on_a_fault(page: Page) -> None:
     """A fault among the replies leads to what it means."""
     page.type("foo\n")

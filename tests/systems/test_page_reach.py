@@ -14,8 +14,8 @@ from rsp_tools.systems import manual
 pytestmark = pytest.mark.xdist_group("page")
 # Every control that is enabled when the page has been opened, in the order of the key Tab: links by their
 # words.
-LINKS = ["Commands", "Instructions", "Faults"]
-BEFORE = ["run", "example", "open-script", "save-script", "link", "script", "open-image", "zeros"]
+LINKS = ["Tutorial", "Commands", "Instructions", "Faults"]
+BEFORE = ["run", "example", "open-script", "save-script", "link", "explain", "script", "open-image", "zeros"]
 CONTROLS = [*LINKS, *BEFORE, "commands", "save-replies", "save-image", "shown"]
 ENDLESS = "asm 0\nj 0\nnop\nend\n" + 5000 * "run 1000000\n"
 # The least contrast of a text with its ground, of all that are shown.
@@ -248,6 +248,24 @@ def test_nothing_is_cut_off(width: int, text: int, is_alone: bool, filled: Page)
     assert cut == [] and hidden == []
     assert staying <= height / 3
     assert rows == REPLIES + (0 if is_alone else LINES)
+
+
+def test_size_for_a_finger(page: Page) -> None:
+    """On a screen that is touched each control has 44 pixels both ways, or fills its line."""
+    screen = {"width": 360, "height": 740, "deviceScaleFactor": 3, "mobile": True}
+    page.call("Emulation.setDeviceMetricsOverride", **screen)
+    page.call("Emulation.setTouchEmulationEnabled", enabled=True)
+    page.call("Emulation.setEmulatedMedia", features=[{"name": "pointer", "value": "coarse"}])
+    page.settle()
+    is_coarse = page.value("matchMedia('(pointer: coarse)').matches")
+    small = page.value(
+        "[...document.querySelectorAll('button, select, nav a, label')].filter((it) => it.offsetHeight && "
+        "(it.offsetHeight < 44 || it.offsetWidth < 44) && it.htmlFor !== 'example').map((it) => it.id || it.textContent)"
+    )
+    page.call("Emulation.setEmulatedMedia", features=[])
+    page.call("Emulation.setTouchEmulationEnabled", enabled=False)
+    page.call("Emulation.clearDeviceMetricsOverride")
+    assert is_coarse and small == []
 
 
 def nodes(page: Page) -> Any:
