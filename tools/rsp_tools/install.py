@@ -10,10 +10,11 @@ fails.
   PREFIX/lib/pkgconfig/rsp.pc      for cc my.c $(pkg-config --cflags --libs rsp)
   PREFIX/lib/cmake/rsp/            for find_package(rsp): the targets rsp::rsp and rsp::rsp_static
   PREFIX/share/man/man1/rsp.1
+  PREFIX/share/bash-completion/completions/rsp, zsh/site-functions/_rsp, fish/vendor_completions.d/rsp.fish
   PREFIX/bin/rsp                   if ./rsp has built the program
 
 pkg-config reads the variable PKG_CONFIG_PATH, and cmake takes -DCMAKE_PREFIX_PATH=PREFIX. A second install
-replaces the first one.
+replaces the first one. To remove an installation, delete these files.
 """
 
 import argparse
