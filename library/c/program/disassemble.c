@@ -47,6 +47,7 @@ void disassemble(const request *asked)
     size_t len = read_file(asked->given[WORDS], 4097, &bytes);
     if (len > 4096 - origin || len % 4) fault("bad size");
     uint32_t end = origin + (uint32_t)len;
+    memset(is_labelled, 0, sizeof is_labelled); /* the fuzzer calls this again and again */
     for (uint32_t at = origin, i = 0; at < end; at += 4, i++, bytes += 4) {
         uint32_t word = (uint32_t)bytes[0] << 24 | (uint32_t)bytes[1] << 16 | (uint32_t)bytes[2] << 8 | bytes[3];
         rsp_text(word, at, &lines[i]);
