@@ -1,5 +1,5 @@
 /* rsp.hpp: a machine of rsp.h as a class of C++17. The class frees its machine. It can be moved, but only copy() copies it. Any status other
- * than RSP_OK is thrown as rsp::machine::refused. rsp.h says what each call does, and what you may pass to it. */
+ * than RSP_OK is thrown as rsp::machine::refused, but step() returns it. rsp.h says what each call does, and what you may pass to it. */
 #ifndef RSP_HPP
 #define RSP_HPP
 
@@ -37,7 +37,9 @@ public:
     uint32_t step() { return rsp_step(&it); } /* RSP_OK, RSP_HALTED, RSP_RESERVED or RSP_NO_MACHINE */
     rsp_stop run(uint32_t n) { rsp_stop out; check(rsp_run(&it, n, &out)); return out; }
     rsp_move run_until_move(uint32_t n, uint32_t reads, uint32_t writes) { rsp_move out; check(rsp_run_until_move(&it, n, reads, writes, &out)); return out; }
+    rsp_reached event(uint32_t n, uint32_t reads = 0, uint32_t writes = 0) { rsp_reached out; check(rsp_event(&it, n, reads, writes, &out)); return out; }
     void pass(uint32_t value = 0) { check(rsp_pass(&it, value)); }
+    void pass_dma() { check(rsp_pass_dma(&it)); }
     void back(uint32_t n) { check(rsp_back(&it, n)); }
     uint32_t reg(uint32_t n) { uint32_t out; check(rsp_reg(&it, n, &out)); return out; }
     rsp_lanes vreg(uint32_t n) { rsp_lanes out; check(rsp_vreg(&it, n, &out)); return out; }

@@ -48,6 +48,22 @@ static void test_run()
     see("SP registers", m.peek(4) == 0 && m.read(7) == 0 && m.read(7) == 1 && m.peek(7) == 1);
 }
 
+static void test_events()
+{
+    machine m = made("mtc0 $0, $c8\nori $1, $0, 0x1007\nmtc0 $1, $c2\nbreak\n");
+    rsp_reached event = m.event(100, 0, 1 << 8);
+    see("an event", event.at.stop.reason == RSP_AT_MOVE && event.at.stop.steps == 0 && event.at.number == 8 && event.at.writes && event.dma.rows == 0);
+    event = m.event(100, 1 << 8);
+    see("a DMA", event.at.stop.reason == RSP_AT_DMA && event.at.stop.steps == 2 && event.dma.length == 8 && event.dma.rows == 2 && !event.dma.to_rdram);
+    m.load(RSP_DMEM, 0, { 1, 2 });
+    m.pass_dma();
+    see("it is passed over", m.peek(0) == 16 && m.memory(RSP_DMEM, 0, 2) == machine::bytes({ 1, 2 }) && m.get().pc == 12);
+    see("no DMA is next", refuses(RSP_OUT_OF_RANGE, "OUT_OF_RANGE", [&] { m.pass_dma(); }) && refuses(RSP_OUT_OF_RANGE, "OUT_OF_RANGE", [&] { m.event(0); }));
+    event = m.event(100);
+    see("the halt", event.at.stop.reason == RSP_AT_HALT && event.status == 3 && m.step() == RSP_HALTED);
+    see("halted", refuses(RSP_HALTED, "HALTED", [&] { m.pass_dma(); }));
+}
+
 static void test_states()
 {
     machine m = made("break\n");
@@ -112,6 +128,7 @@ static void test_refusals()
 int main()
 {
     test_run();
+    test_events();
     test_states();
     test_moves();
     test_refusals();
