@@ -1,6 +1,6 @@
-/* The console of docs/EMBEDDING.md, which owns RDRAM and the registers of the RDP, runs random programs beside a machine that has all inside:
- * with DMAs of any place and size, single step, halts, reserved words, and budgets of any number of steps. After each run both have made as
- * many steps, and have equal registers and memories. The last line is `N passed, M failed`. */
+/* The console of examples/c, which owns RDRAM and the registers of the RDP, runs random programs beside a machine that has all inside: with
+ * DMAs of any place and size, by the programs and by the CPU, single step, halts, reserved words, and budgets of any number of steps. After
+ * each run both have made as many steps, and have equal registers and memories. The last line is `N passed, M failed`. */
 #include "console.hpp"
 #include <cstdio>
 #include <cstdlib>
@@ -62,12 +62,12 @@ template <class Unit> static void compare(int program, Console<Unit> &console, r
 {
     static uint8_t mine[4096], other[4096];
     static rsp_state here, there;
-    rsp_get(&console.machine, &here);
+    rsp_get(console.machine.handle(), &here);
     rsp_get(inside, &there);
     std::memcpy(here.sp + 8, console.dpc, sizeof console.dpc);
     see("registers", program, !std::memcmp(&here, &there, sizeof here));
     for (uint32_t bank = RSP_DMEM; bank <= RSP_IMEM; bank++) {
-        rsp_memory(&console.machine, bank, 0, mine, 4096);
+        rsp_memory(console.machine.handle(), bank, 0, mine, 4096);
         rsp_memory(inside, bank, 0, other, 4096);
         see("a bank", program, !std::memcmp(mine, other, 4096));
     }
@@ -85,7 +85,21 @@ static bool same_rdram(const std::vector<uint32_t> &mine, rsp *inside)
     return rsp_memory_words(inside, RSP_RDRAM, 0, theirs.data(), theirs.size()) == RSP_OK && mine == theirs;
 }
 
-/* Runs both in turns, with the CPU's write of SP_STATUS where they are halted. */
+/* What the CPU writes to SP registers, DMAs among them, and what it reads. The RDP's are words that only the console has. */
+template <class Unit> static void by_the_cpu(int program, Console<Unit> &console, rsp *inside)
+{
+    for (uint32_t count = random_below(6); count; count--) {
+        uint32_t number = random_below(4) ? random_below(4) : random_below(16), value = value_for(number), theirs;
+        console.write(number, value);
+        rsp_write(inside, number, value);
+        number = random_below(16);
+        rsp_read(inside, number, &theirs);
+        see("a read", program, console.read(number) == theirs);
+    }
+    compare(program, console, inside);
+}
+
+/* Runs both in turns, with the CPU's accesses between them, and its write of SP_STATUS where they are halted. */
 template <class Unit> static uint64_t run_both(int program, Console<Unit> &console, rsp *inside)
 {
     uint64_t made = 0;
@@ -97,9 +111,10 @@ template <class Unit> static uint64_t run_both(int program, Console<Unit> &conso
         see("steps", program, steps == stop.steps);
         compare(program, console, inside);
         if (stop.reason == RSP_AT_RESERVED) break;
+        if (random_below(4) == 0) by_the_cpu(program, console, inside);
         if (stop.reason == RSP_AT_HALT) { /* it goes on, at times without single step */
             uint32_t goes_on = random_below(2) ? 1 : 0x21;
-            rsp_write(&console.machine, 4, goes_on);
+            console.write(4, goes_on);
             rsp_write(inside, 4, goes_on);
         }
         made += steps;
@@ -117,7 +132,7 @@ template <class Unit> static void programs(int count)
     see("a machine", 0, rsp_new(&inside, image.data(), image.size(), 0) == RSP_OK);
     for (int program = 1; program <= count; program++) {
         for (size_t i = 0; i < 1024;) i = put(words, i);
-        for (rsp *m : { &console.machine, &inside }) {
+        for (rsp *m : { console.machine.handle(), &inside }) {
             rsp_load_words(m, RSP_IMEM, 0, words, 1024);
             rsp_set_pc(m, random_below(1) * 4);
             rsp_write(m, 4, 0x25); /* clear halted, broke and single step */

@@ -8,6 +8,7 @@ SP registers and RDRAM of a program's own differ (owner.c, host.cpp).
 
 import re
 from pathlib import Path
+from textwrap import indent
 from typing import List
 
 import pytest
@@ -20,6 +21,8 @@ from lib.processes import STRICT, compiled, run, succeeds
 
 pytestmark = [pytest.mark.needs("cc"), pytest.mark.usefixtures("library")]
 EXAMPLE = TOP / "examples/c/lockstep.c"
+CONSOLE = TOP / "examples/c/console.hpp"
+BY_CONSOLE = "-std=c++17", f"-I{CONSOLE.parent}"
 SANITIZER = "-fsanitize=thread"
 
 
@@ -49,11 +52,22 @@ def test_page(compiler: str, folder: Path) -> None:
 
 @pytest.mark.needs("c++")
 def test_console(folder: Path) -> None:
-    """The console of EMBEDDING.md, which owns RDRAM, beside a machine that has all inside."""
-    text = block_with("docs/EMBEDDING.md", '#include "rsp.h"\n#include <algorithm>')
-    assert len(text.splitlines()) <= 60
-    (folder / "console.hpp").write_text(text)
-    passes(built(folder, HERE / "host.cpp", f"-I{folder}", compiler="c++"))
+    """The console of the examples, which owns RDRAM, beside a machine that has all inside. EMBEDDING.md shows
+    two of its functions, and says how long it is."""
+    text = CONSOLE.read_text()
+    section = re.findall(r"(?ms)^## A console that owns RDRAM\n(.*?)^## ", page("docs/EMBEDDING.md"))[0]
+    shown = [indent(it.strip("\n"), " " * 4) for it in blocks_of(section)]
+    assert len(shown) == 2 and [it for it in shown if f"\n\n{it}\n" not in text] == []
+    (lines,) = re.findall(r"(\d+) lines of C\+\+17", section)
+    assert len(text.splitlines()) == int(lines) <= 66
+    passes(built(folder, HERE / "host.cpp", *BY_CONSOLE, compiler="c++"))
+
+
+@pytest.mark.needs("c++")
+def test_a_dma_by_the_cpu(folder: Path) -> None:
+    """The example that loads microcode as games do."""
+    example = built(folder, CONSOLE.with_suffix(".cpp"), *BY_CONSOLE, compiler="c++")
+    assert succeeds(example) == "9 steps: 2 4 6 8 10 12 14 16, interrupt 1\n"
 
 
 @pytest.mark.parametrize("name", ("stack.c", "no_memory.c"))
