@@ -20,6 +20,11 @@ def statements(cell: str) -> List[str]:
     return [it for it in re.findall(r"`([^`]*)`", cell) if re.match(r"(?!rsp )[.\w]+ \S", it)]
 
 
+def names(cell: str) -> List[str]:
+    """The names of statements in a cell, without operands."""
+    return [it for it in re.findall(r"`([^`]*)`", cell) if re.fullmatch(r"[.a-z]{1,12}", it)]
+
+
 @pytest.mark.parametrize("line", data("syntax"), ids=lambda it: it["Line"])
 def test_line(line: Dict[str, str], program: Path) -> None:
     told = replies(program, f"asm 0\nx: {line['Line']}\nend\ndis 0 1\n")
@@ -43,9 +48,10 @@ def test_explanations(rsp: Any, folder: Path) -> None:
     """`rsp asm --explain` says what to write for each statement that the page says is refused."""
     refused = [cells[0] for cells in tables(PAGE, HEADING) if len(cells) == 2]
     theirs = [it for cell in refused for it in statements(cell) if not it[0].isdigit()]
+    theirs += [f"{it} $1, 2" for cell in refused for it in names(cell)]
     silent = []
     for line in theirs:
         (folder / "text").write_text(f"x: {line}\n")
         told = rsp("asm", "text", "made", "--explain").errors.decode()
         silent += [] if "\n  write: " in told else [(line, told)]
-    assert len(theirs) > 20 and not silent
+    assert len(theirs) > 30 and not silent

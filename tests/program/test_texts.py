@@ -261,6 +261,14 @@ def test_explanation(refusal: List[str], rsp: Any, folder: Path) -> None:
     assert rsp("asm", "text", "made", *at, "--explain") == (1, b"", told.encode())
 
 
+def test_written_statements(files: Files) -> None:
+    """What --explain says to write in the place of a whole line is a statement, or begins with one."""
+    wholes = [re.match(r"[a-z]+ \$[^, ]+(, [^,; ]+(?=[,;]|$))*", it[5]) for it in REFUSED if it[2] == "-"]
+    statements = [it[0] for it in wholes if it]
+    assert len(statements) > 10
+    assert len(files.words_of(["x: nop", *statements])) == len(statements) + 1
+
+
 def test_nothing_to_explain(rsp: Any, folder: Path) -> None:
     (folder / "text").write_text("nop\n")
     assert rsp("asm", "text", "made", "--explain").output == b"ok 1 words\n"
@@ -303,14 +311,11 @@ def test_labels_of_page(files: Files) -> None:
     assert files.text_of(files.words_of(lines, *at), *at, "--labels") == lines
 
 
-@pytest.mark.parametrize(
-    "name, text", (("mine", "nop\nlqv $v30[0], 0x460($0)\n"), ("theirs", "vmov $v07.e1, $v08.e3\n"))
-)
-def test_explanation_of_page(name: str, text: str, rsp: Any, folder: Path) -> None:
-    told = block_with(ASSEMBLY, f"rsp asm {name}.s {name}.bin --explain", 1)
-    assert told.count("\n") in (4, 5)
-    (folder / f"{name}.s").write_text(text)
-    assert rsp("asm", f"{name}.s", f"{name}.bin", "--explain").errors.decode() == told
+def test_explanation_of_page(rsp: Any, folder: Path) -> None:
+    told = block_with(ASSEMBLY, "rsp asm theirs.s theirs.bin --explain", 1)
+    assert told.count("\n") == 5
+    (folder / "theirs.s").write_text("vmov $v07.e1, $v08.e3\n")
+    assert rsp("asm", "theirs.s", "theirs.bin", "--explain").errors.decode() == told
 
 
 # An overlay as libdragon links it: what begins at 0 adds two words of its data, and a command at 040 keeps
@@ -338,11 +343,15 @@ COMPILED = "-mabi=32 -march=vr4300 -mno-abicalls -fno-pic -G0 -nostdlib -static 
 LINKED = "-Wl,-Ttext=0x04001000,-Tdata=0x04000000,--build-id=none".split()
 
 
+def link(folder: Path, text: str) -> None:
+    (folder / "overlay.S").write_text(text)
+    compiled(folder / "rsp_mine.elf", *COMPILED, folder / "overlay.S", *LINKED, compiler=MIPS)
+
+
 @pytest.fixture
 def overlay(files: Files) -> Files:
     """The files with an ELF, and what the page makes of it up to the cleared code."""
-    (files.folder / "overlay.S").write_text(OVERLAY)
-    compiled(files.folder / "rsp_mine.elf", *COMPILED, files.folder / "overlay.S", *LINKED, compiler=MIPS)
+    link(files.folder, OVERLAY)
     names = files.shell(block_with(ASSEMBLY, "mips-linux-gnu-objcopy -O binary -j .text"))
     for it in "04000008 . mark", "04001000 T _start", "04001040 t command":
         assert re.search(rf"(?m)^{it}$", names), names
@@ -375,6 +384,18 @@ def test_command_of_overlay(overlay: Files) -> None:
     """The page's caller calls the command, which returns to it."""
     told = overlay.replies(loads(overlay) + block_with(ASSEMBLY, "asm 0xf80"))
     assert told.endswith("stop Halted steps 8 pc f94\n000000: 0000001e0000000c0000000000000007\n")
+
+
+@pytest.mark.needs("mips-linux-gnu-gcc")
+def test_words_for_gnu_as(files: Files) -> None:
+    """The words of a text, as the page writes them for another assembler, are those of the text."""
+    (files.folder / "mine.s").write_text("x: bne $1, $0, x\nvadd $v1, $v2, $v3[1h]\nj x\n.word 0xfedcba98\n")
+    files.shell(block_with(ASSEMBLY, "rsp asm mine.s mine.bin --at 0x080"))
+    text = (files.folder / "mine.inc").read_text()
+    link(files.folder, f".text\n_start: .globl _start\n{text}")
+    files.shell(block_with(ASSEMBLY, "mips-linux-gnu-objcopy -O binary -j .text").splitlines()[0])
+    made, wanted = ((files.folder / it).read_bytes() for it in ("linked.bin", "mine.bin"))
+    assert len(wanted) == 16 and made[:16] == wanted and not any(made[16:])
 
 
 def test_jump_of_page(files: Files) -> None:

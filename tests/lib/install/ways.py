@@ -133,10 +133,10 @@ WAYS = (
     Way("README.md", "./rsp --version"),
     Way(
         "docs/ASSEMBLY.md",
-        "rsp asm mine.s",
-        first=file_of("mine.s", "nop\nlqv $v30[0], 0x460($0)\n"),
-        instead=(("--explain", "--explain 2>&1 || [ $? = 1 ]"),),
-        prints="after",
+        "cp text.s copy.s",
+        first=file_of("text.s", FAULTY),
+        then="rsp asm copy.s copy.bin",
+        prints="..\nok 3 words",
     ),
     Way(
         "docs/ASSEMBLY.md",
@@ -173,6 +173,13 @@ WAYS = (
         then="od -An -v -tx1 ucode.bin | tr -d ' '",
         prints="0c0000210000000d",
     ),
+    Way(
+        "docs/ASSEMBLY.md",
+        "rsp asm mine.s",
+        first=file_of("mine.s", LOOP_TEXT),
+        then="cat mine.inc",
+        prints="ok 4 words\n.word 0x2421ffff\n.word 0x1420fffe\n.word 0x00000000\n.word 0x0000000d",
+    ),
     Way(CAMPAIGN, "conformance/campaign plugin:", instead=(("/tmp/first", "~/first"),), prints="after"),
     Way(CAMPAIGN, "conformance/campaign plugin:", prints="after"),
     Way(CAMPAIGN, "cargo build", left_out="it is for the repository, where tests/library/rust does it"),
@@ -190,13 +197,6 @@ WAYS = (
         first=file_of("text.S", "#define twice(r) addu r, r, r; nop\ntwice($2) // it is doubled\n"),
         then="rsp asm text.s twice.bin\nrsp dis twice.bin",
         prints="ok 2 words\naddu $2, $2, $2\nnop",
-    ),
-    Way(
-        "docs/COOKBOOK.md",
-        "cp text.s copy.s",
-        first=file_of("text.s", FAULTY),
-        then="rsp asm copy.s copy.bin",
-        prints="..\nok 3 words",
     ),
     Way(
         EMBEDDING,
