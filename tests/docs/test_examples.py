@@ -113,7 +113,10 @@ def test_scripts_in_ci(script: str, wanted: str, told: str, program: Path, folde
     (checks / "last.out").write_text(f"{wanted}\n")
     loop = block_with(COOKBOOK, "for script in checks")
     ended = run("sh", "-c", f'rsp() {{ "{program}" "$@"; }}\n{loop}', cwd=folder)
-    assert (ended.returncode, ended.stdout.splitlines()[-1:]) == ((1, [told]) if told else (0, []))
+    names = [f"checks/{it}.rsp" for it in ("fir", "last", "vch")]
+    lines = ended.stdout.splitlines()
+    assert lines[:2] == names[:2], "each script is named before it runs"
+    assert (ended.returncode, lines[2:][-1:]) == ((1, [told]) if told else (0, names[2:]))
 
 
 # A text for cpp, and the statements that are left of it; those of the page's text for m4.

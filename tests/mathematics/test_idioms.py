@@ -73,11 +73,17 @@ def choice(v: Given) -> Wanted:
 
 
 def clip_codes(v: Given) -> Wanted:
-    v[1][:4] = [it & 0x7FFF for it in v[1][:4]]  # what the lanes become is said of numbers from 0 on
     v[3] = [it & 0x7FFF for it in v[3]]
+    v[1][4:] = [max(-32768, more - it) for more, it in zip((-2, -1, 0, 1), v[3][4:])]  # near -w
     low = sum(1 << i for i, (x, w) in enumerate(longs(v)) if x <= -w and (x or w))
     high = sum(256 << i for i, (x, w) in enumerate(longs(v)) if x >= w)
-    return {SCALAR: [low | high], **halves_of(5, 6, [min(x, w) for x, w in longs(v)[:4]])}
+    within = halves_of(5, 6, [max(-w, min(x, w)) for x, w in longs(v)])
+    by_high = [max(-w, x) if x < 0 else it for x, w, it in zip(v[1], v[3], within[5])]
+    assert {a - b for a, b, x in zip(by_high, within[5], v[1]) if x < 0} <= {
+        0,
+        1,
+    }, "what the page says of $v5"
+    return {SCALAR: [low | high], 5: by_high, 6: within[6]}
 
 
 # By the beginning of a block its rule, which changes registers 1 to 7 to numbers that the block is for, and

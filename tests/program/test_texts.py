@@ -4,6 +4,7 @@ They fail if a label or an explanation is another one than ASSEMBLY's rules give
 else.
 """
 
+import os
 import random
 import re
 import subprocess
@@ -16,9 +17,9 @@ import pytest
 from lib import TOP
 from lib.numbers import clamped, halves
 from lib.pages import block_with, page
-from lib.processes import compiled
+from lib.processes import compiled, run
 
-ASSEMBLY = "docs/ASSEMBLY.md"
+ASSEMBLY, COOKBOOK = "docs/ASSEMBLY.md", "docs/COOKBOOK.md"
 MIPS = "mips-linux-gnu-gcc"
 # Opcodes with a distance in words from the delay slot, and the codes of opcode 1 that have one.
 BRANCHES = (4, 5, 6, 7)
@@ -340,6 +341,7 @@ command: andi $t0, $a0, 0xff
 mark: .word 0, 0
 """
 COMPILED = "-mabi=32 -march=vr4300 -mno-abicalls -fno-pic -G0 -nostdlib -static -x assembler".split()
+ELF_FILES = "check.sh", "command.rsp", "command.out", "waits.py"
 LINKED = "-Wl,-Ttext=0x04001000,-Tdata=0x04000000,--build-id=none".split()
 
 
@@ -396,6 +398,47 @@ def test_words_for_gnu_as(files: Files) -> None:
     files.shell(block_with(ASSEMBLY, "mips-linux-gnu-objcopy -O binary -j .text").splitlines()[0])
     made, wanted = ((files.folder / it).read_bytes() for it in ("linked.bin", "mine.bin"))
     assert len(wanted) == 16 and made[:16] == wanted and not any(made[16:])
+
+
+# Each a part of a file or of OVERLAY, and what is there instead; then a part of what the check of it prints.
+CHECKS = {
+    "as it is": ("", "", "", ""),
+    "another reply": ("command.out", "0007", "0008", "< 000000:"),
+    "a fault": (
+        "command.rsp",
+        "jal ",
+        "jalx ",
+        "rsp: faults in replies: 1, the first: fault 11 UnknownName line 3",
+    ),
+    "a missing wait": (
+        "overlay",
+        "command: ",
+        "command: mtc0 $zero, $2\n",
+        "AssertionError: [Missing(transfer=Transfer(place=64,",
+    ),
+    "no halt": ("command.rsp", "break", "wait: beq $0, $0, wait\nnop", "AssertionError: not halted"),
+}
+
+
+@pytest.mark.needs("mips-linux-gnu-gcc")
+@pytest.mark.parametrize("name", CHECKS)
+def test_check_of_elf(name: str, files: Files) -> None:
+    """The cookbook's check of an ELF passes, and fails for each of these reasons."""
+    at, old, new, said = CHECKS[name]
+    shown = {it: block_with(COOKBOOK, "set -e\nmips-linux-gnu-objcopy", n) for n, it in enumerate(ELF_FILES)}
+    texts = {**shown, "overlay": OVERLAY}
+    if name != "as it is":
+        assert texts[at].count(old) == 1
+        texts[at] = texts[at].replace(old, new)
+    for it in ELF_FILES:
+        (files.folder / it).write_text(texts[it])
+    link(files.folder, texts["overlay"])
+    run_check = f'rsp() {{ "{files.program}" "$@"; }}; python3() {{ "{sys.executable}" "$@"; }}\n'
+    if name in ("a missing wait", "no halt"):  # the replies are the changed code's
+        texts["check.sh"] = texts["check.sh"].replace("| diff command.out -", "")
+    env = {**os.environ, "PYTHONPATH": str(TOP / "library/python")}
+    ended = run("sh", "-c", run_check + texts["check.sh"], cwd=files.folder, env=env)
+    assert (ended.returncode != 0, said in ended.stdout) == (name != "as it is", True), ended.stdout
 
 
 def test_jump_of_page(files: Files) -> None:
