@@ -24,7 +24,7 @@ from lib.pages import page
 ROUNDS = 25
 HERE = 0x400  # where the routine is in IMEM
 RDRAM = 16384  # its bytes
-# The table of microcode/README.md: the words of each routine, and its instructions, `A` or `A + B X`.
+# The table of microcode/README.md: the words of each routine, and its instructions, `A` or `A + B R`.
 TABLE = re.findall(r"(?m)^\| \[(\w+)\.s\].* \| (\d+) \| (.*) \|$", page("microcode/README.md"))
 COUNTS = {name: (int(words), cost) for name, words, cost in TABLE}
 
@@ -146,14 +146,11 @@ def counted(choose: Random, most: int = 4095) -> int:
     return choose.choice((0, 1, 2, 15, 16, 17, 30, 32, choose.randrange(100), choose.randrange(most + 1)))
 
 
-def cost_of(cost: str, count: int) -> int:
-    """The instructions for so many bytes or blocks.
-
-    They are A, or A + B for each v (vectors begun, one at least), w (whole vectors) or b (blocks).
-    """
-    rounds = {"v": max(1, -(-count // 16)), "w": count // 16, "b": count}
-    ((once, each, kind),) = re.findall(r"^(\d+)(?: \+ (\d+) ([vwb]))?$", cost)
-    return int(once) + (int(each) * rounds[kind] if each else 0)
+def cost_of(name: str, count: int) -> int:
+    """The instructions of a routine for so many bytes or blocks: A, or A and B for each round, which are R."""
+    rounds = {"dot_buffers": count // 16, "blocks": count}.get(name, max(1, -(-count // 16)))
+    ((once, each),) = re.findall(r"^(\d+)(?: \+ (\d+) R)?$", COUNTS[name][1])
+    return int(once) + int(each or 0) * rounds
 
 
 # Each routine: a function that chooses its inputs in a random state, and returns what has to be at the end.
@@ -384,7 +381,7 @@ def test_random_inputs(name: str, rsp: Any, folder: Path) -> None:
         wanted = ROUTINES[name](choose, before)
         after, steps = run(rsp, folder / "image", name, before)
         assert wrong(expected(name, before, wanted, after), after) == {}, f"expected and got, run {number}"
-        assert steps == cost_of(COUNTS[name][1], wanted.size), f"the steps of run {number}"
+        assert steps == cost_of(name, wanted.size), f"the steps of run {number}"
 
 
 def test_routines() -> None:
