@@ -238,9 +238,10 @@ WAYS = (
     Way("docs/PLUGIN.md", "plugin/build", then="test -s plugin/mupen64plus-rsp-proved.so"),
     Way(
         "docs/SCRIPT.md",
-        "od ",
-        first=f"{LOOP}\nrsp asm loop.s code.bin",
-        prints=f"ok 4 words\nload imem 0 {LOOP_CODE}",
+        "truncate ",
+        first="printf 12345 > code.bin\nprintf 123 > data.bin",
+        then="wc -c < image",
+        prints="16",
     ),
     Way(
         "docs/SCRIPT.md",
