@@ -383,8 +383,8 @@ def test_elf_of_page(overlay: Files) -> None:
 
 @pytest.mark.needs("mips-linux-gnu-gcc")
 def test_command_of_overlay(overlay: Files) -> None:
-    """The page's caller calls the command, which returns to it."""
-    told = overlay.replies(loads(overlay) + block_with(ASSEMBLY, "asm 0xf80"))
+    """The cookbook's caller calls the command, which returns to it."""
+    told = overlay.replies(loads(overlay) + block_with(COOKBOOK, "asm 0xf80"))
     assert told.endswith("stop Halted steps 8 pc f94\n000000: 0000001e0000000c0000000000000007\n")
 
 
