@@ -29,7 +29,7 @@ from rsp_tools.theorem.routine import module_of
 LONGEST = 1500  # seconds of a check
 pytestmark = [pytest.mark.xdist_group("theorems"), pytest.mark.timeout(LONGEST + 300)]
 NEEDS_RT = pytest.mark.needs("rt")
-PAGE = "docs/PROVING.md"
+PAGE, LOADED = "docs/PROVING.md", "tests/mathematics/theorems/loaded_codes.antt"
 COPIED = ("HANDLES", "crates.txt", "crates", "tools", "conformance/rsp_conformance")
 LOOPS = "down_to_zero down_by_eight up_to_end with_loop sets_count".split()
 WAITS = "signal_wait cleared_signal after_transfer".split()
@@ -108,7 +108,7 @@ class Copy:
 
     def follow_example(self) -> Tuple[str, "Ended[str]"]:
         """Does to the page's first theorem what the page says."""
-        text, commands, field, premise, lines, *_ = blocks_of(section_of("The first theorem, .*?"))
+        text, commands, field, premise, lines, *_ = blocks_of(section_of("The first theorem"))
         name = search(r"(?m)^tools/theorem (\w+) times\.s$", commands)[1]
         begun, module = self.begin(name, text), module_of(name)
         spec, proof = self.crate / f"specs/{module}.antt", self.crate / f"proofs/{module}Runs.antt"
@@ -120,15 +120,19 @@ class Copy:
         return name, begun
 
     def follow_codes(self, is_loaded: bool = False) -> Tuple[str, "Ended[str]"]:
-        """Does to the theorem of the page's clip codes what the page says, of numbers in registers or in
-        DMEM.
+        """Does to the theorem of the page's clip codes what the page says, of numbers in registers, or what
+        the file that it names says, of numbers in DMEM.
         """
         section = section_of("Clip codes")
         name = search(r"`tools/theorem (\w+) codes\.s`", section)[1]
-        text, fields, number, lines, loaded, more = blocks_of(section)
+        text, fields, number, lines = blocks_of(section)
         if is_loaded:
             name = f"loaded_{name}"
-            text = "".join(f"{it}\n" for it in re.findall(r"`(lqv .*?)`", section)) + text
+            assert f"](../{LOADED})" in section
+            loads = re.findall(r"`(lqv .*?)`", page(LOADED))
+            assert len(loads) == 2
+            text = "".join(f"{it}\n" for it in loads) + text
+            loaded, more = re.findall(r"(?m)^(?!--).+\n(?:(?!--).+\n)*", page(LOADED))
             number = number.splitlines(keepends=True)[0] + loaded
             lines = more + "".join(lines.splitlines(keepends=True)[2:])
             lines = lines.replace("(5 ∷ 6 ∷ [])", "(1 ∷ 2 ∷ 5 ∷ 6 ∷ [])")
@@ -144,7 +148,7 @@ class Copy:
         """Begins the theorem of the page's wait, whose premise is the one that the page shows."""
         section = section_of("Waits")
         name = search(r"`tools/theorem (\w+) signal\.s`", section)[1]
-        text, premise, _ = blocks_of(section)  # the last one is of code after a wait
+        text, premise = blocks_of(section)
         begun = self.begin(name, text)
         assert f"→ {premise.strip()} →" in (self.crate / f"specs/{module_of(name)}.antt").read_text()
         return name, begun
@@ -153,7 +157,7 @@ class Copy:
         """Does to the theorem of the page's loop what the page says."""
         section = section_of("Loops")
         name = search(r"`tools/theorem (\w+) masks\.s`", section)[1]
-        text, unmark, result, lemma, _ = blocks_of(section)  # the last one is of another loop
+        text, unmark, result, lemma = blocks_of(section)
         use = search(r"`([^`]*)` replaces the `\?`", section)[1]
         begun, module = self.begin(name, text), module_of(name)
         run("sh", "-c", unmark, cwd=self.crate, check=True)
