@@ -3,9 +3,9 @@
 They fail if one isn't proved as it is written, or a text that it can't take doesn't get its sentence. The
 program rsp assembles the texts. tools/theorem runs in a temporary copy of the crates: on straight code with
 an instruction of each kind, on loops, on waits, on routines that return, and on the examples of
-docs/PROVING.md. One `rt check` then has to prove both functions of each. It also has to prove what the page
-states of its first example, of its loop and of its clip codes, after the edits that the page says. Every
-instruction of the table is known.
+docs/PROVING.md and docs/PROVING_REFERENCE.md. One `rt check` then has to prove both functions of each. It
+also has to prove what the pages state of the first example, of the loop and of the clip codes, after the
+edits that they say. Every instruction of the table is known.
 """
 
 import os
@@ -29,7 +29,7 @@ from rsp_tools.theorem.routine import module_of
 LONGEST = 1500  # seconds of a check
 pytestmark = [pytest.mark.xdist_group("theorems"), pytest.mark.timeout(LONGEST + 300)]
 NEEDS_RT = pytest.mark.needs("rt")
-PAGE, LOADED = "docs/PROVING.md", "tests/mathematics/theorems/loaded_codes.antt"
+PAGE, MORE = "docs/PROVING.md", "docs/PROVING_REFERENCE.md"
 COPIED = ("HANDLES", "crates.txt", "crates", "tools", "conformance/rsp_conformance")
 LOOPS = "down_to_zero down_by_eight up_to_end with_loop sets_count".split()
 WAITS = "signal_wait cleared_signal after_transfer".split()
@@ -120,19 +120,17 @@ class Copy:
         return name, begun
 
     def follow_codes(self, is_loaded: bool = False) -> Tuple[str, "Ended[str]"]:
-        """Does to the theorem of the page's clip codes what the page says, of numbers in registers, or what
-        the file that it names says, of numbers in DMEM.
+        """Does to the theorem of the page's clip codes what the page says, of numbers in registers or in
+        DMEM.
         """
-        section = section_of("Clip codes")
+        section = section_of("Clip codes", MORE)
         name = search(r"`tools/theorem (\w+) codes\.s`", section)[1]
-        text, fields, number, lines = blocks_of(section)
+        text, fields, number, lines, loaded, more = blocks_of(section)
         if is_loaded:
             name = f"loaded_{name}"
-            assert f"](../{LOADED})" in section
-            loads = re.findall(r"`(lqv .*?)`", page(LOADED))
+            loads = re.findall(r"`(lqv .*?)`", section)
             assert len(loads) == 2
             text = "".join(f"{it}\n" for it in loads) + text
-            loaded, more = re.findall(r"(?m)^(?!--).+\n(?:(?!--).+\n)*", page(LOADED))
             number = number.splitlines(keepends=True)[0] + loaded
             lines = more + "".join(lines.splitlines(keepends=True)[2:])
             lines = lines.replace("(5 ∷ 6 ∷ [])", "(1 ∷ 2 ∷ 5 ∷ 6 ∷ [])")
@@ -170,8 +168,8 @@ class Copy:
         return name, begun
 
 
-def section_of(heading: str) -> str:
-    return search(rf"(?ms)^## {heading}\n(.*?)^## ", page(PAGE))[1]
+def section_of(heading: str, name: str = PAGE) -> str:
+    return search(rf"(?ms)^## {heading}\n(.*?)^## ", page(name))[1]
 
 
 def search(pattern: str, text: str) -> "re.Match[str]":
