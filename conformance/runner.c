@@ -1,15 +1,13 @@
-/* runner FILE..: runs the test vectors of `flat`, and prints each case that differs. A file that has something else is refused.
- * For another machine replace the calls rsp_*. */
-#include "rsp.h"
-#include <stdio.h>
-#include <string.h>
+/* runner FILE..: runs the test vectors of `flat`, and prints for each case that differs its first difference. A file that has something else is
+ * refused. To test another machine, link its rsp_new, rsp_free, rsp_load, rsp_memory, rsp_set, rsp_get and rsp_step instead of the library. */
+#include "rsp_compare.h"
 
 typedef struct { uint32_t size, word, has_choice; char name[16]; uint32_t pieces; } head;
 typedef struct { uint32_t is_after, bank, address, length; } piece; /* its bytes follow, up to a multiple of 4 */
 typedef struct { const uint8_t *at, *end; } rest;                   /* the bytes that nobody has taken yet */
 
 enum { RDRAM_LENGTH = 1 << 17, LONGEST_FILE = 1 << 24 };
-static uint8_t image[RDRAM_LENGTH], expected[8192 + RDRAM_LENGTH], found[8192 + RDRAM_LENGTH];
+static uint8_t expected[8192 + RDRAM_LENGTH], found[8192 + RDRAM_LENGTH];
 
 static uint32_t length_of(uint32_t bank) { return bank < 2 ? 4096 : RDRAM_LENGTH; }
 
@@ -38,10 +36,8 @@ static int put_pieces(rest from, uint32_t count, uint32_t is_after)
     static uint8_t unused[RDRAM_LENGTH];
     while (count--) {
         piece p;
-        uint8_t padding[3];
         if (!take(&from, &p, sizeof p) || p.bank > 2 || p.address > length_of(p.bank) || p.length > length_of(p.bank) - p.address) return 0;
-        if (!take(&from, p.is_after == is_after ? expected + 4096 * p.bank + p.address : unused, p.length)) return 0;
-        if (!take(&from, padding, -p.length & 3)) return 0;
+        if (!take(&from, p.is_after == is_after ? expected + 4096 * p.bank + p.address : unused, p.length) || !take(&from, unused, -p.length & 3)) return 0;
     }
     return 1;
 }
@@ -49,22 +45,28 @@ static int put_pieces(rest from, uint32_t count, uint32_t is_after)
 /* Runs the case that comes next, and takes it. Returns 1 if it differs, -1 if it isn't a case. */
 static int run(rsp *m, rest *file)
 {
-    rsp_state before, after, got;
+    static rsp_part parts[RSP_COMPARE_PARTS + sizeof found / RSP_QUADWORD];
+    rsp_compare_seen after = { .bytes = expected }, got = { .bytes = found };
+    rsp_state before;
     head h;
     rest r = *file;
     if (!take(&r, &h, sizeof h) || h.size < sizeof h || h.size > (size_t)(file->end - file->at)) return -1;
-    r.end = file->at + h.size;
-    file->at = r.end;
-    if (!take(&r, &before, sizeof before) || !take(&r, &after, sizeof after)) return -1;
+    file->at = r.end = file->at + h.size;
+    if (!take(&r, &before, sizeof before) || !take(&r, &after.state, sizeof before)) return -1;
     memset(expected, 0, sizeof expected);
     if (!put_pieces(r, h.pieces, 0)) return -1;
     for (uint32_t bank = 0; bank < 3; bank++) rsp_load(m, bank, 0, expected + 4096 * bank, length_of(bank));
     put_pieces(r, h.pieces, 1);
-    int is_wrong = rsp_set(m, &before) != RSP_OK || rsp_step(m) != RSP_OK || rsp_get(m, &got) != RSP_OK || memcmp(&got, &after, sizeof got) != 0;
+    int is_made = rsp_set(m, &before) == RSP_OK && rsp_step(m) == RSP_OK && rsp_get(m, &got.state) == RSP_OK;
     for (uint32_t bank = 0; bank < 3; bank++) rsp_memory(m, bank, 0, found + 4096 * bank, length_of(bank));
-    is_wrong |= memcmp(found, expected, sizeof found) != 0;
-    if (is_wrong) printf("%s (word %08x) differs\n", shown(h.name, sizeof h.name), h.word);
-    return is_wrong;
+    size_t count = rsp_compare_parts(&after, &got, sizeof found, parts);
+    if (is_made && !count) return 0;
+    printf("%s (word %08x%s), ", shown(h.name, sizeof h.name), h.word, h.has_choice ? ", choice" : "");
+    int high = parts->digits > 16 ? 16 : 0, low = (int)parts->digits - high; /* the digits of a value's two halves */
+    unsigned long long a = parts->value[0], b = parts->value[1], c = parts->other[0], d = parts->other[1];
+    if (is_made) printf("%s: expected %.*llx%0*llx, got %.*llx%0*llx%s\n", parts->name, high, a, low, b, high, c, low, d, count > 1 ? ", and more" : "");
+    else printf("isn't executed\n");
+    return 1;
 }
 
 /* Runs the cases of a file, and counts them. Returns 0 if it is refused. */
@@ -82,8 +84,7 @@ static int run_file(rsp *m, const char *path, uint32_t *cases, uint32_t *failed)
         return fprintf(stderr, "%s has no flat vectors\n", shown(path, strlen(path))), 0;
     for (uint32_t k = 1; k <= number; k++, ++*cases) {
         int is_wrong = run(m, &r);
-        if (is_wrong < 0)
-            return fprintf(stderr, "%s: case %u of %u isn't whole, or has a piece that no memory has\n", shown(path, strlen(path)), k, number), 0;
+        if (is_wrong < 0) return fprintf(stderr, "%s: case %u of %u isn't whole, or has a piece that no memory has\n", shown(path, strlen(path)), k, number), 0;
         *failed += (uint32_t)is_wrong;
     }
     if (r.at != r.end) return fprintf(stderr, "%s has bytes after its last case\n", shown(path, strlen(path))), 0;
@@ -94,7 +95,7 @@ int main(int count, char **files)
 {
     rsp m = RSP_NONE;
     uint32_t cases = 0, failed = 0;
-    int is_refused = rsp_new(&m, image, sizeof image, 0) != RSP_OK;
+    int is_refused = rsp_new(&m, found + 8192, RDRAM_LENGTH, 0) != RSP_OK;
     for (int i = 1; i < count && !is_refused; i++) is_refused = !run_file(&m, files[i], &cases, &failed);
     rsp_free(&m);
     if (is_refused) return 2;

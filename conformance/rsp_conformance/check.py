@@ -175,6 +175,8 @@ def refusals(program: str) -> Iterator[Complaints]:
             (["run", blank, "SUB"], "has no test vectors of SUB"),
             (["generate", empty, "vfoo"], "the instruction table has no vfoo"),
             (["generate", "--cases", "0", empty], "--cases is 1 or more"),
+            (["generate", "--of", VECTORS, empty], "--of is for --full or --flat"),
+            (["generate", "--of", empty, "--flat", blank], "has no test vectors"),
         ):
             command = [HERE / str(words[0]), "--program", program, *words[1:]]
             ran = subprocess.run(list(map(str, command)), capture_output=True, text=True)
@@ -289,6 +291,11 @@ def told_by_runner(number: int, machine: Any, path: Path) -> str:
     return told.getvalue()
 
 
+def start_of(entry: Dict[str, Any]) -> str:
+    """How a line of a runner about a case begins: one about a choice is marked."""
+    return f"{entry['name']} ({entry['text']}{', choice' * ('choice' in entry)}), "
+
+
 def runner_of_steps_finds(program: str, name: str, path: Path) -> Iterator[Complaints]:
     """That the runner of `steps` passes an instruction's first cases, and names each that is spoilt."""
     machine, random = machine_on(program, name), Random("runner", name)
@@ -297,11 +304,12 @@ def runner_of_steps_finds(program: str, name: str, path: Path) -> Iterator[Compl
         path.write_text("".join(f"{json.dumps(it)}\n" for it in entries))
         return told_by_runner(0, machine, path)
 
-    entries = entries_in(VECTORS, name)[:2]
+    all_entries = entries_in(VECTORS, name)
+    entries = [*all_entries[:2], *[it for it in all_entries if "choice" in it][:1]]
     yield unless(not (said := told(*entries)), f"the runner of README.md says of {name}: {said[:200]}")
     for entry in entries:
         for false in spoilt_entries(entry, random):
-            right = (said := told(false)).startswith(f"{entry['name']} ({entry['text']}), ")
+            right = (said := told(false)).startswith(start_of(entry))
             yield unless(right, f"the runner of README.md says of {false}: {said[:200]!r}")
 
 
@@ -316,7 +324,7 @@ def runner_of_programs_finds(program: str, name: str, folder: Path) -> Iterator[
     (folder / f"{it.entry['name']}.after").write_bytes(it.wrong)
     said = told_by_runner(1, machine, folder / f"{name}.json")
     pair = f"expected {it.wrong[it.at]:02x}, got {it.right[it.at]:02x}"
-    wanted = f"{it.case['name']} ({it.case['text']}), {it.what}, DMEM {it.at:03x}: {pair}\n"
+    wanted = f"{start_of(it.case)}{it.what}, DMEM {it.at:03x}: {pair}\n"
     yield unless(said == wanted, f"the runner of README.md says of a spoilt program of {name}: {said!r:.200}")
 
 
@@ -336,7 +344,7 @@ def checks(program: str) -> Iterator[Complaints]:
     yield from map(full_is_the_same, names)
     yield from map(flat_is_the_same, names)
     yield from map(divides_where_it_may, names)
-    for name in ("VADDC", "SQV", "MTC0", "BEQ"):
+    for name in ("VADDC", "SQV", "MTC0", "BEQ", "STV"):
         yield from runners_find(program, name)
     yield from spoilt_steps_found(program, names)
     for name in names:

@@ -1,5 +1,7 @@
 """conformance/generate [--full] [--flat] [--cases N] [--seed S] [--program PROGRAM] OUT [NAME..]: makes test
 vectors of instructions. It fails if the program doesn't know one of them.
+conformance/generate [--full] [--flat] --of FOLDER OUT [NAME..]: makes these two forms of the cases of `steps`
+that FOLDER has, such as conformance/vectors. It needs no program.
 
 NAME is an instruction; without one all instructions are meant. It makes N cases of each (as many as the small
 set has: 20 to 56), from the seed S (1), on the program rsp (./rsp):
@@ -23,6 +25,7 @@ from rsp_conformance.cases import small_count
 from rsp_conformance.commands import PROGRAM, printable, reader, say
 from rsp_conformance.files import FileFault, write
 from rsp_conformance.table import ROWS, Row
+from rsp_conformance.vectors import VectorsFault, entries_in, names_in
 
 SEED = "1"
 
@@ -63,8 +66,21 @@ def generate(
                 yield f"{row.name.upper()}: {error}"
 
 
+def formed(of: Path, names: Sequence[str], out: Path, more: Sequence[str]) -> int:
+    """Writes forms of the cases of `steps` in a folder. Returns the number of instructions."""
+    found = names_in(of, names)
+    for name in found:
+        for form in more:
+            suffix, made = MORE[form]
+            (out / form).mkdir(parents=True, exist_ok=True)
+            write(out / form / f"{name}.{suffix}", made(entries_in(of, name)))
+    return len(found)
+
+
 def refusal_of(args: argparse.Namespace) -> Optional[str]:
     """Why these words give nothing, as a sentence."""
+    if args.of and (args.cases is not None or not args.more):
+        return "--of is for --full or --flat, without --cases"
     if unknown := [name for name in args.names if name.lower() not in ROWS]:
         return f"the instruction table has no {unknown[0]}"
     if args.cases is not None and args.cases < 1:
@@ -72,7 +88,7 @@ def refusal_of(args: argparse.Namespace) -> Optional[str]:
     if args.out.lower() in ROWS:
         how = f"write ./{args.out} for a folder of that name"
         return f"{args.out} is an instruction, and the first word is the folder OUT ({how})"
-    return bench.refusal_of(args.program)
+    return None if args.of else bench.refusal_of(args.program)
 
 
 def main() -> None:
@@ -82,6 +98,7 @@ def main() -> None:
     words.add_argument("--cases", type=int)
     words.add_argument("--seed", default=SEED)
     words.add_argument("--program", default=PROGRAM)
+    words.add_argument("--of", type=Path, metavar="FOLDER")
     words.add_argument("out", metavar="OUT")
     words.add_argument("names", nargs="*", metavar="NAME")
     args = words.parse_args()
@@ -89,10 +106,13 @@ def main() -> None:
         sys.exit(printable(f"generate: {refusal}"))
     rows = [ROWS[name.lower()] for name in args.names] or list(ROWS.values())
     try:
+        if args.of:
+            say(f"{formed(args.of, args.names, Path(args.out), args.more)} instructions\n")
+            return
         errors = list(generate(args.program, rows, args.seed, args.cases, Path(args.out), args.more))
     except OSError as fault:
         sys.exit(printable(f"generate: {fault.filename or args.out} can't be written: {fault.strerror}"))
-    except FileFault as fault:
+    except (FileFault, VectorsFault) as fault:
         sys.exit(printable(f"generate: {fault}"))
     say("".join(f"{printable(it)}\n" for it in errors))
     say(f"{len(rows) - len(errors)} of {len(rows)} instructions, {args.cases or '20 to 56'} cases each\n")

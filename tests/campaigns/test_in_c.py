@@ -91,5 +91,6 @@ def test_runner_of_flat_vectors(program: Path, folder: Path) -> None:
     files[0].write_bytes(spoilt)
     ended = run(runner, files[0])
     assert ended.returncode == 1 and ended.stdout.startswith("VADD-000 (word ")
+    assert ended.stdout.count(", $v0 lane 0: expected ") == 1
     assert "11 passed, 1 failed" in ended.stdout
     assert "has no flat vectors" in run(runner, source).stdout

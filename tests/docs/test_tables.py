@@ -52,11 +52,12 @@ def test_made_pages(name: str) -> None:
 
 
 def test_cases_of_vectors() -> None:
-    """How many cases the page says that each instruction has in the small set."""
-    head = r"\| Instructions \| Cases of each \|\n\|[-|]+\|\n"
-    (table,) = re.findall(rf"{head}((?:\|.*\n)+)", page(OF_VECTORS))
-    counts = {len(entries_in(VECTORS, name)) for name in names_in(VECTORS)}
-    assert {*map(int, re.findall(r"\d+", table))} == counts
+    """How many cases the page says that the small set has, of how many instructions, and of each at least and
+    at most."""
+    form = r"([\d,]+) cases, (\d+) to (\d+) of each of the (\d+) instructions"
+    (said,) = re.findall(form, " ".join(page(OF_VECTORS).split()))
+    counts = [len(entries_in(VECTORS, name)) for name in names_in(VECTORS)]
+    assert said == (f"{sum(counts):,}", f"{min(counts)}", f"{max(counts)}", f"{len(counts)}")
 
 
 def used_by(rows: Iterable[Row]) -> Set[str]:

@@ -75,9 +75,10 @@ def test_instruction(name: str, program: Path) -> None:
     see(checks_of(name, str(program)))
 
 
-@pytest.mark.parametrize("name", ("VADDC", "SQV", "MTC0", "BEQ"))
+@pytest.mark.parametrize("name", ("VADDC", "SQV", "MTC0", "BEQ", "STV"))
 def test_runners_of_page(name: str, program: Path) -> None:
-    """The runners of conformance/README.md pass true cases and programs, and name spoilt ones."""
+    """The runners of conformance/README.md pass true cases and programs, and name spoilt ones, with a mark if
+    they show a choice."""
     see(check.runners_find(str(program), name))
 
 

@@ -1,9 +1,12 @@
-"""conformance/runner.c, which authors of emulators copy: it runs flat vectors, and refuses malformed files.
+"""conformance/runner.c, which authors of emulators link with theirs: it runs flat vectors, and refuses malformed
+files.
 
-It fails if right vectors differ or a changed one doesn't, if a malformed file isn't refused, or if the
-sanitizers of addresses and of undefined behaviour find something.
+It fails if right vectors differ or a changed one doesn't, if the line of a difference names another register or
+byte, if a malformed file isn't refused, or if the sanitizers of addresses and of undefined behaviour find
+something.
 """
 
+import re
 import struct
 import subprocess
 from pathlib import Path
@@ -12,6 +15,7 @@ from typing import Dict, Tuple
 import pytest
 
 from lib import TOP, devices
+from lib.pages import blocks, page
 from lib.processes import compiled, run, succeeds
 from lib.sanitizers import sanitizers
 
@@ -30,10 +34,14 @@ def runner(library: Path, tmp_path_factory: pytest.TempPathFactory) -> Path:
 
 @pytest.fixture(scope="module")
 def vectors(program: Path, tmp_path_factory: pytest.TempPathFactory) -> bytes:
-    """The flat vectors of SW, which have pieces of DMEM and IMEM."""
+    """The flat vectors of SW, which have pieces of DMEM and IMEM: the same of the program and of `steps`."""
     at = tmp_path_factory.mktemp("vectors")
     succeeds("conformance/generate", "--program", program, "--flat", at, "SW")
-    return (at / "flat/SW.bin").read_bytes()
+    words = ("--program", "/none", "--flat", "--of", at, at / "again", "SW")
+    assert succeeds("conformance/generate", *words) == "1 instructions\n"
+    made = (at / "flat/SW.bin").read_bytes()
+    assert (at / "again/flat/SW.bin").read_bytes() == made
+    return made
 
 
 def refuses(runner: Path, file: Path, data: bytes) -> None:
@@ -72,12 +80,82 @@ def test_right(runner: Path, vectors: bytes, folder: Path) -> None:
     assert succeeds(runner, folder / "right.bin") == "20 passed, 0 failed\n"
 
 
-def test_changed(runner: Path, vectors: bytes, folder: Path) -> None:
-    """A bit of the registers after the first case."""
-    at = HEAD + 772 + 4 * 7
-    (folder / "changed.bin").write_bytes(with_number(vectors, at, 0x12345678))
+# Where a part of a state is, its bytes, what it is called, and its digits.
+PARTS = {
+    "scalar register": (4 * 7, 4, "$7", 8),
+    "lane": (128 + 2 * (8 * 31 + 5), 2, "$v31 lane 5", 4),
+    "accumulator": (128 + 512 + 2 * 8 + 2 * 3, 2, "accumulator 3", 12),
+    "clip": (128 + 560 + 3, 1, "vcc", 4),
+    "DIV_OUT": (128 + 560 + 6 + 2, 2, "out", 4),
+    "npc": (128 + 560 + 12 + 2, 2, "npc", 3),
+    "SP register": (704 + 4 * 4, 4, "SP_STATUS", 8),
+    "interrupt": (768, 4, "interrupt", 1),
+}
+
+
+@pytest.mark.parametrize("at, size, name, digits", PARTS.values(), ids=PARTS)
+def test_changed(
+    at: int, size: int, name: str, digits: int, runner: Path, vectors: bytes, folder: Path
+) -> None:
+    """A bit of a register after the first case: it is named, with both values, and a case of a choice is
+    marked."""
+    to = HEAD + 772 + at
+    false = vectors[:to] + bytes([vectors[to] ^ 1]) + vectors[to + 1 :]
+    (folder / "changed.bin").write_bytes(false)
+    (folder / "choice.bin").write_bytes(with_number(false, 16 + 8, 1))
+    ran = run(runner, folder / "changed.bin", folder / "choice.bin")
+    form = rf"SW-000 \(word (\w{{8}})%s\), {re.escape(name)}: expected (\w{{{digits}}}), got (\w{{{digits}}})"
+    found = re.fullmatch(rf"{form % ''}\n{form % ', choice'}\n38 passed, 2 failed\n", ran.stdout)
+    assert ran.returncode == 1 and found, ran.stdout
+    assert found.groups()[:3] == found.groups()[3:]
+    assert int(found[2], 16) ^ int(found[3], 16) in (1, 1 << 8, 1 << 16), ran.stdout
+
+
+def test_changed_memory(runner: Path, vectors: bytes, folder: Path) -> None:
+    """A byte that a case leaves in DMEM or in IMEM: its quadword is named."""
+    pieces, at = [], PIECE
+    while at < 16 + struct.unpack("<I", vectors[16:20])[0]:
+        is_after, bank, address, length = struct.unpack("<IIII", vectors[at : at + 16])
+        pieces.append((is_after, bank, address, at + 16))
+        at += 16 + length + -length % 4
+    assert any(it[0] for it in pieces)
+    is_after, bank, address, at = pieces[-1]
+    (folder / "changed.bin").write_bytes(vectors[:at] + bytes([vectors[at] ^ 1]) + vectors[at + 1 :])
     ran = run(runner, folder / "changed.bin")
-    assert ran.returncode == 1 and ran.stdout.endswith("19 passed, 1 failed\n")
+    name = f"{('DMEM', 'IMEM')[bank]} {address // 16 * 16:03x}"
+    assert re.match(rf"SW-000 \(word \w+\), {name}: expected \w{{32}}, got \w{{32}}\n", ran.stdout), ran.stdout
+
+
+def test_line_of_page(runner: Path, program: Path, folder: Path) -> None:
+    """The line that the page shows: a case of a choice, with the value that CFC2 doesn't give."""
+    (shown,) = [it for it in blocks("conformance/README.md") if re.match(r"\w+-\d+ \(word ", it)]
+    name, register, expected, got = re.findall(r"^(\w+-\d+) .*, (\$\d+): expected (\w+), got (\w+)$", shown)[0]
+    succeeds("conformance/generate", "--flat", "--of", TOP / "conformance/vectors", folder, "CFC2")
+    data, at = (folder / "flat/CFC2.bin").read_bytes(), 16
+    while data[at + 12 :][: len(name)] != name.encode():
+        at += struct.unpack("<I", data[at : at + 4])[0]
+    to = at + 32 + 772 + 4 * int(register[1:])
+    assert struct.unpack("<I", data[to : to + 4])[0] == int(expected, 16)
+    (folder / "changed").write_bytes(with_number(data, to, int(got, 16)))
+    told = run(runner, folder / "changed").stdout
+    assert told == f"{shown.replace(expected, '*').replace(got, expected).replace('*', got)}19 passed, 1 failed\n"
+
+
+def test_emulator_of_page(folder: Path, vectors: bytes, library: Path) -> None:
+    """The functions that the page names are all that it takes: an emulator with these is linked, and named if
+    it executes nothing."""
+    (said,) = re.findall(r"`mine\.c` defines (.*?),\s+with", " ".join(page("conformance/README.md").split()))
+    names = re.findall(r"`(rsp_\w+)`", said)
+    header = (library / "rsp.h").read_text()
+    calls = [re.search(rf"(?m)^\w+ {name}\(.*\);$", header) for name in names]
+    assert len(calls) == 7 and all(calls)
+    bodies = [f"{it[0][:-1]} {{ {'' if it[0].startswith('void') else 'return 0; '}}}\n" for it in calls if it]
+    (folder / "mine.c").write_text("".join(['#include "rsp.h"\n', *bodies]))
+    made = compiled(folder / "mine", f"-I{library}", TOP / "conformance/runner.c", folder / "mine.c")
+    (folder / "SW.bin").write_bytes(vectors)
+    ran = run(made, folder / "SW.bin")
+    assert ran.returncode == 1 and ran.stdout.startswith("SW-000 (word ")
+    assert ran.stdout.endswith("\n0 passed, 20 failed\n")
 
 
 def changed(vectors: bytes, name: bytes) -> bytes:

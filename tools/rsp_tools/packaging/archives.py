@@ -9,8 +9,8 @@ from rsp_tools.packaging.installed import File
 
 # What vectors and campaigns need of the repository, and the pages that theirs lead to, with their pictures.
 CONFORMANCE = """
-conformance tools/python library/c/rsp.h docs/CAMPAIGN.md docs/INSTRUCTIONS.md docs/MACHINE.md docs/pictures
-CHANGELOG.md
+conformance tools/python library/c/rsp.h library/c/rsp_compare.h docs/CAMPAIGN.md docs/INSTRUCTIONS.md
+docs/MACHINE.md docs/pictures CHANGELOG.md
 """.split()
 ENDINGS = {"windows-x86_64": "zip", "page": "zip", "wasm64": "tgz"}  # all others are .tar.gz
 

@@ -16,6 +16,7 @@ MOVED = {
 }
 OF_NPM = "library/js/"
 EMBEDDING, CAMPAIGN, PLUGIN = "docs/EMBEDDING.md", "docs/CAMPAIGN.md", "docs/PLUGIN.md"
+VECTORS = "conformance/README.md"
 BUILD = r"(?m)^library/c/build  .*\n"
 COPY = "cp -dR bin include lib share PREFIX     # installs it\n"
 COPY_MACOS = "cp -R include lib PREFIX     # installs it\n"
@@ -30,6 +31,7 @@ FORMS = (
     (EMBEDDING, r'(?<=path = "\.\./)rsp/library(?=/rust")', "FOLDER"),
     (EMBEDDING, r"(?m)^tools/systems wasm64  .*\nnpm install \./library/systems/wasm64\n", NPM),
     (CAMPAIGN, r"(?<=-fPIC )-Ilibrary/c(?= )", "-Iinclude"),
+    (VECTORS, r"(?<=-O2 )-Ilibrary/c(?= conformance/runner\.c )", "-Iinclude"),
     (PLUGIN, BUILD + r"(?=plugin/build  )", ""),
 )
 # What the page says first where the archive has no header and no libraries for C.
