@@ -182,7 +182,6 @@ WAYS = (
     ),
     Way(CAMPAIGN, "conformance/campaign plugin:", instead=(("/tmp/first", "~/first"),), prints="after"),
     Way(CAMPAIGN, "conformance/campaign plugin:", prints="after"),
-    Way(CAMPAIGN, "cargo build", left_out="it is for the repository, where tests/library/rust does it"),
     Way(
         CAMPAIGN,
         "cc -O2 -shared",
