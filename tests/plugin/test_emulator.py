@@ -23,7 +23,7 @@ RESULTS = 79  # calls of `see` in rom/cpu.c, with those in loops
 # The semaphore, what the DMA registers hold after a DMA, and a DMA round the end of DMEM:
 # conformance/Z64.md, at MFC0 and MTC0.
 Z64_WRONG = {0x602, 0x604, 0x605, 0x606, 0x609, 0x60A, 0x60B, 0x610, 0x611}
-HUNT = page("docs/PLUGIN.md").split("## Check a plugin of your own")[1]
+HUNT = page("tests/plugin/README.md")
 TOLD = re.findall(r"^(RSP\D*: check: .*)", HUNT, re.M)  # what check mode says, by the page
 PLAYS = r"(?ms)^(\S*mupen64plus --.*?[^\\])$"  # a command of the page
 
@@ -75,7 +75,7 @@ def remove_reports(hunt: Bench) -> None:
 
 @pytest.mark.needs(str(HEADERS), str(CORE))
 def test_hunt_of_page(hunt: Bench) -> None:
-    """The hunt of docs/PLUGIN.md, by the same plugins on the same ROM, and the script of its difference."""
+    """The hunt of README.md, by the same plugins on the same ROM, and the script of its difference."""
     remove_reports(hunt)
     said, _ = hunt.played(hunt.folder / "all.z64", hunt.plugin, 2, "CheckAgainst=./faulty-1.so")
     found = re.findall(r"^rsp \d check: (.*)", said, re.M)
@@ -97,7 +97,7 @@ def test_hunt_without_fault(hunt: Bench) -> None:
 
 
 def typed(hunt: Bench, home: Path, command: str, last: str, **environment: str) -> List[str]:
-    """What the front end says if a command of PLUGIN.md is typed, up to a line that ends like this.
+    """What the front end says if a command of a page is typed, up to a line that ends like this.
 
     The ROM doesn't end by itself.
     """
@@ -155,7 +155,7 @@ def screen() -> Iterator[Dict[str, str]]:
 def test_on_a_screen(hunt: Bench, folder: Path) -> None:
     """The ROM as PLUGIN.md plays it, with a graphics plugin that draws; and in check mode, which keeps it."""
     commands = re.findall(PLAYS, page("docs/PLUGIN.md"))[:2]
-    play, checked = (it.replace("OTHER.so", "./faulty-1.so").replace(" ROM", " all.z64") for it in commands)
+    play, checked = (it.replace("OTHER.so", "faulty-1.so").replace(" ROM", " all.z64") for it in commands)
     (hunt.folder / "plugin").mkdir()
     (hunt.folder / "plugin/mupen64plus-rsp-proved.so").symlink_to(hunt.plugin)
     with screen() as environment:

@@ -254,7 +254,9 @@ WAYS = (
 IN_A_CLONE = (
     # mupen64plus doesn't end by itself; tests/plugin plays what is made here.
     Way(
-        "docs/PLUGIN.md", "tools/python lib.plugin", instead=(("/tmp/", "~/"), ("/usr/games", ": /usr/games"))
+        "tests/plugin/README.md",
+        "tools/python lib.plugin",
+        instead=(("/tmp/", "~/"), ("/usr/games", ": /usr/games")),
     ),
     Way(EMBEDDING, "library/c/build", instead=(("PREFIX", "~/prefix"),)),
     Way("docs/PLUGIN.md", "library/c/build", then="test -s plugin/mupen64plus-rsp-proved.so"),
