@@ -1,7 +1,7 @@
 """The rules that docs/INSTRUCTIONS.md has as Python, against the program on random values, and its examples.
 
-It fails if VCH, VCL, VCR, or the answers of the long divides differ from the function of the page, or if the
-program makes something else of an example in its tables.
+It fails if VCH, VCL, VCR, VMULQ, VMACQ, or the answers of the long divides differ from the function of the page,
+or if the program makes something else of an example in its tables.
 """
 
 import re
@@ -69,6 +69,25 @@ def test_clip(name: str, program: Path) -> None:
             given = (a, b, *flags_of(before, at)) if name == "vcl" else (signed(a), signed(b))
             result, *flags = rule(*given)
             assert (lane(after, "v3", at), flags_of(after, at)) == (result % 65536, flags), f"of {given}"
+
+
+@pytest.mark.parametrize("name", ["vmulq", "vmacq"])
+def test_mpeg(name: str, program: Path) -> None:
+    rule, choose = page_rules()[name], Random(name)
+    for _ in range(ROUNDS):
+        a, b = ([edged(choose) for _ in range(8)] for _ in range(2))
+        middles = [choose.choice((edged(choose), choose.randrange(-70, 70))) for _ in range(8)]
+        highs = [choose.choice((0, -1, it >> 15, edged(choose))) for it in middles]
+        accs = [
+            (high % 65536 << 32) + (middle % 65536 << 16) + choose.getrandbits(16)
+            for high, middle in zip(highs, middles)
+        ]
+        (look,) = after(str(program), [case(name, a, b, accs)])
+        for at, acc in enumerate(accumulators_of(look)):
+            given = (signed(a[at]), signed(b[at])) if name == "vmulq" else (signed(accs[at], 48),)
+            wanted, result = rule(*given)
+            found = (acc % 2**48, lane(look, "v3", at))
+            assert found == (wanted % 2**48, result % 65536), f"of {given}"
 
 
 @pytest.mark.parametrize("name", ["vrcpl", "vrsql"])
