@@ -33,22 +33,25 @@ MOST = 84000
 # What the page begins with: of so many cases of each of so many instructions, and of this seed.
 HEAD = """
 For those who use z64, the low-level RSP plugin of mupen64plus, or compare another emulator with it. This page
-lists each instruction on which z64 differs from [INSTRUCTIONS](../docs/INSTRUCTIONS.md), with a case that
-shows the difference. It can't say which of the two a console agrees with.
+lists each instruction on which z64 differs from [INSTRUCTIONS](../docs/INSTRUCTIONS.md). It can't say which of
+the two a console agrees with.
 
-A [campaign](../docs/CAMPAIGN.md) compared up to {:,} cases of each of {} instructions (seed `{}`): all
-memories, and all registers, except whether the divider is loaded, and halted, broke and single step, which
-z64 doesn't show. The registers are found by their addresses in one build, Debian's mupen64plus-rsp-z64
+A [campaign](../docs/CAMPAIGN.md), `conformance/campaign plugin:FILE OUT --cases {0}`, compared {0:,} cases of
+each of {1} instructions (seed `{2}`), and fewer of MTC0, because z64 makes no single step that clears single
+step. It compared all memories and registers except four flags that z64 doesn't show: loaded, halted, broke and
+single step. The registers are found by their addresses in one build, Debian's mupen64plus-rsp-z64
 2.5.9+10+ga7bf40f-2 for amd64. Any other build is treated as a plugin whose registers are unknown.
 
-The letters (a, b, e, A and so on) mean what they mean in INSTRUCTIONS. The last column has the first case
-that differs: `conformance/campaign plugin:FILE --case NAME` shows it, and [campaign.json](z64/campaign.json)
-counts the parts of the state that differ. Beside each sentence a [rule](rsp_conformance/otherwise) computes
-what z64 leaves. `conformance/differences` compares the rules with cases of each instruction, and makes this
-page.
+The letters (a, b, e, A and so on) mean what they mean in INSTRUCTIONS. After *choice* comes what is no fault of
+z64, because [we chose our rule ourselves](README.md#what-they-cant-show). The percentages count all cases that
+differ. Where some of these show a choice, a second percentage, in parentheses, leaves them out. The rows are
+sorted by the last percentage. [campaign.json](z64/campaign.json) has the first case that differs, which
+`conformance/campaign plugin:FILE --case NAME` shows.
 """
-TABLE = "| Instruction | What z64 does | Cases that differ | First |\n|---|---|---|---|\n"
+TABLE = "| Instruction | What z64 does | Cases that differ |\n|---|---|---|\n"
 CHOSEN = "On {} z64 differs only in [what we chose ourselves](README.md#what-they-cant-show)."
+# So do these, although some of their cases have no mark: those of numbers from 4 on that aren't 3 modulo 4.
+CHOSEN_TOO = ("cfc2", "ctc2")
 
 
 def take(out: Path) -> None:
@@ -71,20 +74,25 @@ def sentences(data: Data) -> Iterator[Complaints]:
         yield unless(right == has, f"{name.upper()} {told}")
 
 
-def share_of(it: Data, cases: int) -> str:
-    """How many of an instruction's cases differ; of how many, if not of all."""
+def faulty(name: str, data: Data) -> int:
+    """How many cases of an instruction differ and show no choice."""
+    it = data["instructions"][name]
+    return 0 if name in CHOSEN_TOO else int(it["differ"] - it["choices"])
+
+
+def share_of(name: str, data: Data) -> str:
+    """How many of an instruction's cases differ; how many without choices; of how many, if not of all."""
+    it = data["instructions"][name]
     shown = it["count"] - it["unshown"]
-    share = f"{100 * it['differ'] / max(1, shown):.3g}%"
-    of = f" of {shown:,}" if shown != cases else ""
-    return share + of + (f", {it['faults']} faults" if it["faults"] else "")
+    counts = dict.fromkeys((it["differ"], faulty(name, data)))
+    first, *rest = (f"{100 * count / max(1, shown):.3g}%" for count in counts)
+    of = f" of {shown:,}" if shown != data["cases"] else ""
+    return first + "".join(f" ({it})" for it in rest) + of + (f", {it['faults']} faults" if it["faults"] else "")
 
 
 def line_of(names: List[str], data: Data, sentence: str) -> str:
     """The line of the instructions that have a sentence."""
-    rows = [data["instructions"][name] for name in names]
-    shares = ", ".join(share_of(it, data["cases"]) for it in rows)
-    first = ", ".join("`" + it["first"].split(" (")[0].split(":")[0] + "`" for it in rows)
-    return f"| {', '.join(names).upper()} | {sentence} | {shares} | {first} |"
+    return f"| {', '.join(names).upper()} | {sentence} | {', '.join(share_of(it, data) for it in names)} |"
 
 
 def listed(names: List[str]) -> str:
@@ -94,15 +102,17 @@ def listed(names: List[str]) -> str:
 
 def page_of(data: Data) -> str:
     found = data["instructions"]
-    chosen = [name.upper() for name, it in found.items() if 0 < it["differ"] == it["choices"]]
+    differ = [name for name, it in found.items() if it["differ"]]
+    chosen = [name.upper() for name in differ if not faulty(name, data)]
     named: Dict[str, List[str]] = {}
     for rule in RULES:
-        named.setdefault(rule.sentence, []).extend(name for name in rule.names if found[name]["differ"])
-    lines = [line_of(names, data, sentence) for sentence, names in named.items() if names]
+        named.setdefault(rule.sentence, []).extend(name for name in rule.names if name in differ)
+    rows = [(names, sentence) for sentence, names in named.items() if names]
+    rows.sort(key=lambda it: -max(faulty(name, data) for name in it[0]))
+    lines = [line_of(names, data, sentence) for names, sentence in rows]
     head = HEAD.strip().format(data["cases"], len(found), data["seed"]).split("\n\n")
-    agree = sum(not it["differ"] for it in found.values())
-    last = f"The other {agree} instructions agree in every case."
-    texts = [*head, f"{CHOSEN.format(listed(chosen))} {last}" if chosen else last]
+    last = f"It differs otherwise on {len(differ) - len(chosen)}, and agrees in every case on {len(found) - len(differ)}."
+    texts = [*head, f"{CHOSEN.format(listed(chosen))} {last}"]
     texts = [fill(it, 120, break_on_hyphens=False) for it in texts]
     return "\n\n".join(["# Where z64 differs", *texts[:-1], TABLE + "\n".join(lines), texts[-1]]) + "\n"
 

@@ -1,6 +1,6 @@
 """Where z64 differs from the instruction table: a sentence and a rule for each instruction.
 
-The sentences are those of conformance/Z64.md, in its order.
+The sentences are those of conformance/Z64.md. What only we chose ourselves is marked there as a choice.
 """
 
 from . import scalar, moves, vector, divides, memory  # noqa: F401, I001

@@ -7,7 +7,7 @@ from rsp_conformance.outcomes import signed
 from .case import LIMIT, Case, State, rule
 
 
-@rule("bgezal", "if s is 31 it tests the new link, so it branches; a link isn't taken modulo 4096")
+@rule("bgezal", "if s is 31 it tests the new link, so it branches; *choice:* a link isn't taken modulo 4096")
 def tests_the_link(case: Case) -> State:
     target = {"npc": case.before["npc"] + 4 * simm(case) & 0xFFC}
     return {**link(case, "r31"), **(target if case.fields["s"] == 31 else {})}
@@ -35,7 +35,8 @@ def keeps_low_bits(case: Case) -> State:
 
 @rule(
     "jalr",
-    "pc gets the two low bits of the register too; a link isn't taken modulo 4096, and register 0 keeps it",
+    "pc gets the two low bits of the register too; register 0 keeps a link; *choice:* a link isn't taken modulo"
+    " 4096",
 )
 def links_to_any_register(case: Case) -> State:
     return {"npc": case.reg("s") % LIMIT, **link(case, f"r{case.fields['d']}")}
