@@ -62,9 +62,9 @@ static int run(rsp *m, rest *file)
     size_t count = rsp_compare_parts(&after, &got, sizeof found, parts);
     if (is_made && !count) return 0;
     printf("%s (word %08x%s), ", shown(h.name, sizeof h.name), h.word, h.has_choice ? ", choice" : "");
-    int high = parts->digits > 16 ? 16 : 0, low = (int)parts->digits - high; /* the digits of a value's two halves */
+    int high = parts->digits > 16 ? 16 : 0, low = high ? 16 : (int)parts->digits; /* the digits of a value's two halves */
     unsigned long long a = parts->value[0], b = parts->value[1], c = parts->other[0], d = parts->other[1];
-    if (is_made) printf("%s: expected %.*llx%0*llx, got %.*llx%0*llx%s\n", parts->name, high, a, low, b, high, c, low, d, count > 1 ? ", and more" : "");
+    if (is_made) printf("%.23s: expected %.*llx%0*llx, got %.*llx%0*llx%s\n", parts->name, high, a, low, b, high, c, low, d, count > 1 ? ", and more" : "");
     else printf("isn't executed\n");
     return 1;
 }

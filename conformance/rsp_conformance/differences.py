@@ -33,19 +33,19 @@ MOST = 84000
 # What the page begins with: of so many cases of each of so many instructions, and of this seed.
 HEAD = """
 For those who use z64, the low-level RSP plugin of mupen64plus, or compare another emulator with it. This page
-lists each instruction on which z64 differs from [INSTRUCTIONS](../docs/INSTRUCTIONS.md). It can't say which of
-the two a console agrees with.
+lists each instruction on which z64 differs from [INSTRUCTIONS](../docs/INSTRUCTIONS.md). It can't say which
+of the two a console agrees with.
 
 A [campaign](../docs/CAMPAIGN.md), `conformance/campaign plugin:FILE OUT --cases {0}`, compared {0:,} cases of
 each of {1} instructions (seed `{2}`), and fewer of MTC0, because z64 makes no single step that clears single
-step. It compared all memories and registers except four flags that z64 doesn't show: loaded, halted, broke and
-single step. The registers are found by their addresses in one build, Debian's mupen64plus-rsp-z64
+step. It compared all memories and registers except four flags that z64 doesn't show: loaded, halted, broke
+and single step. The registers are found by their addresses in one build, Debian's mupen64plus-rsp-z64
 2.5.9+10+ga7bf40f-2 for amd64. Any other build is treated as a plugin whose registers are unknown.
 
-The letters (a, b, e, A and so on) mean what they mean in INSTRUCTIONS. After *choice* comes what is no fault of
-z64, because [we chose our rule ourselves](README.md#what-they-cant-show). The percentages count all cases that
-differ. Where some of these show a choice, a second percentage, in parentheses, leaves them out. The rows are
-sorted by the last percentage. [campaign.json](z64/campaign.json) has the first case that differs, which
+The letters (a, b, e, A and so on) mean what they mean in INSTRUCTIONS. After *choice* comes what is no fault
+of z64, because [we chose our rule ourselves](README.md#what-they-cant-show). The percentages count all cases
+that differ. Where some of these show a choice, a second percentage, in parentheses, leaves them out. The rows
+are sorted by the last percentage. [campaign.json](z64/campaign.json) has the first case that differs, which
 `conformance/campaign plugin:FILE --case NAME` shows.
 """
 TABLE = "| Instruction | What z64 does | Cases that differ |\n|---|---|---|\n"
@@ -87,7 +87,8 @@ def share_of(name: str, data: Data) -> str:
     counts = dict.fromkeys((it["differ"], faulty(name, data)))
     first, *rest = (f"{100 * count / max(1, shown):.3g}%" for count in counts)
     of = f" of {shown:,}" if shown != data["cases"] else ""
-    return first + "".join(f" ({it})" for it in rest) + of + (f", {it['faults']} faults" if it["faults"] else "")
+    faults = f", {it['faults']} faults" if it["faults"] else ""
+    return first + "".join(f" ({it})" for it in rest) + of + faults
 
 
 def line_of(names: List[str], data: Data, sentence: str) -> str:
@@ -111,7 +112,8 @@ def page_of(data: Data) -> str:
     rows.sort(key=lambda it: -max(faulty(name, data) for name in it[0]))
     lines = [line_of(names, data, sentence) for names, sentence in rows]
     head = HEAD.strip().format(data["cases"], len(found), data["seed"]).split("\n\n")
-    last = f"It differs otherwise on {len(differ) - len(chosen)}, and agrees in every case on {len(found) - len(differ)}."
+    others, agree = len(differ) - len(chosen), len(found) - len(differ)
+    last = f"It differs otherwise on {others}, and agrees in every case on {agree}."
     texts = [*head, f"{CHOSEN.format(listed(chosen))} {last}"]
     texts = [fill(it, 120, break_on_hyphens=False) for it in texts]
     return "\n\n".join(["# Where z64 differs", *texts[:-1], TABLE + "\n".join(lines), texts[-1]]) + "\n"

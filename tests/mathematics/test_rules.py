@@ -1,7 +1,7 @@
 """The rules that docs/INSTRUCTIONS.md has as Python, against the program on random values, and its examples.
 
-It fails if VCH, VCL, VCR, VMULQ, VMACQ, or the answers of the long divides differ from the function of the page,
-or if the program makes something else of an example in its tables.
+It fails if VCH, VCL, VCR, VMULQ, VMACQ, or the answers of the long divides differ from the function of the
+page, or if the program makes something else of an example in its tables.
 """
 
 import re

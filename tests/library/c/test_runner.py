@@ -1,8 +1,8 @@
-"""conformance/runner.c, which authors of emulators link with theirs: it runs flat vectors, and refuses malformed
-files.
+"""conformance/runner.c, which authors of emulators link with theirs: it runs flat vectors, and refuses
+malformed files.
 
-It fails if right vectors differ or a changed one doesn't, if the line of a difference names another register or
-byte, if a malformed file isn't refused, or if the sanitizers of addresses and of undefined behaviour find
+It fails if right vectors differ or a changed one doesn't, if the line of a difference names another register
+or byte, if a malformed file isn't refused, or if the sanitizers of addresses and of undefined behaviour find
 something.
 """
 
@@ -123,13 +123,16 @@ def test_changed_memory(runner: Path, vectors: bytes, folder: Path) -> None:
     (folder / "changed.bin").write_bytes(vectors[:at] + bytes([vectors[at] ^ 1]) + vectors[at + 1 :])
     ran = run(runner, folder / "changed.bin")
     name = f"{('DMEM', 'IMEM')[bank]} {address // 16 * 16:03x}"
-    assert re.match(rf"SW-000 \(word \w+\), {name}: expected \w{{32}}, got \w{{32}}\n", ran.stdout), ran.stdout
+    assert re.match(
+        rf"SW-000 \(word \w+\), {name}: expected \w{{32}}, got \w{{32}}\n", ran.stdout
+    ), ran.stdout
 
 
 def test_line_of_page(runner: Path, program: Path, folder: Path) -> None:
     """The line that the page shows: a case of a choice, with the value that CFC2 doesn't give."""
     (shown,) = [it for it in blocks("conformance/README.md") if re.match(r"\w+-\d+ \(word ", it)]
-    name, register, expected, got = re.findall(r"^(\w+-\d+) .*, (\$\d+): expected (\w+), got (\w+)$", shown)[0]
+    form = r"(\w+-\d+) .*, (\$\d+): expected (\w+), got (\w+)\n"
+    name, register, expected, got = re.findall(form, shown)[0]
     succeeds("conformance/generate", "--flat", "--of", TOP / "conformance/vectors", folder, "CFC2")
     data, at = (folder / "flat/CFC2.bin").read_bytes(), 16
     while data[at + 12 :][: len(name)] != name.encode():
@@ -138,13 +141,17 @@ def test_line_of_page(runner: Path, program: Path, folder: Path) -> None:
     assert struct.unpack("<I", data[to : to + 4])[0] == int(expected, 16)
     (folder / "changed").write_bytes(with_number(data, to, int(got, 16)))
     told = run(runner, folder / "changed").stdout
-    assert told == f"{shown.replace(expected, '*').replace(got, expected).replace('*', got)}19 passed, 1 failed\n"
+    assert (
+        told
+        == f"{shown.replace(expected, '*').replace(got, expected).replace('*', got)}19 passed, 1 failed\n"
+    )
 
 
 def test_emulator_of_page(folder: Path, vectors: bytes, library: Path) -> None:
     """The functions that the page names are all that it takes: an emulator with these is linked, and named if
     it executes nothing."""
-    (said,) = re.findall(r"`mine\.c` defines (.*?),\s+with", " ".join(page("conformance/README.md").split()))
+    text = " ".join(page("conformance/README.md").split())
+    (said,) = re.findall(r"`mine\.c` defines (.*?), with", text)
     names = re.findall(r"`(rsp_\w+)`", said)
     header = (library / "rsp.h").read_text()
     calls = [re.search(rf"(?m)^\w+ {name}\(.*\);$", header) for name in names]
