@@ -60,6 +60,32 @@ def test_cases_of_vectors() -> None:
     assert said == (f"{sum(counts):,}", f"{min(counts)}", f"{max(counts)}", f"{len(counts)}")
 
 
+def test_choices_without_a_mark() -> None:
+    """The cases that the page names as examples are there, have no mark, and are as many as it says."""
+    (listed,) = re.findall(r"(?m)^Five choices have no mark:\n\n((?:- .*\n|  .*\n)+)", page(OF_VECTORS))
+    cases = {it["name"]: it for name in names_in(VECTORS) for it in entries_in(VECTORS, name)}
+    named = re.findall(r"\b[A-Z0-9]+-\d{3}\b", listed)
+    assert listed.count("\n- ") + 1 == 5 and len(named) == 4
+    assert [it for it in named if "choice" in cases[it]] == []
+
+
+def test_z64() -> None:
+    """README says on how many instructions z64 agrees as its page does."""
+    agree, all_of_them, differ = (
+        int(re.findall(form, " ".join(page("conformance/Z64.md").split()))[0])
+        for form in (
+            r"agrees in every case on (\d+)\.",
+            r"cases of each of (\d+) instr",
+            r"otherwise on (\d+)",
+        )
+    )
+    assert re.findall(r"agrees on (\d+) of (\d+) instructions", page("README.md")) == [
+        (str(agree), str(all_of_them))
+    ]
+    (chosen,) = re.findall(r"(?m)^On (.*?) z64 differs only in", page("conformance/Z64.md"))
+    assert agree + differ + len(re.findall(r"\b[A-Z][A-Z0-9]+\b", chosen)) == all_of_them
+
+
 def used_by(rows: Iterable[Row]) -> Set[str]:
     """The instructions of the programs of these instructions, besides those that the programs test."""
     texts = (one.lines for row in rows for one in programs.programs_of(row, "1", 20))
