@@ -237,10 +237,11 @@ uint32_t rsp_version(void);
 /* ---- Creating and freeing ---- */
 
 /* Makes a machine with a copy of an image of RDRAM (64 to 8388608 bytes, a multiple of 8) and a history of
- * `depth` states, at most 4096. Everything else is 0, except npc, which is 4. This call allocates all
- * memory; no later call on the handle allocates any. What the handle held before is freed, unless the call
- * fails. Returns RSP_OUT_OF_RANGE for any other length or depth, without reading the image; otherwise
- * RSP_NO_MEMORY. */
+ * `depth` states, at most 4096. Everything else is 0, except npc, which is 4, and SP registers 2 and 3,
+ * which read 0xff8. So the machine isn't halted, while a console's is after a reset: write 2 to register 4
+ * if your CPU expects that. This call allocates all memory; no later call on the handle allocates any. What
+ * the handle held before is freed, unless the call fails. Returns RSP_OUT_OF_RANGE for any other length or
+ * depth, without reading the image; otherwise RSP_NO_MEMORY. */
 uint32_t rsp_new(rsp *m, const uint8_t *image, size_t len, uint32_t depth);
 
 /* Makes in `to` a second machine with the registers and memories of the one in `from`, which stays as it is.
@@ -279,8 +280,9 @@ uint32_t rsp_memory_words(rsp *m, uint32_t bank, uint32_t address, uint32_t *wor
 
 /* ---- Where the machine continues ---- */
 
-/* Starts the task whose structure of 64 bytes is at an address of RDRAM, and clears halted. Empties the
- * history. Returns RSP_TASK_PLACE or RSP_TASK_SIZE. */
+/* Starts the task whose structure of 64 bytes is at an address of RDRAM, and clears halted. The structure
+ * and the boot code are read from the machine's own RDRAM, so this isn't for hosts that keep RDRAM outside.
+ * Empties the history. Returns RSP_TASK_PLACE or RSP_TASK_SIZE. */
 uint32_t rsp_task(rsp *m, uint32_t address);
 
 /* Lets the machine continue at an address of IMEM; a halted machine stays halted. Empties the history.
