@@ -8,7 +8,9 @@ use std::fmt;
 pub const VERSION: u32 = 1;
 
 /// Why a call was refused. The call has changed nothing, except that `TooLong` ends a bench.
-#[derive(Clone, Copy, Debug, PartialEq, Eq)]
+///
+/// `Debug` writes the same sentence as `Display`, because a `main` that returns an error prints it by `Debug`.
+#[derive(Clone, Copy, PartialEq, Eq)]
 pub enum Refused {
     /// An allocation failed.
     NoMemory,
@@ -68,6 +70,12 @@ impl fmt::Display for Refused {
             Refused::Version(found) => return write!(f, "the interface of the library has version {found}, not {VERSION}"),
             Refused::Unknown(status) => return write!(f, "the library returned the unknown status {status}"),
         })
+    }
+}
+
+impl fmt::Debug for Refused {
+    fn fmt(&self, f: &mut fmt::Formatter<'_>) -> fmt::Result {
+        fmt::Display::fmt(self, f)
     }
 }
 

@@ -82,6 +82,7 @@ fn every_part() {
 fn refusals() {
     let refused = assemble("nop\nfoo\n", 0).unwrap_err();
     assert_eq!(refused.to_string(), "fault 11 UnknownName line 2");
+    assert_eq!(format!("{refused:?}"), "fault 11 UnknownName line 2", "a main that returns it prints this");
     assert_eq!(refused.source().unwrap().downcast_ref(), Some(&Fault::UnknownName));
     assert_eq!(refused.source().unwrap().to_string(), "no statement has this name");
     let mut machine = Machine::new(&[0; 64], 0).unwrap();

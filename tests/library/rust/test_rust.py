@@ -92,4 +92,4 @@ def test_example(name: str, cargo: Cargo) -> None:
 @pytest.mark.needs("cc", "ar")
 def test_library_of_another_version(cargo: Cargo, folder: Path) -> None:
     ran = cargo(*RUN, "lockstep", RSP_LIB_DIR=other_version(folder))
-    assert (ran.returncode, ran.stdout) == (1, "Error: Version(2)\n")
+    assert (ran.returncode, ran.stdout) == (1, "Error: the interface of the library has version 2, not 1\n")
