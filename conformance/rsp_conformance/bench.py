@@ -197,12 +197,12 @@ def run_script(program: str, script: Script) -> Iterator[Tuple[Any, List[str]]]:
         raise RspError(f"more replies than were expected: {replies[at:]}")
 
 
-def prelude() -> Script:
-    """What each script begins with: the setting program, its data for the default state, in RDRAM."""
+def prelude(data: str = DEFAULT_DATA) -> Script:
+    """What each script begins with: the setting program in RDRAM, and its data, that of the default state."""
     script = Script()
     script.assemble(0, setting_program())
     script.copy(PROGRAM, "imem", to_rdram=True)
-    script.load("dmem", 0, DEFAULT_DATA)
+    script.load("dmem", 0, data)
     script.copy(DATA, "dmem", to_rdram=True)
     return script
 
@@ -210,14 +210,14 @@ def prelude() -> Script:
 SETTING_STEPS = sum(1 for _ in setting_program())
 
 
-def set_state(script: Script, state: Texts, word: int) -> None:
-    """Brings the machine into a state by microcode, with `word` at pc."""
+def set_state(script: Script, state: Texts, word: int, there: str = DEFAULT_DATA) -> None:
+    """Brings the machine into a state by microcode, with `word` at pc. `there` is the data of the prelude."""
     script.say(f"write 4 {ALL_CLEAR}")
     script.copy(PROGRAM, "imem")
     script.copy(DATA, "dmem")
     data = data_of(state)
     for at in range(0, len(data), 8):
-        if data[at : at + 8] != DEFAULT_DATA[at : at + 8]:
+        if data[at : at + 8] != there[at : at + 8]:
             script.load("dmem", at // 2, data[at : at + 8])
     if state["loaded"] == "1":
         script.assemble(LOADING, ["vrcph $v2[0], $v1[2]"])

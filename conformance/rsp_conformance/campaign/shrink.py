@@ -2,6 +2,7 @@
 registers and bytes that aren't 0.
 """
 
+import struct
 from typing import Callable, List, Optional, Tuple
 
 import rsp
@@ -93,14 +94,26 @@ def source_of(program: Program, words: List[int]) -> str:
     return head + "".join(f"{program.text(pc)}\n" for pc in addresses)
 
 
+def memories_after_setting(data: str) -> bytes:
+    """All memories after a script has set a state: zeros, and in RDRAM the setting program with this data."""
+    words = rsp.assemble("".join(f"{line}\n" for line in bench.setting_program()))
+    made, program = bytearray(generator.MEMORIES), struct.pack(f">{len(words)}I", *words)
+    for at, raw in ((bench.PROGRAM, program), (bench.DATA, bytes.fromhex(data))):
+        made[generator.RDRAM + at : generator.RDRAM + at + len(raw)] = raw
+    return bytes(made)
+
+
 def script_of(program: Program, steps: int) -> str:
     """A script for `rsp run`: it sets the state by microcode, loads the memories, steps, and shows all."""
-    script = bench.prelude()
-    bench.set_state(script, texts_of(numbers_of(program.state)), program.word(program.state.pc))
+    texts = texts_of(numbers_of(program.state))
+    data = bench.data_of(texts)
+    script = bench.prelude(data)
+    bench.set_state(script, texts, program.word(program.state.pc), data)
+    there = memories_after_setting(data)
     for bank, (low, high) in BANKS.items():
         for at in range(low, high, 64):
-            if bank == "rdram" or any(program.memories[at : at + 64]):
-                script.load(bank, at - low, program.memories[at : at + 64].hex())
+            if (wanted := program.memories[at : at + 64]) != there[at : at + 64]:
+                script.load(bank, at - low, wanted.hex())
     for line in (f"dis {program.state.pc} 1", *["step"] * steps):
         script.say(line)
     bench.look(script, ("dmem", "imem"), "after")
