@@ -30,12 +30,60 @@ def test_library_agrees_with_itself(kind: str, folder: Path) -> None:
     assert {path: path.stat().st_mtime_ns for path in folder.glob("out/*-*.json")} == before
 
 
+OTHER = {
+    ("--seed", "2"): "its seed is 1",
+    ("--cases", "41"): "its cases are 40",
+    ("--instructions", "beq,bne"): "its instructions are beq",
+    ("--files", __file__): "the emulator's files have changed since, or --files names others",
+}
+
+
+def core_in(folder: Path, name: str) -> None:
+    """An emulator whose module mine.py imports a class of this name."""
+    (folder / "mine.py").write_text("from core import Mine\n")
+    (folder / "core.py").write_text(f"from campaigns.emulator import {name} as Mine\n")
+
+
+MINE = ("python:mine:Mine", "--instructions", "add", "--cases", 20, "--here")
+
+
+def test_results_of_an_earlier_run(folder: Path) -> None:
+    """They are used if a file has changed that nobody has named, which the output says, with the files."""
+    core_in(folder, "Machine")
+    first = campaign(*MINE, "out", cwd=folder).stdout
+    core_in(folder, "Forgets")
+    again = campaign(*MINE, "out", cwd=folder).stdout
+    told = "Not run again: 1 of 1 task, whose results an earlier run has left in out. They count because "
+    told += f"these files of the emulator haven't changed since: {folder}/mine.py. "
+    told += "If it has others, name them by --files.\n"
+    assert "20 cases and 0 programs: 0 differ" in first and again == first + told
+
+
+@pytest.mark.parametrize("named", ["core.py", "../more"])
+def test_file_that_has_changed(named: str, folder: Path) -> None:
+    """An emulator is another one if a file has changed that --files names, or one in a folder."""
+    (folder / "more/below/__pycache__").mkdir(parents=True)
+    (folder / "work").mkdir()
+    core_in(folder / "work", "Machine")
+    words = (*MINE, "--files", named, "out")
+    assert campaign(*words, cwd=folder / "work").returncode == 0
+    (folder / "more/below/__pycache__/file").write_text("of no emulator")
+    assert "Not run again: 1 of 1 task" in campaign(*words, cwd=folder / "work").stdout
+    core_in(folder / "work", "Forgets")
+    (folder / "more/below/file").write_text("of the emulator")
+    ended = campaign(*words, cwd=folder / "work")
+    assert ended.returncode == 1 and "the emulator's files have changed since" in ended.stderr
+
+
 def test_folder_of_another_campaign(folder: Path) -> None:
-    """It is refused, and so is a result that is spoilt."""
+    """It is refused, with what it has otherwise and what to do, and so is a result that is spoilt."""
     words = (built("library"), "--instructions", "beq", "--cases", 40)
     said_of(folder, *words)
-    ended = campaign(*words, "--seed", "2", "--here", folder)
-    assert ended.returncode == 1 and "holds another campaign: its " in ended.stderr
+    for other, why in OTHER.items():
+        ended = campaign(*words, *other, "--here", folder)
+        how = "take another folder for OUT, or delete this one"
+        told = f"campaign: {folder} holds another campaign: {why}; {how}\n"
+        assert (ended.returncode, ended.stderr) == (1, told)
     (folder / "beq-0-40.json").write_text("{")
     ended = campaign(*words, "--here", folder)
     assert ended.returncode == 1 and "beq-0-40.json isn't a result" in ended.stderr

@@ -31,7 +31,7 @@ pytestmark = [pytest.mark.needs("cc", "python:numpy"), pytest.mark.usefixtures("
 CORE = TESTS / "campaigns/second.c"
 CASES = 65536
 PROGRAM_RANGES = ((0, 4), (5, 19), (20, 99))  # the first that has a difference is enough
-OPTIONS = {"instructions": [*ROWS], "steps": 1000, "limit": 20, "whole": False}
+OPTIONS = {"instructions": [*ROWS], "steps": 1000, "limit": 20, "files": [], "whole": False}
 DMEM, IMEM, RDRAM = 0, 4096, 8192
 
 

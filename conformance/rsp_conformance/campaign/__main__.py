@@ -1,10 +1,11 @@
 """Checks an emulator against the proved library, by cases of each instruction and by random programs.
 
-EMULATOR is FILE.so, plugin:FILE.so, python:MODULE:CLASS, or a command; docs/CAMPAIGN.md says what each has to
-be. OUT is the campaign's folder: a file for each task, table.txt, table.html, and in programs/ what differs,
-cut down. A campaign that was stopped goes on when it is started again: what OUT holds isn't done again. With
---case, OUT gives the instructions of a program. What an emulator writes to standard error is shown with its
-fault. It fails if a task isn't done, or with a sentence if it can't begin.
+EMULATOR is FILE.so, plugin:FILE.so, python:MODULE:CLASS, or a command; docs/CAMPAIGN.md says what each has
+to be. OUT is the campaign's folder: a file for each task, table.txt, table.html, and in programs/ what
+differs, cut down. A campaign that was stopped continues when it is started again: what OUT holds isn't done
+again, as long as the emulator's files have the same contents. They are the files that EMULATOR names, and
+those of --files. With --case, OUT gives the instructions of a program. What an emulator writes to standard
+error is shown with its fault. It fails if a task isn't done, or with a sentence if it can't begin.
 """
 
 import argparse
@@ -86,6 +87,7 @@ def run(args: argparse.Namespace) -> None:
         progress.tell(number, done, differ)
     progress.end()
     report(args, folder)
+    say("".join(f"{it}\n" for it in [folder.said_of_earlier()] if it))
     if tasks_left := folder.left():
         why = lost or "-".join(map(str, tasks_left[0]))
         are = "isn't" if len(tasks_left) == 1 else "aren't"
@@ -119,6 +121,11 @@ def show(args: argparse.Namespace) -> None:
         say("".join(f"{line}\n" for line in (head, *it["listing"], *(f"  {at}" for at in it["differs"]))))
 
 
+def is_in(path: Path, folder: Path) -> bool:
+    """Whether a path is a folder or in it, also where links lead there."""
+    return folder.resolve() in (path.resolve(), *path.resolve().parents)
+
+
 def number_from(least: int) -> Callable[[str], int]:
     """A type of arguments: whole numbers from `least` on."""
 
@@ -141,6 +148,13 @@ def instructions_of(text: str) -> List[str]:
     if unknown := [name for name in names if name not in INSTRUCTIONS]:
         raise argparse.ArgumentTypeError(f"the instruction table has no {unknown[0].upper()!r}")
     return names
+
+
+def paths_of(text: str) -> List[str]:
+    paths = text.split(",")
+    if missing := [path for path in paths if not Path(path).exists()]:
+        raise argparse.ArgumentTypeError(f"there is no file or folder {missing[0]!r}")
+    return paths
 
 
 def case_of(text: str) -> Tuple[str, str, int, int]:
@@ -167,6 +181,10 @@ def arguments() -> argparse.Namespace:
         add(f"--{name}", type=number_from(least), default=default, metavar="N", help=f"{what} ({default})")
     all_names, which = [*INSTRUCTIONS], "the instructions of cases and programs (all)"
     add("--instructions", type=instructions_of, default=all_names, metavar="NAME,..", help=which)
+    without = "instructions that are left out (none)"
+    add("--without", type=instructions_of, default=[], metavar="NAME,..", help=without)
+    files = "more files and folders of the emulator, whose contents count (only those that EMULATOR names)"
+    add("--files", type=paths_of, default=[], metavar="PATH,..", help=files)
     add("--seed", type=seed_of, default="1", help="letters a to z and digits (1)")
     add("--scheduler", metavar="ADDRESS", help="a cluster that is there")
     add("--here", action="store_true", help="works in this process, without Dask")
@@ -177,6 +195,11 @@ def arguments() -> argparse.Namespace:
     args: argparse.Namespace = parser.parse_intermixed_args()
     if not args.out and not args.case:
         stop("it needs a folder OUT")
+    args.instructions = [name for name in args.instructions if name not in args.without]
+    if not args.instructions:
+        stop("--without leaves no instruction")
+    if args.out and (around := [it for it in args.files if is_in(args.out, Path(it))]):
+        stop(f"OUT is in {around[0]} of --files: its results would count as files of the emulator")
     if args.case and args.case[0] == PROGRAM and not args.out:
         name = name_of(*args.case[:3])
         why = "its instructions and steps are in OUT/campaign.json"

@@ -7,15 +7,22 @@ import re
 from pathlib import Path
 from typing import Any, Dict, List
 
+from rsp_conformance.commands import printable
 from rsp_conformance.files import read, write
 
 from . import CampaignFault
-from .hashes import hashes
+from .hashes import files_of, hashes
 from .report import AGAIN, file_of, is_result, results_in, task_of
-from .shared import PROGRAM, VERSION, Result, Task
+from .shared import PROGRAM, VERSION, Result, Task, counted
 
 # What decides a campaign's cases and programs.
 GIVEN = ("emulator", "instructions", "seed", "cases", "size", "programs", "programs_size", "steps")
+# Whose files a hash is of, and what it means that a campaign has another one.
+CHANGED = {
+    "emulator": "the emulator's files have changed since, or --files names others",
+    "library": "the library, or this command, has changed since",
+}
+LISTED = 8  # so many files are named in a sentence
 
 
 def given_in(out: Path) -> Dict[str, Any]:
@@ -27,13 +34,23 @@ def given_in(out: Path) -> Dict[str, Any]:
         raise CampaignFault(f"{out}/campaign.json isn't what a campaign wrote") from None
 
 
+def other_hashes(here: Dict[str, str], there: Any) -> List[str]:
+    """The names of the hashes that aren't these there, which may be anything that JSON has."""
+    return [key for key, value in here.items() if not isinstance(there, dict) or there.get(key) != value]
+
+
 class Folder:
     """The folder OUT of a campaign."""
 
     def __init__(self, args: argparse.Namespace) -> None:
         self.out: Path = args.out
+        self.files, self.earlier = files_of(args.emulator, args.files), 0
         given = {key: getattr(args, key) for key in GIVEN}
-        self.given: Dict[str, Any] = {"generator": VERSION, **given, "hashes": hashes(args.emulator)}
+        self.given: Dict[str, Any] = {
+            "generator": VERSION,
+            **given,
+            "hashes": hashes(args.emulator, args.files),
+        }
         kinds = ((args.cases, args.size, args.instructions), (args.programs, args.programs_size, [PROGRAM]))
         self.tasks: List[Task] = [
             (name, at, min(size, count - at))
@@ -56,9 +73,28 @@ class Folder:
             )
         there = given_in(self.out)
         if other := [key for key in self.given if self.given[key] != there[key]]:
-            value = json.dumps(there[other[0]])[:200]
-            raise CampaignFault(f"{self.out} holds another campaign: its {other[0]} is {value}")
-        self.results()
+            how = "take another folder for OUT, or delete this one"
+            raise CampaignFault(f"{self.out} holds another campaign: {self.why(other[0], there)}; {how}")
+        self.earlier = len(self.results())
+
+    def why(self, key: str, there: Dict[str, Any]) -> str:
+        """What the campaign there has otherwise, in a clause."""
+        value = there[key]
+        if key == "hashes":
+            return CHANGED[(other_hashes(self.given[key], value) or ["emulator"])[0]]
+        text = ",".join(map(str, value)) if isinstance(value, list) else str(value)
+        return f"its {key.replace('_', '-')} {'are' if key.endswith('s') else 'is'} {text[:200]}"
+
+    def said_of_earlier(self) -> str:
+        """A sentence about the results that an earlier run has left, or none if there are none."""
+        if not self.earlier:
+            return ""
+        more = [f"{len(self.files) - LISTED} more"] if len(self.files) > LISTED else []
+        files = printable(", ".join([*self.files[:LISTED], *more])) or "none"
+        tasks = f"{self.earlier} of {counted(len(self.tasks), 'task')}"
+        told = f"Not run again: {tasks}, whose results an earlier run has left in {printable(str(self.out))}."
+        why = f"They count because these files of the emulator haven't changed since: {files}."
+        return f"{told} {why} If it has others, name them by --files."
 
     def file(self, task: Task) -> Path:
         return self.out / file_of(task)
@@ -85,9 +121,7 @@ class Folder:
             raise CampaignFault("a worker has sent what isn't a result")
         if not result["count"] and "given up" in result:
             raise CampaignFault(f"{self.given['emulator']}: {result['given up']}")
-        if other := [
-            key for key, value in self.given["hashes"].items() if value != result["hashes"].get(key)
-        ]:
+        if other := other_hashes(self.given["hashes"], result["hashes"]):
             raise CampaignFault(f"a worker has other files of the {other[0]} than this machine")
         if not self.is_ours(result):
             raise CampaignFault(

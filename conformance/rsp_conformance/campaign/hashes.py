@@ -7,7 +7,7 @@ import shutil
 import sys
 from importlib.machinery import ModuleSpec, PathFinder
 from pathlib import Path
-from typing import Dict, Iterable, List, Optional, Sequence
+from typing import Dict, Iterable, Iterator, List, Optional, Sequence
 
 from rsp_conformance import HERE, TOP
 
@@ -48,8 +48,8 @@ def sources() -> List[Path]:
     return [*sorted(ours), HEADER, LIBRARY]
 
 
-def files_of(spec: str) -> List[str]:
-    """The emulator's own files: the object, the module, or those that a command names."""
+def named_by(spec: str) -> List[str]:
+    """The files that EMULATOR names: the object, the module, or those of a command's words."""
     kind, _, rest = spec.partition(":")
     if kind == "python":
         module = importlib.util.find_spec(rest.partition(":")[0])
@@ -60,6 +60,20 @@ def files_of(spec: str) -> List[str]:
     return [it for it in found if it]
 
 
-def hashes(spec: str) -> Dict[str, str]:
-    """The hashes of a result."""
-    return {"emulator": hash_of(files_of(spec)), "library": hash_of(sources())}
+def files_below(path: str) -> Iterator[str]:
+    """A file, or all files of a folder and of the folders in it, without what Python compiles them to."""
+    if Path(path).is_dir():
+        found = (it for it in Path(path).rglob("*") if it.is_file() and it.parent.name != "__pycache__")
+        yield from sorted(map(str, found))
+    else:
+        yield path
+
+
+def files_of(spec: str, others: Iterable[str]) -> List[str]:
+    """The emulator's files: those that EMULATOR names, and the other files and folders."""
+    return [*named_by(spec), *(file for path in others for file in files_below(path))]
+
+
+def hashes(spec: str, others: Iterable[str]) -> Dict[str, str]:
+    """The hashes of a result; `others` are files and folders of the emulator that EMULATOR doesn't name."""
+    return {"emulator": hash_of(files_of(spec, others)), "library": hash_of(sources())}

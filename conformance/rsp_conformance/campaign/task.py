@@ -208,7 +208,7 @@ def check(spec: str, name: str, seed: str, start: int, count: int, options: Opti
     result["shown"] = sorted(result["shown"], key=number_in)[:SHOWN]
     result["unseen"] = [*dict.fromkeys(result["unseen"])]
     what = {"instruction": name, "seed": seed, "start": start, "size": count}
-    return {**what, **result, "hashes": hashes(spec), "seconds": time.time() - began}
+    return {**what, **result, "hashes": hashes(spec, options["files"]), "seconds": time.time() - began}
 
 
 def main() -> None:

@@ -24,7 +24,8 @@ COMMAND = [str(PYTHON), "rsp_conformance.campaign.task"]
 
 def options_of(args: argparse.Namespace) -> Options:
     """What a task has to know of its campaign."""
-    return {"instructions": args.instructions, "steps": args.steps, "limit": args.limit, "whole": False}
+    names = ("instructions", "steps", "limit", "files")
+    return {**{name: getattr(args, name) for name in names}, "whole": False}
 
 
 def client_of(args: argparse.Namespace) -> Any:
