@@ -1,8 +1,9 @@
 """Emulators for campaigns, all of them the module `rsp`: python:emulator:CLASS in this folder.
 
 As a command, `tools/python campaigns.emulator [HOW WORD]`, it answers lines of JSON, but at a case of this
-word (hexadecimal) it hangs, dies, answers garbage, a number out of its range, or a byte of no memory. "after"
-is a fault of two cases: it dies at whatever comes after the word.
+word (hexadecimal) it hangs, dies, with a long backtrace too, answers garbage, a number out of its range, a
+byte of no memory, or a key that none has. "after" is a fault of two cases: it dies at whatever comes after
+the word.
 """
 
 import json
@@ -117,8 +118,8 @@ def answer(machine: Machine, question: Dict[str, Any]) -> Dict[str, Any]:
     return {**numbers_of(machine.get()), "status": status, "ram": ram, "rdram": rdram}
 
 
-def say(final: Dict[str, Any]) -> None:
-    print(json.dumps({"final": final}), flush=True)
+def say(final: Dict[str, Any], **beside: int) -> None:
+    print(json.dumps({"final": final, **beside}), flush=True)
 
 
 def misbehave(how: str) -> None:
@@ -128,12 +129,20 @@ def misbehave(how: str) -> None:
         sys.stderr.write("panicked:\n  \x1b]0;title\x07boom\n")
         sys.stderr.flush()
         os._exit(3)
+    if how == "panic":
+        sys.stderr.write("panicked: boom\n" + "  at a function\n" * 200 + "  at main\n")
+        sys.stderr.flush()
+        os._exit(3)
     if how == "garbage":
         print("no JSON", flush=True)
     if how == "range":
         say({**numbers_of(rsp.State()), "pc": 65536, "ram": [], "rdram": []})
     if how == "byte":
         say({**numbers_of(rsp.State()), "ram": [[99999, 1]], "rdram": []})
+    if how == "beside":
+        say({**numbers_of(rsp.State()), "ram": [], "rdram": []}, status=5)
+    if how == "unknown":
+        say({**numbers_of(rsp.State()), "ram": [], "rdram": [], "stat": 5})
 
 
 def main(how: str = "", word: str = "0") -> None:

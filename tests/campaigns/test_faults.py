@@ -20,6 +20,7 @@ CASE_17, CASE_18, CASE_39 = (name_of("vadd", "1", number) for number in (17, 18,
 WRONG = {
     "hang": "no answer within 1 second",
     "die": "the command ended with status 3; it wrote: panicked: / \\x1b]0;title\\x07boom",
+    "panic": "the command ended with status 3; it wrote: panicked: boom / at a function / ",
     "garbage": "the command answered b'no JSON",
 }
 
@@ -40,13 +41,21 @@ def forty(emulator: str, out: Path, *more: object) -> str:
 def test_command(how: str, folder: Path) -> None:
     said = forty(f"{EMULATOR} {how} {word_17()}", folder, "--limit", 1)
     assert f"{CASE_17}: " in said and WRONG[how] in said
+    assert how != "panic" or re.search(r" / \.\. / .*at a function / at main\n", said), "the last lines, too"
 
 
 @pytest.mark.parametrize(
-    "how, told", [("byte", "no byte of a memory"), ("range", "pc is 65536, not 0 to 65535")], ids=str
+    "how, told",
+    [
+        ("byte", "no byte of a memory"),
+        ("range", "pc is 65536, not 0 to 65535"),
+        ("beside", "has the key 'status' beside 'final': everything belongs into 'final'"),
+        ("unknown", "has an unknown key in 'final': 'stat'"),
+    ],
+    ids=str,
 )
 def test_answer_that_is_none(how: str, told: str) -> None:
-    """A number out of its range, and a byte of no memory."""
+    """A number out of its range, a byte of no memory, and keys that none has."""
     command = Command(f"{EMULATOR} {how} {word_17()}", memories_of("vadd", "1"))
     with pytest.raises(CampaignFault, match=told):
         command.step(cases_of("vadd", "1", 17, 1)[0][0])

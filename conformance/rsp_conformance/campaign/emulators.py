@@ -155,6 +155,26 @@ class Python(Single):
         return self.machine
 
 
+# The keys of an answer's state.
+FINAL = {*numbers_of(rsp.State()), "ram", "rdram", "status"}
+
+
+def final_in(answer: Any) -> Dict[str, Any]:
+    """The state of a command's answer.
+
+    CampaignFault names a key that isn't known; ValueError says that there is no state.
+    """
+    if not isinstance(answer, dict) or not isinstance(answer.get("final"), dict):
+        raise ValueError("no object with an object 'final' in it")
+    if stray := sorted({*answer} - {"final"}):
+        has = f"the key {stray[0]!r} beside 'final'"
+        raise CampaignFault(f"the command's answer has {has}: everything belongs into 'final'")
+    final: Dict[str, Any] = answer["final"]
+    if unknown := sorted({*final} - FINAL):
+        raise CampaignFault(f"the command's answer has an unknown key in 'final': {unknown[0]!r}")
+    return final
+
+
 def without_ours() -> Dict[str, str]:
     """The environment of a command, which has to find its own modules."""
     return {name: value for name, value in os.environ.items() if name not in ("PYTHONPATH", "PYTHONSAFEPATH")}
@@ -191,7 +211,7 @@ class Command(Single):
         if not line:
             raise CampaignFault(f"the command ended with status {self.process.wait()}")
         try:
-            final = json.loads(line)["final"]
+            final = final_in(json.loads(line))
             changed: Changed = {at: byte for at, byte in final["ram"]}
             changed.update({RDRAM + at: byte for at, byte in final["rdram"]})
             if not all(0 <= at < MEMORIES and 0 <= byte < 256 for at, byte in changed.items()):

@@ -43,7 +43,9 @@ KEEP = {
     "OMP_NUM_THREADS": "1",
 }
 FAULTS, SEARCH_SECONDS, BEGIN_SECONDS = 8, 60, 60
-WRITTEN = 500  # so many of the last bytes that an emulator wrote to standard error are shown with its fault
+# So many of the first bytes that an emulator wrote to standard error are shown with its fault, and as many of
+# the last ones: a panic's message comes before a long backtrace, but perhaps after a log.
+WRITTEN = 500
 PYTHON = TOP / "tools/python"
 NUMBERS = ("count", "unshown", "missing", "differ", "choices", "processor")
 LISTS = ("shown", "faults", "programs", "unseen")
@@ -67,22 +69,26 @@ def end_with_parent() -> None:
 
 
 class Written(threading.Thread):
-    """Reads what a process writes to a pipe, and keeps the end of it, so that the process never waits."""
+    """Reads what a process writes to a pipe, so that the process never waits, and keeps both ends of it."""
 
     def __init__(self, pipe: int) -> None:
         super().__init__(daemon=True)
-        self.pipe, self.last = pipe, b""
+        self.pipe, self.first, self.last, self.length = pipe, b"", b"", 0
         self.start()
 
     def run(self) -> None:
         with open(self.pipe, "rb", buffering=0) as pipe:
             while some := pipe.read(1 << 16):
-                self.last = (self.last + some)[-WRITTEN:]
+                room = WRITTEN - len(self.first)
+                self.first += some[:room]
+                self.last = (self.last + some[room:])[-WRITTEN:]
+                self.length += len(some)
 
     def lines(self) -> str:
         """The lines, when the process is dead."""
         self.join(1)  # another process may still have the pipe
-        lines = self.last.decode(errors="backslashreplace").splitlines()
+        gap = b"\n..\n" if self.length > 2 * WRITTEN else b""
+        lines = (self.first + gap + self.last).decode(errors="backslashreplace").splitlines()
         return " / ".join(printable(it.strip()) for it in lines if it.strip())
 
 
