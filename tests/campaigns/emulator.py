@@ -92,6 +92,37 @@ class Forgets(Machine):
         return state
 
 
+class WrongStore(Machine):
+    """SB changes the first byte of DMEM, too, if its register has an odd number."""
+
+    def one(self) -> rsp.Status:
+        (word,) = self.memory_words(rsp.IMEM, self.get().pc, 1)
+        status = super().one()
+        if word >> 26 == 40 and word >> 16 & 1:
+            self.load(rsp.DMEM, 0, bytes([self.memory(rsp.DMEM, 0, 1)[0] ^ 1]))
+        return status
+
+    def run(self, steps: int) -> Any:
+        self.go(steps)
+
+
+class Remembers(Machine):
+    """Its 99th step changes VCE, too: no `set` makes it forget how many it has made."""
+
+    made = 0
+
+    def one(self) -> rsp.Status:
+        status, self.made = super().one(), self.made + 1
+        if self.made == 99:
+            state = self.get()
+            state.flags.extra ^= 1
+            self.set(state)
+        return status
+
+    def run(self, steps: int) -> Any:
+        self.go(steps)
+
+
 class Few:
     """Answers one end too few."""
 

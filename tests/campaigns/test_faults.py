@@ -72,6 +72,18 @@ def test_fault_that_a_case_does_not_show(is_late: bool, folder: Path) -> None:
     assert f"{what}; the shortest run that shows it begins with {CASE_17}" in said
 
 
+def test_difference_that_depends_on_what_ran_before(folder: Path) -> None:
+    """It is no fault, and is shown. The program isn't cut down, because it agrees the next time."""
+    said = said_of(
+        folder, "python:emulator:Remembers", "--cases", 0, "--programs", 2, "--instructions", "xor"
+    )
+    why = "not cut down, because it depends on what the emulator ran before"
+    assert re.search(
+        rf"PROGRAM-g2-1-000000: steps 1 to 100, from xor .* on: vce: expected .*; {why}", said
+    ), said
+    assert counts_of(folder) == {"program": (2, 1, 0)}
+
+
 def test_lost_register(folder: Path) -> None:
     said = campaign("python:emulator:Forgets", "--cases", 0, "--programs", 1, "--here", folder).stdout
     assert re.search(r"(?m)PROGRAM-g2-1-000000: step 0, .*: \$5: expected [0-9a-f]+, got 0$", said), said

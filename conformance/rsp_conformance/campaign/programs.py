@@ -18,6 +18,7 @@ from .sides import Program, Sides, in_brief, in_words, named
 
 EVERY, LENGTH, WORDS = 100, 1024, 1024
 NEVER = ("break",)
+NOT_CUT_DOWN = "; not cut down, because it depends on what the emulator ran before"
 
 
 def edged(raw: Array) -> Array:
@@ -76,6 +77,30 @@ def at_fault(texts: List[str], found: rsp.FirstDifference) -> str:
     return first + (how + ", ".join(others) if others else "")
 
 
+def where(found: rsp.FirstDifference) -> str:
+    """The step after which a program differs, or the steps none of which differs alone."""
+    text = named(found.word, found.place)
+    if found.steps == 1:
+        return f"step {found.step}, {text}"
+    return f"steps {found.step - found.steps + 1} to {found.step}, from {text} on"
+
+
+def result_of(sides: Sides, name: str, program: Program, found: rsp.FirstDifference, cut: Set[str]) -> Result:
+    """The result of a program that differs. It is cut down if `cut` has no program of its instruction."""
+    at, what = where(found), name_in(named(found.word, found.place))
+    made: Result = {}
+    if is_to_cut := found.step and len(cut) < SHOWN and (found.steps > 1 or what not in cut):
+        made = cut_down(sides, program, found.step, found.steps > 1)
+    if made:
+        text = at_fault(made["texts"], found)
+        at, what = f"step {found.step}, {text}", name_in(text)
+    cut.add(what)
+    more = NOT_CUT_DOWN if is_to_cut and not made else ""
+    shown = f"{name}: {at}: {in_brief(in_words(found.parts))}{more}"
+    programs = [{"name": name, "shown": shown, **made}] if made else []
+    return {"count": 1, "differ": 1, "parts": {what: 1}, "shown": [shown], "programs": programs}
+
+
 def check_programs(
     spec: str, seed: str, start: int, count: int, instructions: List[str], steps: int
 ) -> Iterator[Result]:
@@ -90,15 +115,4 @@ def check_programs(
     for number in range(start, start + count):
         program, name = program_of(names, seed, number), name_of(PROGRAM, seed, number)
         found = sides.first_difference(program, steps, EVERY)
-        if not found:
-            yield {"count": 1}
-            continue
-        text, made = named(found.word, found.place), {}  # type: str, Result
-        if found.step and len(cut) < SHOWN and (found.steps > 1 or name_in(text) not in cut):
-            made = cut_down(sides, program, found.step, found.steps > 1)
-            text = at_fault(made["texts"], found)
-        what = name_in(text)
-        cut.add(what)
-        shown = f"{name}: step {found.step}, {text}: {in_brief(in_words(found.parts))}"
-        programs = [{"name": name, "shown": shown, **made}] if made else []
-        yield {"count": 1, "differ": 1, "parts": {what: 1}, "shown": [shown], "programs": programs}
+        yield result_of(sides, name, program, found, cut) if found else {"count": 1}

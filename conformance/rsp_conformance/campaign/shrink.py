@@ -10,7 +10,7 @@ from rsp_conformance import bench
 from rsp_conformance.library_states import numbers_of
 from rsp_conformance.states import texts_of
 
-from . import CampaignFault, generator
+from . import generator
 from .generator import BANKS, STATE
 from .search import fewest, minimal
 from .shared import Result
@@ -46,7 +46,8 @@ def settable(program: Program) -> Program:
 def cut_down(sides: Sides, program: Program, steps: int, is_hidden: bool) -> Result:
     """What a result says of a program that first differs after so many steps.
 
-    If no step alone differs, both sides make all steps at once.
+    If no step alone differs, both sides make all steps at once. Nothing is said of a program that, cut down,
+    shows no difference: then it depends on what the emulator ran before, which setting a state doesn't undo.
     """
 
     def first_difference(candidate: Program, most: int) -> Optional[rsp.FirstDifference]:
@@ -61,7 +62,7 @@ def cut_down(sides: Sides, program: Program, steps: int, is_hidden: bool) -> Res
         program = smallest(program, parts, lambda candidate: first_difference(candidate, most))
     found = first_difference(program, most)
     if not found:
-        raise CampaignFault("cut down, the program doesn't show its difference again")
+        return {}
     words = [pc for pc in range(0, 4096, 4) if program.word(pc)]
     return {
         "steps": found.step,
