@@ -1,6 +1,6 @@
 /* The library with a planted fault. FAULT=1: lane 5 of VADD is one too small if two largest numbers and a carry are added. FAULT=2: VXOR changes
  * a bit if the instruction before it was LQV. FAULT=3: it dies after a batch that has a case of the word WORD. FAULT=4: VLT changes a bit after
- * a CTC2, unless the registers were read or set since. */
+ * a CTC2, unless the registers were read or set since. FAULT=5: SB of a register with an odd number changes the first byte of DMEM, too. */
 #include "rsp.h"
 #include <stdio.h>
 static uint32_t faulty_step(rsp *m);
@@ -34,6 +34,7 @@ static int is_faulty(const rsp_state *s, uint32_t word)
     last = word;
     if (FAULT == 4 && (word & 0xFFE00000) == 0x48C00000) is_spoilt = 1;
     if (FAULT == 4) return (word & 0xFE00003F) == 0x4A000020 && is_spoilt;
+    if (FAULT == 5) return word >> 26 == 40 && word >> 16 & 1;
     if (FAULT == 2) return (word & 0xFE00003F) == 0x4A00002C && (before & 0xFC00F800) == 0xC8002000;
     return (word & 0xFE00003F) == 0x4A000010 && (word >> 21 & 15) < 2 && s->vectors[word >> 11 & 31][5] == 0x7FFF
         && s->vectors[word >> 16 & 31][5] == 0x7FFF && s->flags.carry & 32;
@@ -49,6 +50,12 @@ static uint32_t faulty_step(rsp *m)
     int faulty = is_faulty(&s, word);
     uint32_t status = rsp_step(m);
     if (!faulty || status != RSP_OK) return status;
+    if (FAULT == 5) {
+        rsp_memory(m, RSP_DMEM, 0, w, 1);
+        w[0] ^= 1;
+        rsp_load(m, RSP_DMEM, 0, w, 1);
+        return RSP_OK;
+    }
     rsp_get(m, &s);
     if (FAULT != 1) s.vectors[word >> 6 & 31][0] ^= 1;
     else s.vectors[word >> 6 & 31][5]--;

@@ -42,6 +42,7 @@ WRONG: Dict[str, List[Any]] = {
     "processor": ["1", {}, float("nan"), float("inf"), -0.5],
     "parts": [[], {"$v1": "x"}, {"$v1": float("nan")}, {"$v1": 21}, {"\ud800": 10**400}],
     "shown": [5, [5], {}],
+    "faults": [5, [5], ["xyz"], [[1, 1]], [[1, 1, 5]]],
     "unseen": ["x", [[]]],
     "start": ["0", 0.5, -1, 1 << 53],
     "size": ["20", 0, -20, 19, 21],

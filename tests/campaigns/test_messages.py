@@ -8,16 +8,21 @@ from pathlib import Path
 
 import pytest
 
-from lib.campaigns import campaign, counts_of, results_of, said_of
+from lib.campaigns import agreed, campaign, counts_of, faulty, results_of, said_of
 from lib.packages import is_here
 from rsp_conformance.campaign import __main__ as command
+from rsp_conformance.campaign.report import text_table
+from rsp_conformance.campaign.shared import Result
+from rsp_conformance.campaign.task import nothing
 from rsp_conformance.table import ROWS, ignored_bits, row_of
 
 if is_here("python:numpy"):
+    from rsp_conformance.campaign.generator import cases_of
     from rsp_conformance.campaign.sides import named
 
 pytestmark = [pytest.mark.needs("cc", "python:numpy"), pytest.mark.usefixtures("library")]
 
+CASES = 60  # of SB
 IGNORED = r"\.word 0x[0-9a-f]{8} \(SRA, with bits that are ignored\)"
 
 
@@ -50,7 +55,7 @@ def test_difference_of_a_word_with_ignored_bits(folder: Path) -> None:
     assert re.search(rf"PROGRAM-g2-1-000000: step \d+, {IGNORED}: \$\d+: expected", said), said
     assert results_of(folder)["program-0-1.json"]["parts"] == {"sra": 1}
     shown = campaign(*words, "--case", "PROGRAM-g2-1-000000", folder).stdout
-    pattern = rf"PROGRAM-g2-1-000000 is cut down to 1 step from \w+:\n\w+: {IGNORED}\n"
+    pattern = rf"PROGRAM-g2-1-000000 is cut down to 1 step from address \w+:\n\w+: {IGNORED}\n"
     assert re.search(pattern, shown), shown
 
 
@@ -58,17 +63,67 @@ def test_instruction_that_is_not_there(folder: Path) -> None:
     """It is counted apart, and comes first. What is reserved in some cases alone is a difference."""
     said = said_of(folder, "python:emulator:Without", "--instructions", "add,vadd,sra", "--cases", 60)
     first, *_heads, last = said.splitlines()
-    assert first == "Not there, since it answers that the word is reserved: VADD 60 of 60 cases."
+    why = "because the emulator answers that the word is reserved"
+    assert first == f"Not there, {why}: VADD (60 of 60 cases). Programs leave them out by --without."
     counts = counts_of(folder)
     assert (counts["add"], counts["vadd"]) == ((60, 0, 0), (60, 0, 0)) and 9 < counts["sra"][1] < 51
-    assert last.startswith(f"180 cases and 0 programs: {counts['sra'][1]} differ, ")
+    wanted = f"120 cases and 0 programs: {counts['sra'][1]} differ, 0 of them by faults, 60 not there; "
+    assert last.startswith(wanted)
     assert first in (folder / "table.html").read_text()
     assert re.search(r"(?m)^SRA .*: status: expected 0, got 5", said), said
     assert re.search(r"(?m)^VADD +0 +0 +0 +0 +0$", said), said
     shown = campaign("python:emulator:Without", "--case", "VADD-g2-1-000003..000009").stdout
     assert shown == "7 done, 0 differ, 0 not shown, 7 not there\n"
-    shown = campaign("python:emulator:Without", "--case", "VADD-g2-1-000003").stdout
-    assert "status: expected 0, got 5" in shown and "1 done, 1 differ" in shown
+    shown, done = campaign("python:emulator:Without", "--case", "VADD-g2-1-000003").stdout.splitlines()
+    assert re.fullmatch(rf"VADD-g2-1-000003 \(vadd .* at \w+\): not there, {why} \(status 5\)", shown), shown
+    assert done == "1 done, 0 differ, 0 not shown, 1 not there"
+
+
+def result_of(name: str, **more: object) -> Result:
+    """The result of twenty cases of an instruction."""
+    return {**nothing(), "instruction": name, "count": 20, "size": 20, **more}
+
+
+def test_instructions_that_are_not_there() -> None:
+    """Those that lack as many cases are named together."""
+    missing = {"lb": 20, "lh": 20, "vadd": 20, "sra": 7, "add": 0}
+    told = text_table([result_of(name, missing=count) for name, count in missing.items()]).splitlines()
+    assert "reserved: LB,LH,VADD (20 of 20 cases each), SRA (7 of 20 cases). " in told[0]
+    assert told[-1].startswith("33 cases and 0 programs: 0 differ, 0 of them by faults, 67 not there; ")
+
+
+@pytest.mark.parametrize("first", ["ADD-g2-1-000000: boom", "ADD-g2-1-000000: $5: expected"])
+def test_fault_that_is_given_up(first: str) -> None:
+    """The table says once why the emulator failed, whether or not its first difference is a fault."""
+    shown, faults = [first, "ADD-g2-1-000001: boom"], [[1, 1, "boom"]] * 8
+    (_, line, _) = text_table(
+        [result_of("add", shown=shown, faults=faults, **{"given up": "boom"})]
+    ).splitlines()
+    assert line.count("boom") == 1 and "(given up after 9 faults" in line
+
+
+def test_without(folder: Path) -> None:
+    """Instructions that are left out, of cases and of programs."""
+    words = ("python:emulator:Machine", "--instructions", "add,sub,vadd", "--without", "VADD,sub")
+    said = said_of(folder, *words, "--cases", 20, "--programs", 1)
+    assert counts_of(folder) == agreed("add", 20, program=(1, 0, 0)), said
+    assert results_of(folder)["campaign.json"]["instructions"] == ["add"]
+
+
+def odd_stores() -> int:
+    """How many of the first cases of SB store a register with an odd number."""
+    return int((cases_of("sb", "1", 0, CASES)[0]["word"] >> 16 & 1).sum())
+
+
+@pytest.mark.parametrize("kind", ["object", "python"])
+def test_bytes_that_differ(kind: str, folder: Path) -> None:
+    """They are shown with their address, in the table as by --case. Later cases have their own memories."""
+    emulator = faulty(5) if kind == "object" else "python:emulator:WrongStore"
+    said = said_of(folder, emulator, "--instructions", "sb", "--cases", CASES)
+    assert counts_of(folder) == {"sb": (CASES, odd_stores(), 0)}
+    found = re.search(r"(?m)(SB-g2-1-\d+) .*: (DMEM 000: expected [0-9a-f]{32}, got [0-9a-f]{32})$", said)
+    assert found and "bytes of memories" not in said, said
+    assert f"\n  {found[2]}\n" in campaign(emulator, "--case", found[1]).stdout
 
 
 def test_progress_in_a_file(folder: Path) -> None:

@@ -117,7 +117,7 @@ def show(args: argparse.Namespace) -> None:
     missing = f", {result['missing']} not there" if result["missing"] else ""
     say(f"{result['count']} done, {result['differ']} differ, {result['unshown']} not shown{missing}\n")
     for it in result["programs"]:
-        head = f"{it['name']} is cut down to {counted(it['steps'], 'step')} from {it['pc']:03x}:"
+        head = f"{it['name']} is cut down to {counted(it['steps'], 'step')} from address {it['pc']:03x}:"
         say("".join(f"{line}\n" for line in (head, *it["listing"], *(f"  {at}" for at in it["differs"]))))
 
 

@@ -15,12 +15,13 @@ import numpy as np
 import rsp
 
 from . import CampaignFault, reads
-from .emulators import patched, word_of
-from .generator import BANKS, END, Array, cases_of, memories_of
+from .generator import END, Array, cases_of, memories_of
 from .programs import check_programs
 from .shared import BATCH, PROGRAM, RESERVED, SHOWN, UNDONE, UNSHOWN, Result, name_of
-from .sides import Program, Sides, differences, in_brief, in_words, named, parts_that_differ
+from .sides import Sides, differences, in_brief, named, parts_that_differ
 from .task import end_with_parent
+
+NOT_THERE = f"because the emulator answers that the word is reserved (status {RESERVED})"
 
 
 class Cases:
@@ -30,25 +31,28 @@ class Cases:
         self.name, self.seed, self.memories = name, seed, memories_of(name, seed)
         self.sides, self.expected = Sides(spec, self.memories), np.zeros(BATCH, END)
 
-    def memories_after(self, case: Array) -> List[str]:
-        """The quadwords of memories that differ after a case, if the emulator takes programs."""
-        program = Program(case["state"].tobytes(), patched(self.memories, word_of(case)))
-        try:
-            found = self.sides.first_difference(program, 1, 1)
-        except CampaignFault:
+    def memories_after(self, case: Array, expected: Array, got: Array) -> List[str]:
+        """What differs in memories, by addresses if the case was executed and the emulator can show them."""
+        if expected["changed"] == got["changed"]:
             return []
-        return in_words(it for it in found.parts if it.name.split()[0].lower() in BANKS) if found else []
+        found = self.sides.memories_after(case, self.memories.tobytes()) if got["status"] != RESERVED else []
+        return found or ["bytes of memories"]
+
+    def head(self, number: int, case: Array) -> str:
+        """What a case is called, with its word."""
+        pc = int(case["state"]["pc"])
+        return f"{name_of(self.name, self.seed, number)} ({named(int(case['word']), pc)} at {pc:03x}"
 
     def shown(self, number: int, case: Array, expected: Array, got: Array, whole: bool) -> str:
         """A case that differs, in a line or in whole."""
         word, state = int(case["word"]), rsp.State.from_buffer_copy(case["state"].tobytes())
-        lines = differences(expected, got)
-        head = f"{name_of(self.name, self.seed, number)} ({named(word, state.pc)} at {state.pc:03x}"
+        lines = [*differences(expected, got), *self.memories_after(case, expected, got)]
+        head = self.head(number, case)
         if not whole:
             return f"{head}{reads.in_brief(self.name, word, state, lines[0])}): {in_brief(lines)}"
         before = reads.reads_of(self.name, word, state, self.memories)
         told = [f"before: {what} {value}" for what, value in before]
-        return "\n  ".join([f"{head})", *told, *lines, *self.memories_after(case)])
+        return "\n  ".join([f"{head})", *told, *lines])
 
     def batch(self, at: int, n: int, ends: Array, room: int, whole: bool) -> Result:
         """The result of `n` cases. At most `room` of them are shown, each of which takes milliseconds."""
@@ -59,12 +63,14 @@ class Cases:
         if (statuses == UNDONE).any():
             raise CampaignFault("it answered too few cases")
         unshown, missing = statuses == UNSHOWN, statuses == RESERVED
-        missing &= (missing | unshown).all() and not whole  # some cases alone are a fault of its decoder
+        missing &= (missing | unshown).all()  # if only some cases are, that is a fault of its decoder
         differ &= ~unshown & ~missing
         found = np.nonzero(differ)[0]
         shown = [
             self.shown(at + i, cases[i], self.expected[i], ends[i], whole) for i in found[:room].tolist()
         ]
+        if whole and missing.any():
+            shown = [f"{self.head(at, cases[0])}): not there, {NOT_THERE}"]
         return {
             "count": n,
             "unshown": int(unshown.sum()),

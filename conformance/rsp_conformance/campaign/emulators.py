@@ -15,7 +15,7 @@ import importlib
 import json
 import os
 import subprocess
-from typing import Any, Dict, Iterable, Tuple
+from typing import Any, Dict, Iterable, Optional, Tuple
 
 import numpy as np
 import rsp
@@ -41,6 +41,22 @@ class Emulator:
     def for_programs(self, compared: rsp.Rsp) -> Any:
         """The emulator for rsp.first_difference, beside the machine that it is compared with."""
         return self
+
+    def memories_after(self, case: Array, memories: bytes, compared: rsp.Rsp) -> Optional[bytes]:
+        """All memories after a case, which is run as a program of one step; None if it takes no programs.
+
+        `memories` are those before all cases. The emulator has them again afterwards.
+        """
+        try:
+            machine = self.for_programs(compared)
+        except CampaignFault:
+            return None
+        machine.set(rsp.State.from_buffer_copy(case["state"].tobytes()))
+        load_all(machine, patched(memories, word_of(case)))
+        machine.run(1)
+        found = memories_in(machine)
+        load_all(machine, memories)
+        return found
 
 
 class Object(Emulator):
@@ -91,6 +107,18 @@ class Object(Emulator):
         self.lib.cases_step(self.at, steps)
 
 
+def load_all(machine: Any, memories: bytes) -> None:
+    """Loads all memories of a machine, or of an emulator that takes programs."""
+    for bank, (low, high) in enumerate(BANKS.values()):
+        machine.load(bank, 0, memories[low:high])
+
+
+def memories_in(machine: Any) -> bytes:
+    """All memories of a machine, or of an emulator that takes programs."""
+    lengths = (high - low for low, high in BANKS.values())
+    return b"".join(bytes(machine.memory(bank, 0, length)) for bank, length in enumerate(lengths))
+
+
 def patched(memories: Iterable[int], changed: Changed) -> bytes:
     """Memories with other bytes at some addresses."""
     made = bytearray(memories)
@@ -128,6 +156,10 @@ class Single(Emulator):
             end["changed"] = digest()(before, patched(before, changed))
             end["status"] = status  # last: it says that the case is done
 
+    def memories_after(self, case: Array, memories: bytes, compared: rsp.Rsp) -> Optional[bytes]:
+        """All memories after a case, which is run once more."""
+        return patched(patched(memories, word_of(case)), self.step(case)[2])
+
 
 class Python(Single):
     """A class of Python."""
@@ -148,6 +180,11 @@ class Python(Single):
     def step(self, case: Array) -> End:
         end: End = self.machine.step(case)
         return end
+
+    def memories_after(self, case: Array, memories: bytes, compared: rsp.Rsp) -> Optional[bytes]:
+        """All memories after a case. A class of `ends` shows them only as a program."""
+        shows = Emulator if hasattr(self.machine, "ends") else Single
+        return shows.memories_after(self, case, memories, compared)
 
     def for_programs(self, compared: rsp.Rsp) -> Any:
         if not hasattr(self.machine, "load"):

@@ -45,6 +45,7 @@ def is_result(found: Any) -> bool:
         return False
     texts = [*found["shown"], *found["unseen"], found.get("given up", "")]
     counts = [*(found[key] for key in COUNTS), *found["parts"].values()]
+    texts += [fault[-1] if isinstance(fault, list) and len(fault) == 3 else None for fault in found["faults"]]
     has_types = all(isinstance(it, str) for it in texts) and all(isinstance(it, int) for it in counts)
     is_known = found["instruction"] == PROGRAM or found["instruction"] in ROWS
     return has_types and is_known and has_range(found, counts)
@@ -87,11 +88,19 @@ def summary(results: List[Result]) -> Dict[str, Result]:
         line = lines.setdefault(result["instruction"], {**nothing(), "given up": ""})
         add(line, result)
         if "given up" in result:
-            line["given up"] = line["given up"] or f" (given up: {result['given up']})"
+            line["given up"] = line["given up"] or given_up(result, line["shown"])
     for line in lines.values():
         line.update(first="".join(line.pop("shown")[:1]), faults=len(line["faults"]))
         del line["programs"], line["unseen"], line["processor"]
     return lines
+
+
+def given_up(result: Result, shown: List[str]) -> str:
+    """Why a task was given up, in brackets, without what the first difference says already."""
+    faults = result["faults"]
+    how = f"given up after {len(faults) + 1} faults" if faults else "given up"
+    is_said = any(why in shown[0] for _, _, why in faults if shown)
+    return f" ({how})" if is_said else f" ({how}: {result['given up']})"
 
 
 def rows_of(lines: Dict[str, Result]) -> Iterator[Tuple[Any, ...]]:
@@ -104,25 +113,28 @@ def rows_of(lines: Dict[str, Result]) -> Iterator[Tuple[Any, ...]]:
 
 def not_there(results: List[Result]) -> str:
     """The instructions that the emulator hasn't, in a line that comes before all others."""
-    lines = summary(results).items()
-    missing = [f"{name.upper()} {it['missing']} of {it['count']}" for name, it in lines if it["missing"]]
-    return (
-        f"Not there, since it answers that the word is reserved: {', '.join(missing)} cases."
-        if missing
-        else ""
-    )
+    names: Dict[str, List[str]] = {}
+    for name, it in summary(results).items():
+        if it["missing"]:
+            names.setdefault(f"{it['missing']} of {counted(it['count'], 'case')}", []).append(name.upper())
+    missing = [f"{','.join(them)} ({share}{' each' * (len(them) > 1)})" for share, them in names.items()]
+    why = "Not there, because the emulator answers that the word is reserved: "
+    return f"{why}{', '.join(missing)}. Programs leave them out by --without." if missing else ""
 
 
 def last_words(results: List[Result]) -> str:
     """What was done, in a sentence."""
     lines = summary(results)
-    count, differ, faults = (sum(it[key] for it in lines.values()) for key in ("count", "differ", "faults"))
+    keys = ("count", "differ", "faults", "missing", "unshown")
+    count, differ, faults, missing, unshown = (sum(it[key] for it in lines.values()) for key in keys)
+    apart = {"not there": missing, "not shown": unshown}
+    others = "".join(f", {number} {what}" for what, number in apart.items() if number)
     programs, used = lines.get(PROGRAM, {"count": 0})["count"], sum(it["processor"] for it in results)
     unseen = printable(", ".join(dict.fromkeys(part for it in results for part in it["unseen"])))
-    done = f"{counted(count - programs, 'case')} and {counted(programs, 'program')}"
+    done = f"{counted(count - programs - missing - unshown, 'case')} and {counted(programs, 'program')}"
     more = f" Not compared, or not in all bits: {unseen}." if unseen else ""
     seconds = counted(round(used), "second")
-    return f"{done}: {differ} differ, {faults} of them by faults; {seconds} of processor.{more}"
+    return f"{done}: {differ} differ, {faults} of them by faults{others}; {seconds} of processor.{more}"
 
 
 def text_table(results: List[Result]) -> str:

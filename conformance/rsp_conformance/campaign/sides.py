@@ -1,16 +1,17 @@
 """The proved library and an emulator side by side, and what differs between them in words."""
 
-from typing import Dict, Iterable, List, Optional, Union
+from typing import Dict, Iterable, Iterator, List, Optional, Union
 
 import numpy as np
 import rsp
 from rsp_conformance.table import ignored_bits, row_of
 
 from .build import built
-from .emulators import Object, emulator_of
+from .emulators import Object, emulator_of, memories_in, patched, word_of
 from .generator import BANKS, END, IMEM, MEMORIES, RDRAM, STATE, Array
 
 PADDING = 693  # a byte of a state that is no register
+QUADWORD = 16  # so many bytes of a memory are a part that differs
 # What can differ: the parts of an end, by their bytes.
 PARTS = {"scalar registers": (0, 128), "vector registers": (128, 640), "accumulators": (640, 688),
          "VCO": (688, 690), "VCC": (690, 692), "VCE": (692, 693), "divider": (694, 700), "pc": (700, 702),
@@ -81,10 +82,15 @@ class Sides:
         self.begin(program)
         if steps:
             self.machine.run(steps)
-        memories = (
-            self.machine.memory(bank, 0, high - low) for bank, (low, high) in enumerate(BANKS.values())
-        )
-        return Program(self.machine.get(), b"".join(memories))
+        return Program(self.machine.get(), memories_in(self.machine))
+
+    def memories_after(self, case: Array, memories: bytes) -> List[str]:
+        """The quadwords of memories that differ after a case, in words; none if the emulator shows none."""
+        theirs = self.emulator.memories_after(case, memories, self.machine)
+        if theirs is None:
+            return []
+        ours = self.after(Program(case["state"].tobytes(), patched(memories, word_of(case))), 1)
+        return in_words(quadwords(bytes(ours.memories), theirs))
 
     def first_difference(self, program: Program, steps: int, every: int) -> Optional[rsp.FirstDifference]:
         """The first step of a program after which they differ, as rsp.first_difference says it, or None."""
@@ -100,17 +106,25 @@ def parts_that_differ(expected: Array, ends: Array) -> Dict[str, int]:
 
 
 def in_words(parts: Iterable[rsp.Part]) -> List[str]:
-    """What differs, a line each."""
-    return [f"{it.name}: expected {it.value:x}, got {it.other:x}" for it in parts]
+    """What differs, a line each, with the leading zeros of registers."""
+    return [f"{it.name}: expected {it.value:0{it.digits}x}, got {it.other:0{it.digits}x}" for it in parts]
 
 
 def differences(expected: Array, got: Array) -> List[str]:
-    """All that differs between two ends, in words."""
+    """The status and the registers in which two ends differ, in words."""
     ours, theirs = (rsp.State.from_buffer_copy(end["state"].tobytes()) for end in (expected, got))
-    lines = in_words(ours.diff(theirs))
-    if expected["status"] != got["status"]:
-        lines.append(f"status: expected {expected['status']}, got {got['status']}")
-    return lines + ["bytes of memories"] * bool(expected["changed"] != got["changed"])
+    statuses = expected["status"], got["status"]
+    lines = ["status: expected {}, got {}".format(*statuses)] if statuses[0] != statuses[1] else []
+    return lines + in_words(ours.diff(theirs))
+
+
+def quadwords(ours: bytes, theirs: bytes) -> Iterator[rsp.Part]:
+    """The quadwords in which all memories differ from others."""
+    for bank, (low, high) in BANKS.items():
+        for at in range(low, high, QUADWORD) if ours[low:high] != theirs[low:high] else ():
+            value, other = (int.from_bytes(it[at : at + QUADWORD], "big") for it in (ours, theirs))
+            if value != other:
+                yield rsp.Part(f"{bank.upper()} {at - low:03x}", value, other, 2 * QUADWORD)
 
 
 def in_brief(lines: List[str]) -> str:

@@ -74,7 +74,7 @@ def test_campaign(cargo: Cargo, folder: Path, monkeypatch: pytest.MonkeyPatch) -
     counts = counts_of(folder / "out")
     assert [counts[it] for it in ("lui", "sw")] == [(300, 0, 0)] * 2, said
     assert 50 < counts["sra"][1] < 300, "where the sign is set"
-    assert re.search(r"(?m)^Not there, .*VADD 300 of 300 cases|^VADD +300 +0 +300 ", said), said
+    assert re.search(r"(?m)^Not there, .*VADD \(300 of 300 cases\)|^VADD +300 +0 +300 ", said), said
 
 
 def test_examples() -> None:
