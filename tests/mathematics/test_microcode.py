@@ -147,7 +147,7 @@ def counted(choose: Random, most: int = 4095) -> int:
 
 
 def cost_of(name: str, count: int) -> int:
-    """The instructions of a routine for so many bytes or blocks: A, or A and B for each round, which are R."""
+    """The instructions of a routine for so many bytes or blocks: A, or A and B for each of R rounds."""
     rounds = {"dot_buffers": count // 16, "blocks": count}.get(name, max(1, -(-count // 16)))
     ((once, each),) = re.findall(r"^(\d+)(?: \+ (\d+) R)?$", COUNTS[name][1])
     return int(once) + int(each or 0) * rounds

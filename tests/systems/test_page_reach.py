@@ -260,7 +260,8 @@ def test_size_for_a_finger(page: Page) -> None:
     is_coarse = page.value("matchMedia('(pointer: coarse)').matches")
     small = page.value(
         "[...document.querySelectorAll('button, select, nav a, label')].filter((it) => it.offsetHeight && "
-        "(it.offsetHeight < 44 || it.offsetWidth < 44) && it.htmlFor !== 'example').map((it) => it.id || it.textContent)"
+        "(it.offsetHeight < 44 || it.offsetWidth < 44) && it.htmlFor !== 'example')"
+        ".map((it) => it.id || it.textContent)"
     )
     page.call("Emulation.setEmulatedMedia", features=[])
     page.call("Emulation.setTouchEmulationEnabled", enabled=False)
