@@ -57,7 +57,7 @@ def test_console(folder: Path) -> None:
     text = CONSOLE.read_text()
     section = re.findall(r"(?ms)^## A console that owns RDRAM\n(.*?)^## ", page("docs/EMBEDDING.md"))[0]
     shown = [indent(it.strip("\n"), " " * 4) for it in blocks_of(section)]
-    assert len(shown) == 1 and f"\n\n{shown[0]}\n" in text
+    assert len(shown) == 1 and f"\n{shown[0]}\n" in text
     (lines,) = re.findall(r"(\d+) lines of C\+\+17", section)
     assert len(text.splitlines()) == int(lines) <= 66
     passes(built(folder, HERE / "host.cpp", *BY_CONSOLE, compiler="c++"))
