@@ -36,11 +36,11 @@ For those who use z64, the low-level RSP plugin of mupen64plus, or compare anoth
 lists each instruction on which z64 differs from [INSTRUCTIONS](../docs/INSTRUCTIONS.md). It can't say which
 of the two a console agrees with.
 
-A [campaign](../docs/CAMPAIGN.md), `conformance/campaign plugin:FILE OUT --cases {0}`, compared {0:,} cases of
-each of {1} instructions (seed `{2}`; fewer of MTC0, because z64 can't make a single step over an MTC0 that
-clears single step). It compared all memories and registers except four flags that z64 doesn't show: loaded, halted, broke
-and single step. The registers are found by their addresses in one build, Debian's mupen64plus-rsp-z64
-2.5.9+10+ga7bf40f-2 for amd64.
+A [campaign](../docs/CAMPAIGN.md), `conformance/campaign plugin:FILE OUT --cases {0}`, compared {0:,} cases
+of each of {1} instructions (seed `{2}`; fewer of MTC0, because z64 can't make a single step over an MTC0
+that clears single step). It compared all memories and registers except four flags that z64 doesn't show:
+loaded, halted, broke and single step. The registers are found by their addresses in one build, Debian's
+mupen64plus-rsp-z64 2.5.9+10+ga7bf40f-2 for amd64.
 
 Letters such as a, e and A mean what they mean in INSTRUCTIONS. What follows *choice* is no fault of z64,
 because [we chose our rule ourselves](README.md#what-they-cant-show). The percentages count all cases that
