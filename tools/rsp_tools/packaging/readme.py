@@ -151,10 +151,10 @@ Header set X-Content-Type-Options "nosniff"
 The rest of the Content-Security-Policy is in the page itself. Even without these headers the page asks the
 server for index.html when it is opened, and loads a newer version."""
 # What the README of the source has more than the repository's.
-OF_SOURCE = """These are the files of the repository, for {built}. `sha256sum -c SHA256SUMS` checks them; `sha256sum
---ignore-missing -c SHA256SUMS`, in the folder of the archive, checks the archive. To build them you need
-the Rattle kit ([Get it](#get-it)): the program and the library in the other archives were {proved}.
-`./release` and some tests need a clone, because they ask git which files there are.
+OF_SOURCE = """These are the files of the repository, for {built}. `sha256sum -c SHA256SUMS` checks them;
+`sha256sum --ignore-missing -c SHA256SUMS`, in the folder of the archive, checks the archive. To build them
+you need the Rattle kit ([Get it](#get-it)): the program and the library in the other archives were
+{proved}. `./release` and some tests need a clone, because they ask git which files there are.
 [rsp.spdx.json](rsp.spdx.json) names the commit, by SPDX."""
 
 
