@@ -1,6 +1,6 @@
 /** An emulator as a command for conformance/campaign: each line of JSON is a case, and each answer is a line. This
  * emulator knows LUI, SRA, SW and NOP. Its SRA has a planted fault: it shifts zeros in. It needs no library and no
- * flag of Node. See docs/CAMPAIGN.md. */
+ * flag of Node. See docs/CAMPAIGN.md, and conformance/FORMS.md for the lines. */
 
 import { createInterface } from "node:readline";
 
@@ -20,28 +20,28 @@ function step(state, memories) {
   return DONE;
 }
 
-/** The bytes from `start` to `end` that differ, each with its address from `start` on. */
-function changes(before, after, start, end) {
+let given, before, memories, state; // the memories of the last line that has some, and a case's before and after it
+
+/** The bytes from `start` to `end` that a case has changed, each with its address from `start` on. */
+function changes(start, end) {
   const found = [];
-  for (let at = start; at < end; at++) if (before[at] !== after[at]) found.push([at - start, after[at]]);
+  for (let at = start; at < end; at++) if (before[at] !== memories[at]) found.push([at - start, memories[at]]);
   return found;
 }
-
-let given, memories, state; // the memories of the last line that has some; those of the case, and its registers
 
 /** The answer to a case, or to steps of a program: one without `initial` continues where the last one ended. */
 function answer({ initial, steps = 1 }) {
   if (initial) {
     const { ram, rdram, ...registers } = initial;
-    memories = Buffer.from(given);
+    before = Buffer.from(given);
+    for (const [at, byte] of ram) before[at] = byte;
+    for (const [at, byte] of rdram) before[RDRAM + at] = byte;
+    memories = Buffer.from(before);
     state = registers;
-    for (const [at, byte] of ram) memories[at] = byte;
-    for (const [at, byte] of rdram) memories[RDRAM + at] = byte;
   }
   let status = DONE;
   for (let made = 0; made < steps && status === DONE; made++) status = step(state, memories);
-  const ram = changes(given, memories, 0, RDRAM), rdram = changes(given, memories, RDRAM, given.length);
-  return { final: { ...state, ram, rdram, status } };
+  return { final: { ...state, ram: changes(0, RDRAM), rdram: changes(RDRAM, before.length), status } };
 }
 
 for await (const line of createInterface({ input: process.stdin })) {
