@@ -19,7 +19,7 @@ from lib.user import User
 PROGRAMS = frozenset(
     "apt-get awk bash c++ cargo cat cc cd cmake cp cpp curl dask echo eval export g++ gcc git ldconfig "
     "make man mkdir mupen64plus mv npm od pip pkg-config printf python python3 rm rsp rt rustc sed sh "
-    "sha256sum source sudo tar wget".split()
+    "sha256sum source sudo tar truncate wget".split()
 )
 
 

@@ -182,6 +182,7 @@ WAYS = (
     ),
     Way(CAMPAIGN, "conformance/campaign plugin:", instead=(("/tmp/first", "~/first"),), prints="after"),
     Way(CAMPAIGN, "conformance/campaign plugin:", prints="after"),
+    Way(CAMPAIGN, 'conformance/campaign "node ', instead=(("/tmp/js", "~/js"),), prints=".."),
     Way(
         CAMPAIGN,
         "cc -O2 -shared",
