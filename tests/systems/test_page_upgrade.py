@@ -167,5 +167,5 @@ def test_addresses_of_index(host: Host, folder: Path) -> None:
         pages.write(folder, version(number))
     named = re.findall(r'\b(?:src|href)="(?!data:)([^"]+)"', (folder / "index.html").read_text())
     own = pages.name_of(version(2))
-    assert len(named) == 6 and [it for it in named if not it.startswith(f"{own}/")] == []
+    assert len(named) == 7 and [it for it in named if not it.startswith(f"{own}/")] == []
     assert [it for it in named if not (folder / it).is_file()] == []
