@@ -9,7 +9,6 @@ THROUGH_LINKS = "on Linux, where it is only tested, it writes through links"
 NOT_KILLED = "it ignores the signal of the limit, which the program that rt links can't"
 LIMITED = "a limit of the size of files stops wine's own server"
 NO_TEXT = "wine makes UTF-16 of any bytes; half of a pair is tested by itself"
-TOO_LONG = "wine refuses a name of 256 bytes only when a file is to take it, and the new file stays"
 FOREIGN_CALLS = "the calls that are made to fail are those of programs of Linux on x86-64"
 # The tests of each system that must fail, by the beginning of their names.
 LEFT_OUT: Dict[str, Dict[str, str]] = {
@@ -22,8 +21,6 @@ LEFT_OUT: Dict[str, Dict[str, str]] = {
     "linux-aarch64": {"saves.py::test_killed_by_the_limit": NOT_KILLED},
     "windows-x86_64": {
         "scripts.py::test_refused[run --save \\": NO_TEXT,
-        "bad_input.py::test_name_of_no_file[run --save {}-nn": TOO_LONG,
-        "bad_input.py::test_name_of_no_file[asm source {}-nn": TOO_LONG,
         "saves.py::test_no_room[": LIMITED,
         "saves.py::test_killed_by_the_limit": LIMITED,
         "saves.py::test_limit": LIMITED,
