@@ -13,10 +13,10 @@ LINES = {
 }
 # The seconds of a processor by one job, for the order of the proofs and for what is said of the time to go.
 SECONDS = """
-rsp_numbers 8 rsp_memory 32 rsp_decode 171 rsp_scalar 28 rsp_lanes 45 rsp_acc 43 rsp_multiply 32
-rsp_compare 31 rsp_divide 22 rsp_loadstore 59 rsp_regs 38 rsp_machine 199 rsp_syntax 63 rsp_operands 59
-rsp_asm 88 rsp_dis 54 rsp_debug 180 rsp_script_io 79 rsp_commands 85 rsp_bench 153 rsp_feed 70
-rsp_advice 45 rsp_cli_args 53 rsp_cli_files 100 rsp_cli 78 rsp_main 125 rsp_c 300
+rsp_numbers 9 rsp_memory 30 rsp_decode 171 rsp_scalar 28 rsp_lanes 43 rsp_acc 43 rsp_multiply 38
+rsp_compare 34 rsp_divide 24 rsp_loadstore 62 rsp_regs 46 rsp_machine 199 rsp_syntax 70 rsp_operands 62
+rsp_asm 98 rsp_dis 56 rsp_debug 180 rsp_script_io 69 rsp_commands 82 rsp_bench 153 rsp_feed 80
+rsp_advice 70 rsp_cli_args 80 rsp_cli_files 155 rsp_cli 88 rsp_main 130 rsp_c 300
 """
 
 
