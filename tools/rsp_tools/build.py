@@ -26,7 +26,7 @@ from rsp_tools.proof import PROCESSORS, Proof
 
 LOGIC = "logic dac8208d650f15bf"
 # Whose functions proof.py calls.
-TRIED = f"rattle-kit-13f {LOGIC}"
+TRIED = [f"rattle-kit-{it} {LOGIC}" for it in ("13b", "13f")]
 # Who speaks of a crate, the file that is built of it, what `rt` is asked for, and by how many jobs over the
 # crates below: a third of the program's time is its object file, which only one job makes.
 BUILT = {
@@ -113,7 +113,7 @@ class Build:
 
     def prove(self) -> None:
         """Proves what isn't proved, and builds the file."""
-        is_tried = kit() == TRIED and (kit_folder() / "bin/rtlib.py").exists()
+        is_tried = kit() in TRIED and (kit_folder() / "bin/rtlib.py").exists()
         words = ["rt", self.verb, "--jobs", str(self.jobs if is_tried else PROCESSORS)]
         self.run([*words, *["--", "run"] * (self.verb == "run")], is_tried)
         self.say(f"built after {time.time() - self.since:.0f} s in all")

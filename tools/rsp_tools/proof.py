@@ -46,13 +46,14 @@ def at_once() -> int:
 
 
 def program(kit: Path) -> Any:
-    """The kit's program `rt` as a module, which shares what is proved with other clones on this machine."""
+    """The kit's program `rt` as a module. If it can, it shares what is proved with other clones on this machine."""
     loader = importlib.machinery.SourceFileLoader("rt", str(kit / "bin/rt"))
     spec = importlib.util.spec_from_loader("rt", loader)
     assert spec
     module = importlib.util.module_from_spec(spec)
     loader.exec_module(module)
-    module.share_work(True)
+    if hasattr(module, "share_work"):
+        module.share_work(True)
     return module
 
 
