@@ -37,17 +37,18 @@ lists each instruction on which z64 differs from [INSTRUCTIONS](../docs/INSTRUCT
 of the two a console agrees with.
 
 A [campaign](../docs/CAMPAIGN.md), `conformance/campaign plugin:FILE OUT --cases {0}`, compared {0:,} cases
-of each of {1} instructions (seed `{2}`; fewer of MTC0, because z64 can't make a single step over an MTC0
-that clears single step). It compared all memories and registers except four flags that z64 doesn't show:
-loaded, halted, broke and single step. The registers are found by their addresses in one build, Debian's
-mupen64plus-rsp-z64 2.5.9+10+ga7bf40f-2 for amd64.
+of each of {1} instructions, with the seed `{2}`. (There were fewer cases of MTC0, because z64 can't make a
+single step over an MTC0 that clears single step.) It compared all memories and registers except four flags
+that z64 doesn't show: loaded, halted, broke and single step. z64 has no interface for its registers, so the
+campaign finds them by their addresses in one build: Debian's mupen64plus-rsp-z64 2.5.9+10+ga7bf40f-2 for
+amd64.
 
 Letters such as a, e and A mean what they mean in INSTRUCTIONS. What follows *choice* is no fault of z64,
-because [we chose our rule ourselves](README.md#what-they-cant-show). The percentages count all cases that
-differ; one in parentheses leaves out cases of a choice. The rows are sorted by the number of cases that
-differ without a choice; of several instructions in a row the one with the most counts.
-[campaign.json](z64/campaign.json) names the first case that differs, and `conformance/campaign plugin:FILE
---case NAME` shows it.
+because [we chose our rule ourselves](README.md#what-they-cant-show). The percentage of an instruction counts
+all its cases that differ; if another one follows in parentheses, that one leaves out the cases of a choice.
+The rows are sorted by the number of cases that differ without a choice; if a row has several instructions,
+the one with the most such cases counts. [campaign.json](z64/campaign.json) names the first case that differs,
+and `conformance/campaign plugin:FILE --case NAME` shows it.
 """
 TABLE = "| Instruction | What z64 does | Cases that differ |\n|---|---|---|\n"
 CHOSEN = "On {} z64 differs only in [what we chose ourselves](README.md#what-they-cant-show)."
