@@ -46,7 +46,7 @@ def at_once() -> int:
 
 
 def program(kit: Path) -> Any:
-    """The kit's program `rt` as a module. If it can, it shares what is proved with other clones on this machine."""
+    """The kit's program `rt` as a module. If it can, it shares with other clones here what is proved."""
     loader = importlib.machinery.SourceFileLoader("rt", str(kit / "bin/rt"))
     spec = importlib.util.spec_from_loader("rt", loader)
     assert spec
