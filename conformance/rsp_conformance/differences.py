@@ -43,14 +43,24 @@ that z64 doesn't show: loaded, halted, broke and single step. z64 has no interfa
 campaign finds them by their addresses in one build: Debian's mupen64plus-rsp-z64 2.5.9+10+ga7bf40f-2 for
 amd64.
 
-Letters such as a, e and A mean what they mean in INSTRUCTIONS. What follows *choice* is no fault of z64,
-because [we chose our rule ourselves](README.md#what-they-cant-show). The percentage of an instruction counts
-all its cases that differ; if another one follows in parentheses, that one leaves out the cases of a choice.
-The rows are sorted by the number of cases that differ without a choice; if a row has several instructions,
-the one with the most such cases counts. [campaign.json](z64/campaign.json) names the first case that differs,
-and `conformance/campaign plugin:FILE --case NAME` shows it.
+A row says only what differs; everything else is as in INSTRUCTIONS. The letters are those of its rules:
+
+- A is the address of a load or store: the base register plus the offset. The quadword of A is the 16 bytes
+  that begin at A rounded down to a multiple of 16.
+- e is the element, or in loads, stores and moves the byte offset in brackets. a is a lane of vs, b the lane
+  of vt that the element selects for it, and sa and sb are these as signed numbers.
+- In divide instructions and VMOV, de is the number of the lane of vd, and lane i of *selected* is the lane of
+  vt that the element selects for lane i. VMOV moves lane de of *selected* by our rule, and the source of the
+  others is lane e mod 8 of vt.
+
+What follows *choice* is no fault of z64, because [we chose our rule
+ourselves](README.md#what-they-cant-show). The last column shows what part of all cases of an instruction differs. If a second part follows in
+parentheses, it counts only those of the differing cases that don't depend on a choice; the rows are sorted by
+this part. A fault is a crash or a hang. [campaign.json](z64/campaign.json) names the first case that differs,
+and `conformance/campaign plugin:FILE --case NAME` shows it; FILE is z64's shared object.
 """
 TABLE = "| Instruction | What z64 does | Cases that differ |\n|---|---|---|\n"
+BREAKS = "BREAK is one of these, although two of its effects, halted and broke, can't be compared."
 CHOSEN = "On {} z64 differs only in [what we chose ourselves](README.md#what-they-cant-show)."
 # So do these, although some of their cases have no mark: those of numbers from 4 on that aren't 3 modulo 4.
 CHOSEN_TOO = ("cfc2", "ctc2")
@@ -67,8 +77,8 @@ def take(out: Path) -> None:
 
 
 def sentences(data: Data) -> Iterator[Complaints]:
-    """An instruction that differs has a sentence, one that agrees none. Differences in choices need none."""
-    differ = {name for name, it in data["instructions"].items() if it["differ"] > it["choices"]}
+    """An instruction that differs has a sentence, one that agrees none."""
+    differ = {name for name, it in data["instructions"].items() if it["differ"]}
     named = [name for rule in RULES for name in rule.names]
     for name in data["instructions"]:
         right, has = name in differ, name in named
@@ -103,6 +113,14 @@ def listed(names: List[str]) -> str:
     return " and ".join(filter(None, [", ".join(names[:-1]), *names[-1:]]))
 
 
+def filled(text: str) -> str:
+    """A paragraph, or the items of a list, in lines of the page."""
+    if not text.startswith("- "):
+        return fill(text, 120, break_on_hyphens=False)
+    items = (" ".join(it.split()) for it in text[2:].split("\n- "))
+    return "\n".join(fill(f"- {it}", 120, subsequent_indent="  ", break_on_hyphens=False) for it in items)
+
+
 def page_of(data: Data) -> str:
     found = data["instructions"]
     differ = [name for name, it in found.items() if it["differ"]]
@@ -116,8 +134,7 @@ def page_of(data: Data) -> str:
     head = HEAD.strip().format(data["cases"], len(found), data["seed"]).split("\n\n")
     others, agree = len(differ) - len(chosen), len(found) - len(differ)
     last = f"It differs otherwise on {others}, and agrees in every case on {agree}."
-    texts = [*head, f"{CHOSEN.format(listed(chosen))} {last}"]
-    texts = [fill(it, 120, break_on_hyphens=False) for it in texts]
+    texts = [*map(filled, head), filled(f"{CHOSEN.format(listed(chosen))} {last} {BREAKS}")]
     return "\n\n".join(["# Where z64 differs", *texts[:-1], TABLE + "\n".join(lines), texts[-1]]) + "\n"
 
 

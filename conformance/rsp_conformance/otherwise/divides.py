@@ -12,11 +12,11 @@ from .vector import result
 
 
 def source(case: Case) -> int:
-    """Lane de of vt under the element. The table takes lane e mod 8."""
+    """Lane de of selected, which is vt under the element. The table takes lane e mod 8 of vt."""
     return case.lanes(case.fields["vt"])[selected(case.fields["e"], case.fields["de"])]
 
 
-@rule("vmov", "reads lane 7 - de of vt under the element; the low accumulators are unchanged")
+@rule("vmov", "moves lane 7 - de of *selected*; the low accumulators are unchanged")
 def moves_another_lane(case: Case) -> State:
     value = case.lanes(case.fields["vt"])[selected(case.fields["e"], 7 - case.fields["de"])]
     return {**result(case, {case.fields["de"]: value}), **case.kept(f"a{lane}" for lane in range(8))}
@@ -66,14 +66,15 @@ def takes_other_entries(case: Case) -> State:
     return divider_result(case, reciprocal(signed(lane)))
 
 
-@rule("vrcph", "reads lane de of vt under the element")
+@rule("vrcph", "the source is lane de of *selected*")
 def loads_another_lane(case: Case) -> State:
     return {"in": source(case)}
 
 
 @rule(
     "vrcpl",
-    "reads the lane that VRCPH reads, and the table of VRCP; takes a high half even if none is loaded",
+    "the source is lane de of *selected*, and the table is that of z64's VRCP; takes a high half even if none"
+    " is loaded",
 )
 def takes_a_high_half(case: Case) -> State:
     x = case.before["in"] << 16 | source(case)
@@ -82,7 +83,8 @@ def takes_a_high_half(case: Case) -> State:
 
 @rule(
     "vrsqh",
-    "reads the lane that VRCPH reads; has a DIV_IN and a DIV_OUT of its own, which are 0 at the start",
+    "the source is lane de of *selected*; DIV_IN and DIV_OUT aren't those of VRCPH but two of its own, which"
+    " are 0 at the start",
 )
 def reads_a_root(case: Case) -> State:
     return {**result(case, {case.fields["de"]: 0}), **case.kept(["in"])}
@@ -90,8 +92,8 @@ def reads_a_root(case: Case) -> State:
 
 @rule(
     "vrsql",
-    "reads the lane that VRCPH reads; has DIV_IN and DIV_OUT of VRSQH; takes a high half even if none is"
-    " loaded",
+    "the source is lane de of *selected*; DIV_IN and DIV_OUT are those of z64's VRSQH; takes a high half even"
+    " if none is loaded",
 )
 def takes_a_root(case: Case) -> State:
     root = inverse_root(source(case))

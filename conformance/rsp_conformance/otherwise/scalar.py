@@ -7,7 +7,7 @@ from rsp_conformance.outcomes import signed
 from .case import LIMIT, Case, State, rule
 
 
-@rule("bgezal", "if s is 31 it tests the new link, so it branches; *choice:* a link isn't taken modulo 4096")
+@rule("bgezal", "if rs is 31 it tests the new link, so it branches; *choice:* a link isn't taken modulo 4096")
 def tests_the_link(case: Case) -> State:
     target = {"npc": case.before["npc"] + 4 * simm(case) & 0xFFC}
     return {**link(case, "r31"), **(target if case.fields["s"] == 31 else {})}
@@ -20,6 +20,11 @@ def simm(case: Case) -> int:
 def link(case: Case, register: str) -> State:
     """The link, which isn't taken modulo 4096."""
     return {register: case.before["npc"] + 4}
+
+
+@rule("jal", "*choice:* a link isn't taken modulo 4096")
+def links_past_the_end(case: Case) -> State:
+    return link(case, "r31")
 
 
 @rule("bltzal lwu vrsq", "does nothing")

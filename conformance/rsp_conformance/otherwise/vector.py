@@ -72,6 +72,11 @@ def clips_roughly(case: Case) -> State:
     return compared(case, compares, {lane: ~b if compares[lane] else a for lane, a, b in apart})
 
 
+@rule("vmulq vmacq vrndp vrndn", "*choice:* does nothing")
+def lacks_the_row(case: Case) -> State:
+    return case.undone()
+
+
 @rule("vmrg", "VCO is unchanged")
 def keeps_vco(case: Case) -> State:
     return case.kept(["vco"])
