@@ -54,10 +54,11 @@ A row says only what differs; everything else is as in INSTRUCTIONS. The letters
   others is lane e mod 8 of vt.
 
 What follows *choice* is no fault of z64, because [we chose our rule
-ourselves](README.md#what-they-cant-show). The last column shows what part of all cases of an instruction differs. If a second part follows in
-parentheses, it counts only those of the differing cases that don't depend on a choice; the rows are sorted by
-this part. A fault is a crash or a hang. [campaign.json](z64/campaign.json) names the first case that differs,
-and `conformance/campaign plugin:FILE --case NAME` shows it; FILE is z64's shared object.
+ourselves](README.md#what-they-cant-show). The last column shows what part of all cases of an instruction
+differs. If a second part follows in parentheses, it counts only those of the differing cases that don't
+depend on a choice; the rows are sorted by this part. A fault is a crash or a hang.
+[campaign.json](z64/campaign.json) names the first case that differs, and `conformance/campaign plugin:FILE
+--case NAME` shows it; FILE is z64's shared object.
 """
 TABLE = "| Instruction | What z64 does | Cases that differ |\n|---|---|---|\n"
 BREAKS = "BREAK is one of these, although two of its effects, halted and broke, can't be compared."
