@@ -12,6 +12,7 @@ It fails if the program does something else than a line of a table says, or if a
 import re
 from difflib import unified_diff
 from itertools import chain
+from math import prod
 from pathlib import Path
 from typing import Any, Dict, Iterable, Iterator, List, Set, Tuple
 
@@ -21,7 +22,7 @@ from lib import worked
 from lib.lists import see_same
 from lib.pages import cells_of, data, page, replies, tables, words_of
 from lib.processes import run
-from rsp_conformance import bench, programs
+from rsp_conformance import bench, flat, programs
 from rsp_conformance.table import ROWS, Row
 from rsp_conformance.vectors import VECTORS, entries_in, names_in
 from rsp_tools import pages
@@ -84,6 +85,17 @@ def test_z64() -> None:
     ]
     (chosen,) = re.findall(r"(?m)^On (.*?) z64 differs only in", page("conformance/Z64.md"))
     assert agree + differ + len(re.findall(r"\b[A-Z][A-Z0-9]+\b", chosen)) == all_of_them
+
+
+def test_layout_of_states() -> None:
+    """The fields of a state that FORMS lists follow one another, and fill a state of the files of `flat`."""
+    (table,) = re.findall(r"\| Offset \| Bytes .*\n\|[-|]+\|\n((?:\|.*\n)+)", page("conformance/FORMS.md"))
+    end = 0
+    for offsets, size, _what in map(cells_of, table.splitlines()):
+        for offset in offsets.split(", "):
+            assert int(offset) == end
+            end += prod(map(int, re.findall(r"\d+", size)))
+    assert end == flat.STATE.size
 
 
 def used_by(rows: Iterable[Row]) -> Set[str]:
