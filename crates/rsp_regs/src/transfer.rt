@@ -24,7 +24,8 @@ pub struct Transfer {
 }
 
 impl Transfer {
-    /// Copies from the RDRAM into a bank.
+    /// Copies from the RDRAM into a bank. It is inlined, so that the start of a task, whose lengths are known, has no loop.
+    #[inline(always)]
     #[tactic(auto, using(crate::proofs::Pairs::copies))]
     pub fn copy_in(&self, rdram: &Rdram, bank: &mut SpMem)
         requires { IsTransfer self.now }
@@ -59,11 +60,14 @@ fn copy_row_in(sp: u32, dram: u32, length: u32, rdram: &Rdram, bank: &mut SpMem)
     requires length { length ≤ 4096 }
     ensures { bank.new ≡ copied_in rdram.now bank.old (row_pairs sp dram length) }
 {
-    let n = length as usize;
-    if (dram % 0x100_0000) as usize + n <= rdram.len() {
-        bank.set_bytes(sp, rdram.run(dram, n));
-    } else {
+    let (at, n) = ((dram % 0x100_0000) as usize, length as usize);
+    if at + n > rdram.len() {
         copy_pieces_in(sp, dram, length, rdram, bank);
+    } else if n == 8 {
+        // The shortest row: because its length is known here, no memcpy is called for it.
+        bank.set_bytes(sp, &rdram.bytes()[at..at + 8]);
+    } else {
+        bank.set_bytes(sp, &rdram.bytes()[at..at + n]);
     }
 }
 
