@@ -65,6 +65,19 @@ pub extern "C" fn rsp_load(
     })
 }
 
+/// Copies bytes. A word, which a CPU reads often, is copied without a call of memcpy, because the call takes longer than the copy.
+#[inline(always)]
+fn copy(from: &[u8], to: &mut [u8])
+    requires { length from.now ≡ length to.old }
+    ensures { to.new ≡ from.now }
+{
+    if to.len() == 4 {
+        to.copy_from_slice(&from[..4]);
+    } else {
+        to.copy_from_slice(from);
+    }
+}
+
 /// Reads bytes of a bank from an address on, as many as the buffer has.
 #[unsafe(no_mangle)]
 pub extern "C" fn rsp_memory(
@@ -84,7 +97,7 @@ pub extern "C" fn rsp_memory(
         Some(bank) => match bytes_of(debugger.machine(), bank, address, bytes.len()) {
             None => OUT_OF_RANGE,
             Some(found) => {
-                bytes.copy_from_slice(found);
+                copy(found, bytes);
                 OK
             }
         },
