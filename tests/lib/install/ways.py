@@ -250,6 +250,13 @@ WAYS = (
         prints="ok 1024 words\nok 2 words\nstop Halted steps 3 pc 7f4",
     ),
     Way("docs/SYSTEMS.md", "library/c/build", left_out="it needs the repository and the kit"),
+    Way(
+        "conformance/README.md",
+        "cd conformance/vectors/programs",
+        first='export PATH="$PATH:$PWD"',  # for ./rsp of a clone
+        prints="stop Break steps 604 pc 970\n..\nv05 075d d833 001f d05a 9fc7 0001 0000 6b36\n..\n"
+        "step Done pc 974\n..\nv05 075d d833 001f d05a 9fc7 0000 0000 6b36\n..",
+    ),
 )
 # Those of a clone, besides.
 IN_A_CLONE = (
