@@ -50,10 +50,10 @@ A row says only what differs; everything else is as in INSTRUCTIONS. The letters
 - e is the element, or in loads, stores and moves the byte offset in brackets. a is a lane of vs, b the lane
   of vt that the element selects for it, and sa and sb are these as signed numbers.
 - In divide instructions and VMOV, de is the number of the lane of vd, and lane i of *selected* is the lane of
-  vt that the element selects for lane i. VMOV moves lane de of *selected* by our rule, and the source of the
-  others is lane e mod 8 of vt.
+  vt that the element selects for lane i. By our rule, VMOV moves lane de of *selected*, and a divide
+  instruction reads lane e mod 8 of vt.
 
-What follows *choice* is no fault of z64, because [we chose our rule
+What follows *choice*, except a crash or a hang, doesn't show which side is wrong, because [we chose our rule
 ourselves](README.md#what-they-cant-show). The last column shows what part of all cases of an instruction
 differs. If a second part follows in parentheses, it counts only those of the differing cases that don't
 depend on a choice; the rows are sorted by this part. A fault is a crash or a hang.
