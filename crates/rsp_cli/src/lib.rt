@@ -1,5 +1,6 @@
 //! The work of the program `rsp`: it does what the command line requests, with files and streams, and reports messages and an exit
-//! status. [`work`] is generic over all files and streams, so that tests give it fakes and need no program.
+//! status. [`work`] is generic over all files and streams, so that tests give it fakes and need no program, and over what answers a
+//! script, so that it is proved beside the machine.
 //!
 //! It is apart from `rsp_main` since its tests are a crate above it, and a crate of tests can't use a program.
 #![tactic(auto)]

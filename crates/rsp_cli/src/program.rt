@@ -2,10 +2,10 @@ use crate::faults::{CountingWriter, Faults};
 use crate::status::Status;
 use clap::Error;
 use clap::error::ErrorKind;
-use rsp_bench::{BenchEnd, FromRead, ToWrite, run_bench};
 use rsp_cli_args::{Request, RunFiles, read_arguments};
 use rsp_cli_files::{Fault, FileStore, assemble_file, disassemble_file, read_file, write_file};
 use rsp_memory::Rdram;
+use rsp_script_io::{FromRead, RunFault, ScriptRunner, ToWrite};
 use std::alloc::Global;
 use std::io::{self, Read, Write};
 
@@ -15,11 +15,12 @@ const DEFAULT_LENGTH: usize = 4_194_304;
 /// One byte more than the longest image, since a file of which so many were read is too long.
 const IMAGE_READ_LIMIT: u64 = 8_388_609;
 
-/// Does what the arguments ask for; the first of them is the program's name. `input` is the script of a run, `output` takes
-/// replies and listings. A fault, or why the arguments are refused, is written to `errors`.
-pub fn work<F: FileStore, R: Read + Drop, W: Write + Drop, E: Write>(
+/// Does what the arguments ask for; the first of them is the program's name. `input` is the script of a run, which `runner`
+/// answers, `output` takes replies and listings. A fault, or why the arguments are refused, is written to `errors`.
+pub fn work<S: ScriptRunner, F: FileStore, R: Read + Drop, W: Write + Drop, E: Write>(
     alloc: Global,
     args: &[String],
+    runner: &S,
     files: &mut F,
     input: R,
     output: W,
@@ -30,7 +31,7 @@ pub fn work<F: FileStore, R: Read + Drop, W: Write + Drop, E: Write>(
         Err(error) => return answer_words(&error, output, errors),
     };
     let done = match asked {
-        Request::Run(named) => run(alloc, &named, files, input, output),
+        Request::Run(named) => run(alloc, &named, runner, files, input, output),
         Request::Assemble(named) => assemble_file(alloc, files, &named, output),
         Request::Disassemble(named) => disassemble_file(alloc, files, &named, output),
     };
@@ -79,32 +80,34 @@ fn faulted<E: Write>(fault: Fault, errors: &mut E) -> Status {
 }
 
 /// Answers a script. The image of the RDRAM is read before the script, and saved after a run that finished.
-fn run<'a, F: FileStore, R: Read + Drop, W: Write + Drop>(
+fn run<'a, S: ScriptRunner, F: FileStore, R: Read + Drop, W: Write + Drop>(
     alloc: Global,
     asked: &RunFiles<'a>,
+    runner: &S,
     files: &mut F,
     input: R,
     output: W,
 ) -> Result<(), Fault<'a>> {
     let image = read_image(alloc, files, asked.rdram)?;
     if asked.is_strict {
-        return run_strictly(alloc, image, asked.save, files, input, output);
+        return run_strictly(alloc, image, asked.save, runner, files, input, output);
     }
-    let image = answer(alloc, image, input, output)?;
+    let image = answer(alloc, image, runner, input, output)?;
     save_image(files, asked.save, image)
 }
 
 /// Answers a script and saves the image in the same way, and then ends with a fault if a reply was one.
-fn run_strictly<'a, F: FileStore, R: Read + Drop, W: Write + Drop>(
+fn run_strictly<'a, S: ScriptRunner, F: FileStore, R: Read + Drop, W: Write + Drop>(
     alloc: Global,
     image: Rdram,
     saved: Option<&'a str>,
+    runner: &S,
     files: &mut F,
     input: R,
     output: W,
 ) -> Result<(), Fault<'a>> {
     let mut output = CountingWriter::new(output);
-    let image = answer(alloc, image, input, &mut output)?;
+    let image = answer(alloc, image, runner, input, &mut output)?;
     save_image(files, saved, image)?;
     refuse_faults(alloc, output.faults())
 }
@@ -147,19 +150,21 @@ fn read_image<'a, F: FileStore>(
 }
 
 /// Answers a script, and returns the image that it leaves.
-fn answer<'a, R: Read + Drop, W: Write + Drop>(
+fn answer<'a, S: ScriptRunner, R: Read + Drop, W: Write + Drop>(
     alloc: Global,
     image: Rdram,
+    runner: &S,
     input: R,
     output: W,
 ) -> Result<Rdram, Fault<'a>> {
     let mut source = FromRead::new(input);
     let mut sink = ToWrite::new(output);
-    match run_bench(alloc, image, &mut source, &mut sink) {
-        BenchEnd::Finished(session) => Ok(session.into_rdram()),
-        BenchEnd::ReadFault => Err(Fault::RunRead),
-        BenchEnd::WriteFault => Err(Fault::RunWrite),
-        BenchEnd::ScriptTooLong => Err(Fault::ScriptTooLong),
-        BenchEnd::OutOfMemory => Err(Fault::RunOutOfMemory),
-    }
+    runner
+        .run_script(alloc, image, &mut source, &mut sink)
+        .map_err(|fault| match fault {
+            RunFault::ReadFault => Fault::RunRead,
+            RunFault::WriteFault => Fault::RunWrite,
+            RunFault::ScriptTooLong => Fault::ScriptTooLong,
+            RunFault::OutOfMemory => Fault::RunOutOfMemory,
+        })
 }

@@ -1,6 +1,7 @@
 //! The program `rsp`: the work of `rsp_cli`, with the system's arguments, files and standard streams.
 #![tactic(auto)]
 
+use rsp_bench::MachineRunner;
 use rsp_cli::{SystemFiles, refuse_arguments, work};
 use std::process::ExitCode;
 use std::{env, io};
@@ -15,6 +16,7 @@ fn main(rt: HostRuntime) -> ExitCode {
         Ok(words) => work(
             rt.alloc(),
             words.as_slice(),
+            &MachineRunner,
             &mut SystemFiles::new(&rt),
             rt.reader(),
             io::writer(&rt),

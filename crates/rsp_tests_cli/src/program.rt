@@ -4,6 +4,7 @@ mod long_files;
 mod out_of_memory;
 
 use fakes::{AfterBytes, FakeFiles, FakeReader, NarrowWriter};
+use rsp_bench::MachineRunner;
 use rsp_cli::{FileFault, Status, refuse_arguments, work};
 use std::io::{self, ErrorKind, Write};
 use std::test::Fail;
@@ -28,7 +29,15 @@ fn run_work<W: Write + Drop>(
         words.push(word.to_string(rt.alloc())?)?;
     }
     let mut errors = Vec::new(rt.alloc());
-    let status = work(rt.alloc(), &words, files, script, output, &mut errors);
+    let status = work(
+        rt.alloc(),
+        &words,
+        &MachineRunner,
+        files,
+        script,
+        output,
+        &mut errors,
+    );
     let errors = String::from_utf8_lossy(rt.alloc(), &errors)?;
     Ok(Outcome { status, errors })
 }

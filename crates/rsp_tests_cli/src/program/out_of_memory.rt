@@ -3,6 +3,7 @@
 
 use super::fakes::{AfterBytes, FakeFiles, FakeReader};
 use clap::error::ErrorKind;
+use rsp_bench::MachineRunner;
 use rsp_cli::{FileFault, FileStore, Status, SystemFiles, work};
 use rsp_cli_args::{Request, read_arguments};
 use std::alloc::AllocError;
@@ -63,6 +64,7 @@ fn work_is_done_when_memory_is_there(rt: HostRuntime) -> Result<(), Fail> {
             let status = work(
                 rt.alloc(),
                 &words,
+                &MachineRunner,
                 &mut files,
                 &mut script,
                 output.as_mut_slice(),

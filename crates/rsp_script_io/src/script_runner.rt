@@ -1,0 +1,26 @@
+ghost use Rattle.std.specs.Prelude.{◌≡◌, ◌+◌, ◌-◌, ◌<◌, ◌^◌};
+ghost use Rattle.rsp_script_io.specs.Faults.{failed_reads, failed_writes};
+
+use crate::run::RunFault;
+use crate::sink::Sink;
+use crate::source::Source;
+use rsp_memory::Rdram;
+use std::alloc::Global;
+
+/// What answers whole scripts. `rsp_bench` implements it, so that the program's work, which is generic over it, is proved without
+/// the machine, and tests may give it another.
+pub trait ScriptRunner {
+    /// Answers a script over this image of the RDRAM, and returns the image that it leaves. The first read or write that fails ends
+    /// the run. OutOfMemory also if there is no memory for what answers the lines.
+    fn run_script<R: Source, W: Sink>(
+        &self,
+        alloc: Global,
+        image: Rdram,
+        source: &mut R,
+        sink: &mut W,
+    ) -> Result<Rdram, RunFault>
+        requires source { R.fault_count source.old < 2 ^ 64 - 1 }
+        requires sink { W.fault_count sink.old < 2 ^ 64 - 1 }
+        ensures reads { R.fault_count source.new ≡ R.fault_count source.old + failed_reads result }
+        ensures writes { W.fault_count sink.new ≡ W.fault_count sink.old + failed_writes result };
+}
