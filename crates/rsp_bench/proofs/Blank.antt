@@ -1,5 +1,5 @@
 -- A line without bytes outside a block.
-use Rattle.std.proofs.Common.{◌≡◌, ◌==◌, ℕ, List, [], ◌∷◌, length, Bool, true, false, Option, Some, None, refl, ap, arith}
+use Rattle.std.proofs.Common.{◌≡◌, ℕ, List, [], ◌∷◌, length, false, Option, Some, None, refl, ap, arith}
 use Rattle.std.specs.Prelude.{is_some}
 use Rattle.rsp_commands.specs.Command.{command_of_words}
 use Rattle.rsp_commands.specs.Line.{command_of}

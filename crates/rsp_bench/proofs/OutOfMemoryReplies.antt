@@ -1,13 +1,12 @@
 -- No reply is fault 17: by the first bytes of each, and since no text means that fault.
-use Rattle.std.proofs.Common.{◌≡◌, ◌∙◌, refl, sym, ap, subst, ℕ, zero, suc, ◌+◌, ◌*◌, ◌/◌, ◌%◌, ◌^◌, ◌<◌, List, [], ◌∷◌, ◌++◌, length, get_or, arith, Bool, true, false, ◌&&◌}
-use Rattle.std.specs.Prelude.{Option, Some, None, Result, Ok, Err, ◌==◌, nat_le, if◌then◌else◌, codes, decimal, take, drop}
+use Rattle.std.proofs.Common.{◌≡◌, ◌∙◌, refl, sym, ap, ℕ, zero, suc, ◌+◌, ◌*◌, ◌/◌, ◌%◌, ◌<◌, List, [], ◌∷◌, ◌++◌, length, get_or, arith, Bool, true, false, ◌&&◌}
+use Rattle.std.specs.Prelude.{Option, Some, None, Result, Ok, Err, ◌==◌, nat_le, if◌then◌else◌, codes, take, drop}
 use Rattle.std.specs.Char.{digit_char}
 use Rattle.std.specs.List.{All, flat_map}
 use Rattle.std.specs.Str.Lines.{lines}
 use Rattle.std.proofs.lemmas.Bool.Decides.{nat_tests}
 use Rattle.std.proofs.lemmas.List.{get_or_append_left, length-append, append-nil, append_assoc}
 use Rattle.std.proofs.lemmas.List.Elements.{All-nil, All-cons}
-use Rattle.hex.specs.Hex.{encode_lower}
 use Rattle.rsp_commands.specs.declared.command.Command.{Command}
 use Rattle.rsp_commands.specs.declared.command.Command.TheVariants.{Nothing, Load, Step, Run, Break, Unbreak, Watch, Unwatch, Back, Read, Write, SetPc, Task, Show, Asm, BlockLine, End}
 use Rattle.rsp_commands.specs.declared.command.Look.{Look}
@@ -37,12 +36,11 @@ use Rattle.rsp_debug.specs.declared.watches.WatchFault.{WatchFault}
 use Rattle.rsp_debug.specs.declared.watches.WatchFault.TheVariants.{WatchRange, WatchFull}
 use Rattle.rsp_debug.specs.declared.debugger.BackFault.{BackFault}
 use Rattle.rsp_debug.specs.declared.debugger.BackFault.TheVariants.{Count, ShortHistory}
-use Rattle.rsp_script_io.specs.Text.{hex_text, each_text, two_digits, short_decimal}
+use Rattle.rsp_script_io.specs.Text.{hex_text, each_text}
 use Rattle.rsp_script_io.specs.Replies.{Answer, replies, final}
 use Rattle.rsp_bench.specs.Looks.{word_text, registers_text, sp_line, sp_text, dump_line, dump_text, listed_line, listing_text, vector_line, vectors_text, accumulator_line, accumulators_text, flags_text}
-use Rattle.rsp_bench.specs.Replies.{line_of, fault_line, line_fault_text, task_fault_text, break_fault_text, watch_fault_text, back_fault_text, asm_fault_text, range_text}
-use Rattle.rsp_bench.specs.Session.{SessionState, plain_answer, block_answer, answer_in, answer_of, load_answer, step_answer, read_answer, task_answer, run_answer, break_answer, unbreak_answer, watch_answer, unwatch_answer, back_fault, back_answer, end_answer, parsed_answer, line_answer, look_text, memory_text, dis_text, in_block, end_reply, end_reply_of, first_session}
-use Rattle.rsp_bench.specs.Run.{out_of}
+use Rattle.rsp_bench.specs.Replies.{line_fault_text, asm_fault_text, range_text}
+use Rattle.rsp_bench.specs.Session.{SessionState, plain_answer, block_answer, answer_in, answer_of, load_answer, step_answer, read_answer, task_answer, run_answer, break_answer, watch_answer, back_fault, back_answer, end_answer, parsed_answer, line_answer, look_text, in_block, end_reply, end_reply_of, first_session}
 use Rattle.rsp_bench.specs.OutOfMemoryReplies.{is_out_of_memory, reply_list, NoReplyIsOutOfMemory}
 
 abbrev IsOther : List ℕ → Type 0
