@@ -38,7 +38,7 @@ def moments(said: list[str], names: list[str]) -> Iterator[tuple[str, set[str], 
             left.remove(name)
         else:
             begun.add(name)
-            ready = {it for it in left - begun if not left & {*proved_with(it)[:-1]}}
+            ready = {it for it in left - begun if not left & {*with_below(it)[:-1]}}
             yield name, begun & left - {name}, ready
 
 
@@ -73,7 +73,7 @@ def test_nothing_begins_above_a_failure(slots: int) -> None:
 def test_time_to_go() -> None:
     """All that is left by our processors, or the longest path, in whole minutes."""
     it = Proof("rsp_main", [], Path(), print)
-    it.left = dict.fromkeys(["rsp_cli_files", "rsp_bench", "rsp_cli", "rsp_main"], it.prove_last)
+    it.left = dict.fromkeys(["rsp_bench", "rsp_cli_files", "rsp_cli", "rsp_main"], it.prove_last)
     for slots, long in (1, [*it.left]), (16, [*it.left][1:]):
         it.slots = slots
         assert it.to_go() == f"about {-(-sum(map(seconds, long)) // 60)} minutes"

@@ -15,8 +15,8 @@ LINES = {
 SECONDS = """
 rsp_numbers 9 rsp_memory 30 rsp_decode 171 rsp_scalar 28 rsp_lanes 43 rsp_acc 43 rsp_multiply 38
 rsp_compare 34 rsp_divide 24 rsp_loadstore 62 rsp_regs 46 rsp_machine 199 rsp_syntax 70 rsp_operands 62
-rsp_asm 98 rsp_dis 56 rsp_debug 180 rsp_script_io 69 rsp_commands 82 rsp_bench 153 rsp_feed 80
-rsp_advice 70 rsp_cli_args 80 rsp_cli_files 155 rsp_cli 88 rsp_main 130 rsp_c 300
+rsp_asm 98 rsp_dis 56 rsp_debug 180 rsp_script_io 69 rsp_commands 82 rsp_bench 160 rsp_feed 80
+rsp_advice 70 rsp_cli_args 80 rsp_cli_files 155 rsp_cli 52 rsp_main 130 rsp_c 300
 """
 
 
@@ -33,10 +33,10 @@ def with_below(name: str) -> List[str]:
 
 
 def proved_with(name: str) -> List[str]:
-    """The crates that are proved before this one is built, and itself.
+    """The crates that are proved when this one is built, itself last.
 
     With the program's they are also the one that only the library needs: it takes a processor that is idle
-    while rsp_cli is proved, and the library's build comes next.
+    while rsp_main is proved, and the library's build comes next.
     """
     *below, name = with_below(name)
     return [*below, *(["rsp_feed"] if name == "rsp_main" and "rsp_feed" in LINES else []), name]

@@ -96,8 +96,11 @@ class Proof:
         return status
 
     def prove_last(self, _: int) -> int:
+        # The kit's command locks these itself. What only the library needs may still be going on.
+        below = {(CRATES / it).stat().st_ino for it in with_below(self.top)}
         for it in self.held:
-            os.close(it)
+            if os.fstat(it).st_ino in below:
+                os.close(it)
         with self.log.open("a") as log:
             print(f"== {self.top}", file=log, flush=True)
             where, nothing = CRATES / self.top, subprocess.DEVNULL
@@ -108,7 +111,7 @@ class Proof:
         """Begins those crates of which all below are proved, as far as processors are idle."""
         for name in sorted(self.left.keys() - self.begun.keys(), key=lambda it: -path_to(self.top, it)):
             jobs = JOBS.get(name, 1) if self.slots >= max(JOBS.values()) else 1
-            if self.left.keys() & {*proved_with(name)[:-1]}:
+            if self.left.keys() & {*with_below(name)[:-1]}:
                 continue
             if jobs > self.idle:
                 return
