@@ -74,7 +74,7 @@ def test_script(script: str, wanted: str, program: Path) -> None:
 
 
 def test_blocks_of_script() -> None:
-    assert len([*transcripts(*BESIDE)]) >= 3
+    assert len([*transcripts(*BESIDE)]) >= 2
 
 
 def idioms() -> List[str]:
