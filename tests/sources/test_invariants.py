@@ -95,4 +95,4 @@ def test_page(invariant: str) -> None:
 
 
 def test_invariants() -> None:
-    assert len(INVARIANTS) >= 10
+    assert len(INVARIANTS) >= 8
