@@ -10,7 +10,7 @@ from typing import Any, List
 
 import pytest
 
-from lib.pages import block_with, blocks, listing, page, replies, see_reply, transcripts, turns_of
+from lib.pages import block_with, blocks, page, replies, see_reply, transcripts, turns_of
 from lib.processes import run, succeeds
 
 TUTORIAL, COOKBOOK = "docs/TUTORIAL.md", "docs/COOKBOOK.md"
@@ -34,10 +34,10 @@ def test_readme(program: Path) -> None:
 
 
 def test_assembly(program: Path) -> None:
-    """The listing of the sum of 1 to 10."""
-    name = "docs/ASSEMBLY.md"
-    sums = listing(program, block_with(name, "# the sum of 1 to 10"), "0")
-    see_reply(sums, block_with(name, "000 2401000a"))
+    """The sum of 1 to 10 is that."""
+    text = block_with("docs/ASSEMBLY.md", "# the sum of 1 to 10")
+    told = replies(program, f"asm 0\n{text}end\nrun 100\nmem dmem 0 4\n")
+    assert told.splitlines()[-1] == f"000000: {sum(range(11)):08x}"
 
 
 def sessions() -> "list[tuple[str, str]]":

@@ -98,14 +98,6 @@ def words_of(program: object, named: Iterable[Tuple[str, object]]) -> List[List[
     return [shown.split(" ", 2) if told.startswith("ok") else [told, "", ""] for told, shown in pairs]
 
 
-def listing(program: object, text: str, at: str) -> str:
-    """The disassembly of a text with the addresses and words, after it was assembled at an address."""
-    with tempfile.TemporaryDirectory() as folder:
-        Path(folder, "source").write_text(text)
-        said(program, "asm", f"{folder}/source", f"{folder}/words", "--at", at)
-        return said(program, "dis", f"{folder}/words", "--at", at, "--places")
-
-
 def see_reply(told: str, wanted: str) -> None:
     """A reply must be as a page has it, `..` being any lines."""
     lines, form = told.strip("\n").split("\n"), wanted.strip("\n").split("\n")
