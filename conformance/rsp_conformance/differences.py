@@ -53,10 +53,10 @@ A row says only what differs; everything else is as in INSTRUCTIONS. The letters
   vt that the element selects for lane i. By our rule, VMOV moves lane de of *selected*, and a divide
   instruction reads lane e mod 8 of vt.
 
-What follows *choice*, except a crash or a hang, doesn't show which side is wrong, because [we chose our rule
-ourselves](README.md#what-they-cant-show). The last column shows what part of all cases of an instruction
-differs. If a second part follows in parentheses, it counts only those of the differing cases that don't
-depend on a choice; the rows are sorted by this part. A fault is a crash or a hang.
+What follows *choice*, except a crash or a hang, is a rule that [we chose
+ourselves](README.md#what-they-cant-show). The last column shows how many of an instruction's cases differ, as
+a percentage of all its cases. If a second percentage follows in parentheses, it leaves out cases that depend
+on a choice. The rows are sorted by the number of cases that differ otherwise. A fault is a crash or a hang.
 [campaign.json](z64/campaign.json) names the first case that differs, and `conformance/campaign plugin:FILE
 --case NAME` shows it; FILE is z64's shared object.
 """
