@@ -13,10 +13,10 @@ LINES = {
 }
 # The seconds of a processor by one job, for the order of the proofs and for what is said of the time to go.
 SECONDS = """
-rsp_numbers 9 rsp_memory 30 rsp_decode 171 rsp_scalar 28 rsp_lanes 43 rsp_acc 43 rsp_multiply 38
-rsp_compare 34 rsp_divide 24 rsp_loadstore 62 rsp_regs 46 rsp_machine 199 rsp_syntax 70 rsp_operands 62
-rsp_asm 98 rsp_dis 56 rsp_debug 180 rsp_script_io 69 rsp_commands 82 rsp_bench 160 rsp_feed 80
-rsp_advice 70 rsp_cli_args 80 rsp_cli_files 155 rsp_cli 52 rsp_main 130 rsp_c 300
+rsp_numbers 8 rsp_memory 29 rsp_decode 165 rsp_scalar 26 rsp_lanes 41 rsp_acc 39 rsp_multiply 32
+rsp_compare 30 rsp_divide 21 rsp_loadstore 60 rsp_regs 43 rsp_machine 190 rsp_syntax 61 rsp_operands 54
+rsp_asm 97 rsp_dis 54 rsp_debug 175 rsp_script_io 75 rsp_commands 74 rsp_bench 155 rsp_feed 78
+rsp_advice 63 rsp_cli_args 69 rsp_cli_files 152 rsp_cli 58 rsp_main 120 rsp_c 280
 """
 
 
