@@ -81,13 +81,13 @@ image_byte-run image a n k run s e h =
     ∙ sym (get_or-take n (drop (a % 16777216) image) k 0 (omega (arith, ap length e, l)))
     ∙ ap (λ xs. get_or xs k 0) (sym e)
 
-pub row_in-inside : (image bank : List ℕ) (sp dram n : ℕ) (run then : List ℕ) → length image ≤ 16777216
-    → dram % 16777216 + n ≤ length image → run ≡ take n (drop (dram % 16777216) image)
+pub row_in-whole : (image bank : List ℕ) (sp dram n : ℕ) (run then : List ℕ) → length run ≡ n
+    → ((k : ℕ) → k < length run → image_byte image (dram + k) ≡ get_or run k 0)
     → then ≡ with_bytes bank sp run → then ≡ copied_in image bank (row_pairs sp dram n)
-row_in-inside image bank sp dram n run then s inside e f =
-    let l : 0 + length run ≡ n = omega (arith, ap length e, length-take n (drop (dram % 16777216) image), length-drop (dram % 16777216) image) in
-    row_in-run image bank sp dram 0 run bank then (λ k h. rw add-zero (image_byte-run image dram n k run s e h)) (sym (row_in-none image bank sp dram)) (rw add-zero f)
-    ∙ ap (λ k. copied_in image bank (row_pairs sp dram k)) l
+row_in-whole image bank sp dram n run then l bytes f =
+    let whole : 0 + length run ≡ n = omega (arith, l) in
+    row_in-run image bank sp dram 0 run bank then (λ k h. rw add-zero (bytes k h)) (sym (row_in-none image bank sp dram)) (rw add-zero f)
+    ∙ ap (λ k. copied_in image bank (row_pairs sp dram k)) whole
 
 pub image_byte-past : (image : List ℕ) (a k n : ℕ) (run : List ℕ) → run ≡ take n (drop (a % 16777216) image) → length run ≡ 0
     → a % 16777216 + n ≤ 16777216 → k < n → image_byte image (a + k) ≡ get_or (replicate n 0) k 0

@@ -52,7 +52,7 @@ impl Transfer {
     }
 }
 
-/// Copies a row. Most rows are inside the image, and are copied at once.
+/// Copies a row. Most rows are inside the image or after its end, and are copied at once.
 #[inline(always)]
 fn copy_row_in(sp: u32, dram: u32, length: u32, rdram: &Rdram, bank: &mut SpMem)
     requires sp { sp + length < 2 ^ 32 }
@@ -60,14 +60,15 @@ fn copy_row_in(sp: u32, dram: u32, length: u32, rdram: &Rdram, bank: &mut SpMem)
     requires length { length ≤ 4096 }
     ensures { bank.new ≡ copied_in rdram.now bank.old (row_pairs sp dram length) }
 {
-    let (at, n) = ((dram % 0x100_0000) as usize, length as usize);
-    if at + n > rdram.len() {
+    let n = length as usize;
+    let row = run_or_zeros(dram, length, rdram);
+    if row.len() < n {
         copy_pieces_in(sp, dram, length, rdram, bank);
     } else if n == 8 {
         // The shortest row: because its length is known here, no memcpy is called for it.
-        bank.set_bytes(sp, &rdram.bytes()[at..at + 8]);
+        bank.set_bytes(sp, &row[..8]);
     } else {
-        bank.set_bytes(sp, &rdram.bytes()[at..at + n]);
+        bank.set_bytes(sp, row);
     }
 }
 
@@ -93,6 +94,7 @@ fn copy_pieces_in(sp: u32, dram: u32, length: u32, rdram: &Rdram, bank: &mut SpM
 static ZEROS: [u8; 4096] = [0; 4096];
 
 /// The first bytes of a row: those up to the image's end, or zeros up to the last address if it begins after that end.
+#[inline(always)]
 fn run_or_zeros(dram: u32, n: u32, rdram: &Rdram) -> &[u8]
     requires { n ≤ 4096 }
     ensures some { 0 < n → 0 < length result.now }
