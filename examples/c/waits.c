@@ -1,6 +1,5 @@
-/* waits TEXT [IMAGE]: waits for a DMA that are missing in a text of microcode, as rsp.waits of the Python package finds them. The comment at the top
- * of library/python/rsp/waits.py has the rules. The machine's DMA is done at once; a copy of it gets the answer of a console where a transfer is
- * under way, and is followed. */
+/* waits TEXT [IMAGE]: the missing waits for a DMA in a text of microcode, by the rules at the top of library/python/rsp/waits.py. The machine's DMA
+ * is done at once; a copy of it gets the answer of a console where a transfer is under way, and is followed. */
 #include "rsp.h"
 #include <stdio.h>
 #include <string.h>

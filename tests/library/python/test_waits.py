@@ -275,7 +275,7 @@ def test_cookbook(folder: Path) -> None:
     name = "docs/COOKBOOK.md"
     code, told = (block_with(name, "import rsp, rsp.waits", more) for more in (0, 1))
     block = block_with(name, "        jal   fetch             # the first block")
-    text = "ori $1, $0, 0x800\nori $7, $0, 0xc00\n" + block.replace("# work on it", "\nlw $5, 0($4)\n#")
+    text = "ori $1, $0, 0x800\nori $7, $0, 0xc00\n" + block.replace("# its address", "\nlw $5, 0($4)")
     env = {**os.environ, "PYTHONPATH": str(TOP / "library/python")}
     for program, wanted in (text, []), (re.sub(r"(?m)^(next:).*\n.*\n", r"\1\n", text), [told.strip()]):
         (folder / "text.s").write_text(program)
