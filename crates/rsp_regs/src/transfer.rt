@@ -3,6 +3,7 @@
 
 ghost use Rattle.std.specs.Prelude.{◌≡◌, ℕ, ◌+◌, ◌<◌, ◌≤◌, ◌^◌, length, slice_index};
 ghost use Rattle.rsp_memory.specs.Image.{image_byte};
+ghost use Rattle.rsp_memory.specs.Memory.{with_bytes};
 ghost use Rattle.rsp_regs.specs.Dma.{IsTransfer, row_pairs, pairs, copied_in, copied_out};
 
 use rsp_memory::{Rdram, SpMem};
@@ -60,20 +61,30 @@ fn copy_row_in(sp: u32, dram: u32, length: u32, rdram: &Rdram, bank: &mut SpMem)
     requires length { length ≤ 4096 }
     ensures { bank.new ≡ copied_in rdram.now bank.old (row_pairs sp dram length) }
 {
-    let n = length as usize;
-    let row = run_or_zeros(dram, length, rdram);
-    if row.len() < n {
+    let (at, n) = ((dram % 0x100_0000) as usize, length as usize);
+    if at + n <= rdram.len() {
+        set_row(sp, &rdram.bytes()[at..at + n], bank);
+    } else if at >= rdram.len() && at + n <= 0x100_0000 {
+        set_row(sp, &ZEROS[..n], bank);
+    } else {
         copy_pieces_in(sp, dram, length, rdram, bank);
-    } else if n == 8 {
-        // The shortest row: because its length is known here, no memcpy is called for it.
+    }
+}
+
+/// Writes a row. The shortest one has 8 bytes: where its length is known, it is written without a call of memcpy.
+#[inline(always)]
+fn set_row(sp: u32, row: &[u8], bank: &mut SpMem)
+    requires { length row.now ≤ 4096 }
+    ensures { bank.new ≡ with_bytes bank.old sp row.now }
+{
+    if row.len() == 8 {
         bank.set_bytes(sp, &row[..8]);
     } else {
         bank.set_bytes(sp, row);
     }
 }
 
-/// Copies a row in pieces that don't wrap in the RDRAM. It isn't inlined, so that a row inside the image saves no registers of the host
-/// for it.
+/// Copies a row in pieces that don't wrap in the RDRAM. It isn't inlined, so that other rows save no registers of the host for it.
 #[inline(never)]
 #[tactic(auto, using(crate::proofs::Pairs::copies))]
 fn copy_pieces_in(sp: u32, dram: u32, length: u32, rdram: &Rdram, bank: &mut SpMem)
@@ -94,7 +105,6 @@ fn copy_pieces_in(sp: u32, dram: u32, length: u32, rdram: &Rdram, bank: &mut SpM
 static ZEROS: [u8; 4096] = [0; 4096];
 
 /// The first bytes of a row: those up to the image's end, or zeros up to the last address if it begins after that end.
-#[inline(always)]
 fn run_or_zeros(dram: u32, n: u32, rdram: &Rdram) -> &[u8]
     requires { n ≤ 4096 }
     ensures some { 0 < n → 0 < length result.now }

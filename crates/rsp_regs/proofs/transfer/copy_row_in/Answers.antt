@@ -1,18 +1,18 @@
-use Rattle.std.proofs.Common.{◌≡◌, length, take, ap, ◌∙◌, arith}
-use Rattle.std.proofs.lemmas.List.{take_all}
+use Rattle.std.proofs.Common.{◌≡◌, ℕ, ◌+◌, ◌-◌, ◌%◌, take, drop, replicate, ap, ◌∙◌, arith}
+use Rattle.std.proofs.lemmas.List.{take-replicate}
 use Rattle.rsp_memory.specs.Memory.{with_bytes}
-use Rattle.rsp_regs.proofs.Pairs.{row_in-whole}
+use Rattle.rsp_regs.proofs.Pairs.{row_in-inside, row_in-past}
 use Rattle.rsp_regs.proofs.transfer.copy_row_in.Goals as goal
 
-pub returns-then-n-eq8 : goal.returns-then-n-eq8
-returns-then-n-eq8 c =
-    let row = c.run_or_zeros-row.result.now in
-    let whole : length row ≡ c.args.length = omega (arith, c.if-row-n.false, c.run_or_zeros-row.ensures.few) in
-    let eight : take 8 row ≡ row = take_all 8 row (omega (arith, whole, c.if-n-eq8.true)) in
-    row_in-whole _ _ _ _ _ row _ whole c.run_or_zeros-row.ensures.bytes (c.set_bytes.ensures ∙ ap (with_bytes c.args.bank.now c.args.sp) eight)
+pub returns-then-at-n : goal.returns-then-at-n
+returns-then-at-n c =
+    let at = c.args.dram % 16777216 in
+    let n : at + c.args.length - at ≡ c.args.length = omega arith in
+    let run = ap (λ k. take k (drop at c.bytes.result.now)) n ∙ ap (λ bytes. take c.args.length (drop at bytes)) c.bytes.ensures.value in
+    row_in-inside _ _ _ c.args.dram c.args.length _ _ (omega arith) (omega (arith, c.if-at-n.true)) run c.set_row.ensures
 
-pub returns-else-n-eq8 : goal.returns-else-n-eq8
-returns-else-n-eq8 c =
-    let row = c.run_or_zeros-row.result.now in
-    let whole : length row ≡ c.args.length = omega (arith, c.if-row-n.false, c.run_or_zeros-row.ensures.few) in
-    row_in-whole _ _ _ _ _ row _ whole c.run_or_zeros-row.ensures.bytes c.set_bytes-else-n-eq8.ensures
+pub returns-then-at-n-le16777216 : goal.returns-then-at-n-le16777216
+returns-then-at-n-le16777216 c =
+    let zeros : take c.args.length (replicate {A = ℕ} 4096 0) ≡ replicate {A = ℕ} c.args.length 0 = take-replicate c.args.length 4096 0 (omega arith) in
+    row_in-past _ _ _ c.args.dram c.args.length _ (omega (arith, c.if-at-len.true)) (omega (arith, c.if-at-n-le16777216.true))
+    (c.set_row-then-at-n-le16777216.ensures ∙ ap (with_bytes c.args.bank.now c.args.sp) zeros)
