@@ -1,7 +1,7 @@
 -- One more pair, one more row, and runs of pairs.
 use Rattle.std.proofs.Common.{◌≡◌, ℕ, ◌+◌, ◌%◌, ◌<◌, ◌≤◌, List, [], ◌∷◌, ◌++◌, map, length, take, drop, get_or, replicate, refl, sym, ap, ◌∙◌, arith, add-zero}
 use Rattle.std.specs.List.{range_with_len, flat_map, fold}
-use Rattle.std.proofs.lemmas.List.{map-id, flat_map_more, length-take, length-drop, length-replicate, take_all, get_or-drop, get_or-take, get_or_past, get_or-replicate}
+use Rattle.std.proofs.lemmas.List.{map-id, flat_map_more, length-take, length-drop, take_all, get_or-drop, get_or-take, get_or_past, get_or-replicate}
 use Rattle.std.proofs.lemmas.List.Sums.{fold_push, fold-append}
 use Rattle.std.proofs.lemmas.List.FromFn.{map-range_with_len_more}
 use Rattle.rsp_memory.specs.Memory.{byte_at, with_byte, with_bytes}
@@ -81,20 +81,13 @@ image_byte-run image a n k run s e h =
     ∙ sym (get_or-take n (drop (a % 16777216) image) k 0 (omega (arith, ap length e, l)))
     ∙ ap (λ xs. get_or xs k 0) (sym e)
 
-pub row_in-whole : (image bank : List ℕ) (sp dram n : ℕ) (run then : List ℕ) → length run ≡ n
-    → ((k : ℕ) → k < length run → image_byte image (dram + k) ≡ get_or run k 0)
-    → then ≡ with_bytes bank sp run → then ≡ copied_in image bank (row_pairs sp dram n)
-row_in-whole image bank sp dram n run then l bytes f =
-    let whole : 0 + length run ≡ n = omega (arith, l) in
-    row_in-run image bank sp dram 0 run bank then (λ k h. rw add-zero (bytes k h)) (sym (row_in-none image bank sp dram)) (rw add-zero f)
-    ∙ ap (λ k. copied_in image bank (row_pairs sp dram k)) whole
-
 pub row_in-inside : (image bank : List ℕ) (sp dram n : ℕ) (run then : List ℕ) → length image ≤ 16777216
     → dram % 16777216 + n ≤ length image → run ≡ take n (drop (dram % 16777216) image)
     → then ≡ with_bytes bank sp run → then ≡ copied_in image bank (row_pairs sp dram n)
-row_in-inside image bank sp dram n run then s inside e =
-    let l : length run ≡ n = omega (arith, ap length e, length-take n (drop (dram % 16777216) image), length-drop (dram % 16777216) image) in
-    row_in-whole image bank sp dram n run then l (λ k h. image_byte-run image dram n k run s e h)
+row_in-inside image bank sp dram n run then s inside e f =
+    let l : 0 + length run ≡ n = omega (arith, ap length e, length-take n (drop (dram % 16777216) image), length-drop (dram % 16777216) image) in
+    row_in-run image bank sp dram 0 run bank then (λ k h. rw add-zero (image_byte-run image dram n k run s e h)) (sym (row_in-none image bank sp dram)) (rw add-zero f)
+    ∙ ap (λ k. copied_in image bank (row_pairs sp dram k)) l
 
 pub image_byte-past : (image : List ℕ) (a k n : ℕ) (run : List ℕ) → run ≡ take n (drop (a % 16777216) image) → length run ≡ 0
     → a % 16777216 + n ≤ 16777216 → k < n → image_byte image (a + k) ≡ get_or (replicate n 0) k 0
@@ -102,14 +95,6 @@ unfolding image_byte
 image_byte-past image a k n run e z room h =
     let past : length image ≤ a % 16777216 = omega (arith, ap length e, length-take n (drop (a % 16777216) image), length-drop (a % 16777216) image) in
     get_or_past image ((a + k) % 16777216) 0 (omega arith) ∙ sym (get_or-replicate n k 0 0 h)
-
-pub row_in-past : (image bank : List ℕ) (sp dram n : ℕ) (then : List ℕ) → length image ≤ dram % 16777216
-    → dram % 16777216 + n ≤ 16777216 → then ≡ with_bytes bank sp (replicate n 0) → then ≡ copied_in image bank (row_pairs sp dram n)
-row_in-past image bank sp dram n then past room =
-    let rest = drop (dram % 16777216) image in
-    let none : length (take n rest) ≡ 0 = omega (arith, length-take n rest, length-drop (dram % 16777216) image) in
-    let few : (k : ℕ) → k < length (replicate {A = ℕ} n 0) → k < n = λ k h. omega (arith, h, length-replicate {A = ℕ} n 0) in
-    row_in-whole image bank sp dram n (replicate n 0) then (length-replicate {A = ℕ} n 0) (λ k h. image_byte-past image dram k n (take n rest) refl none room (few k h))
 
 -- no row, and one more
 pub rows_in-none : (image bank : List ℕ) (t : Transfer) → copied_in image bank (first_rows t 0) ≡ bank

@@ -3,7 +3,6 @@
 
 ghost use Rattle.std.specs.Prelude.{◌≡◌, ℕ, ◌+◌, ◌<◌, ◌≤◌, ◌^◌, length, slice_index};
 ghost use Rattle.rsp_memory.specs.Image.{image_byte};
-ghost use Rattle.rsp_memory.specs.Memory.{with_bytes};
 ghost use Rattle.rsp_regs.specs.Dma.{IsTransfer, row_pairs, pairs, copied_in, copied_out};
 
 use rsp_memory::{Rdram, SpMem};
@@ -25,8 +24,7 @@ pub struct Transfer {
 }
 
 impl Transfer {
-    /// Copies from the RDRAM into a bank. It is inlined, so that the start of a task, whose lengths are known, has no loop.
-    #[inline(always)]
+    /// Copies from the RDRAM into a bank.
     #[tactic(auto, using(crate::proofs::Pairs::copies))]
     pub fn copy_in(&self, rdram: &Rdram, bank: &mut SpMem)
         requires { IsTransfer self.now }
@@ -53,7 +51,7 @@ impl Transfer {
     }
 }
 
-/// Copies a row. Most rows are inside the image or after its end, and are copied at once.
+/// Copies a row. Most rows are inside the image, and are copied at once.
 #[inline(always)]
 fn copy_row_in(sp: u32, dram: u32, length: u32, rdram: &Rdram, bank: &mut SpMem)
     requires sp { sp + length < 2 ^ 32 }
@@ -61,30 +59,16 @@ fn copy_row_in(sp: u32, dram: u32, length: u32, rdram: &Rdram, bank: &mut SpMem)
     requires length { length ≤ 4096 }
     ensures { bank.new ≡ copied_in rdram.now bank.old (row_pairs sp dram length) }
 {
-    let (at, n) = ((dram % 0x100_0000) as usize, length as usize);
-    if at + n <= rdram.len() {
-        set_row(sp, &rdram.bytes()[at..at + n], bank);
-    } else if at >= rdram.len() && at + n <= 0x100_0000 {
-        set_row(sp, &ZEROS[..n], bank);
+    let n = length as usize;
+    if (dram % 0x100_0000) as usize + n <= rdram.len() {
+        bank.set_bytes(sp, rdram.run(dram, n));
     } else {
         copy_pieces_in(sp, dram, length, rdram, bank);
     }
 }
 
-/// Writes a row. The shortest one has 8 bytes: where its length is known, it is written without a call of memcpy.
-#[inline(always)]
-fn set_row(sp: u32, row: &[u8], bank: &mut SpMem)
-    requires { length row.now ≤ 4096 }
-    ensures { bank.new ≡ with_bytes bank.old sp row.now }
-{
-    if row.len() == 8 {
-        bank.set_bytes(sp, &row[..8]);
-    } else {
-        bank.set_bytes(sp, row);
-    }
-}
-
-/// Copies a row in pieces that don't wrap in the RDRAM. It isn't inlined, so that other rows save no registers of the host for it.
+/// Copies a row in pieces that don't wrap in the RDRAM. It isn't inlined, so that a row inside the image saves no registers of the host
+/// for it.
 #[inline(never)]
 #[tactic(auto, using(crate::proofs::Pairs::copies))]
 fn copy_pieces_in(sp: u32, dram: u32, length: u32, rdram: &Rdram, bank: &mut SpMem)

@@ -1,4 +1,4 @@
-use Rattle.std.proofs.Common.{arith}
+use Rattle.std.proofs.Common.{◌+◌, ◌-◌, arith}
 use Rattle.rsp_regs.proofs.Pairs.{row_in-run}
 use Rattle.rsp_regs.proofs.transfer.copy_pieces_in.Goals as goal
 
