@@ -8,11 +8,12 @@ pub struct Escaped<'a>(pub &'a str);
 impl Display for Escaped<'_> {
     fn fmt<W: Write>(&self, f: &mut Formatter<W>) -> fmt::Result {
         for character in self.0.chars() {
-            if character.is_control() {
-                write!(f, "\\x{:02x}", u32::from(character))?;
+            let written = if character.is_control() {
+                write!(f, "\\x{:02x}", u32::from(character))
             } else {
-                f.write_char(character)?;
-            }
+                f.write_char(character)
+            };
+            written?;
         }
         Ok(())
     }

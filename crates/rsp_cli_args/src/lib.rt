@@ -173,11 +173,9 @@ fn argument<'a>(alloc: Global, form: ArgumentForm) -> Arg<'a> {
     }
 }
 
-/// The argument with a value, which isn't empty.
+/// The argument with a value, which isn't empty. It needs no action: without one, `clap` sets an argument's value.
 fn with_value(argument: Arg<'_>) -> Arg<'_> {
-    argument
-        .value_parser(ValueParser::NonEmptyString)
-        .action(ArgAction::Set)
+    argument.value_parser(ValueParser::NonEmptyString)
 }
 
 fn subcommand<'a>(alloc: Global, given: &SubcommandForm) -> Result<Command<'a>, AllocError> {
@@ -210,42 +208,42 @@ fn command<'a>(alloc: Global) -> Result<Command<'a>, AllocError> {
         .bin_name("rsp")
 }
 
-/// The files of an assembly. None if the source text or the file of the words isn't named.
-fn assemble_files<'a>(given: &ArgMatches<'a>) -> Option<AssembleFiles<'a>> {
-    Some(AssembleFiles {
+/// An assembly. None if the source text or the file of the words isn't named.
+fn assembly<'a>(given: &ArgMatches<'a>) -> Option<Request<'a>> {
+    Some(Request::Assemble(AssembleFiles {
         source: given.get_str("SRC")?,
         out: given.get_str("OUT")?,
         at: given.get_str("at"),
         with_listing: given.get_flag("listing"),
         with_explanation: given.get_flag("explain"),
-    })
+    }))
 }
 
-/// The file of a disassembly. None if it isn't named.
-fn disassemble_files<'a>(given: &ArgMatches<'a>) -> Option<DisassembleFiles<'a>> {
-    Some(DisassembleFiles {
+/// A disassembly. None if its file isn't named.
+fn disassembly<'a>(given: &ArgMatches<'a>) -> Option<Request<'a>> {
+    Some(Request::Disassemble(DisassembleFiles {
         words: given.get_str("FILE")?,
         at: given.get_str("at"),
         with_addresses: given.get_flag("places"),
         with_labels: given.get_flag("labels"),
-    })
+    }))
 }
 
-fn run_files<'a>(given: &ArgMatches<'a>) -> RunFiles<'a> {
-    RunFiles {
+fn run<'a>(given: &ArgMatches<'a>) -> Request<'a> {
+    Request::Run(RunFiles {
         rdram: given.get_str("rdram"),
         save: given.get_str("save"),
         is_strict: given.get_flag("strict"),
-    }
+    })
 }
 
 /// What the matches of the command line ask for. None if they are of no subcommand, or lack one of its files.
 fn request_in<'a>(matches: &ArgMatches<'a>) -> Option<Request<'a>> {
     let (name, given) = matches.subcommand()?;
     match name {
-        "run" => Some(Request::Run(run_files(given))),
-        "asm" => assemble_files(given).map(Request::Assemble),
-        "dis" => disassemble_files(given).map(Request::Disassemble),
+        "run" => Some(run(given)),
+        "asm" => assembly(given),
+        "dis" => disassembly(given),
         _ => None,
     }
 }
