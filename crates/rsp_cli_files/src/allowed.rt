@@ -37,9 +37,9 @@ impl Display for Allowed {
 
 fn write_bounds<W: Write>(f: &mut Formatter<W>, bounds: Bounds) -> fmt::Result {
     let Bounds { low, high, step } = bounds;
-    write!(f, "{low} to {high}")?;
     if step > 1 {
-        write!(f, ", a multiple of {step}")?;
+        write!(f, "{low} to {high}, a multiple of {step}")
+    } else {
+        write!(f, "{low} to {high}")
     }
-    Ok(())
 }

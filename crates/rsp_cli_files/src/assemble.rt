@@ -8,7 +8,7 @@ use crate::origin::origin_of;
 use byteorder::{BigEndian, ByteOrder};
 use rsp_asm::{AsmFaultKind, Words, assemble};
 use rsp_cli_args::AssembleFiles;
-use std::alloc::{AllocError, Global};
+use std::alloc::Global;
 use std::io::{self, Write};
 use std::str;
 
@@ -32,16 +32,23 @@ pub fn assemble_file<'a, F: FileStore, W: Write + Drop>(
     let words = assembled(alloc, origin, text, asked.with_explanation)?;
     let words = words.as_slice();
     write_words(alloc, files, asked.out, words)?;
-    report(alloc, origin, text, words, asked.with_listing, &mut output).map_err(|_| Fault::RunWrite)
+    match report(alloc, origin, text, words, asked.with_listing, &mut output) {
+        Ok(()) => Ok(()),
+        Err(_) => Err(Fault::RunWrite),
+    }
 }
 
+/// Writes words to the file of this name, the high byte of each first.
 fn write_words<'a, F: FileStore>(
     alloc: Global,
     files: &mut F,
     name: &'a str,
     words: &[u32],
 ) -> Result<(), Fault<'a>> {
-    let bytes = big_endian(alloc, words).map_err(|_| Fault::OutOfMemory)?;
+    let Ok(mut bytes) = vec![in alloc; 0; 4 * words.len()] else {
+        return Err(Fault::OutOfMemory);
+    };
+    BigEndian::write_u32_into(words, &mut bytes);
     write_file(files, name, bytes.as_slice())
 }
 
@@ -67,7 +74,10 @@ fn report<W: Write>(
 /// The text of a file. If it has too many bytes it is refused for that, also if it isn't UTF-8.
 fn text_in<'a>(bytes: &[u8], with_explanation: bool) -> Result<&str, Fault<'a>> {
     if bytes.len() <= SOURCE_LIMIT {
-        str::from_utf8(bytes).map_err(|_| Fault::NotText)
+        match str::from_utf8(bytes) {
+            Ok(text) => Ok(text),
+            Err(_) => Err(Fault::NotText),
+        }
     } else if with_explanation {
         Err(Fault::SourceTooLong)
     } else {
@@ -98,11 +108,4 @@ fn assembled<'a>(
             }
         },
     }
-}
-
-/// The bytes of words, the high byte of each first.
-fn big_endian(alloc: Global, words: &[u32]) -> Result<Vec<u8>, AllocError> {
-    let mut bytes = vec![in alloc; 0; 4 * words.len()]?;
-    BigEndian::write_u32_into(words, &mut bytes);
-    Ok(bytes)
 }

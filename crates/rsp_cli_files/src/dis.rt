@@ -30,7 +30,10 @@ pub fn disassemble_file<'a, F: FileStore, W: Write + Drop>(
     if bytes.len() > WORDS_LIMIT - usize::from(origin) || bytes.len() % 4 != 0 {
         return Err(Fault::WordsSize);
     }
-    print_file(&mut output, origin, bytes.as_slice(), asked).map_err(|_| Fault::RunWrite)
+    match print_file(&mut output, origin, bytes.as_slice(), asked) {
+        Ok(()) => Ok(()),
+        Err(_) => Err(Fault::RunWrite),
+    }
 }
 
 /// Prints the disassembly of the bytes of a file.
@@ -90,11 +93,7 @@ fn print_labelled<W: Write>(
     for (index, &word) in words.iter().enumerate() {
         let address = address_of(origin, index);
         if targets.contains(address) {
-            let name = label_of(address);
-            if with_addresses {
-                write!(output, "{address:03x} ")?;
-            }
-            writeln!(output, "{name}:")?;
+            print_label(output, address, label_of(address).as_str(), with_addresses)?;
         }
         let text = labelled_text_of(word, address, &targets);
         print_word(output, address, word, text.as_str(), with_addresses)?;
@@ -130,8 +129,21 @@ fn print_comment<W: Write>(output: &mut W, address: u16, word: u32) -> io::Resul
     }
 }
 
+/// Prints the name of a label, with its address before it if that is asked for.
+pub(crate) fn print_label<W: Write>(
+    output: &mut W,
+    address: u16,
+    name: &str,
+    with_addresses: bool,
+) -> io::Result<()> {
+    if with_addresses {
+        write!(output, "{address:03x} ")?;
+    }
+    writeln!(output, "{name}:")
+}
+
 /// Prints the text of a word, with its address and itself before it if that is asked for. It doesn't end the line.
-fn print_word<W: Write>(
+pub(crate) fn print_word<W: Write>(
     output: &mut W,
     address: u16,
     word: u32,

@@ -6,7 +6,7 @@ use std::io::{self, ErrorKind, Read};
 use std::rt::Files;
 
 /// Why a file wasn't read or written, as the messages distinguish it.
-#[derive(Clone, Copy, Debug, PartialEq, Eq)]
+#[derive(Clone, Copy)]
 pub enum FileFault {
     /// The system refused it.
     Refused,
@@ -43,9 +43,11 @@ pub fn read_file<'a, F: FileStore>(
     name: &'a str,
     limit: u64,
 ) -> Result<Vec<u8>, Fault<'a>> {
-    files
-        .read(alloc, name, limit)
-        .map_err(|fault| file_fault(fault, Fault::CannotRead(name)))
+    match files.read(alloc, name, limit) {
+        Ok(bytes) => Ok(bytes),
+        Err(FileFault::Refused) => Err(Fault::CannotRead(name)),
+        Err(FileFault::OutOfMemory) => Err(Fault::OutOfMemory),
+    }
 }
 
 /// Makes a file of these bytes. CannotWrite if the system refused it, OutOfMemory if there was no memory.
@@ -54,45 +56,32 @@ pub fn write_file<'a, F: FileStore>(
     name: &'a str,
     bytes: &[u8],
 ) -> Result<(), Fault<'a>> {
-    files
-        .write(name, bytes)
-        .map_err(|fault| file_fault(fault, Fault::CannotWrite(name)))
-}
-
-/// The program's fault for a fault of a file; `refused` if the system refused it.
-fn file_fault<'a>(fault: FileFault, refused: Fault<'a>) -> Fault<'a> {
-    match fault {
-        FileFault::Refused => refused,
-        FileFault::OutOfMemory => Fault::OutOfMemory,
+    match files.write(name, bytes) {
+        Ok(()) => Ok(()),
+        Err(FileFault::Refused) => Err(Fault::CannotWrite(name)),
+        Err(FileFault::OutOfMemory) => Err(Fault::OutOfMemory),
     }
 }
 
-fn fault_of(error: &io::Error) -> FileFault {
-    match error.kind() {
-        ErrorKind::OutOfMemory => FileFault::OutOfMemory,
-        _ => FileFault::Refused,
+impl From<io::Error> for FileFault {
+    fn from(error: io::Error) -> FileFault {
+        match error.kind() {
+            ErrorKind::OutOfMemory => FileFault::OutOfMemory,
+            _ => FileFault::Refused,
+        }
     }
-}
-
-fn read_at_most<R: Files>(
-    runtime: &R,
-    alloc: Global,
-    name: &str,
-    limit: u64,
-) -> io::Result<Vec<u8>> {
-    let mut bytes = Vec::new(alloc);
-    File::open(runtime, name)?
-        .take(limit)
-        .read_to_end(&mut bytes)?;
-    Ok(bytes)
 }
 
 impl<R: Files + AllocGlobal> FileStore for SystemFiles<'_, R> {
     fn read(&mut self, alloc: Global, name: &str, limit: u64) -> Result<Vec<u8>, FileFault> {
-        read_at_most(self.runtime, alloc, name, limit).map_err(|error| fault_of(&error))
+        let mut bytes = Vec::new(alloc);
+        File::open(self.runtime, name)?
+            .take(limit)
+            .read_to_end(&mut bytes)?;
+        Ok(bytes)
     }
 
     fn write(&mut self, name: &str, bytes: &[u8]) -> Result<(), FileFault> {
-        save(self.runtime, name, bytes).map_err(|error| fault_of(&error))
+        Ok(save(self.runtime, name, bytes)?)
     }
 }

@@ -1,6 +1,6 @@
 ghost use Rattle.std.specs.Prelude.{◌≤◌};
 
-use crate::dis::address_of;
+use crate::dis::{address_of, print_label, print_word};
 use rsp_asm::read_line;
 use std::alloc::Global;
 use std::io::{self, Write};
@@ -24,7 +24,7 @@ pub(crate) fn print_listing<W: Write>(
             return Ok(());
         };
         if let Some(name) = found.label {
-            print_label(output, address, name)?;
+            print_label(output, address, str::from_utf8(name).unwrap_or(""), true)?;
         }
         let (given, more) = rest.split_at(usize::from(found.size).min(rest.len()));
         print_words(output, address, given, line.trim())?;
@@ -34,15 +34,11 @@ pub(crate) fn print_listing<W: Write>(
     Ok(())
 }
 
-fn print_label<W: Write>(output: &mut W, address: u16, name: &[u8]) -> io::Result<()> {
-    let name = str::from_utf8(name).unwrap_or("");
-    writeln!(output, "{address:03x} {name}:")
-}
-
 fn print_words<W: Write>(output: &mut W, first: u16, words: &[u32], line: &str) -> io::Result<()> {
     for (index, &word) in words.iter().enumerate() {
         let address = address_of(first, index);
-        writeln!(output, "{address:03x} {word:08x} {line}")?;
+        print_word(output, address, word, line, true)?;
+        writeln!(output)?;
     }
     Ok(())
 }

@@ -49,7 +49,10 @@ fn replace<R: Files + AllocGlobal>(runtime: &R, target: &Target, bytes: &[u8]) -
         return Ok(false);
     };
     match fill(runtime, new.as_path(), file, target.old.as_ref(), bytes) {
-        Ok(true) => put(runtime, new.as_path(), target.path.as_path(), bytes).map(|()| true),
+        Ok(true) => {
+            put(runtime, new.as_path(), target.path.as_path(), bytes)?;
+            Ok(true)
+        }
         unfilled => {
             let _ = fs::remove_file(runtime, new.as_path());
             unfilled
