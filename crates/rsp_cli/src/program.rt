@@ -26,18 +26,27 @@ pub fn work<S: ScriptRunner, F: FileStore, R: Read + Drop, W: Write + Drop, E: W
     output: W,
     errors: &mut E,
 ) -> Status {
-    let asked = match read_arguments(alloc, args) {
-        Ok(asked) => asked,
-        Err(error) => return answer_words(&error, output, errors),
-    };
-    let done = match asked {
-        Request::Run(named) => run(alloc, &named, runner, files, input, output),
-        Request::Assemble(named) => assemble_file(alloc, files, &named, output),
-        Request::Disassemble(named) => disassemble_file(alloc, files, &named, output),
-    };
-    match done {
-        Ok(()) => Status::Done,
-        Err(fault) => faulted(fault, errors),
+    match read_arguments(alloc, args) {
+        Ok(asked) => match answer_request(alloc, &asked, runner, files, input, output) {
+            Ok(()) => Status::Done,
+            Err(fault) => faulted(fault, errors),
+        },
+        Err(error) => answer_words(&error, output, errors),
+    }
+}
+
+fn answer_request<'a, S: ScriptRunner, F: FileStore, R: Read + Drop, W: Write + Drop>(
+    alloc: Global,
+    asked: &Request<'a>,
+    runner: &S,
+    files: &mut F,
+    input: R,
+    output: W,
+) -> Result<(), Fault<'a>> {
+    match asked {
+        Request::Run(named) => run(alloc, named, runner, files, input, output),
+        Request::Assemble(named) => assemble_file(alloc, files, named, output),
+        Request::Disassemble(named) => disassemble_file(alloc, files, named, output),
     }
 }
 
@@ -144,9 +153,19 @@ fn read_image<'a, F: FileStore>(
 ) -> Result<Rdram, Fault<'a>> {
     let bytes = match name {
         Some(name) => read_file(alloc, files, name, IMAGE_READ_LIMIT)?,
-        None => vec![in alloc; 0; DEFAULT_LENGTH].map_err(|_| Fault::OutOfMemory)?,
+        None => zeros(alloc)?,
     };
-    Rdram::from_bytes(bytes).map_err(|_| Fault::ImageSize)
+    match Rdram::from_bytes(bytes) {
+        Ok(image) => Ok(image),
+        Err(_) => Err(Fault::ImageSize),
+    }
+}
+
+fn zeros<'a>(alloc: Global) -> Result<Vec<u8>, Fault<'a>> {
+    match vec![in alloc; 0; DEFAULT_LENGTH] {
+        Ok(bytes) => Ok(bytes),
+        Err(_) => Err(Fault::OutOfMemory),
+    }
 }
 
 /// Answers a script, and returns the image that it leaves.
@@ -159,12 +178,13 @@ fn answer<'a, S: ScriptRunner, R: Read + Drop, W: Write + Drop>(
 ) -> Result<Rdram, Fault<'a>> {
     let mut source = FromRead::new(input);
     let mut sink = ToWrite::new(output);
-    runner
-        .run_script(alloc, image, &mut source, &mut sink)
-        .map_err(|fault| match fault {
+    match runner.run_script(alloc, image, &mut source, &mut sink) {
+        Ok(image) => Ok(image),
+        Err(fault) => Err(match fault {
             RunFault::ReadFault => Fault::RunRead,
             RunFault::WriteFault => Fault::RunWrite,
             RunFault::ScriptTooLong => Fault::ScriptTooLong,
             RunFault::OutOfMemory => Fault::RunOutOfMemory,
-        })
+        }),
+    }
 }
