@@ -8,7 +8,7 @@ use crate::target::{Target, target_of};
 use std::alloc::AllocGlobal;
 use std::fs::{self, File, Metadata, OpenFile, OpenOptions};
 use std::io::{self, ErrorKind, Write};
-use std::os::unix::fs::{MetadataExt, OpenOptionsExt, PermissionsExt, chown};
+use std::os::unix::fs::{MetadataExt, OpenOptionsExt, chown};
 use std::path::{Path, PathBuf};
 use std::rt::Files;
 
@@ -69,8 +69,9 @@ fn create_beside<R: Files + AllocGlobal>(
 {
     let mut options = OpenOptions::new();
     options.write(true).create_new(true);
-    if let Some(old) = &target.old {
-        options.mode(old.permissions().mode() & 0o777);
+    if target.old.is_some() {
+        // Closed to everybody else until it has the old one's group and permissions.
+        options.mode(0o600);
     }
     for number in 0..u32::MAX {
         let new = beside(runtime.alloc(), target.path.as_path(), number)?;
