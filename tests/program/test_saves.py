@@ -187,6 +187,20 @@ def test_mode(mode: int, new: New) -> None:
     new(mode).run().saved().mode(mode).names("file")
 
 
+@pytest.mark.needs("strace")
+def test_file_that_is_being_written(new: New) -> None:
+    """It is made for its owner alone, because it may have the wrong group at first."""
+    it = new(0o664)
+    log, (program, *words) = it.folder.parent / "log", it.writer.words
+    tracing = ["-f", "-e", "trace=open,openat,creat", "-o", log]
+    if ran("strace", [*tracing, "true"], b"").status:
+        pytest.skip("strace may not trace a process here")
+    it.ran = ran("strace", [*tracing, program, *words, it.file], it.writer.script)
+    it.saved().mode(0o664)
+    made = re.findall(r'"[^"]*\.file\.rsp-save-0", (\S+), (\d+)\)', log.read_text())
+    assert [int(mode, 8) for flags, mode in made if "O_CREAT" in flags] == [0o600], log.read_text()
+
+
 @pytest.mark.parametrize("mask", (0o022, 0o077), ids=oct)
 def test_new_file(mask: int, new: New) -> None:
     it = new()
