@@ -52,7 +52,7 @@ def test_order(top: str, slots: int) -> None:
     for name, beside, ready in moments(said, names):
         assert not beside & {*with_below(name)}
         assert len(beside) < slots
-        assert all(path_to(top, it) <= path_to(top, name) for it in ready)
+        assert all(path_to(top, it, slots) <= path_to(top, name, slots) for it in ready)
 
 
 def test_program_without_what_only_the_library_needs() -> None:

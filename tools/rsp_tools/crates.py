@@ -11,12 +11,15 @@ CRATES = TOP / "crates"
 LINES = {
     it.split()[0].rstrip(":"): it for it in re.findall(r"(?m)^\w.*:.*", (TOP / "crates.txt").read_text())
 }
+# How many jobs prove a crate for which many others wait, on four processors. Each job loads anew what the
+# crates below state, so that together they take some 1.5 times the processor's time of one.
+JOBS = {"rsp_decode": 3, "rsp_machine": 2, "rsp_debug": 2, "rsp_bench": 3}
 # The seconds of a processor by one job, for the order of the proofs and for what is said of the time to go.
 SECONDS = """
 rsp_numbers 8 rsp_memory 29 rsp_decode 165 rsp_scalar 26 rsp_lanes 41 rsp_acc 39 rsp_multiply 32
 rsp_compare 30 rsp_divide 21 rsp_loadstore 60 rsp_regs 43 rsp_machine 190 rsp_syntax 61 rsp_operands 54
 rsp_asm 97 rsp_dis 54 rsp_debug 175 rsp_script_io 75 rsp_commands 74 rsp_bench 155 rsp_feed 78
-rsp_advice 63 rsp_cli_args 69 rsp_cli_files 152 rsp_cli 58 rsp_main 120 rsp_c 280
+rsp_advice 63 rsp_cli_args 69 rsp_cli_files 138 rsp_cli 56 rsp_main 130 rsp_c 280
 """
 
 
@@ -52,8 +55,15 @@ def seconds(name: str) -> int:
     return int(found[1]) if found else 10
 
 
+def jobs_of(name: str, slots: int) -> int:
+    """How many jobs prove the crate, of so many that there may be at once."""
+    return JOBS.get(name, 1) if slots >= max(JOBS.values()) else 1
+
+
 @functools.lru_cache(None)
-def path_to(top: str, name: str) -> int:
-    """The seconds of the longest path by which the crate leads to the one on top, with those of both."""
-    above = [it for it in with_below(top) if name in uses(it)]
-    return seconds(name) + max((path_to(top, it) for it in above), default=0)
+def path_to(top: str, name: str, slots: int) -> float:
+    """The seconds by the clock of the longest path by which the crate leads to the one on top, with those of
+    both."""
+    jobs, above = jobs_of(name, slots), [it for it in with_below(top) if name in uses(it)]
+    by_clock = seconds(name) * (1.5 / jobs if jobs > 1 else 1)
+    return by_clock + max((path_to(top, it, slots) for it in above), default=0)

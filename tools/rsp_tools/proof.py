@@ -21,14 +21,11 @@ from pathlib import Path
 from typing import Any, Callable, Dict, List, Optional, Tuple
 
 from rsp_tools import TOP
-from rsp_tools.crates import CRATES, path_to, proved_with, seconds, with_below
+from rsp_tools.crates import CRATES, jobs_of, path_to, proved_with, seconds, with_below
 
 PROCESSORS, MEMORY = len(os.sched_getaffinity(0)), Path("/proc/meminfo")
 EACH = 2_000_000_000  # A crate that is being proved has been seen to take so many bytes.
 SILENCE = 30  # After so many seconds without a line it says how far it is.
-# How many jobs prove a crate for which many others wait, on four processors. Each job loads anew what the
-# crates below state, so that two take 1.25 to 1.3 times the processor's time of one.
-JOBS = {"rsp_decode": 3, "rsp_machine": 2, "rsp_debug": 2, "rsp_bench": 3}
 
 
 def time_of(path: Path) -> float:
@@ -109,8 +106,8 @@ class Proof:
 
     def begin(self, pool: ThreadPoolExecutor) -> None:
         """Begins those crates of which all below are proved, as far as processors are idle."""
-        for name in sorted(self.left.keys() - self.begun.keys(), key=lambda it: -path_to(self.top, it)):
-            jobs = JOBS.get(name, 1) if self.slots >= max(JOBS.values()) else 1
+        for name in sorted(self.left.keys() - self.begun.keys(), key=self.path_from, reverse=True):
+            jobs = jobs_of(name, self.slots)
             if self.left.keys() & {*with_below(name)[:-1]}:
                 continue
             if jobs > self.idle:
@@ -140,6 +137,9 @@ class Proof:
         going = [f"{it}, {self.seconds_of(it):.0f} s{self.kept(it)}" for it, _ in self.going.values()]
         self.say(f"proving {'; '.join(going)}; {self.to_go()} to go")
 
+    def path_from(self, name: str) -> float:
+        return path_to(self.top, name, self.slots)
+
     def seconds_of(self, name: str) -> float:
         """How long ago the crate began; 0 if it hasn't."""
         return time.time() - self.begun[name] if name in self.begun else 0
@@ -154,6 +154,6 @@ class Proof:
         """How long what is left usually takes: all of it by our processors, or the longest path."""
         spent = {it: min(self.seconds_of(it), seconds(it)) for it in self.left}
         whole = sum(seconds(it) - spent[it] for it in self.left) / self.slots
-        path = max(path_to(self.top, it) - spent[it] for it in self.left)
+        path = max(self.path_from(it) - spent[it] for it in self.left)
         minutes = max(math.ceil(max(whole, path) / 60), 1)
         return f"about {minutes} minute{'s' if minutes > 1 else ''}"
