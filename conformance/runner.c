@@ -30,16 +30,16 @@ static int take(rest *r, void *to, size_t length)
     return 1;
 }
 
-/* Puts the pieces before a case, or those after it, into `expected`. Returns 0 if a piece passes the end of the case or of its memory. */
+/* Puts the pieces before a case, or those after it, into `expected`. Returns 0 if a piece passes the end of its memory, or if they don't fill the case. */
 static int put_pieces(rest from, uint32_t count, uint32_t is_after)
 {
     static uint8_t unused[RDRAM_LENGTH];
     while (count--) {
         piece p;
-        if (!take(&from, &p, sizeof p) || p.bank > 2 || p.address > length_of(p.bank) || p.length > length_of(p.bank) - p.address) return 0;
+        if (!take(&from, &p, sizeof p) || p.is_after > 1 || p.bank > 2 || p.address > length_of(p.bank) || p.length > length_of(p.bank) - p.address) return 0;
         if (!take(&from, p.is_after == is_after ? expected + 4096 * p.bank + p.address : unused, p.length) || !take(&from, unused, -p.length & 3)) return 0;
     }
-    return 1;
+    return from.at == from.end;
 }
 
 /* Runs the case that comes next, and takes it. Returns 1 if it differs, -1 if it isn't a case. */
@@ -50,7 +50,7 @@ static int run(rsp *m, rest *file)
     rsp_state before;
     head h;
     rest r = *file;
-    if (!take(&r, &h, sizeof h) || h.size < sizeof h || h.size > (size_t)(file->end - file->at)) return -1;
+    if (!take(&r, &h, sizeof h) || h.has_choice > 1 || h.size < sizeof h || h.size > (size_t)(file->end - file->at)) return -1;
     file->at = r.end = file->at + h.size;
     if (!take(&r, &before, sizeof before) || !take(&r, &after.state, sizeof before)) return -1;
     memset(expected, 0, sizeof expected);
@@ -84,7 +84,7 @@ static int run_file(rsp *m, const char *path, uint32_t *cases, uint32_t *failed)
         return fprintf(stderr, "%s has no flat vectors\n", shown(path, strlen(path))), 0;
     for (uint32_t k = 1; k <= number; k++, ++*cases) {
         int is_wrong = run(m, &r);
-        if (is_wrong < 0) return fprintf(stderr, "%s: case %u of %u isn't whole, or has a piece that no memory has\n", shown(path, strlen(path)), k, number), 0;
+        if (is_wrong < 0) return fprintf(stderr, "%s: case %u of %u isn't whole, or has what no case has\n", shown(path, strlen(path)), k, number), 0;
         *failed += (uint32_t)is_wrong;
     }
     if (r.at != r.end) return fprintf(stderr, "%s has bytes after its last case\n", shown(path, strlen(path))), 0;

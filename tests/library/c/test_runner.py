@@ -65,7 +65,10 @@ NUMBERS: Dict[str, Tuple[int, int]] = {
     "size of a head": (16, 32),
     "size past the end": (16, 1 << 24),
     "greatest size": (16, 0xFFFFFFFF),
+    "has_choice 2": (16 + 8, 2),
     "too many pieces": (16 + 28, 0xFFFFFFFF),
+    "is_after 2": (PIECE, 2),
+    "greatest is_after": (PIECE, 0xFFFFFFFF),
     "bank 3": (PIECE + 4, 3),
     "greatest bank": (PIECE + 4, 0xFFFFFFFF),
     "address past the end": (PIECE + 8, 4097),
@@ -181,12 +184,26 @@ def test_name_with_control_characters(runner: Path, vectors: bytes, folder: Path
 
 
 def test_longest(runner: Path, vectors: bytes, folder: Path) -> None:
-    """A right case in a file of 16 MiB, and a false one after that."""
+    """A right case in a file of 16 MiB, whose other bytes are pieces without a byte, and a false one after
+    that."""
     size, most = struct.unpack("<I", vectors[16:20])[0], 1 << 24
-    one = with_number(with_number(vectors[: 16 + size], 16, most - 16), 12, 1).ljust(most, b"\0")
-    (folder / "longest").write_bytes(one)
+    empty, spare = divmod(most - 16 - size, 16)
+    # The first of these pieces has the bytes that make no piece: zeros of RDRAM, where zeros are.
+    one = vectors[: 16 + size] + struct.pack("<IIII", 0, 2, 0, spare)
+    pieces = struct.unpack("<I", vectors[16 + 28 : 16 + 32])[0] + empty
+    for at, number in ((12, 1), (16, most - 16), (16 + 28, pieces)):
+        one = with_number(one, at, number)
+    (folder / "longest").write_bytes(one.ljust(most, b"\0"))
     assert succeeds(runner, folder / "longest") == "1 passed, 0 failed\n"
-    refuses(runner, folder / "longer", one + changed(vectors, b"false")[16:])
+    refuses(runner, folder / "longer", one.ljust(most, b"\0") + changed(vectors, b"false")[16:])
+
+
+def test_bytes_after_the_last_piece(runner: Path, vectors: bytes, folder: Path) -> None:
+    """They may be an expectation that one piece less left out."""
+    size, pieces = (struct.unpack("<I", vectors[at : at + 4])[0] for at in (16, 16 + 28))
+    one = with_number(with_number(vectors[: 16 + size], 12, 1), 16, size + 16) + bytes(16)
+    refuses(runner, folder / "spare", one)
+    refuses(runner, folder / "fewer", with_number(vectors, 16 + 28, pieces - 1))
 
 
 def test_full_device(runner: Path, vectors: bytes, folder: Path) -> None:
