@@ -9,6 +9,7 @@ from rsp_conformance import TOP
 
 Complaints = List[str]  # of a check: it has passed if there are none
 PROGRAM = str(TOP / "rsp")
+MOST_SAID = 64  # complaints of a check
 
 
 def reader(name: str, doc: Optional[str]) -> argparse.ArgumentParser:
@@ -20,6 +21,12 @@ def reader(name: str, doc: Optional[str]) -> argparse.ArgumentParser:
 def unless(is_right: object, complaint: str) -> Complaints:
     """A check with one complaint, if it isn't right."""
     return [] if is_right else [complaint]
+
+
+def brief(what: str, found: Complaints) -> Complaints:
+    """The first complaints of a case or program, and how many more there are: each byte may differ."""
+    more = len(found) - MOST_SAID
+    return [*found[:MOST_SAID], f"{what}: {more} more differences"] if more > 0 else found
 
 
 def printable(text: str) -> str:

@@ -23,7 +23,7 @@ from typing import Callable, Dict, Iterator, List, Optional, Sequence, Tuple
 from rsp_conformance import bench, flat, full, play, steps
 from rsp_conformance.cases import small_count
 from rsp_conformance.commands import PROGRAM, printable, reader, say
-from rsp_conformance.files import FileFault, write
+from rsp_conformance.files import FileFault, make_folder, write
 from rsp_conformance.table import ROWS, Row
 from rsp_conformance.vectors import VectorsFault, entries_in, names_in
 
@@ -55,7 +55,7 @@ def generate(
     Yields a line for each instruction that the program doesn't know.
     """
     for name in ("steps", "programs", *more):
-        (out / name).mkdir(parents=True, exist_ok=True)
+        make_folder(out / name)
     with ThreadPoolExecutor() as workers:
         todo = [(program, row, seed, count or small_count(row), out, more) for row in rows]
         made = [(it[1], workers.submit(write_row, *it)) for it in todo]
@@ -72,7 +72,7 @@ def formed(of: Path, names: Sequence[str], out: Path, more: Sequence[str]) -> in
     for name in found:
         for form in more:
             suffix, made = MORE[form]
-            (out / form).mkdir(parents=True, exist_ok=True)
+            make_folder(out / form)
             write(out / form / f"{name}.{suffix}", made(entries_in(of, name)))
     return len(found)
 

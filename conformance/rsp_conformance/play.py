@@ -6,6 +6,7 @@ from typing import Any, Dict, Iterable, Iterator, List, Optional
 
 from rsp_conformance import bench
 from rsp_conformance.bench import RspError, Script, joined, run_script
+from rsp_conformance.commands import brief
 from rsp_conformance.programs import MEMORY, Program, programs_of
 from rsp_conformance.steps import FLAG_NAMES
 from rsp_conformance.table import Row
@@ -128,13 +129,16 @@ def run_manifest(program: str, manifest: Dict[str, Any], folder: Path) -> Iterat
     Each begins with other registers than it had when it was made, so that one that expects something of them
     is found.
     """
-    script, entries = bench.prelude(), manifest["programs"]
-    for number, entry in enumerate(entries):
-        one = Script()
-        bench.set_state(one, bench.DEFAULT, 0)
+
+    def script_of_files(entry: Entry) -> Script:
+        script = Script()
+        bench.set_state(script, bench.DEFAULT, 0)
         imem, dmem = (memory_in(folder / f"{entry['name']}.{kind}") for kind in ("imem", "dmem"))
-        run_images(one, imem, dmem)
-        script.append(one, number)
-    for entry, found in zip(entries, played(program, script, len(entries))):
+        run_images(script, imem, dmem)
+        return script
+
+    scripts = joined(map(script_of_files, manifest["programs"]), bench.prelude)
+    ended = (it for script, count in scripts for it in played(program, script, count))
+    for entry, found in zip(manifest["programs"], ended):
         after = memory_in(folder / f"{entry['name']}.after")
-        yield complaints(entry, after, bytes.fromhex(found["dmem"]))
+        yield brief(entry["name"], complaints(entry, after, bytes.fromhex(found["dmem"])))

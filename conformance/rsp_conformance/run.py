@@ -43,12 +43,9 @@ def main() -> None:
         names = names_in(args.folder, args.names)
         if refusal := bench.refusal_of(args.program):
             raise VectorsFault(refusal)
-        found = [it for name in names for it in run_row(args.program, args.folder, name)]
-        if not found:
-            raise VectorsFault(f"{args.folder} has no case")
+        sys.exit(counted(it for name in names for it in run_row(args.program, args.folder, name)))
     except (VectorsFault, FileFault) as fault:
         sys.exit(printable(f"run: {fault}"))
-    sys.exit(counted(found))
 
 
 if __name__ == "__main__":

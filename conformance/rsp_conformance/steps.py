@@ -6,6 +6,7 @@ from typing import Any, Dict, Iterable, Iterator, List
 from rsp_conformance import bench
 from rsp_conformance.bench import Looks
 from rsp_conformance.cases import Case, make_case
+from rsp_conformance.commands import brief
 from rsp_conformance.states import Texts
 from rsp_conformance.table import ROWS, Row
 
@@ -130,7 +131,8 @@ def run_entries(program: str, entries: List[Entry]) -> Iterator[List[str]]:
 def complaints_of(entries: List[Entry], observed: Iterable[Looks]) -> Iterator[List[str]]:
     """The complaints of each case, from what was seen of it."""
     for entry, looks in zip(entries, observed):
+        what = f"{entry['name']} ({entry['text']})"
         if not looks["step"].startswith("step Done"):
-            yield [f"{entry['name']} ({entry['text']}): {looks['step']}"]
+            yield [f"{what}: {looks['step']}"]
         else:
-            yield complaints(entry, looks["after"])
+            yield brief(what, complaints(entry, looks["after"]))

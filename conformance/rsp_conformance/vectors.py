@@ -3,10 +3,10 @@
 import json
 import re
 from pathlib import Path
-from typing import Any, Dict, List, Sequence
+from typing import Any, Dict, List, Sequence, Set
 
 from rsp_conformance import HERE, bench
-from rsp_conformance.files import read
+from rsp_conformance.files import MOST_JSON, read
 from rsp_conformance.steps import Entry
 from rsp_conformance.table import ROWS
 
@@ -49,7 +49,15 @@ MEMORIES = {
     "rdram": range(bench.WINDOW, bench.WINDOW + bench.WINDOW_LENGTH),
 }
 MEMORY = 4096
-KEYS = {"before": {*bench.DEFAULT, "divided", *MEMORIES}, "after": {*bench.DEFAULT, *MEMORIES}}
+LONGEST_LINE, LONGEST_TEXT = 1 << 17, 100  # a line in bytes: a case with all bytes of memories has a third
+KEYS = {
+    "before": {*bench.DEFAULT, "divided", *MEMORIES},
+    "after": {*bench.DEFAULT, *MEMORIES},
+    "case": {"name", "word", "text", "choice", "before", "after"},
+    "manifest": {"row", "programs"},
+    "program": {"name", "steps", "layouts", "cases"},
+    "case of a program": {"name", "pc", "word", "text", "at", "layout", "choice"},
+}
 
 
 class Wrong(ValueError):
@@ -60,6 +68,24 @@ def unless(is_right: bool, why: str) -> None:
     """Wrong, if it isn't right."""
     if not is_right:
         raise Wrong(why)
+
+
+def check_keys(what: str, found: Dict[str, Any]) -> None:
+    """Wrong or AttributeError, if a key isn't known: what it says would be checked by nobody."""
+    for key in found.keys() - KEYS[what]:
+        raise Wrong(f"{what} has the unknown key {key!r:.40}")
+
+
+def is_short(text: Any) -> bool:
+    """Whether this is a text that each difference may repeat."""
+    return isinstance(text, str) and len(text) <= LONGEST_TEXT
+
+
+def check_texts(case: Dict[str, Any]) -> None:
+    """Wrong, if the name or the text of a case is none, or is long."""
+    for key in ("name", "text"):
+        told = f"{key} is {case[key]!r:.40}, and not a text of at most {LONGEST_TEXT} characters"
+        unless(is_short(case[key]), told)
 
 
 def is_hexadecimal(text: Any) -> bool:
@@ -84,10 +110,13 @@ def check_bytes(bank: str, address: str, text: Any) -> None:
 
 def check_state(when: str, state: Dict[str, Any]) -> None:
     """Wrong, TypeError or AttributeError, if a state names what none has, or isn't as `steps` has it."""
+    check_keys(when, state)
     for key, value in state.items():
-        unless(key in KEYS[when], f"{when} has the unknown key {key!r:.40}")
         if key not in MEMORIES:
             check_digits(f"{key} of {when}", value, len(bench.DEFAULT.get(key, "divided!")))
+        if key in ("pc", "npc"):
+            is_right = int(value, 16) % 4 == 0
+            unless(is_right, f"{key} of {when} is {value!r}, and not a multiple of 4")
         for address, text in value.items() if key in MEMORIES else ():
             check_bytes(key, address, text)
 
@@ -95,12 +124,14 @@ def check_state(when: str, state: Dict[str, Any]) -> None:
 def check_entry(name: str, entry: Any) -> None:
     """Wrong, KeyError, TypeError or AttributeError, if this is no case of an instruction."""
     row = ROWS[name.lower()]
+    check_keys("case", entry)
     check_digits("word", entry["word"], 8)
-    unless(isinstance(entry["text"], str), f"text is {entry['text']!r:.40}")
-    unless(entry["name"].startswith(f"{name}-"), f"its name, {entry['name']!r:.40}, isn't one of {name}")
+    check_texts(entry)
+    is_right = entry["name"].startswith(f"{name}-") and not re.search("[\ud800-\udfff]", entry["name"])
+    unless(is_right, f"its name, {entry['name']!r:.40}, isn't one of {name}")
     is_right = int(entry["word"], 16) & row.mask == row.value
     unless(is_right, f"the word {entry['word']} is no {name}")
-    for when in KEYS:
+    for when in ("before", "after"):
         check_state(when, entry[when])
 
 
@@ -123,11 +154,14 @@ def entries_in(folder: Path, name: str) -> List[Entry]:
     entries, path = [], folder / "steps" / f"{name}.jsonl"
     for number, line in enumerate(read(path).splitlines(), 1):
         try:
+            unless(len(line) <= LONGEST_LINE, f"it has more than {LONGEST_LINE} bytes")
             entry = json.loads(line)
             check_entry(name, entry)
         except NO_JSON as fault:
             raise VectorsFault(f"{path}, line {number}: this isn't a case: {why(fault, line)}") from None
         entries.append(entry)
+    if not entries:
+        raise VectorsFault(f"{path} has no case")
     return entries
 
 
@@ -135,19 +169,21 @@ def check_layouts(layouts: Dict[str, Any]) -> None:
     """Wrong, TypeError or ValueError, if a field of a layout has no bytes, or is longer than DMEM."""
     for layout, fields in layouts.items():
         for what, offset, length in fields:
-            is_right = isinstance(what, str) and type(offset) is type(length) is int and 0 < length <= MEMORY
+            is_right = is_short(what) and type(offset) is type(length) is int and 0 < length <= MEMORY
             told = f"{offset!r:.40}, {length!r:.40}"
             unless(is_right, f"layout {layout} has the field {what!r:.40}, {told}: a length is 1 to {MEMORY}")
 
 
 def check_program(entry: Any) -> None:
     """Wrong, or one of NO_JSON, if this is no program of a manifest."""
-    unless(re.fullmatch(r"[\w-]+", entry["name"], re.ASCII) is not None, f"the name {entry['name']!r:.40}")
+    check_keys("program", entry)
+    is_right = is_short(entry["name"]) and re.fullmatch(r"[\w-]+", entry["name"], re.ASCII)
+    unless(bool(is_right), f"the name {entry['name']!r:.40}")
     check_layouts(entry["layouts"])
     lengths = {it: sum(length for _, _, length in fields) for it, fields in entry["layouts"].items()}
     for case in entry["cases"]:
-        texts = (case["name"], case["text"])
-        unless(all(isinstance(it, str) for it in texts), f"a case has the name and text {texts!r:.40}")
+        check_keys("case of a program", case)
+        check_texts(case)
         check_digits("at", case["at"], 3)
         unless(case["layout"] in lengths, f"there is no layout {case['layout']!r:.40}")
     count = sum(lengths[case["layout"]] for case in entry["cases"])
@@ -157,11 +193,15 @@ def check_program(entry: Any) -> None:
 def manifest_in(folder: Path, name: str) -> Dict[str, Any]:
     """The manifest of an instruction's programs."""
     path = folder / "programs" / f"{name}.json"
-    number, data = 0, read(path)
+    names: Set[str] = set()
+    number, data = 0, read(path, MOST_JSON)
     try:
         found: Dict[str, Any] = json.loads(data)
+        check_keys("manifest", found)
         for number, entry in enumerate(found["programs"], 1):
             check_program(entry)
+            unless(entry["name"] not in names, f"{entry['name']} is there twice")
+            names.add(entry["name"])
         return found
     except NO_JSON as fault:
         what = (

@@ -12,14 +12,14 @@ from typing import Any, Callable, Dict, List, Tuple
 
 import pytest
 
-from rsp_conformance import bench, steps
+from rsp_conformance import bench, generate, steps
 from rsp_conformance.campaign import CampaignFault
 from rsp_conformance.campaign.folder import Folder, given_in
 from rsp_conformance.campaign.report import html_table, results_in, text_table
 from rsp_conformance.campaign.task import nothing
 from rsp_conformance.commands import counted
 from rsp_conformance.files import FileFault, write
-from rsp_conformance.vectors import VectorsFault, entries_in, manifest_in, memory_in
+from rsp_conformance.vectors import VECTORS, VectorsFault, entries_in, manifest_in, memory_in
 
 HASHES = {"emulator": "a", "library": "b"}
 TASK = {"instruction": "vadd", "seed": "1", "start": 0, "size": 20}
@@ -35,17 +35,17 @@ NESTED = "[" * 100_000
 WRONG: Dict[str, List[Any]] = {
     "instruction": [5, None, [], "vadd<b>", "../vadd"],
     "count": ["x", None, [1], -20, 0, 19, 21, 0.5, float("nan")],
-    "differ": [21, -1, 10**400, float("inf")],
+    "differ": [21, -1, 10**400, float("inf"), True],
     "choices": [21],
     "unshown": [21],
     "missing": [21],
-    "processor": ["1", {}, float("nan"), float("inf"), -0.5],
-    "parts": [[], {"$v1": "x"}, {"$v1": float("nan")}, {"$v1": 21}, {"\ud800": 10**400}],
+    "processor": ["1", {}, float("nan"), float("inf"), -0.5, True],
+    "parts": [[], {"$v1": "x"}, {"$v1": float("nan")}, {"$v1": 21}, {"\ud800": 10**400}, {"$v1": True}],
     "shown": [5, [5], {}],
-    "faults": [5, [5], ["xyz"], [[1, 1]], [[1, 1, 5]]],
+    "faults": [5, [5], ["xyz"], [[1, 1]], [[1, 1, 5]], [[1, 1, "more than differ"]]],
     "unseen": ["x", [[]]],
-    "start": ["0", 0.5, -1, 1 << 53],
-    "size": ["20", 0, -20, 19, 21],
+    "start": ["0", 0.5, -1, 1 << 53, False],
+    "size": ["20", 0, -20, 19, 21, True],
     "seed": [None, 1],
     "hashes": [None, []],
     "given up": [None, 5, ["x"]],
@@ -60,6 +60,7 @@ RESULTS = {
     "no bytes": "",
 }
 RESULTS["nested"] = NESTED
+RESULTS["a case of size True"] = json.dumps({**RESULT, "size": True, "count": 1})
 for key, values in WRONG.items():
     RESULTS.update({f"{key} {it!r:.20}": json.dumps({**RESULT, key: it}) for it in values})
 
@@ -102,11 +103,17 @@ def test_result_of_another_task(name: str, more: Dict[str, Any], why: str, folde
     assert str(refused.value) == f"{folder / name} {why}: delete it, and start the campaign again"
 
 
-NAMES = ("../x", "/tmp/x", "a/b", "..", "", "x\n", "\x1b[31m")
+NAMES = ("../x", "/tmp/x", "a/b", "..", "", "x\n", "\x1b[31m", "x" * 300)
+TEXTS = {"name": "x", "source": "", "script": ""}
+NO_TEXTS: List[Any] = [5, None, {}, {"name": "x"}, {**TEXTS, "source": 5}, {**TEXTS, "script": None}]
 # What a worker may send, and why it is refused.
 SENT = {
-    **{f"program {it!r}": ({"programs": [{"name": it}]}, "a program with the name '") for it in NAMES},
-    **{f"instruction {it!r}": ({"instruction": it}, "what isn't a result") for it in NAMES},
+    **{
+        f"program {it!r:.20}": ({"programs": [{**TEXTS, "name": it}]}, "a program with the name '")
+        for it in NAMES
+    },
+    **{f"{it} as a program": ({"programs": [it]}, "what isn't a program") for it in NO_TEXTS},
+    **{f"instruction {it!r:.20}": ({"instruction": it}, "what isn't a result") for it in NAMES},
     "another instruction": ({"instruction": "vsub"}, "vsub-0-20.json, which is no task of this campaign"),
     "another number": ({"start": 7}, "vadd-7-20.json, which is no task of this campaign"),
     "another seed": ({"seed": "2"}, "vadd-0-20.json, which is no task of this campaign"),
@@ -143,15 +150,15 @@ def sparse(size: int) -> Callable[[Path], None]:
     return make
 
 
-# What is in its place: a pipe would be waited for, the last three would fill the memory.
+# What is in its place: a pipe would be waited for, the last one would fill the memory.
 NO_FILES: Dict[str, Tuple[Callable[[Path], Any], str]] = {
     "pipe": (os.mkfifo, "is no file"),
     "folder": (os.mkdir, "is no file"),
     "nothing": (lambda path: path.symlink_to("nowhere"), "can't be read: No such file or directory"),
     "zeros without an end": (lambda path: path.symlink_to("/dev/zero"), "is no file"),
-    "40 GB": (sparse(40 * 10**9), "has more than 67108864 bytes"),
-    "64 MiB and a byte": (sparse((1 << 26) + 1), "has more than 67108864 bytes"),
 }
+# The most bytes that a file may have: one value of JSON takes many times as much memory.
+LARGEST = {name: 1 << (22 if name.endswith(".json") else 24) for name in READERS}
 
 
 @pytest.mark.parametrize("make, why", NO_FILES.values(), ids=NO_FILES)
@@ -164,6 +171,64 @@ def test_no_file(name: str, make: Callable[[Path], Any], why: str, folder: Path)
     with pytest.raises(FileFault) as refused:
         READERS[name](folder)
     assert str(refused.value) == f"{path} {why}"
+
+
+@pytest.mark.parametrize("name, most", LARGEST.items(), ids=LARGEST)
+def test_large_file(name: str, most: int, folder: Path) -> None:
+    """It is refused by its size. One with a byte less is read, and isn't what it has to be."""
+    path = folder / name
+    path.parent.mkdir(exist_ok=True)
+    for size in (most + 1, 40 * 10**9):
+        sparse(size)(path)
+        with pytest.raises(FileFault) as refused:
+            READERS[name](folder)
+        assert str(refused.value) == f"{path} has more than {most} bytes"
+    sparse(most)(path)
+    with pytest.raises((CampaignFault, VectorsFault), match=path.name):
+        READERS[name](folder)
+
+
+GIVEN: Dict[str, Any] = {
+    **{"emulator": "mine", "instructions": ["vadd"], "seed": "1", "cases": 20, "size": 20, "programs": 0},
+    **{"programs_size": 1, "steps": 5, "hashes": HASHES},
+}
+NO_NUMBERS: List[Any] = ["x", None, -5, [1], float("inf"), 0.5, True, 1 << 53]
+NO_GIVEN: Dict[str, List[Any]] = {
+    **{key: NO_NUMBERS for key in ("cases", "programs")},
+    **{key: [*NO_NUMBERS, 0] for key in ("size", "programs_size", "steps")},
+    **{key: [None, 5, ["x"]] for key in ("emulator", "seed")},
+    "instructions": [None, "vadd", [], ["v"], [5], [["vadd"]], {"vadd": 1}],
+}
+
+
+@pytest.mark.parametrize("key, value", [(key, it) for key, values in NO_GIVEN.items() for it in values])
+def test_no_campaign(key: str, value: Any, folder: Path) -> None:
+    """It is refused by what is wrong: it isn't the emulator that fails."""
+    path = folder / "campaign.json"
+    path.write_text(json.dumps(GIVEN))
+    assert given_in(folder) == {"generator": 1, **GIVEN}
+    path.write_text(json.dumps({**GIVEN, key: value}))
+    with pytest.raises(CampaignFault) as refused:
+        given_in(folder)
+    assert str(refused.value).startswith(f"{path} isn't what a campaign wrote: {key!r} is ")
+
+
+def test_programs_elsewhere(folder: Path) -> None:
+    """A link in place of the folder for programs is refused, and nothing is written where it leads."""
+    (folder / "out").mkdir()
+    (folder / "elsewhere").mkdir()
+    (folder / "out/programs").symlink_to("../elsewhere")
+    with pytest.raises(FileFault, match="out/programs is a link, and has to be a folder"):
+        campaign_in(folder / "out").keep({**RESULT, "programs": [TEXTS]})
+    assert sorted(folder.rglob("*")) == [folder / it for it in ("elsewhere", "out", "out/programs")]
+
+
+def test_forms_elsewhere(folder: Path) -> None:
+    (folder / "elsewhere").mkdir()
+    (folder / "flat").symlink_to("elsewhere")
+    with pytest.raises(FileFault, match="flat is a link, and has to be a folder"):
+        generate.formed(VECTORS, ["ADD"], folder, ["flat"])
+    assert not [*(folder / "elsewhere").iterdir()]
 
 
 def test_file_is_written_beside_links(folder: Path) -> None:
@@ -229,8 +294,17 @@ CASES = {
     **{f"word {it!r}": json.dumps({**CASE, "word": it}) for it in ("wxyz", "", 5, None)},
     **{f"before is {it}": json.dumps({**CASE, "before": it}) for it in NO_STATES},
     "no text": json.dumps({**CASE, "text": None}),
+    "a long text": json.dumps({**CASE, "text": "x" * 101}),
+    "a long name": json.dumps({**CASE, "name": f"ADD-{'0' * 97}"}),
+    "a long line": json.dumps(CASE) + " " * (1 << 17),
     "unknown register": json.dumps({**CASE, "after": {"v99": "dead"}}),
     "unknown memory": json.dumps({**CASE, "before": {"rom": {}}}),
+    "unknown key": json.dumps({**CASE, "choise": "register 20"}),
+    **{
+        f"{key} {it}": json.dumps({**CASE, "before": {key: it}})
+        for key in ("pc", "npc")
+        for it in ("001", "fff")
+    },
     "divided afterwards": json.dumps({**CASE, "after": {"divided": "00000000"}}),
     "a list of bytes": json.dumps({**CASE, "before": {"dmem": [1]}}),
     **{f"bytes {it!r}": json.dumps({**CASE, "before": {"dmem": {"0": it}}}) for it in NO_BYTES},
@@ -238,7 +312,10 @@ CASES = {
         f"address {it!r}": json.dumps({**CASE, "before": {"dmem": {it: "00"}}})
         for it in ("x", "0x1", "1_0", " 1")
     },
-    **{f"name {it!r}": json.dumps({**CASE, "name": it}) for it in ("SUB-000", "ADD", "ADDI-000", "\ud800")},
+    **{
+        f"name {it!r}": json.dumps({**CASE, "name": it})
+        for it in ("SUB-000", "ADD", "ADDI-000", "\ud800", "ADD-\ud800")
+    },
     "a word of SUB": json.dumps({**CASE, "word": "000b1822"}),
 }
 # Values of a register of eight digits: numbers in Python that are none here, and ways into a script.
@@ -259,6 +336,13 @@ NOWHERE = {
 for bank, pieces in NOWHERE.items():
     for address, raw in pieces.items():
         CASES[f"{bank} {address} {raw}"] = json.dumps({**CASE, "after": {bank: {address: raw}}})
+
+
+def test_file_without_a_case(folder: Path) -> None:
+    (folder / "steps").mkdir()
+    (folder / "steps/ADD.jsonl").write_text("")
+    with pytest.raises(VectorsFault, match="ADD.jsonl has no case"):
+        entries_in(folder, "ADD")
 
 
 @pytest.mark.parametrize("text", CASES.values(), ids=CASES)
@@ -282,6 +366,15 @@ def test_bytes_that_are_not_compared(bank: str, address: str) -> None:
         steps.memory_complaints({**CASE, "after": {bank: {address: "00"}}}, bank, ["00" * 16])
 
 
+def test_many_differences() -> None:
+    """Of 4096 wrong bytes the first are named, and the others counted."""
+    entry = {**CASE, "after": {"dmem": {"000": "5a" * 4096}}}
+    looks = {"step": "step Done", "after": {**bench.DEFAULT, "dmem": ["00" * 16] * 256}}
+    (found,) = steps.complaints_of([entry], [looks])
+    told = [f"ADD-000 (add $3, $0, $11), dmem {at:03x}: expected 5a, got 00" for at in range(64)]
+    assert found == [*told, "ADD-000 (add $3, $0, $11): 4032 more differences"]
+
+
 def test_complaint_of_a_stranger(capsys: pytest.CaptureFixture[str]) -> None:
     """What a case's name and text print is on one line, without control characters."""
     entry = {**CASE, "name": "ADD-\x1b]0;title\x07", "text": "add\n\x9b31m", "after": {"pc": "000"}}
@@ -298,21 +391,24 @@ PROGRAM: Dict[str, Any] = {
 NO_FIELDS: List[Any] = [
     [["x", 0, 10**12]], [["x", 0, 4097]], [["x", 0, 0]], [["x", 0, -1]], [["x", 0, 0.5]],
     [["x", 0, float("inf")]], [["x", float("nan"), 1]], [["x", "0", 1]], [[5, 0, 1]], [["x", 0]], [5], 5,
-    None, [["x", 0, 4096], ["y", 0, 1]],
+    None, [["x", 0, 4096], ["y", 0, 1]], [["x" * 101, 0, 1]],
 ]  # fmt: skip
 # Keys of a program and of its case, with values that none has.
 WRONG_PROGRAM: Dict[str, List[Any]] = {
-    "name": [5, "", "../ADD-1", "/ADD-1", "a\0b", "\ud800", "\xe9"],
+    "name": [5, "", "../ADD-1", "/ADD-1", "a\0b", "\ud800", "\xe9", "x" * 101],
     "layouts": [5, None, [], {}, *({"L0": it} for it in NO_FIELDS)],
     "cases": [5, None, [5], [{}], 1025 * PROGRAM["cases"]],
 }
 WRONG_CASE: Dict[str, List[Any]] = {
     "at": [5, "", "1000", "-01", "0x1", {}],
-    "name": [5, None],
-    "text": [5, None],
+    "name": [5, None, "x" * 101],
+    "text": [5, None, "x" * 101],
     "layout": ["L1", 5, None, []],
 }
 NO_PROGRAMS: Dict[str, Any] = {"5": 5, "None": None, "[]": [], "x": "x", "{}": {}}
+NO_PROGRAMS["unknown key"] = {**PROGRAM, "case": []}
+NO_PROGRAMS["unknown key of a case"] = {**PROGRAM, "cases": [{**PROGRAM["cases"][0], "after": {}}]}
+NO_PROGRAMS["the same name"] = {**PROGRAM, "name": "ADD-0"}
 for key, values in WRONG_PROGRAM.items():
     NO_PROGRAMS.update({f"{key} {it!r:.60}": {**PROGRAM, key: it} for it in values})
 for key, values in WRONG_CASE.items():
@@ -325,7 +421,7 @@ for key, values in WRONG_CASE.items():
 def test_no_program(entry: Any, folder: Path) -> None:
     """It is refused by its file and its number, and the one before it, which fills DMEM, isn't."""
     (folder / "programs").mkdir()
-    path, true = folder / "programs/ADD.json", {**PROGRAM, "cases": 1024 * PROGRAM["cases"]}
+    path, true = folder / "programs/ADD.json", {**PROGRAM, "name": "ADD-0", "cases": 1024 * PROGRAM["cases"]}
     path.write_text(json.dumps({"programs": [true, entry]}))
     with pytest.raises(VectorsFault) as refused:
         manifest_in(folder, "ADD")

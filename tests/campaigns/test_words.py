@@ -1,5 +1,6 @@
 """Wrong words of the commands of conformance/ (wrong_words.tsv): one sentence answers each."""
 
+import json
 import os
 import shutil
 from pathlib import Path
@@ -10,8 +11,10 @@ from lib import TOP
 from lib.campaigns import SOURCES, campaign
 from lib.packages import is_here
 from lib.processes import run
+from rsp_conformance.campaign.folder import GIVEN
 
 ADD = '{"name":"ADD-0","word":"00000020","text":"","before":{},"after":{}}\n'
+TEXTS = {"emulator": "", "seed": "1", "instructions": ["add"]}
 FILES = {
     "file": "",
     "broken/steps/ADD.jsonl": '{"name":"ADD-0"\n',
@@ -19,6 +22,7 @@ FILES = {
     "red/steps/ADD.jsonl": ADD.replace('"before":{}', '"before":{"r1":"\\u001b[1mz"}'),
     "wide/steps/ADD.jsonl": ADD.replace("00000020", "100000020"),
     "odd/steps/ADD.jsonl": ADD.replace('"before":{}', '"before":{"pc":"002","npc":"006"}'),
+    "surrogate/steps/ADD.jsonl": ADD.replace("ADD-0", "ADD-\\ud800"),
     "alone/steps/ADD.jsonl": (TOP / "conformance/vectors/steps/ADD.jsonl").read_text(),
     # of campaigns
     "full/x": "",
@@ -28,6 +32,7 @@ FILES = {
     "null/campaign.json": "null",
     "half/campaign.json": '{"generator": 2}',
     "nested/campaign.json": "[" * 100_000,
+    "steps/campaign.json": json.dumps({**dict.fromkeys(GIVEN, 1), **TEXTS, "hashes": {}, "steps": "x"}),
 }
 WRONG = [it.split("\t") for it in (SOURCES / "wrong_words.tsv").read_text().splitlines()[1:]]
 OF_CAMPAIGNS = [it for it in WRONG if it[0].startswith("campaign")]
@@ -74,7 +79,8 @@ def test_campaign(words: str, told: str, files: Path, library: Path) -> None:
     named = {"ITSELF": "python:emulator:Machine", "OUT": f"{files}/new", "FOLDER": str(files)}
     for name, it in named.items():
         words = words.replace(name, it)
+    split = ["" if it == "NOTHING" else it for it in words.split()]
     soon = {**os.environ, "DASK_DISTRIBUTED__COMM__TIMEOUTS__CONNECT": "1s"}
-    ended = campaign(*words.split()[1:], *more, env=soon)
+    ended = campaign(*split[1:], *more, env=soon)
     assert ended.returncode in (1, 2) and "Traceback" not in ended.stderr, ended.stderr
     assert NO_DASK.get(told, told) in ended.stderr.strip().split("\n")[-1]

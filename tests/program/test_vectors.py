@@ -17,7 +17,7 @@ import pytest
 from lib import TOP, devices
 from lib.pages import cells_of, page
 from lib.processes import Ended, run, succeeds
-from rsp_conformance import check, coverage, generate, steps
+from rsp_conformance import check, coverage, generate, play, steps
 from rsp_conformance.commands import Complaints
 from rsp_conformance.library import IMAGE, run_row
 from rsp_conformance.table import ROWS
@@ -125,6 +125,22 @@ def run_add(program: Path, folder: Path, **how: Any) -> "Ended[str]":
         (folder / name).parent.mkdir(parents=True)
         (folder / name).write_text(text)
     return run(TOP / "conformance/run", "--program", program, folder, **how)
+
+
+def test_many_programs(program: Path, folder: Path) -> None:
+    """More than one script holds. Of 4096 wrong bytes the first are named, and the others counted."""
+    made = [{"name": f"ADD-{number}", "layouts": {}, "cases": []} for number in range(120)]
+    for kind in ("imem", "dmem", "after"):
+        for it in made:
+            (folder / f"{it['name']}.{kind}").symlink_to(VECTORS / f"programs/ADD-1.{kind}")
+    right = (VECTORS / "programs/ADD-1.after").read_bytes()
+    (folder / "ADD-119.after").unlink()
+    (folder / "ADD-119.after").write_bytes(bytes(byte ^ 0xFF for byte in right))
+    *passed, failed = play.run_manifest(str(program), {"programs": made}, folder)
+    assert passed == [[]] * 119
+    pair = f"expected {right[0] ^ 255:02x}, got {right[0]:02x}"
+    assert failed[0] == f"ADD-119: DMEM 000, which no case stores to: {pair}"
+    assert len(failed) == 65 and failed[-1] == "ADD-119: 4032 more differences"
 
 
 def test_complaints_of_a_stranger(program: Path, folder: Path) -> None:

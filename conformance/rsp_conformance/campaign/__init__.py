@@ -11,6 +11,9 @@ class CampaignFault(Exception):
 def words_of(command: str) -> List[str]:
     """The words of an emulator's command, as a shell cuts them."""
     try:
-        return shlex.split(command)
+        words = shlex.split(command)
     except ValueError as fault:
         raise CampaignFault(f"{command} is no command: {fault}") from None
+    if not words:
+        raise CampaignFault(f"EMULATOR is {command!r}, and names nothing")
+    return words

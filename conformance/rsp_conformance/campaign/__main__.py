@@ -21,21 +21,22 @@ from rsp_conformance.files import FileFault, write
 from rsp_conformance.table import ROWS as INSTRUCTIONS
 
 from . import CampaignFault
-from .folder import Folder, given_in
+from .folder import RANGES, Folder, given_in
 from .report import html_table, text_table
 from .shared import PROGRAM, VERSION, counted, name_of
 from .task import check
 from .workers import options_of, results
 
-# Options that are numbers: the least and the default of each.
+MILLION = range(1, 10**6 + 1)  # a limit in milliseconds has to be a C int
+# Options that are numbers: the range and the default of each.
 NUMBERS = {
-    "cases": (0, 1 << 16, "cases of each instruction"),
-    "size": (1, 1 << 18, "cases of a task"),
-    "programs": (0, 0, "random programs"),
-    "programs-size": (1, 100, "programs of a task"),
-    "steps": (1, 1000, "steps of a program"),
-    "limit": (1, 20, "the most seconds for a case"),
-    "workers": (1, len(os.sched_getaffinity(0)), "how many tasks run at a time on this computer"),
+    "cases": (RANGES["cases"], 1 << 16, "cases of each instruction"),
+    "size": (RANGES["size"], 1 << 18, "cases of a task"),
+    "programs": (RANGES["programs"], 0, "random programs"),
+    "programs-size": (RANGES["programs_size"], 100, "programs of a task"),
+    "steps": (RANGES["steps"], 1000, "steps of a program"),
+    "limit": (MILLION, 20, "the most seconds for a case"),
+    "workers": (MILLION, len(os.sched_getaffinity(0)), "how many tasks run at a time on this computer"),
 }
 
 
@@ -126,12 +127,14 @@ def is_in(path: Path, folder: Path) -> bool:
     return folder.resolve() in (path.resolve(), *path.resolve().parents)
 
 
-def number_from(least: int) -> Callable[[str], int]:
-    """A type of arguments: whole numbers from `least` on."""
+def number_in(numbers: range) -> Callable[[str], int]:
+    """A type of arguments: the numbers of a range."""
 
     def number(text: str) -> int:
-        if not text.isdigit() or int(text) < least:
-            raise argparse.ArgumentTypeError(f"{text} is no number from {least} on")
+        if not text.isdigit() or int(text) < numbers[0]:
+            raise argparse.ArgumentTypeError(f"{text} is no number from {numbers[0]} on")
+        if int(text) not in numbers:
+            raise argparse.ArgumentTypeError(f"{text} is more than {numbers[-1]}")
         return int(text)
 
     return number
@@ -177,8 +180,8 @@ def arguments() -> argparse.Namespace:
     parser: Any = argparse.ArgumentParser("conformance/campaign", description=__doc__, formatter_class=raw)
     parser.error = stop
     add = parser.add_argument
-    for name, (least, default, what) in NUMBERS.items():
-        add(f"--{name}", type=number_from(least), default=default, metavar="N", help=f"{what} ({default})")
+    for name, (numbers, default, what) in NUMBERS.items():
+        add(f"--{name}", type=number_in(numbers), default=default, metavar="N", help=f"{what} ({default})")
     all_names, which = [*INSTRUCTIONS], "the instructions of cases and programs (all)"
     add("--instructions", type=instructions_of, default=all_names, metavar="NAME,..", help=which)
     without = "instructions that are left out (none)"

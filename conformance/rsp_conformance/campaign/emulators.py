@@ -24,6 +24,7 @@ from rsp_conformance.library_states import numbers_of, state_of
 from . import CampaignFault, words_of
 from .build import built, microcode
 from .generator import BANKS, END, IMEM, MEMORIES, RDRAM, STATE, Array
+from .hashes import find_module
 from .task import end_with_parent
 
 Changed = Dict[int, int]  # the bytes of memories that differ, by their addresses
@@ -169,6 +170,7 @@ class Python(Single):
         if not name:
             raise CampaignFault("no class is named: python:MODULE:CLASS")
         self.memories = bytes(memories)
+        find_module(module)
         self.machine = getattr(importlib.import_module(module), name)(self.memories)
 
     def fill(self, cases: Array, ends: Array) -> None:

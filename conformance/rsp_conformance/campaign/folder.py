@@ -8,15 +8,21 @@ from pathlib import Path
 from typing import Any, Dict, List
 
 from rsp_conformance.commands import printable
-from rsp_conformance.files import read, write
+from rsp_conformance.files import MOST_JSON, make_folder, read, write
+from rsp_conformance.table import ROWS
 
 from . import CampaignFault
 from .hashes import files_of, hashes
-from .report import AGAIN, file_of, is_result, results_in, task_of
+from .report import AGAIN, MOST, file_of, is_result, results_in, task_of
 from .shared import PROGRAM, VERSION, Result, Task, counted
 
 # What decides a campaign's cases and programs.
 GIVEN = ("emulator", "instructions", "seed", "cases", "size", "programs", "programs_size", "steps")
+# The ranges of those that are numbers.
+RANGES = {
+    **{key: range(MOST) for key in ("cases", "programs")},
+    **{key: range(1, MOST) for key in ("size", "programs_size", "steps")},
+}
 # Whose files a hash is of, and what it means that a campaign has another one.
 CHANGED = {
     "emulator": "the emulator's files have changed since, or --files names others",
@@ -25,18 +31,41 @@ CHANGED = {
 LISTED = 8  # so many files are named in a sentence
 
 
+def wrong_keys(given: Dict[str, Any]) -> List[str]:
+    """What a campaign's folder says of its campaign that no campaign can be of."""
+    names, texts = given["instructions"], ("emulator", "seed")
+    wrong = [key for key in texts if not isinstance(given[key], str)]
+    wrong += [key for key, it in RANGES.items() if type(given[key]) is not int or given[key] not in it]
+    if type(names) is not list or not names or any(type(it) is not str or it not in ROWS for it in names):
+        wrong.append("instructions")
+    return wrong
+
+
 def given_in(out: Path) -> Dict[str, Any]:
     """What a campaign's folder says of its campaign."""
+    why = ""
     try:
-        given = {"generator": 1, **json.loads(read(out / "campaign.json"))}
-        return {key: given[key] for key in ("generator", *GIVEN, "hashes")}
-    except (ValueError, TypeError, KeyError, RecursionError):
-        raise CampaignFault(f"{out}/campaign.json isn't what a campaign wrote") from None
+        given = {"generator": 1, **json.loads(read(out / "campaign.json", MOST_JSON))}
+        if not (wrong := wrong_keys(given)):
+            return {key: given[key] for key in ("generator", *GIVEN, "hashes")}
+        why = f": {wrong[0]!r} is {given[wrong[0]]!r:.40}"
+    except KeyError as fault:
+        why = f": it has no {fault}"
+    except (ValueError, TypeError, RecursionError):
+        pass
+    raise CampaignFault(f"{out}/campaign.json isn't what a campaign wrote{why}")
 
 
 def other_hashes(here: Dict[str, str], there: Any) -> List[str]:
     """The names of the hashes that aren't these there, which may be anything that JSON has."""
     return [key for key, value in here.items() if not isinstance(there, dict) or there.get(key) != value]
+
+
+def is_program(found: Any) -> bool:
+    """Whether this has the texts of a program that a worker has cut down."""
+    return isinstance(found, dict) and all(
+        isinstance(found.get(it), str) for it in ("name", "source", "script")
+    )
 
 
 class Folder:
@@ -127,12 +156,14 @@ class Folder:
             raise CampaignFault(
                 f"a worker has sent {file_of(task_of(result))}, which is no task of this campaign"
             )
-        names = [str(it["name"]) for it in result["programs"]]
-        if odd := [it for it in names if not re.fullmatch(r"[\w-]+", it)]:
-            raise CampaignFault(f"a worker has sent a program with the name {odd[0]!r}")
+        if not all(map(is_program, result["programs"])):
+            raise CampaignFault("a worker has sent what isn't a program")
+        names = [it["name"] for it in result["programs"]]
+        if odd := [it for it in names if not re.fullmatch(r"[\w-]{1,100}", it)]:
+            raise CampaignFault(f"a worker has sent a program with the name {odd[0]!r:.120}")
         for program in result["programs"]:
             folder = self.out / "programs"
-            folder.mkdir(exist_ok=True)
+            make_folder(folder)
             write(folder / f"{program['name']}.s", program.pop("source"))
             write(folder / f"{program['name']}.script", program.pop("script"))
         write(self.file(task_of(result)), json.dumps(result) + "\n")

@@ -7,7 +7,7 @@ import shutil
 import sys
 from importlib.machinery import ModuleSpec, PathFinder
 from pathlib import Path
-from typing import Dict, Iterable, Iterator, List, Optional, Sequence
+from typing import Dict, Iterable, Iterator, List, Optional
 
 from rsp_conformance import HERE, TOP
 
@@ -20,17 +20,19 @@ IN_ARCHIVE = (TOP / "include/rsp.h", TOP / "lib/librsp.a")
 HEADER, LIBRARY = IN_REPOSITORY if IN_REPOSITORY[0].is_file() else IN_ARCHIVE
 
 
-class CurrentFolder:
-    """Finds the modules of the current folder: an emulator in Python is there."""
+def find_module(name: str) -> Optional[ModuleSpec]:
+    """Where a module is that EMULATOR names, or None: on Python's path, or else in the current folder.
 
-    @staticmethod
-    def find_spec(
-        name: str, path: Optional[Sequence[str]] = None, target: object = None
-    ) -> Optional[ModuleSpec]:
-        return PathFinder.find_spec(name, [os.getcwd()]) if path is None else None
-
-
-sys.meta_path.append(CurrentFolder)
+    Only then the current folder, which may be a stranger's, comes onto the path: the emulator imports others
+    from there.
+    """
+    first, here = name.partition(".")[0], os.getcwd()
+    try:
+        if not importlib.util.find_spec(first) and PathFinder.find_spec(first, [here]):
+            sys.path.append(here)
+        return importlib.util.find_spec(name)
+    except Exception as fault:  # of the package that it is in, too, which is imported to find it
+        raise CampaignFault(f"there is no module {name!r}: {type(fault).__name__}: {fault}") from None
 
 
 def hash_of(paths: Iterable[object], more: str = "") -> str:
@@ -52,7 +54,7 @@ def named_by(spec: str) -> List[str]:
     """The files that EMULATOR names: the object, the module, or those of a command's words."""
     kind, _, rest = spec.partition(":")
     if kind == "python":
-        module = importlib.util.find_spec(rest.partition(":")[0])
+        module = find_module(rest.partition(":")[0])
         return [module.origin] if module and module.origin else []
     if kind == "plugin" or spec.endswith(".so"):
         return [rest or spec]

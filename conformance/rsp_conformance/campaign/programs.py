@@ -10,6 +10,7 @@ from typing import Iterator, List, Sequence, Set, Tuple
 import numpy as np
 import rsp
 
+from . import CampaignFault
 from .generator import EDGE, FIRST_EDGE, IMEM, INSTRUCTIONS, MEMORIES
 from .generator import Array, Draw, cases_of, generator, registers
 from .shared import PROGRAM, SHOWN, Result, name_of
@@ -110,6 +111,8 @@ def check_programs(
     """
     sides, cut = Sides(spec, bytes(MEMORIES)), set()  # type: Tuple[Sides, Set[str]]
     names = [name for name in instructions if name not in NEVER]
+    if not names:
+        raise CampaignFault("programs have to have an instruction other than BREAK")
     sides.first_difference(program_of(names, seed, start), 0, 1)  # it may take no programs
     yield {"count": 0, "unseen": sides.unseen}
     for number in range(start, start + count):

@@ -6,7 +6,7 @@ from pathlib import Path
 from typing import Any, Dict, Iterator, List, Tuple
 
 from rsp_conformance.commands import printable
-from rsp_conformance.files import read
+from rsp_conformance.files import MOST_JSON, read
 from rsp_conformance.table import ROWS
 
 from . import CampaignFault
@@ -31,22 +31,22 @@ def results_in(out: Path) -> List[Result]:
 AGAIN = "delete it, and start the campaign again"
 MOST = 1 << 53  # no number of a result is as large; JSON has larger ones, and some that are none
 COUNTS = [key for key in NUMBERS if key != "processor"]
-# What a result has, and of what type it is.
-TYPES: Dict[str, Any] = {
-    **{"instruction": str, "seed": str, "parts": dict, "hashes": dict, "processor": (int, float)},
-    **{key: int for key in ("start", "size", *COUNTS)},
-    **{key: list for key in LISTS},
+# What a result has, and of what types it may be: no `true`, which is an int in Python.
+TYPES: Dict[str, Tuple[type, ...]] = {
+    **{"instruction": (str,), "seed": (str,), "parts": (dict,), "hashes": (dict,), "processor": (int, float)},
+    **{key: (int,) for key in ("start", "size", *COUNTS)},
+    **{key: (list,) for key in LISTS},
 }
 
 
 def is_result(found: Any) -> bool:
     """Whether this has the parts of a result, which may be somebody else's, and counts no case twice."""
-    if not isinstance(found, dict) or any(not isinstance(found.get(key), it) for key, it in TYPES.items()):
+    if not isinstance(found, dict) or any(type(found.get(key)) not in it for key, it in TYPES.items()):
         return False
     texts = [*found["shown"], *found["unseen"], found.get("given up", "")]
     counts = [*(found[key] for key in COUNTS), *found["parts"].values()]
     texts += [fault[-1] if isinstance(fault, list) and len(fault) == 3 else None for fault in found["faults"]]
-    has_types = all(isinstance(it, str) for it in texts) and all(isinstance(it, int) for it in counts)
+    has_types = all(isinstance(it, str) for it in texts) and all(type(it) is int for it in counts)
     is_known = found["instruction"] == PROGRAM or found["instruction"] in ROWS
     return has_types and is_known and has_range(found, counts)
 
@@ -56,7 +56,8 @@ def has_range(found: Result, counts: List[int]) -> bool:
     done, size = found["count"], found["size"]
     numbers_are_right = 0 <= found["start"] < MOST and 0 < size < MOST and 0 <= found["processor"] < MOST
     is_whole = done <= size if "given up" in found else done == size
-    return numbers_are_right and is_whole and all(0 <= it <= done for it in counts)
+    is_within = all(0 <= it <= done for it in counts) and len(found["faults"]) <= found["differ"]
+    return numbers_are_right and is_whole and is_within
 
 
 def task_of(result: Result) -> Task:
@@ -71,7 +72,7 @@ def file_of(task: Task) -> str:
 
 def result_in(path: Path) -> Result:
     try:
-        found: Result = json.loads(read(path))
+        found: Result = json.loads(read(path, MOST_JSON))
     except (ValueError, RecursionError):
         found = {}
     if not is_result(found):
