@@ -9,8 +9,10 @@ import { COMMANDS, INSTRUCTIONS, STATEMENTS } from "./names.js";
 
 const BANKS = new Set(["dmem", "imem", "rdram"]);
 const NUMBER = /^(?:0x[\da-f]{1,8}|(?:[\da-f]{2})+|\d{1,10})$/i;
-/** What source text is made of: blanks, registers, elements, numbers, and words. */
-const PARTS = /(\s+)|(\$\w+)|(\[\w*\]|-?\b(?:0x[\da-f]+|\d+)\b)|[\w.]+|./gi;
+/** What source text begins with: a label, if there is one, and a name. */
+const HEAD = /^(\s*(?:[a-z_]\w*:\s*)?)([\w.]*)/i;
+/** What the rest is made of: blanks, registers, elements, numbers, words, and any other character. */
+const PARTS = /(\s+)|(\$\w+)|(\[\w*\]|-?\b(?:0x[\da-f]+|\d+)\b)|[\w.]+|./gisu;
 
 /** @param {string} word @param {boolean} is_first @returns {Part} */
 function command_part(word, is_first) {
@@ -29,14 +31,14 @@ function command_parts(body) {
  * @returns {Part[]} */
 function source_parts(body) {
   if (body.trim() === "end") return command_parts(body);
-  const [, label, name, rest] = /** @type {string[]} */ (body.match(/^(\s*(?:[a-z_]\w*:)?\s*)([\w.]*)(.*)$/i));
+  const [head, label, name] = /** @type {string[]} */ (body.match(HEAD));
   const known = INSTRUCTIONS.has(name.toLowerCase()) || STATEMENTS.has(name.toLowerCase());
-  const operands = [...rest.matchAll(PARTS)].map(([text, blank, register, number]) =>
+  const operands = [...body.slice(head.length).matchAll(PARTS)].map(([text, blank, register, number]) =>
     /** @type {Part} */ ([blank ? "" : register ? "register" : number ? "number" : "", text]));
   return [["", label], [known ? "mnemonic" : "", name], ...operands];
 }
 
-/** The parts of a line.
+/** The parts of a line: together they have all its characters, whichever these are.
  * @param {string} line
  * @param {boolean} is_source whether it is source text, in a block
  * @returns {Part[]} */

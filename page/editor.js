@@ -76,9 +76,20 @@ export class Editor {
     return line_page(this.text.line(line), this.text.is_source(line));
   }
 
+  /** Draws the text. What isn't in colours, also because drawing fails, has the text area's own letters. */
   #draw() {
-    const { text } = this, area = this.#area, is_plain = text.longest > LONGEST;
-    area.parentElement?.classList.toggle("plain", is_plain);
+    let is_coloured = false;
+    try {
+      is_coloured = this.#draw_lines();
+    } finally {
+      if (!is_coloured) this.#colours.replaceChildren();
+      this.#area.parentElement?.classList.toggle("plain", !is_coloured);
+    }
+  }
+
+  /** Draws the lines in view. Whether they are in colours. */
+  #draw_lines() {
+    const { text } = this, area = this.#area, is_coloured = text.longest <= LONGEST;
     this.#numbers.style.setProperty("--digits", String(String(text.count).length));
     const height = this.#height(), top = Math.floor(area.scrollTop / height);
     const first = Math.max(0, top - AROUND), end = top + Math.ceil(area.clientHeight / height) + AROUND;
@@ -86,8 +97,9 @@ export class Editor {
     const down = first * height - area.scrollTop;
     this.#numbers.replaceChildren(...lines.map((it) => this.#number(it)));
     this.#numbers.style.transform = `translateY(${down}px)`;
-    this.#colours.replaceChildren(...(is_plain ? [] : lines.map((it) => this.#line(it))));
+    if (is_coloured) this.#colours.replaceChildren(...lines.map((it) => this.#line(it)));
     this.#colours.style.transform = `translate(${-area.scrollLeft}px, ${down}px)`;
+    return is_coloured;
   }
 
   /** How high a line is, in pixels: as it is drawn, since the text area rounds as that does. */

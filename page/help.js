@@ -19,7 +19,7 @@ export function fault_page(reply) {
  * @param {string} line
  * @param {boolean} is_source whether it is source text, in a block */
 export function line_page(line, is_source) {
-  const word = line.replace(/[#;].*/, "").replace(/^\s*\w+:/, "").trim().split(/\s/)[0];
+  const word = line.replace(/[#;].*/s, "").replace(/^\s*\w+:/, "").trim().split(/\s/)[0];
   if (is_source) {
     const name = word.toLowerCase();
     return INSTRUCTIONS.has(name) ? address("INSTRUCTIONS", name) : address("ASSEMBLY");

@@ -174,14 +174,33 @@ def test_sideways(page: Page) -> None:
     assert drawn - area == pytest.approx(padding - 1000, abs=1)
 
 
+def check_own_letters(page: Page) -> None:
+    """The text area has letters of its own, and nothing is drawn below them."""
+    painted(page)
+    assert page.value(DRAWN) == []
+    ink = page.value("getComputedStyle(document.body).color")
+    assert page.value(f"getComputedStyle({the('script')}).color") == ink
+
+
 def test_long_line(page: Page) -> None:
     """A text with a line that no browser colours in time has the text area's own letters."""
     page.type("step\n# " + 300000 * "x")
+    check_own_letters(page)
+
+
+def test_drawing_that_fails(page: Page) -> None:
+    """The text has the text area's own letters then, and none of another text are below them."""
+    page.value("(document.createElement = () => { throw Error('planted'); }, 0)")
+    page.type("step # mine\n")
+    check_own_letters(page)
+
+
+def test_line_that_a_browser_would_end(page: Page) -> None:
+    """What ends a line for a browser, and not for the bench, doesn't end what is drawn of it."""
+    script = "asm 0\n  add\u2028 $1\nend\n"
+    page.open_link(linked(script.encode()))
     painted(page)
-    assert page.value(DRAWN) == []
-    assert page.value(f"getComputedStyle({the('script')}).color") == page.value(
-        "getComputedStyle(document.body).color"
-    )
+    assert ["".join(text for _, text in it) for it in page.value(DRAWN)] == script.split("\n")
 
 
 # How long a key takes until it is painted, in milliseconds, at best of three: in a text area that has no
