@@ -9,8 +9,8 @@
  *     console.log(Reason[stop.reason], machine.reg(2).toString(16));
  *     machine.free();
  *
- * Names are those of the Python module. Numbers are integers: another number throws a TypeError, and an integer that a
- * call doesn't take an RspError. */
+ * Names are those of the Python module. Numbers are integers: another number throws a TypeError, and an integer out of
+ * its range throws an RspError. */
 
 declare global {
   interface SymbolConstructor {
@@ -75,7 +75,8 @@ export class RspError extends Error {
 }
 
 /** A text has a fault. `line` counts from 1, `source` is that line, and `fault` is a number from 10 to 16, whose name
- * FAULTS has. If an operand is at fault, `allowed` says which one and what it may be. */
+ * FAULTS has. If an operand is at fault, `allowed` says which one and what it may be. In the message each character of
+ * `source` that would control a terminal is shown as its escape: \x1b. */
 export class AssemblyError extends RspError {
   constructor(line: number, fault: number, source?: string, allowed?: string);
   readonly line: number;
@@ -86,7 +87,8 @@ export class AssemblyError extends RspError {
 
 /** A reply is a fault. `line` is the number of the line in the script, from 1, `text` is that line, `fault` the number
  * of the fault, and `reply` the whole reply. For a fault of an `asm` block `line` is the line of the block that is at
- * fault. `text` is empty if the script ends before `end`. */
+ * fault. `text` is empty if the script ends before `end`. The message shows at most 80 characters of it, with such escapes
+ * too. */
 export class ScriptError extends Error {
   constructor(line: number, text: string, reply: string);
   readonly line: number;
@@ -204,10 +206,10 @@ export class Traced extends Plain {
 /** What a step changed: its entry in a trace, `traced`; and after the step pc, npc, the `divider` and the
  * `accumulators`.
  *
- * For a store `quadword` is the address of the quadword that has its address, and `stored_bytes` has that quadword and
- * the next one, modulo 4096; for any other step both are 0. Some changes aren't here: the other seven registers of the
- * group that an LTV writes; SP registers that MFC0, MTC0, BREAK and single step change; and memories that a DMA
- * changes. */
+ * For a store `quadword` is the address of the quadword that contains the store's address, and `stored_bytes` has that
+ * quadword and the next one, modulo 4096; for any other step both are 0. Some changes aren't here: the other seven
+ * registers of the group that an LTV writes; SP registers that MFC0, MTC0, BREAK and single step change; and memories
+ * that a DMA changes. */
 export class Changes extends Plain {
   static from(bytes: Uint8Array): Changes;
   copy(): Changes;

@@ -86,12 +86,20 @@ export class RspError extends Error {
   }
 }
 
+/** A line with each character that would control a terminal as its escape. */
+function printable(line) {
+  return line.replace(/(?![ \t])[\p{C}\p{Z}]/gu, (it) => {
+    const code = it.codePointAt(0);
+    return code < 256 ? `\\x${hex(code, 2)}` : code < 65536 ? `\\u${hex(code, 4)}` : `\\u{${hex(code, 0)}}`;
+  });
+}
+
 /** A text has a fault. */
 export class AssemblyError extends RspError {
   name = "AssemblyError";
 
   constructor(line, fault, source = "", allowed = "") {
-    const words = `fault ${fault} ${FAULTS[fault] ?? "unknown"} line ${line}: ${source}`;
+    const words = `fault ${fault} ${FAULTS[fault] ?? "unknown"} line ${line}: ${printable(source)}`;
     super(Status.NO_MEANING, `assemble: ${words}${allowed && `; ${allowed}`}`);
     Object.assign(this, { line, fault, source, allowed });
   }
@@ -102,7 +110,7 @@ export class ScriptError extends Error {
   name = "ScriptError";
 
   constructor(line, text, reply) {
-    super(`line ${line}: ${reply}${text && `: ${text.slice(0, 80)}`}`);
+    super(`line ${line}: ${reply}${text && `: ${printable(text.slice(0, 80))}`}`);
     Object.assign(this, { line, text, reply, fault: Number(reply.split(" ")[1]) });
   }
 }

@@ -38,15 +38,19 @@ impl Bench {
     /// The replies to the lines that end in these bytes of the script. What follows the last LF waits for more. If this is refused, replies are
     /// lost that [`feed_iter`](Bench::feed_iter) would have yielded.
     pub fn feed(&mut self, script: impl AsRef<[u8]>) -> Result<Vec<u8>, Refused> {
-        Ok(self.feed_iter(script.as_ref()).collect::<Result<Vec<_>, _>>()?.concat())
+        let mut replies = Vec::new();
+        for reply in self.feed_iter(script.as_ref()) {
+            replies.append(&mut reply?);
+        }
+        Ok(replies)
     }
 
     /// Yields these replies one by one, up to a refusal. The bench takes a line when its reply is asked for.
     pub fn feed_iter<'a>(&'a mut self, script: &'a [u8]) -> impl Iterator<Item = Result<Vec<u8>, Refused>> + 'a {
-        let (mut at, mut is_over) = (0, false);
+        let (mut at, mut is_over, mut room) = (0, false, vec![0; ROOM]);
         std::iter::from_fn(move || {
             while !is_over {
-                let taken = self.take(&script[at..]);
+                let taken = self.take(&script[at..], &mut room);
                 at += taken.as_ref().map_or(0, |it| it.0);
                 is_over = taken.is_err() || at == script.len();
                 if taken.is_err() || script[..at].ends_with(b"\n") {
@@ -57,12 +61,13 @@ impl Bench {
         })
     }
 
-    /// The number of bytes that the library takes, at most up to an LF, and the reply.
-    fn take(&mut self, bytes: &[u8]) -> Result<(usize, Vec<u8>), Refused> {
-        let (mut used, mut written, mut reply) = (0, 0, vec![0; ROOM]);
-        done(unsafe { raw::rsp_bench_take(self.at(), bytes.as_ptr(), bytes.len(), &mut used, reply.as_mut_ptr(), ROOM, &mut written) })?;
-        reply.truncate(written);
-        Ok((used, reply))
+    /// The number of bytes that the library takes, at most up to an LF, and a copy of the reply, which it writes to `room`.
+    fn take(&mut self, bytes: &[u8], room: &mut [u8]) -> Result<(usize, Vec<u8>), Refused> {
+        let (mut used, mut written) = (0, 0);
+        done(unsafe {
+            raw::rsp_bench_take(self.at(), bytes.as_ptr(), bytes.len(), &mut used, room.as_mut_ptr(), room.len(), &mut written)
+        })?;
+        Ok((used, room[..written].to_vec()))
     }
 
     /// Ends the script. Returns the reply to a last line without LF, and the fault of an open `asm` block. Any later `feed` or `end` is refused

@@ -5,6 +5,8 @@ use std::error::Error;
 use std::fmt;
 
 /// Why a strict script was refused.
+///
+/// `Display` shows at most 80 characters of the line, and each one that would control a terminal as its escape: `\u{1b}`.
 #[derive(Clone, Debug, PartialEq, Eq)]
 pub enum ScriptError {
     /// A call was refused.
@@ -22,12 +24,18 @@ pub enum ScriptError {
     },
 }
 
+/// The beginning of a line, in which no character controls a terminal.
+fn printable(line: &str) -> String {
+    let shown = |it: char| if "\t\"'\\".contains(it) { it.to_string() } else { it.escape_debug().to_string() };
+    line.chars().take(80).map(shown).collect()
+}
+
 impl fmt::Display for ScriptError {
     fn fmt(&self, f: &mut fmt::Formatter<'_>) -> fmt::Result {
         match self {
             ScriptError::Refused(refused) => refused.fmt(f),
             ScriptError::Fault { line, text, reply, .. } if text.is_empty() => write!(f, "line {line}: {reply}"),
-            ScriptError::Fault { line, text, reply, .. } => write!(f, "line {line}: {reply}: {text:.80}"),
+            ScriptError::Fault { line, text, reply, .. } => write!(f, "line {line}: {reply}: {}", printable(text)),
         }
     }
 }

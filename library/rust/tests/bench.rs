@@ -29,6 +29,18 @@ fn one_by_one() {
     assert_eq!((told.next(), told.next()), (Some(Err(Refused::TooLong)), None));
 }
 
+/// As many lines as a script may have take no more than their replies need.
+#[test]
+fn many_lines() {
+    let mut bench = Bench::new(&[0; 64]).unwrap();
+    let taken: usize = bench.feed_iter("\n".repeat(1000).as_bytes()).map(|it| it.unwrap().capacity()).sum();
+    assert_eq!(taken, 0);
+    let replies: Vec<_> = bench.feed_iter("step\n".repeat(100).as_bytes()).map(Result::unwrap).collect();
+    assert_eq!(replies.len(), 100);
+    assert!(replies.iter().all(|it| it.capacity() < 2 * it.len()));
+    assert_eq!(run_script("\n".repeat(LONGEST), Some(&[0; 64])), Ok((vec![], vec![0; 64])));
+}
+
 #[test]
 fn refusals() {
     for length in [0, 63, 65, 68, (1 << 23) + 8] {
@@ -64,6 +76,9 @@ fn strict_scripts() {
     }
     assert_eq!(run("step\nbrek 0").unwrap_err().to_string(), "line 2: fault 30 BadCommand: brek 0");
     assert_eq!(run("asm 0").unwrap_err().to_string(), "line 2: fault 10 BadLine line 1");
+    let controls = run("step\n\x1b]0;\u{9b}2J\x07\t'\"\\\u{202e}\u{e9}").unwrap_err().to_string();
+    assert_eq!(controls, "line 2: fault 33 NotText: \\u{1b}]0;\\u{9b}2J\\u{7}\t'\"\\\\u{202e}\u{e9}");
+    assert_eq!(run(&"x".repeat(100)).unwrap_err().to_string(), format!("line 1: fault 30 BadCommand: {}", "x".repeat(80)));
     assert_eq!(run_script_strict("", Some(&[0; 3])).err(), Some(ScriptError::Refused(Refused::OutOfRange)));
     assert_eq!(run("#".repeat(LONGEST + 1).as_str()).err(), Some(ScriptError::Refused(Refused::TooLong)));
 }
