@@ -113,8 +113,9 @@ def test_folder_in_the_place_of_a_file(own: Path) -> None:
     header.write_text("old\n")
     page_of_man.unlink()
     page_of_man.mkdir()
+    found = files_below(own)
     refuses(f"{re.escape(str(page_of_man))} is a folder", own)
-    assert header.read_text() == "old\n" and not any(".new" in it for it in files_below(own))
+    assert header.read_text() == "old\n" and files_below(own) == found
     page_of_man.rmdir()
     succeeds(INSTALL, own)
     assert header.read_text() == HEADER

@@ -1,5 +1,6 @@
 """What an installation holds below its prefix. library/c/install writes it, and the release packs it."""
 
+import os
 from pathlib import Path
 from typing import Iterator, NamedTuple, Optional, Tuple, Union
 
@@ -29,14 +30,14 @@ class File(NamedTuple):
     can_run: bool = False
 
     def write(self, path: Path) -> None:
-        """Puts it there, in the place of another one."""
+        """Puts it there, where nothing may be: a link that is there leads to another's file."""
         path.parent.mkdir(parents=True, exist_ok=True)
-        path.unlink(missing_ok=True)
         if isinstance(self.data, str):
             path.symlink_to(self.data)
-        else:
-            path.write_bytes(self.data)
-            path.chmod(0o755 if self.can_run else 0o644)
+            return
+        with path.open("xb") as made:
+            made.write(self.data)
+            os.fchmod(made.fileno(), 0o755 if self.can_run else 0o644)
 
 
 def file(name: str, path: Path) -> File:
