@@ -8,22 +8,23 @@
  *     field. You may move a handle, that is, assign it to another one that holds nothing. Then use only
  *     the other one, until you have set the first to RSP_NONE. What a handle points to belongs to the
  *     library: nobody else reads, writes or frees it.
- *   - Only one call at a time uses a handle. Between two calls it may go to another thread, handed over as
- *     any data is, by a mutex or a join, because nothing in a machine is bound to a thread.
+ *   - Only one call at a time uses a handle. Between two calls you may hand it to another thread, by a mutex
+ *     or a join as for any data, because nothing in a machine is bound to a thread.
  *   - No pointer is null, not even that of an empty buffer. A buffer has at least as many elements as its
  *     length says, and the alignment of its type.
  *   - No two pointers of one call overlap, and nobody writes a buffer while a call reads it.
  *   - malloc, realloc and free are of one allocator, and align to 16 bytes, as the platform's do.
- *   - No signal handler makes a call. In the child that a process with more than one thread forked, no call
- *     makes or frees a handle, reads a text, or uses a bench, because these allocate or free memory.
+ *   - No signal handler makes a call. If a process with more than one thread forks, no call in the child
+ *     makes or frees a handle, reads a text, or uses a bench, because these calls allocate or free memory.
  *   - A call has RSP_STACK bytes of stack.
  *
- * Postconditions of every call: it returns a status, whatever numbers it gets. If the status isn't RSP_OK,
- * no machine has changed, and neither has anything that the call fills, with three exceptions: rsp_assemble
- * fills `out` to say why, RSP_NO_ROOM of rsp_labels says in `count` how many labels there are, and
- * RSP_TOO_LONG ends a bench. A call with a handle that holds nothing returns RSP_NO_MACHINE, except for the
- * calls that make or free; rsp_copy returns it only if `from` holds nothing. The comments below don't list
- * RSP_OK and RSP_NO_MACHINE again. */
+ * Postconditions: every call returns, whatever numbers it gets, and all calls except rsp_version, rsp_free
+ * and rsp_bench_free return a status. If the status isn't RSP_OK, no machine has changed, and neither has
+ * anything that the call fills, with three exceptions: rsp_assemble fills `out` to say why, RSP_NO_ROOM of
+ * rsp_labels says in `count` how many labels there are, and RSP_TOO_LONG ends a bench. A call with a handle
+ * that holds nothing returns RSP_NO_MACHINE, except for the calls that make or free; rsp_copy returns
+ * RSP_NO_MACHINE only if `from` holds nothing. The comments below don't list RSP_OK and RSP_NO_MACHINE
+ * again. */
 #ifndef RSP_H
 #define RSP_H
 
@@ -59,14 +60,14 @@ enum rsp_status {
     RSP_NO_MEANING = 6,    /* rsp_assemble, rsp_labels: the text has a fault, which rsp_assemble reports */
     RSP_TASK_PLACE = 7,    /* rsp_task: the address isn't a multiple of 8, or 64 bytes pass the image */
     RSP_TASK_SIZE = 8,     /* rsp_task: the size of the boot code isn't 1 to 4096 */
-    RSP_BREAK_FULL = 9,    /* rsp_add_break: sixteen addresses have one */
-    RSP_BREAK_TWICE = 10,  /* rsp_add_break: the address has one */
-    RSP_NO_BREAK = 11,     /* rsp_drop_break: the address has none */
+    RSP_BREAK_FULL = 9,    /* rsp_add_break: sixteen addresses have a breakpoint */
+    RSP_BREAK_TWICE = 10,  /* rsp_add_break: the address has a breakpoint */
+    RSP_NO_BREAK = 11,     /* rsp_drop_break: the address has no breakpoint */
     RSP_WATCH_FULL = 12,   /* rsp_add_watch: there are eight watches */
     RSP_NO_WATCH = 13,     /* rsp_drop_watch: the number has no watch */
     RSP_SHORT_HISTORY = 14, /* rsp_back: the history holds fewer states */
-    RSP_NO_ROOM = 15,      /* rsp_assemble, rsp_labels: there are more than the buffer has; rsp_bench_take,
-                              rsp_bench_end: the buffer has fewer than RSP_REPLIES bytes */
+    RSP_NO_ROOM = 15,      /* rsp_assemble, rsp_labels: there are more words or labels than the buffer can
+                              hold; rsp_bench_take, rsp_bench_end: it has fewer than RSP_REPLIES bytes */
     RSP_ENDED = 16,        /* rsp_bench_take, rsp_bench_end: the end of input was met */
     RSP_TOO_LONG = 17      /* rsp_bench_take, rsp_bench_end: the script has more than 1048576 bytes */
 };
@@ -127,7 +128,7 @@ typedef struct rsp_reached {
 /* An entry of a trace: what a step did. The struct has no padding: equal entries are equal for memcmp. */
 typedef struct rsp_traced {
     uint32_t word;     /* the word that was executed */
-    uint32_t value;    /* what that scalar register holds after the step; 0 if none */
+    uint32_t value;    /* what the scalar register `scalar` holds after the step; 0 if none */
     uint16_t pc;       /* the address of the word */
     uint16_t address;  /* the address of a store in DMEM, below 4096; otherwise 0 */
     uint16_t vco, vcc; /* after the step */
@@ -135,7 +136,7 @@ typedef struct rsp_traced {
     uint8_t scalar;    /* the number of the scalar register that the step wrote, 1 to 31; 0 if none */
     uint8_t vector;    /* the vector register that it wrote, for LTV the first of the group; 32 if none */
     uint8_t stored;    /* 1 for a store, otherwise 0 */
-    uint16_t lanes[8]; /* what that vector register holds after the step; 0 if none */
+    uint16_t lanes[8]; /* what the vector register `vector` holds after the step; 0 if none */
 } rsp_traced;
 
 typedef struct rsp_scalars {
@@ -184,7 +185,7 @@ typedef struct rsp_changes {
     rsp_traced traced;        /* its entry in a trace */
     uint16_t pc, npc;         /* after the step, as are all fields below */
     rsp_divide_state divider;
-    uint16_t quadword;        /* the address of the quadword that has the address of a store; otherwise 0 */
+    uint16_t quadword;        /* the address of the quadword that contains a store's address; otherwise 0 */
     rsp_accumulators accumulators;
     uint8_t bytes[2][16];     /* for a store that quadword and the next one, modulo 4096; otherwise 0 */
 } rsp_changes;
@@ -202,7 +203,7 @@ enum rsp_field {
     RSP_FIELD_ZERO = 1,      /* words[0] isn't 0 */
     RSP_FIELD_LOADED = 2,    /* divider.loaded isn't 0 or 1 */
     RSP_FIELD_PC = 3,        /* pc isn't a multiple of 4 below 4096 */
-    RSP_FIELD_NPC = 4,       /* npc isn't one */
+    RSP_FIELD_NPC = 4,       /* npc isn't a multiple of 4 below 4096 */
     RSP_FIELD_INTERRUPT = 5, /* interrupt isn't 0 or 1 */
     RSP_FIELD_SP = 16        /* 16 + n, n below 8: sp[n] can't be read from that register */
 };
@@ -241,7 +242,7 @@ uint32_t rsp_version(void);
  * which read 0xff8. So the machine isn't halted, while a console's is after a reset: write 2 to register 4
  * if your CPU expects that. This call allocates all memory; no later call on the handle allocates any. What
  * the handle held before is freed, unless the call fails. Returns RSP_OUT_OF_RANGE for any other length or
- * depth, without reading the image; otherwise RSP_NO_MEMORY. */
+ * depth, without reading the image, and otherwise RSP_NO_MEMORY if an allocation fails. */
 uint32_t rsp_new(rsp *m, const uint8_t *image, size_t len, uint32_t depth);
 
 /* Makes in `to` a second machine with the registers and memories of the one in `from`, which stays as it is.
@@ -317,7 +318,8 @@ uint32_t rsp_event(rsp *m, uint32_t n, uint32_t reads, uint32_t writes, rsp_reac
  * RSP_OUT_OF_RANGE unless n is 1 to 1000000. */
 uint32_t rsp_trace(rsp *m, rsp_traced *out, size_t n, rsp_stop *stop);
 
-/* Undoes n steps. Returns RSP_OUT_OF_RANGE unless n is 1 to 1000000; otherwise RSP_SHORT_HISTORY. */
+/* Undoes n steps. Returns RSP_OUT_OF_RANGE unless n is 1 to 1000000, and otherwise RSP_SHORT_HISTORY if the
+ * history holds fewer states. */
 uint32_t rsp_back(rsp *m, uint32_t n);
 
 /* Gives the number of steps that can be undone, which is the number of states in the history. */
@@ -325,7 +327,8 @@ uint32_t rsp_history(rsp *m, size_t *out);
 
 /* Steps over the MFC0 or MTC0 at pc, for a caller that owns the SP registers. pc and npc advance, register
  * rt of an MFC0 becomes `value`, single step halts as after any instruction, and nothing else happens.
- * Empties the history. Returns RSP_HALTED; otherwise RSP_OUT_OF_RANGE if another word is at pc.
+ * Empties the history. Returns RSP_HALTED if the machine is halted, and otherwise RSP_OUT_OF_RANGE if
+ * another word is at pc.
  *
  * To set SP registers by rsp_set_sp as well, call first rsp_pass, then rsp_sp, then rsp_set_sp, because what
  * rsp_sp gave before rsp_pass would undo the halt by single step. Leave SP_STATUS to the machine, because
@@ -334,21 +337,23 @@ uint32_t rsp_pass(rsp *m, uint32_t value);
 
 /* Steps over the DMA at pc, for a caller that moves its bytes. Everything is as after rsp_step, SP registers
  * included, except that the memories stay unchanged. Move the bytes after this call, because they may
- * overwrite the word at pc; the rsp_dma of rsp_event describes them. Empties the history. Returns
- * RSP_HALTED; otherwise RSP_OUT_OF_RANGE if the word at pc starts no DMA. */
+ * overwrite the word at pc; the rsp_dma of rsp_event describes them. Empties the history. Returns RSP_HALTED
+ * if the machine is halted, and otherwise RSP_OUT_OF_RANGE if the word at pc starts no DMA. */
 uint32_t rsp_pass_dma(rsp *m);
 
 /* ---- Breakpoints at addresses of IMEM, at most sixteen, and watches of DMEM, at most eight ---- */
 
-/* Adds a breakpoint. Returns RSP_OUT_OF_RANGE unless the address is a multiple of 4 below 4096; otherwise
- * RSP_BREAK_TWICE, and after that RSP_BREAK_FULL. */
+/* Adds a breakpoint. Returns RSP_OUT_OF_RANGE unless the address is a multiple of 4 below 4096, otherwise
+ * RSP_BREAK_TWICE if the address has a breakpoint, and otherwise RSP_BREAK_FULL if sixteen addresses have
+ * one. */
 uint32_t rsp_add_break(rsp *m, uint32_t address);
 
-/* Removes a breakpoint. Returns RSP_OUT_OF_RANGE as above; otherwise RSP_NO_BREAK. */
+/* Removes a breakpoint. Returns RSP_OUT_OF_RANGE as above, and otherwise RSP_NO_BREAK if the address has no
+ * breakpoint. */
 uint32_t rsp_drop_break(rsp *m, uint32_t address);
 
 /* Watches 1 to 64 bytes inside DMEM, and gives the watch the lowest free number. Returns RSP_OUT_OF_RANGE
- * for other bytes; otherwise RSP_WATCH_FULL. */
+ * for other bytes, and otherwise RSP_WATCH_FULL if there are eight watches. */
 uint32_t rsp_add_watch(rsp *m, uint32_t address, uint32_t len, size_t *number);
 
 /* Removes a watch. Returns RSP_NO_WATCH. */
@@ -376,20 +381,20 @@ uint32_t rsp_divider(rsp *m, rsp_divide_state *out);
 
 /* ---- SP registers: 0 to 7, and the DPC's from 8 on. Numbers are taken modulo 16. ---- */
 
-/* Reads one as the CPU does. A read of the semaphore, 7, takes it and empties the history. */
+/* Reads an SP register as the CPU does. A read of the semaphore, 7, takes it and empties the history. */
 uint32_t rsp_read(rsp *m, uint32_t n, uint32_t *out);
 
 /* Gives the word that a read would give, and changes nothing. */
 uint32_t rsp_peek(rsp *m, uint32_t n, uint32_t *out);
 
-/* Writes one as the CPU does, with its DMA if it is a length register. Empties the history. */
+/* Writes an SP register as the CPU does, with its DMA if it is a length register. Empties the history. */
 uint32_t rsp_write(rsp *m, uint32_t n, uint32_t value);
 
-/* Gives all of them and the interrupt flag, and changes nothing. */
+/* Gives all SP registers and the interrupt flag, and changes nothing. */
 uint32_t rsp_sp(rsp *m, rsp_sp_words *out);
 
-/* Sets all of them and the interrupt flag, without a DMA. Empties the history. Returns RSP_OUT_OF_RANGE if a
- * word can't be read from its register, or `interrupt` isn't 0 or 1. */
+/* Sets all SP registers and the interrupt flag, without a DMA. Empties the history. Returns RSP_OUT_OF_RANGE
+ * if a word can't be read from its register, or `interrupt` isn't 0 or 1. */
 uint32_t rsp_set_sp(rsp *m, const rsp_sp_words *given);
 
 /* ---- Texts ---- */
@@ -471,7 +476,8 @@ typedef struct rsp_bench {
 
 /* Makes a bench whose machine has a copy of an image of RDRAM (64 to 8388608 bytes, a multiple of 8) and a
  * history of 256 states. What the handle held before is freed, unless the call fails. Returns
- * RSP_OUT_OF_RANGE for any other length, without reading the image; otherwise RSP_NO_MEMORY. */
+ * RSP_OUT_OF_RANGE for any other length, without reading the image, and otherwise RSP_NO_MEMORY if an
+ * allocation fails. */
 uint32_t rsp_bench_new(rsp_bench *b, const uint8_t *image, size_t len);
 
 /* Takes the next bytes of a script: up to and including the first LF, or all of them if there is none.

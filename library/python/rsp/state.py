@@ -217,10 +217,10 @@ class Changes(Plain):
     """What a step changed: its entry in a trace, `traced`; and after the step pc, npc, the `divider` and the
     `accumulators`.
 
-    For a store `quadword` is the address of the quadword that has its address, and `bytes` has that quadword
-    and the next one, modulo 4096; for any other step both are 0. Some changes aren't here: the other seven
-    registers of the group that an LTV writes; SP registers that MFC0, MTC0, BREAK and single step change; and
-    memories that a DMA changes.
+    For a store `quadword` is the address of the quadword that contains the store's address, and `bytes` has
+    that quadword and the next one, modulo 4096; for any other step both are 0. Some changes aren't here: the
+    other seven registers of the group that an LTV writes; SP registers that MFC0, MTC0, BREAK and single step
+    change; and memories that a DMA changes.
     """
 
     _fields_ = [

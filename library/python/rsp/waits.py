@@ -17,9 +17,9 @@ The rules are our own:
 - At such a read a console may answer that all transfers are done, that the last one is under way, or that the
   last two are. The machine continues with the first answer. For each other answer a copy of the machine
   continues, and gets the same answer at all its reads. Once the copy has taken another way than the machine,
-  it has waited as soon as it reads again at an address where it has read before; otherwise it is followed for
-  AHEAD steps. A load between a read and the branch at which the ways part doesn't count, because the program
-  tests the answer there, and loads again.
+  it counts as waiting as soon as it reads again at an address where it has read before. A copy that doesn't
+  is followed for AHEAD steps. A load between a read and the branch at which the two ways part doesn't count,
+  because the program tests the answer there, and loads again.
 - While a transfer is under way, no instruction may load a byte that it brings, store a byte that it brings or
   takes, or be fetched from what it brings.
 - One more transfer may be ordered while one is under way, because a console has a second set of DMA registers
@@ -205,8 +205,8 @@ def missing(machine: Rsp, limit: int = 1000000, at_end: bool = False) -> Iterato
     MTC0 that orders its transfer. With `at_end` the instruction that halts the machine while a transfer is
     under way is one too.
 
-    The end is a halt, or a reserved word; breakpoints and watches don't count. A program that never ends
-    stops at the limit without a word: `machine.peek(4) & 1` is 1 if it has halted. A step takes some
+    The end is a halt, or a reserved word; breakpoints and watches don't count. If the limit comes first, this
+    ends without an error: `machine.peek(4) & 1` is 1 only if the program has halted. A step takes some
     microseconds while a transfer is under way.
     """
     (left,) = _in_words.integers("missing", (limit,))

@@ -98,7 +98,7 @@ pub struct SpWords {
 pub struct Traced {
     /// The word that was executed.
     pub word: u32,
-    /// What that scalar register holds after the step; 0 if none.
+    /// What the scalar register `scalar` holds after the step; 0 if none.
     pub value: u32,
     /// The address of the word.
     pub pc: u16,
@@ -116,7 +116,7 @@ pub struct Traced {
     pub vector: u8,
     /// 1 for a store, otherwise 0.
     pub stored: u8,
-    /// What that vector register holds after the step; 0 if none.
+    /// What the vector register `vector` holds after the step; 0 if none.
     pub lanes: [u16; 8],
 }
 
@@ -133,7 +133,7 @@ pub struct Changes {
     pub npc: u16,
     /// What divide instructions leave for the next one, after the step.
     pub divider: DivideState,
-    /// The address of the quadword that has the address of a store; otherwise 0.
+    /// The address of the quadword that contains a store's address; otherwise 0.
     pub quadword: u16,
     /// The accumulators after the step.
     pub accumulators: Accumulators,
