@@ -30,40 +30,53 @@ Data = Dict[str, Any]
 
 DATA, CASES, PAGE = HERE / "z64/campaign.json", HERE / "z64/cases.jsonl", HERE / "Z64.md"
 MOST = 84000
-# What the page begins with: of so many cases of each of so many instructions, and of this seed.
+# What the page has before its table and after it: with so many cases of each instruction, and of this seed.
 HEAD = """
 For those who use z64, the low-level RSP plugin of mupen64plus, or compare another emulator with it. This page
 lists each instruction on which z64 differs from [INSTRUCTIONS](../docs/INSTRUCTIONS.md). It can't say which
 of the two a console agrees with.
 
-A [campaign](../docs/CAMPAIGN.md), `conformance/campaign plugin:FILE OUT --cases {0}`, compared {0:,} cases
-of each of {1} instructions, with the seed `{2}`. (There were fewer cases of MTC0, because z64 can't make a
-single step over an MTC0 that clears single step.) It compared all memories and registers except four flags
-that z64 doesn't show: loaded, halted, broke and single step. z64 has no interface for its registers, so the
-campaign finds them by their addresses in one build: Debian's mupen64plus-rsp-z64 2.5.9+10+ga7bf40f-2 for
-amd64.
+{summary}
 
-A row says only what differs; everything else is as in INSTRUCTIONS. The letters are those of its rules:
+How to read the table:
 
-- A is the address of a load or store: the base register plus the offset. The quadword of A is the 16 bytes
-  that begin at A rounded down to a multiple of 16.
-- e is the element, or in loads, stores and moves the byte offset in brackets. a is a lane of vs, b the lane
-  of vt that the element selects for it, and sa and sb are these as signed numbers.
-- In divide instructions and VMOV, de is the number of the lane of vd, and lane i of *selected* is the lane of
-  vt that the element selects for lane i. By our rule, VMOV moves lane de of *selected*, and a divide
-  instruction reads lane e mod 8 of vt.
+- *What z64 does* says only what differs. Text after "*choice:*" is about rules that we chose ourselves.
+- *Cases that differ* is a percentage of all cases of the instruction.
+- *Without choices* is a percentage of all cases too. It counts the cases that differ, except those that
+  depend on a choice, such as a jump in a delay slot. (A crash or a hang is counted.) The rows are sorted by
+  this column.
 
-What follows *choice*, except a crash or a hang, is a rule that [we chose
-ourselves](README.md#what-they-cant-show). The last column shows how many of an instruction's cases differ, as
-a percentage of all its cases. If a second percentage follows in parentheses, it leaves out cases that depend
-on a choice. The rows are sorted by the number of cases that differ otherwise. A fault is a crash or a hang.
-[campaign.json](z64/campaign.json) names the first case that differs, and `conformance/campaign plugin:FILE
---case NAME` shows it; FILE is z64's shared object.
+Divisions are rounded down. The table uses these letters and words:
+
+- A: the address of a load or store.
+- Q: A rounded down to a multiple of 16, where the quadword of A begins.
+- e: the element, or the byte offset in brackets.
+- a, b: a lane of vs, and the lane of vt that e selects for it. sa, sb: a and b as signed numbers.
+- de: the number of a lane of vd in divide instructions (VRCP to VRSQH) and VMOV.
+- *Selected*: vt with its lanes chosen by e.
+- *Root registers*: a DIV_IN and a DIV_OUT that only VRSQH and VRSQL use in z64. They are 0 at the start.
 """
-TABLE = "| Instruction | What z64 does | Cases that differ |\n|---|---|---|\n"
-BREAKS = "BREAK is one of these, although two of its effects, halted and broke, can't be compared."
-CHOSEN = "On {} z64 differs only in [what we chose ourselves](README.md#what-they-cant-show)."
-# So do these, although some of their cases have no mark: those of numbers from 4 on that aren't 3 modulo 4.
+TAIL = """
+These results are of a [campaign](../docs/CAMPAIGN.md) with {cases:,} cases of each instruction and the seed
+`{seed}`: `conformance/campaign plugin:FILE OUT --cases {cases}`. FILE is the shared object of Debian's
+mupen64plus-rsp-z64 2.5.9+10+ga7bf40f-2 for amd64. Other builds can't be compared in this way, because the
+campaign knows the addresses of z64's registers only in this build. The campaign compared all memories and
+registers, except four flags that z64 doesn't show: loaded, halted, broke and single step. MTC0 has only
+{mtc0:,} cases, because z64 can't make a single step over an MTC0 that clears single step.
+
+For each instruction, [campaign.json](z64/campaign.json) names the first case that differs. This command shows
+a case: `conformance/campaign plugin:FILE --case NAME`.
+"""
+TABLE = "| Instruction | What z64 does | Cases that differ | Without choices |\n|---|---|---|---|\n"
+# What all rows come to.
+SUMMARY = """
+**z64 agrees in every case on {agree} of {all} instructions.** (Halted and broke, which BREAK sets, can't be
+compared.) On {chosen} z64 differs only in [what we chose
+ourselves](README.md#what-they-cant-show). On the other {others} it differs in rules that we didn't choose,
+and on some of them in choices too.
+"""
+# These differ only in choices and by faults, although some of their cases have no mark: those of numbers from
+# 4 on that aren't 3 modulo 4.
 CHOSEN_TOO = ("cfc2", "ctc2")
 
 
@@ -90,23 +103,28 @@ def sentences(data: Data) -> Iterator[Complaints]:
 def faulty(name: str, data: Data) -> int:
     """How many cases of an instruction differ and show no choice."""
     it = data["instructions"][name]
-    return 0 if name in CHOSEN_TOO else int(it["differ"] - it["choices"])
+    return int(it["faults"] if name in CHOSEN_TOO else it["differ"] - it["choices"])
 
 
-def share_of(name: str, data: Data) -> str:
-    """How many of an instruction's cases differ; how many without choices; of how many, if not of all."""
+def compared_cases(name: str, data: Data) -> int:
     it = data["instructions"][name]
-    shown = it["count"] - it["unshown"]
-    counts = dict.fromkeys((it["differ"], faulty(name, data)))
-    first, *rest = (f"{100 * count / max(1, shown):.3g}%" for count in counts)
-    of = f" of {shown:,}" if shown != data["cases"] else ""
-    faults = f", {it['faults']} faults" if it["faults"] else ""
-    return first + "".join(f" ({it})" for it in rest) + of + faults
+    return max(1, int(it["count"] - it["unshown"]))
+
+
+def shares(texts: List[str]) -> str:
+    """The percentages of a row: one for all of its instructions if it is the same."""
+    return f"{texts[0]} each" if len(texts) > 1 and len({*texts}) == 1 else ", ".join(texts)
 
 
 def line_of(names: List[str], data: Data, sentence: str) -> str:
     """The line of the instructions that have a sentence."""
-    return f"| {', '.join(names).upper()} | {sentence} | {', '.join(share_of(it, data) for it in names)} |"
+    differ, others = [], []
+    for name in names:
+        it, all_cases = data["instructions"][name], compared_cases(name, data)
+        faults = f" ({it['faults']} crashes or hangs)" if it["faults"] else ""
+        differ.append(f"{100 * it['differ'] / all_cases:.3g}%")
+        others.append(f"{100 * faulty(name, data) / all_cases:.3g}%{faults}")
+    return f"| {', '.join(names).upper()} | {sentence} | {shares(differ)} | {shares(others)} |"
 
 
 def listed(names: List[str]) -> str:
@@ -130,13 +148,19 @@ def page_of(data: Data) -> str:
     for rule in RULES:
         named.setdefault(rule.sentence, []).extend(name for name in rule.names if name in differ)
     rows = [(names, sentence) for sentence, names in named.items() if names]
-    rows.sort(key=lambda it: -max(faulty(name, data) for name in it[0]))
+    rows.sort(key=lambda it: -max(faulty(name, data) / compared_cases(name, data) for name in it[0]))
     lines = [line_of(names, data, sentence) for names, sentence in rows]
-    head = HEAD.strip().format(data["cases"], len(found), data["seed"]).split("\n\n")
     others, agree = len(differ) - len(chosen), len(found) - len(differ)
-    last = f"It differs otherwise on {others}, and agrees in every case on {agree}."
-    texts = [*map(filled, head), filled(f"{CHOSEN.format(listed(chosen))} {last} {BREAKS}")]
-    return "\n\n".join(["# Where z64 differs", *texts[:-1], TABLE + "\n".join(lines), texts[-1]]) + "\n"
+    counts = {"agree": agree, "all": len(found), "chosen": listed(chosen), "others": others}
+    summary = SUMMARY.strip().format(**counts)
+    mtc0 = compared_cases("mtc0", data)
+    head, tail = (
+        it.strip().format(summary=summary, cases=data["cases"], seed=data["seed"], mtc0=mtc0)
+        for it in (HEAD, TAIL)
+    )
+    table = TABLE + "\n".join(lines)
+    texts = [*map(filled, head.split("\n\n")), table, *map(filled, tail.split("\n\n"))]
+    return "\n\n".join(["# Where z64 differs", *texts]) + "\n"
 
 
 def cases() -> Dict[str, List[Tuple[Case, State]]]:

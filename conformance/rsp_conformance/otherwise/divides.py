@@ -73,8 +73,8 @@ def loads_another_lane(case: Case) -> State:
 
 @rule(
     "vrcpl",
-    "the source is lane de of *selected*, and the table is that of z64's VRCP; takes a high half even if none"
-    " is loaded",
+    "the source is lane de of *selected*, and the table is that of z64's VRCP; it takes a high half even if"
+    " none is loaded",
 )
 def takes_a_high_half(case: Case) -> State:
     x = case.before["in"] << 16 | source(case)
@@ -83,8 +83,7 @@ def takes_a_high_half(case: Case) -> State:
 
 @rule(
     "vrsqh",
-    "the source is lane de of *selected*; DIV_IN and DIV_OUT aren't those of VRCPH but two of its own, which"
-    " are 0 at the start",
+    "the source is lane de of *selected*; it uses the *root registers*",
 )
 def reads_a_root(case: Case) -> State:
     return {**result(case, {case.fields["de"]: 0}), **case.kept(["in"])}
@@ -92,8 +91,8 @@ def reads_a_root(case: Case) -> State:
 
 @rule(
     "vrsql",
-    "the source is lane de of *selected*; DIV_IN and DIV_OUT are those of z64's VRSQH; takes a high half even"
-    " if none is loaded",
+    "the source is lane de of *selected*; it uses the *root registers*, and takes a high half even if none is"
+    " loaded",
 )
 def takes_a_root(case: Case) -> State:
     root = inverse_root(source(case))

@@ -40,8 +40,8 @@ def keeps_low_bits(case: Case) -> State:
 
 @rule(
     "jalr",
-    "pc gets the two low bits of the register too; register 0 keeps a link; *choice:* a link isn't taken"
-    " modulo 4096",
+    "pc gets the two low bits of the register too; a link that is written to register 0 stays there;"
+    " *choice:* a link isn't taken modulo 4096",
 )
 def links_to_any_register(case: Case) -> State:
     return {"npc": case.reg("s") % LIMIT, **link(case, f"r{case.fields['d']}")}

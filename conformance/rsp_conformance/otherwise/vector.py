@@ -54,8 +54,8 @@ def compared(case: Case, compares: dict[int, bool], values: dict[int, int]) -> S
 
 @rule(
     "vcl",
-    "with carry set and not-equal clear, compare is n <= 65536 if extra is set, else n = 0; n is sa + sb"
-    " modulo 2^32",
+    "if carry is set and not-equal clear: compare is n <= 65536 if extra is set, and n = 0 otherwise; n is"
+    " sa + sb modulo 2^32",
 )
 def clips_low(case: Case) -> State:
     vco, vce = case.before["vco"], case.before["vce"]
