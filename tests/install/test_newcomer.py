@@ -32,7 +32,7 @@ tests/program/test_failing_allocations.py tests/docs/test_drawings.py tests/inst
 """.split()
 # This would prove all crates in the clone if its program isn't built here.
 OTHER_COMPILER = "tests/program/test_second_compiler.py", "crates/rsp_main/out/rsp_main.by-rattle"
-LEFT_BEHIND = "my.c a.out mine.c mine.so mine.s renamed.s"
+LEFT_BEHIND = "my.c a.out mine.c mine.so mine.cpp runner.o runner mine.s renamed.s"
 
 
 @pytest.fixture(scope="session")

@@ -27,6 +27,7 @@ PACKAGES = {
     "dot": "graphviz",
     "Xvfb": "xvfb",
     "tsc": "node-typescript",
+    "/usr/bin/c++": "g++",
     "/usr/bin/cc": "gcc",
     "/usr/bin/man": "man-db",
     "/usr/bin/mips-linux-gnu-gcc": "gcc-mips-linux-gnu",

@@ -92,10 +92,9 @@ def manifest_shown() -> Iterator[Tuple[str, str]]:
     block = "".join(f"{it}\n" for it in (*lines, "  ..", f"  {short(case)},", "  ..]}]}"))
     yield r'(?ms)^{"row":.*?\]}\]}\n', block
     flags = (int(case["at"], 16) + vcc[1]) % programs.MEMORY
-    told = (
-        f"begins at {case['at']}, and its `vcc` is {vcc[1]} bytes after that, at {flags:03x}. So the byte at"
-    )
-    yield r"begins at \w+, and its `vcc` is .* So the byte at \w+ is", f"{told} {flags + 1:03x} is"
+    told = f"begin at 0x{case['at']}, and its `vcc` is {vcc[1]} bytes after that, at 0x{flags:03x}."
+    wanted = f"{told} So the byte at 0x{flags + 1:03x} is"
+    yield r"begin at \w+, and its `vcc` is .* So the byte at \w+ is", wanted
 
 
 def made() -> Dict[str, str]:

@@ -49,6 +49,7 @@ LEFT = (
 # What commands need besides the repository.
 NEEDS = (
     (r"\bcc\b|library/c/build|plugin/build", "/usr/bin/cc", "/usr/include/stdio.h"),
+    (r"\bc\+\+ ", "/usr/bin/c++"),
     (r"pkg-config", "/usr/bin/pkg-config"),
     (r"(?m)^cmake", "/usr/bin/cmake", "/usr/bin/make"),
     (r"\bcpp\b", "/usr/bin/cpp"),
@@ -86,6 +87,18 @@ find_package(rsp 1.0 REQUIRED)
 add_executable(mine my.c)
 target_link_libraries(mine rsp::rsp)
 """
+# The functions that the runner of flat vectors calls, of an emulator that does nothing.
+MINE_CPP = """
+#include "rsp.h"
+uint32_t rsp_new(rsp *, const uint8_t *, size_t, uint32_t) { return RSP_OK; }
+void rsp_free(rsp *) {}
+uint32_t rsp_load(rsp *, uint32_t, uint32_t, const uint8_t *, size_t) { return RSP_OK; }
+uint32_t rsp_memory(rsp *, uint32_t, uint32_t, uint8_t *, size_t) { return RSP_OK; }
+uint32_t rsp_set(rsp *, const rsp_state *) { return RSP_OK; }
+uint32_t rsp_get(rsp *, rsp_state *) { return RSP_OK; }
+uint32_t rsp_step(rsp *) { return RSP_OK; }
+"""
+FLAT_SW = "conformance/generate --flat --of conformance/vectors ~/flat SW"
 FAULTY = "start: ori $1, $0, 1\nfoo $2\nj start\nori $1, $99, 1\nbreak\n"
 LOST_JUMP = "j 0x7f0\nnop\n"
 
@@ -226,7 +239,7 @@ WAYS = (
         "python3 -c",
         first=r"printf '\001\000\003\002\005\004\007\006' > dump",
         then="od -An -v -tx1 image | tr -d ' '",
-        prints="0203000106070405",
+        prints="0001020304050607",
     ),
     Way(
         "microcode/README.md",
@@ -250,6 +263,13 @@ WAYS = (
         prints="ok 1024 words\nok 2 words\nstop Halted steps 3 pc 7f4",
     ),
     Way("docs/SYSTEMS.md", "library/c/build", left_out="it needs the repository and the kit"),
+    Way(
+        "conformance/README.md",
+        "cc -O2 -c ",
+        first=file_of("mine.cpp", MINE_CPP),
+        then=f"{FLAT_SW}\n./runner ~/flat/flat/SW.bin || [ $? = 1 ]",
+        prints="1 instructions\n..\n0 passed, 20 failed",
+    ),
     Way(
         "conformance/README.md",
         "cd conformance/vectors/programs",

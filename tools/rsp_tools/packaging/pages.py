@@ -32,6 +32,8 @@ FORMS = (
     (EMBEDDING, r"(?m)^tools/systems wasm64  .*\nnpm install \./library/systems/wasm64\n", NPM),
     (CAMPAIGN, r"(?<=-fPIC )-Ilibrary/c(?= )", "-Iinclude"),
     (VECTORS, r"(?<=-O2 )-Ilibrary/c(?= conformance/runner\.c )", "-Iinclude"),
+    (VECTORS, r"(?<=-O2 -c )-Ilibrary/c(?= conformance/runner\.c\n)", "-Iinclude"),
+    (VECTORS, r"(?<=-O2 )-Ilibrary/c(?= mine\.cpp )", "-Iinclude"),
     (PLUGIN, BUILD + r"(?=plugin/build  )", ""),
 )
 # What the page says first where the archive has no header and no libraries for C.
