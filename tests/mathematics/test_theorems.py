@@ -19,7 +19,7 @@ from typing import Dict, Iterable, Iterator, NamedTuple, Tuple
 import pytest
 
 from lib import TOP
-from lib.pages import blocks_of, page
+from lib.pages import blocks_of, matches, page
 from lib.processes import Ended, run
 from rsp_conformance.table import FORMS, ROWS, word_of
 from rsp_tools import build, crates
@@ -107,11 +107,14 @@ class Copy:
         return run(self.folder / "tools/theorem", name, source, env=where)
 
     def follow_example(self) -> Tuple[str, "Ended[str]"]:
-        """Does to the page's first theorem what the page says."""
-        text, commands, field, premise, lines, *_ = blocks_of(section_of("The first theorem"))
+        """Does to the page's first theorem what the page says, and compares the files that it shows."""
+        text, commands, *shown, field, premise, lines = blocks_of(section_of("The first theorem"))
+        assert len(shown) == 3
         name = search(r"(?m)^tools/theorem (\w+) times\.s$", commands)[1]
         begun, module = self.begin(name, text), module_of(name)
         spec, proof = self.crate / f"specs/{module}.antt", self.crate / f"proofs/{module}Runs.antt"
+        for file, block in zip((self.crate / f"src/{name}.rt", spec, proof), shown):
+            assert matches(file.read_text().splitlines(), block.splitlines()), file
         words = spec.read_text().replace("  -- TODO: the result\n", indent(field, "  "))
         claim = f"IsAt words s → {premise.strip()} "
         spec.write_text(re.sub(r"IsAt words s → (?=.*\n\Z)", lambda _: claim, words))
