@@ -417,6 +417,18 @@ CHECKS = {
         "AssertionError: [Missing(transfer=Transfer(place=64,",
     ),
     "no halt": ("command.rsp", "break", "wait: beq $0, $0, wait\nnop", "AssertionError: not halted"),
+    "one more load": (
+        "command.rsp",
+        "pc 0xf80",
+        "load imem 0xf90 1000ffff00000000\npc 0xf80",
+        "AssertionError: not halted",
+    ),
+    "one more asm": (
+        "command.rsp",
+        "pc 0xf80",
+        "asm 0xf90 # not the caller\nend: beq $0, $0, end\nnop\nend\npc 0xf80",
+        "AssertionError: not halted",
+    ),
 }
 
 
@@ -434,7 +446,7 @@ def test_check_of_elf(name: str, files: Files) -> None:
         (files.folder / it).write_text(texts[it])
     link(files.folder, texts["overlay"])
     run_check = f'rsp() {{ "{files.program}" "$@"; }}; python3() {{ "{sys.executable}" "$@"; }}\n'
-    if name in ("a missing wait", "no halt"):  # the replies are the changed code's
+    if said.startswith("AssertionError"):  # the replies are the changed code's
         texts["check.sh"] = texts["check.sh"].replace("| diff command.out -", "")
     env = {**os.environ, "PYTHONPATH": str(TOP / "library/python")}
     ended = run("sh", "-c", run_check + texts["check.sh"], cwd=files.folder, env=env)
