@@ -17,7 +17,7 @@ from rsp_tools.systems.toolchain import call
 
 ARCHITECTURES = {"linux-x86_64": "amd64", "linux-aarch64": "arm64"}
 DOC = "usr/share/doc/rsp"
-COPYRIGHT = b"No licence has been chosen yet, so ask the owner before you reuse anything.\n"
+COPYRIGHT = b"No licence has been chosen yet: ask whoever gave you the package before you reuse anything.\n"
 PAGES = ("docs/", "examples/", "microcode/")
 INSTALLED = ("bin/", "include/", "lib/", "share/")
 README = """rsp for Debian

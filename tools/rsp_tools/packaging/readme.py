@@ -170,7 +170,7 @@ class About(NamedTuple):
 RSP = "the Nintendo 64's Reality Signal Processor (RSP)"
 MODEL = f"an emulator, debugger, assembler and disassembler for {RSP}"
 PLUGIN = "the plugin of mupen64plus"
-PROCESSORS = "processors from Intel since 2009 and from AMD since 2011"
+PROCESSORS = "processors from Intel since 2009 and from AMD since 2011, small ones since 2013"
 MEMORIES = (
     "WebAssembly with 64-bit memories, which Chrome and Edge have since version 133 and Firefox since 134"
 )
@@ -272,7 +272,7 @@ def last_paragraphs(system: str) -> str:
 def page(system: str, release: Release) -> bytes:
     """The README of a system's archive."""
     it = ABOUT[system]
-    licence = "No licence has been chosen yet, so ask the owner before you reuse anything."
+    licence = "No licence has been chosen yet, so ask whoever gave you the archive before you reuse anything."
     head = f"For users of this archive. It contains {it.what}. {it.runs} {licence}"
     table = "".join(f"| {wanted} | {typed} |\n" for wanted, typed in [*lines(system), last_line(system)])
     parts = [f"# rsp {release.version} for {it.title}", filled(head), filled(it.lacks)]
