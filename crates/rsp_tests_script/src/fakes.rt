@@ -1,32 +1,40 @@
-// Sources and sinks that move few bytes, fail, or never end.
+// A source and a sink that move few bytes, fail, or never end.
 
 ghost use Rattle.std.specs.Prelude.{◌≡◌, ℕ, ◌+◌, Some, None};
 
 use rsp_script_io::{EndFault, MemSink, MemSource, Sink, Source};
 
-/// A script of which each read moves a few bytes. It fails after a number of reads.
+/// A script, of which each read moves as much as there is room for, and none fails. Its fields make it otherwise.
 #[derive(Drop)]
-pub(crate) struct CutSource<'a> {
+pub(crate) struct FakeSource<'a> {
     script: MemSource<'a>,
-    step: usize,
-    reads_left: u64,
+    /// A byte that it gives without end in place of the script.
+    pub(crate) endless: Option<u8>,
+    /// The most bytes of a read.
+    pub(crate) step: usize,
+    /// After how many reads it fails.
+    pub(crate) reads_left: u64,
+    /// How many bytes were read.
+    pub(crate) given: usize,
     failures: u64,
 }
 
-impl<'a> CutSource<'a> {
-    pub(crate) fn new(script: &'a [u8], step: usize, reads: u64) -> CutSource<'a>
+impl<'a> FakeSource<'a> {
+    pub(crate) fn new(script: &'a [u8]) -> FakeSource<'a>
         ensures { result.failures ≡ 0 }
     {
-        CutSource {
+        FakeSource {
             script: MemSource::new(script),
-            step,
-            reads_left: reads,
+            endless: None,
+            step: usize::MAX,
+            reads_left: u64::MAX,
+            given: 0,
             failures: 0,
         }
     }
 }
 
-impl Source for CutSource<'_> {
+impl Source for FakeSource<'_> {
     ghost rest = { λ _. None };
 
     ghost fault_count = { λ s. s.failures };
@@ -38,7 +46,15 @@ impl Source for CutSource<'_> {
         }
         self.reads_left -= 1;
         let room = buf.len().min(self.step);
-        self.script.read(&mut buf[..room])
+        let n = match self.endless {
+            Some(byte) => {
+                buf[..room].fill(byte);
+                room
+            }
+            None => self.script.read(&mut buf[..room])?,
+        };
+        self.given = self.given.saturating_add(n);
+        Ok(n)
     }
 
     fn failures(&self) -> u64 {
@@ -46,25 +62,27 @@ impl Source for CutSource<'_> {
     }
 }
 
-/// A sink of which each write takes a few bytes. After a number of writes it fails, or it takes nothing.
+/// A sink in memory, of which each write takes as much as there is room for. Its fields make it otherwise.
 #[derive(Drop)]
-pub(crate) struct NarrowSink {
+pub(crate) struct FakeSink {
     replies: MemSink,
-    step: usize,
-    writes_left: u64,
+    /// The most bytes of a write.
+    pub(crate) step: usize,
+    /// After how many writes it fails, or takes nothing.
+    pub(crate) writes_left: u64,
     /// Whether it then takes nothing, in place of a fault.
     pub(crate) takes_nothing: bool,
     failures: u64,
 }
 
-impl NarrowSink {
-    pub(crate) fn new(replies: MemSink, step: usize, writes: u64) -> NarrowSink
+impl FakeSink {
+    pub(crate) fn new(replies: MemSink) -> FakeSink
         ensures { result.failures ≡ 0 }
     {
-        NarrowSink {
+        FakeSink {
             replies,
-            step,
-            writes_left: writes,
+            step: usize::MAX,
+            writes_left: u64::MAX,
             takes_nothing: false,
             failures: 0,
         }
@@ -75,7 +93,7 @@ impl NarrowSink {
     }
 }
 
-impl Sink for NarrowSink {
+impl Sink for FakeSink {
     ghost written = { λ _. None };
 
     ghost fault_count = { λ s. s.failures };
@@ -102,31 +120,5 @@ impl Sink for NarrowSink {
 
     fn failures(&self) -> u64 {
         self.failures
-    }
-}
-
-/// A source that repeats one byte without end, a few of them a read.
-#[derive(Drop)]
-pub(crate) struct Endless {
-    pub(crate) byte: u8,
-    pub(crate) step: usize,
-    /// How many bytes were read.
-    pub(crate) given: usize,
-}
-
-impl Source for Endless {
-    ghost rest = { λ _. None };
-
-    ghost fault_count = { λ _. 0 };
-
-    fn read(&mut self, buf: &mut [u8]) -> Result<usize, EndFault> {
-        let n = buf.len().min(self.step.max(1));
-        buf[..n].fill(self.byte);
-        self.given = self.given.saturating_add(n);
-        Ok(n)
-    }
-
-    fn failures(&self) -> u64 {
-        0
     }
 }

@@ -5,10 +5,12 @@
 #[cfg(test)]
 mod asm;
 #[cfg(test)]
-mod bench;
-#[cfg(test)]
 mod ends;
 #[cfg(test)]
 mod fakes;
 #[cfg(test)]
 mod out_of_memory;
+#[cfg(test)]
+mod runs;
+#[cfg(test)]
+mod session;
