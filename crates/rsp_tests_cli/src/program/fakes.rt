@@ -6,25 +6,31 @@ use std::io::{self, ErrorKind, Read, Write};
 #[derive(Drop)]
 pub(super) struct FakeFiles<'a> {
     image: &'a [u8],
+    read_fault: Option<FileFault>,
+    write_fault: Option<FileFault>,
     /// How many bytes the last read asked for.
     pub(super) limit: u64,
     /// How many files were written.
     pub(super) written: u64,
     /// The bytes of the last file that was written.
     pub(super) saved: Vec<u8>,
-    pub(super) read_fault: Option<FileFault>,
-    pub(super) write_fault: Option<FileFault>,
 }
 
 impl<'a> FakeFiles<'a> {
-    pub(super) fn new(alloc: Global, image: &'a [u8]) -> FakeFiles<'a> {
+    /// Files of which `image` has these bytes. If a fault is given, each read, or each write, ends with it.
+    pub(super) fn new(
+        alloc: Global,
+        image: &'a [u8],
+        read_fault: Option<FileFault>,
+        write_fault: Option<FileFault>,
+    ) -> FakeFiles<'a> {
         FakeFiles {
             image,
+            read_fault,
+            write_fault,
             limit: 0,
             written: 0,
             saved: Vec::new(alloc),
-            read_fault: None,
-            write_fault: None,
         }
     }
 }
@@ -57,7 +63,7 @@ impl FileStore for FakeFiles<'_> {
 }
 
 /// What a reader does after its bytes.
-#[derive(Clone, Copy, Debug, PartialEq, Eq)]
+#[derive(Clone, Copy)]
 pub(super) enum AfterBytes {
     End,
     Fault,
@@ -100,21 +106,38 @@ impl Read for FakeReader<'_> {
     }
 }
 
-/// A writer in memory that takes one byte a write.
+/// A writer that takes no more bytes than it has room for. It allocates nothing, so that it also serves where allocations fail.
 #[derive(Drop)]
-pub(super) struct NarrowWriter {
-    pub(super) bytes: Vec<u8>,
+pub(super) struct FakeWriter<'a> {
+    room: &'a mut [u8],
+    /// The most bytes that it takes of a write.
+    width: usize,
+    taken: usize,
 }
 
-impl Write for NarrowWriter {
-    fn write(&mut self, buf: &[u8]) -> io::Result<usize> {
-        match buf.first() {
-            Some(&byte) => {
-                self.bytes.push(byte)?;
-                Ok(1)
-            }
-            None => Ok(0),
+impl<'a> FakeWriter<'a> {
+    pub(super) fn new(room: &'a mut [u8], width: usize) -> FakeWriter<'a> {
+        FakeWriter {
+            room,
+            width,
+            taken: 0,
         }
+    }
+
+    /// The bytes that it took.
+    pub(super) fn bytes(&self) -> &[u8] {
+        &self.room[..self.taken.min(self.room.len())]
+    }
+}
+
+impl Write for FakeWriter<'_> {
+    fn write(&mut self, buf: &[u8]) -> io::Result<usize> {
+        let start = self.taken.min(self.room.len());
+        let free = &mut self.room[start..];
+        let count = buf.len().min(self.width).min(free.len());
+        free[..count].copy_from_slice(&buf[..count]);
+        self.taken = start + count;
+        Ok(count)
     }
 
     fn flush(&mut self) -> io::Result<()> {

@@ -1,0 +1,142 @@
+use super::case::{Case, RUN, check};
+use super::fakes::AfterBytes;
+use rsp_cli::{FileFault, Status};
+use std::test::Fail;
+
+/// The most bytes of an image that the program reads: one more than the longest has.
+pub(super) const IMAGE_LIMIT: u64 = 8_388_609;
+
+/// 64 bytes of zeros after the script of the first case.
+const SAVED: [u8; 64] = [
+    0, 0, 0, 0, 0, 0, 0, 0, 1, 2, 0, 0, 0, 0, 0, 0, 0, 0, 0, 0, 0, 0, 0, 0, 0, 0, 0, 0, 0, 0, 0, 0,
+    0, 0, 0, 0, 0, 0, 0, 0, 0, 0, 0, 0, 0, 0, 0, 0, 0, 0, 0, 0, 0, 0, 0, 0, 0, 0, 0, 0, 0, 0, 0, 0,
+];
+
+/// A run that ends before it reads the script.
+const UNREAD: Case = Case {
+    line: "rsp run --save saved --rdram image",
+    image: &[0; 60],
+    script: b"step\n",
+    status: Status::Faulted,
+    is_script_read: false,
+    limit: IMAGE_LIMIT,
+    ..RUN
+};
+
+/// A run that answers one line and breaks off.
+const BROKEN_OFF: Case = Case {
+    line: "rsp run --save saved",
+    script: b"step\nst",
+    status: Status::Faulted,
+    output: Some(b"step Done pc 004\n"),
+    ..RUN
+};
+
+/// A run in which replies come byte by byte. It saves 4 MB.
+const STRICT: Case = Case {
+    line: "rsp run --strict --save saved",
+    width: 1,
+    status: Status::Faulted,
+    output: None,
+    written: 1,
+    saved: None,
+    ..RUN
+};
+
+static CASES: [Case; 15] = [
+    // The image is saved after a run, and is zeros where no file is named.
+    Case {
+        line: "rsp run --rdram image --save=saved",
+        image: &[0; 64],
+        script: b"load rdram 8 0102\nfoo\n",
+        output: Some(b"ok\nfault 30 BadCommand\n"),
+        limit: IMAGE_LIMIT,
+        written: 1,
+        saved: Some(&SAVED),
+        ..RUN
+    },
+    Case {
+        script: b"mem rdram 4194303 1\nmem rdram 4194303 2\n",
+        output: Some(b"3fffff: 00\nfault 6 RangeFault\n"),
+        ..RUN
+    },
+    // The image is read before the script.
+    Case {
+        message: Some(b"rsp: fault 7 SizeFault\n"),
+        ..UNREAD
+    },
+    Case {
+        line: "rsp run --save saved --rdram missing",
+        message: Some(b"rsp: cannot read missing\n"),
+        ..UNREAD
+    },
+    Case {
+        read_fault: Some(FileFault::OutOfMemory),
+        message: Some(b"rsp: fault 17 OutOfMemory\n"),
+        ..UNREAD
+    },
+    // A run that breaks off saves nothing. In the last of these, as in the first script up to its third line, the reply to each
+    // line is there before the next read.
+    Case {
+        after_script: AfterBytes::Fault,
+        message: Some(b"rsp: fault 40 ReadFault\n"),
+        ..BROKEN_OFF
+    },
+    Case {
+        room: 17,
+        message: Some(b"rsp: fault 41 WriteFault\n"),
+        ..BROKEN_OFF
+    },
+    Case {
+        after_script: AfterBytes::Hashes,
+        message: Some(b"rsp: fault 42 ScriptTooLong\n"),
+        ..BROKEN_OFF
+    },
+    Case {
+        line: "rsp run",
+        script: b"load imem 0 34021234ac0200000000000d\nstep\n",
+        after_script: AfterBytes::Fault,
+        message: Some(b"rsp: fault 40 ReadFault\n"),
+        output: Some(b"ok\nstep Done pc 004\n"),
+        ..BROKEN_OFF
+    },
+    // An image may not be saved.
+    Case {
+        script: b"step",
+        write_fault: Some(FileFault::Refused),
+        message: Some(b"rsp: cannot write saved\n"),
+        ..BROKEN_OFF
+    },
+    Case {
+        script: b"step",
+        write_fault: Some(FileFault::OutOfMemory),
+        message: Some(b"rsp: fault 17 OutOfMemory\n"),
+        ..BROKEN_OFF
+    },
+    // A strict run counts faults, and none of them twice.
+    Case {
+        script: b"step\nfoo # no command\n",
+        message: Some(b"rsp: faults in replies: 1, the first: fault 30 BadCommand\n"),
+        ..STRICT
+    },
+    Case {
+        script: b"pc 2\nregs\nfoo",
+        message: Some(b"rsp: faults in replies: 2, the first: fault 31 BadNumber\n"),
+        ..STRICT
+    },
+    Case {
+        script: b"asm 0\nnop",
+        message: Some(b"rsp: faults in replies: 1, the first: fault 10 BadLine line 2\n"),
+        ..STRICT
+    },
+    Case {
+        script: b"step\nregs",
+        status: Status::Done,
+        ..STRICT
+    },
+];
+
+#[test]
+fn scripts_are_answered(rt: HostRuntime) -> Result<(), Fail> {
+    check(&rt, &CASES)
+}
