@@ -1,140 +1,123 @@
+use crate::machines::start;
 use crate::random::Random;
-use crate::readers::{accumulators, is_same};
-use crate::vector_words::{control_words, register_load, vector_word};
-use rsp_acc::{Acc, PlainAcc, PlaneAcc};
-use rsp_decode::is_canonical;
-use rsp_machine::{Machine, StepEnd};
-use rsp_memory::{Bank, Rdram};
-use std::alloc::{AllocError, Global};
+use rsp_acc::{Acc, Part, PlainAcc, PlaneAcc};
+use rsp_decode::{decode, encode, is_canonical};
+use rsp_machine::{AllRegisters, Machine, StepEnd};
+use rsp_memory::Bank;
+use std::alloc::AllocError;
 use std::process::Abort;
 
 /// How many lists are tried.
 const LISTS: u32 = 1000;
 
-/// How many words of vector instructions a list has.
-const LENGTH: u32 = 64;
+/// The canonical word of a vector instruction that computes, with fields that look random. It has the function of VADD in place of
+/// a reserved one.
+fn vector_word(random: &mut Random) -> u32 {
+    let word = 0x4a00_0000 | random.bits() & 0x01ff_ffff;
+    match decode(word) {
+        Some(inst) => encode(&inst),
+        None => word & 0xffff_ffc0 | 0x10,
+    }
+}
 
-/// A machine with these words in IMEM, and these lanes in DMEM, from 0 on.
-pub fn machine_of<A: Acc>(
+/// 64 words of vector instructions.
+fn list_of(rt: &impl Abort, random: &mut Random) -> [u32; 64] {
+    let mut words = [0; 64];
+    for i in 0..64 {
+        let word = vector_word(random);
+        assert!(rt; is_canonical(word), "{word:08x}");
+        words[i] = word;
+    }
+    words
+}
+
+/// Lets a machine begin with these registers and these words.
+fn begin<A: Acc>(
     rt: &impl Abort,
-    alloc: Global,
-    words: &[u32],
-    lanes: &[u16],
-) -> Result<Machine<A>, AllocError> {
-    let mut bytes = Vec::new(alloc);
-    bytes.resize(64, 0)?;
-    let image = Rdram::from_bytes(bytes).ok();
-    let mut machine = Machine::new(image.expect(rt, "64 bytes are an image"));
-    let mut at: u32 = 0;
-    for word in words {
-        assert_eq!(rt;
-            machine.load_bytes(Bank::Imem, at, &word.to_be_bytes()),
-            Ok(())
-        );
-        at = at.wrapping_add(4);
-    }
-    let mut at: u32 = 0;
-    for lane in lanes {
-        assert_eq!(rt;
-            machine.load_bytes(Bank::Dmem, at, &lane.to_be_bytes()),
-            Ok(())
-        );
-        at = at.wrapping_add(2);
-    }
-    Ok(machine)
+    machine: &mut Machine<A>,
+    words: &[u32; 64],
+    given: &AllRegisters,
+) {
+    assert!(rt; machine.load_words(Bank::Imem, 0, words).is_ok());
+    assert!(rt; machine.set_all_registers(given).is_ok());
 }
 
-/// Words that set all flags and load all vector registers, and then words of vector instructions.
-fn list_of(alloc: Global, random: &mut Random) -> Result<Vec<u32>, AllocError> {
-    let mut words = Vec::new(alloc);
-    for n in 0..3 {
-        for word in control_words(n, random.lane()) {
-            words.push(word)?;
-        }
-    }
-    for n in 0..32 {
-        words.push(register_load(n))?;
-    }
-    for _ in 0..LENGTH {
-        words.push(vector_word(random))?;
-    }
-    Ok(words)
-}
-
-/// The lanes of all vector registers.
-fn lanes_of(alloc: Global, random: &mut Random) -> Result<Vec<u16>, AllocError> {
-    let mut lanes = Vec::new(alloc);
-    for _ in 0..256 {
-        lanes.push(random.lane())?;
-    }
-    Ok(lanes)
-}
-
-/// Marks the value of the middle sixteen bits of the first accumulator as seen.
-fn mark<A: Acc>(machine: &Machine<A>, seen: &mut [bool]) {
-    let [_, middle, _] = accumulators(machine);
-    if let Some(place) = seen.get_mut(usize::from(middle.lane(0))) {
-        *place = true;
-    }
-}
-
-/// Runs both machines over a list, and compares their answers and accumulators after each step.
+/// Runs both machines over a list, and compares all their registers after each step. Marks the low halves of the middle sixteen bits
+/// that the first accumulator takes.
 fn run_both(
     rt: &impl Abort,
     planes: &mut Machine<PlaneAcc>,
     plain: &mut Machine<PlainAcc>,
-    steps: usize,
-    seen: &mut [bool],
+    seen: &mut [bool; 256],
 ) {
-    for _ in 0..steps {
-        assert_eq!(rt; planes.step(), StepEnd::Done);
-        assert_eq!(rt; plain.step(), StepEnd::Done);
-        assert_eq!(rt; accumulators(planes), accumulators(plain));
-        mark(planes, seen);
+    for _ in 0..64 {
+        assert!(rt; planes.step() == StepEnd::Done && plain.step() == StepEnd::Done);
+        assert!(rt; planes.all_registers() == plain.all_registers());
+        let [_, value] = planes.acc().part(Part::Middle).lane(0).to_be_bytes();
+        seen[usize::from(value)] = true;
     }
 }
 
-/// Tries one list of words. Returns whether a machine with one lane changed ends in another state.
-fn try_list(
-    rt: &impl Abort,
-    alloc: Global,
-    random: &mut Random,
-    seen: &mut [bool],
-) -> Result<bool, AllocError> {
-    let words = list_of(alloc, random)?;
-    for word in &words {
-        assert!(rt; is_canonical(*word), "{word:08x}");
+/// Two machines that compute the same, and one that begins with another lane.
+#[derive(Drop)]
+struct Trial {
+    planes: Machine<PlaneAcc>,
+    plain: Machine<PlainAcc>,
+    other: Machine<PlaneAcc>,
+}
+
+impl Trial {
+    /// Tries one list of words. Returns whether the machine with one lane changed ends in another state.
+    fn is_different(
+        &mut self,
+        rt: &impl Abort,
+        random: &mut Random,
+        seen: &mut [bool; 256],
+    ) -> bool {
+        let words = list_of(rt, random);
+        let mut given = random.registers(self.planes.all_registers().sp);
+        begin(rt, &mut self.planes, &words, &given);
+        begin(rt, &mut self.plain, &words, &given);
+        run_both(rt, &mut self.planes, &mut self.plain, seen);
+        assert!(rt; self.are_memories_same());
+        given.vectors[0][0] ^= 0x0100;
+        begin(rt, &mut self.other, &words, &given);
+        let _ = self.other.steps(64);
+        self.other.all_registers() != self.plain.all_registers()
     }
-    let mut lanes = lanes_of(alloc, random)?;
-    let mut planes = machine_of(rt, alloc, words.as_slice(), lanes.as_slice())?;
-    let mut plain = machine_of(rt, alloc, words.as_slice(), lanes.as_slice())?;
-    run_both(rt, &mut planes, &mut plain, words.len(), seen);
-    assert!(rt; is_same(&planes, &plain));
-    if let Some(lane) = lanes.first_mut() {
-        *lane ^= 0x0100;
+
+    /// Whether the memories of the two machines are the same.
+    fn are_memories_same(&self) -> bool {
+        self.planes.dmem().bytes()[..] == self.plain.dmem().bytes()[..]
+            && self.planes.imem().bytes()[..] == self.plain.imem().bytes()[..]
+            && self.planes.rdram().bytes() == self.plain.rdram().bytes()
     }
-    let mut other: Machine<PlaneAcc> = machine_of(rt, alloc, words.as_slice(), lanes.as_slice())?;
-    for _ in 0..words.len() {
-        let _ = other.step();
-    }
-    Ok(!is_same(&other, &plain))
 }
 
 #[test]
 fn planes_are_whole_numbers(rt: HostRuntime) -> Result<(), AllocError> {
-    let alloc = rt.alloc();
+    let mut trial = Trial {
+        planes: start(&rt, rt.alloc())?,
+        plain: start(&rt, rt.alloc())?,
+        other: start(&rt, rt.alloc())?,
+    };
     let mut random = Random::new(0x2545_f491_4f6c_dd1d);
-    let mut seen = Vec::new(alloc);
-    seen.resize(65536, false)?;
+    let mut seen = [false; 256];
     let mut others: u32 = 0;
     for _ in 0..LISTS {
-        if try_list(&rt, alloc, &mut random, seen.as_mut_slice())? {
-            others = others.saturating_add(1);
-        }
+        others = others.wrapping_add(u32::from(trial.is_different(&rt, &mut random, &mut seen)));
     }
     // The trial would see a difference: one lane that is changed shows at the end of many lists, and accumulators take many values.
     assert!(rt; others > 100, "{others}");
-    let values = seen.iter().filter(|place| **place).count();
-    assert!(rt; values > 100, "{values}");
+    assert!(rt; count(&seen) > 100);
     Ok(())
+}
+
+/// How many places are marked.
+fn count(seen: &[bool; 256]) -> u32 {
+    let mut marked: u32 = 0;
+    for place in seen {
+        marked = marked.wrapping_add(u32::from(*place));
+    }
+    marked
 }

@@ -1,58 +1,70 @@
-ghost use Rattle.std.specs.Prelude.{◌≤◌};
-
+use crate::machines::machine_of;
 use rsp_acc::PlaneAcc;
 use rsp_debug::{BackFault, CountFault, Debugger, Reason, Stop};
 use rsp_machine::{Machine, StepEnd};
-use rsp_memory::{Bank, Rdram};
 use std::alloc::{AllocError, Global};
 use std::process::Abort;
 
-/// A call of a debugger, with the result that it must return.
-#[derive(Clone, Copy)]
-enum Call {
-    Step(StepEnd),
-    Run(u32, Result<Stop, CountFault>),
-    Back(u32, Result<(), BackFault>),
-    /// pc, npc and scalar register 1, which are only read.
-    Look(u16, u16, u32),
-}
-
-impl Call {
-    /// Makes the call. Returns whether the result is the expected one.
-    fn is_answered(self, debugger: &mut Debugger<PlaneAcc>) -> bool {
-        match self {
-            Call::Step(answer) => debugger.step() == answer,
-            Call::Run(n, answer) => debugger.run(n) == answer,
-            Call::Back(n, answer) => debugger.back(n) == answer,
-            Call::Look(pc, npc, one) => {
-                let regs = debugger.regs();
-                (regs.pc, regs.npc, regs.words[1]) == (pc, npc, one)
-            }
-        }
-    }
-}
-
 /// `addiu $1, $1, 1`, `j 0` and `nop`.
-const COUNTING: [u8; 12] = [0x24, 0x21, 0, 1, 8, 0, 0, 0, 0, 0, 0, 0];
+pub const COUNTING: [u32; 3] = [0x2421_0001, 0x0800_0000, 0];
 
-/// Makes calls of a new debugger that keeps so many states, of a machine that counts.
-fn play(rt: &impl Abort, alloc: Global, depth: usize, calls: &[Call]) -> Result<(), AllocError>
-    requires { depth ≤ 4096 }
-{
-    let mut bytes = Vec::new(alloc);
-    bytes.resize(64, 0)?;
-    let image = Rdram::from_bytes(bytes).ok();
-    let mut machine = Machine::new(image.expect(rt, "64 bytes are an image"));
-    let _ = machine.load_bytes(Bank::Imem, 0, &COUNTING);
-    let mut debugger = match Debugger::try_new(alloc, machine, depth) {
-        Ok(debugger) => debugger,
-        Err((_, fault)) => return Err(fault),
-    };
-    for (k, call) in calls.iter().enumerate() {
-        assert!(rt; call.is_answered(&mut debugger), "call {k}, from 0 on");
+/// A debugger that keeps so many states, of a machine with these words.
+pub fn debugger_of(
+    rt: &impl Abort,
+    alloc: Global,
+    words: &[u32],
+    depth: u8,
+) -> Result<Debugger<PlaneAcc>, AllocError> {
+    let machine: Machine<PlaneAcc> = machine_of(rt, alloc, words)?;
+    match Debugger::try_new(alloc, machine, usize::from(depth)) {
+        Ok(debugger) => Ok(debugger),
+        Err((_, fault)) => Err(fault),
     }
-    Ok(())
 }
+
+/// A way back: over how many steps, and the answer.
+type Back = (u32, Result<(), BackFault>);
+
+/// How many states are kept, a way back after the first step, a run of so many steps and pc then, three more ways back, and pc, npc
+/// and register 1 at the end.
+const WALKS: [(u8, Back, u32, u16, [Back; 3], (u16, u16, u32)); 3] = [
+    (
+        0,
+        (1, Err(BackFault::ShortHistory)),
+        9,
+        4,
+        [
+            (1, Err(BackFault::ShortHistory)),
+            (0, Err(BackFault::Count)),
+            (1, Err(BackFault::ShortHistory)),
+        ],
+        (4, 8, 4),
+    ),
+    (
+        1,
+        (2, Err(BackFault::ShortHistory)),
+        3,
+        4,
+        [
+            (2, Err(BackFault::ShortHistory)),
+            (1, Ok(())),
+            (1, Err(BackFault::ShortHistory)),
+        ],
+        (0, 4, 1),
+    ),
+    (
+        2,
+        (2, Err(BackFault::ShortHistory)),
+        4,
+        8,
+        [
+            (0, Err(BackFault::Count)),
+            (3, Err(BackFault::ShortHistory)),
+            (2, Ok(())),
+        ],
+        (0, 4, 1),
+    ),
+];
 
 /// A run that makes all its steps.
 fn whole(steps: u32, pc: u16) -> Result<Stop, CountFault> {
@@ -62,27 +74,19 @@ fn whole(steps: u32, pc: u16) -> Result<Stop, CountFault> {
 
 #[test]
 fn goes_back_as_far_as_it_keeps(rt: HostRuntime) -> Result<(), AllocError> {
-    let none = [
-        Call::Step(StepEnd::Done),
-        Call::Back(1, Err(BackFault::ShortHistory)),
-        Call::Run(9, whole(9, 4)),
-        Call::Look(4, 8, 4),
-    ];
-    play(&rt, rt.alloc(), 0, &none)?;
-    let one = [
-        Call::Run(4, whole(4, 4)),
-        Call::Back(2, Err(BackFault::ShortHistory)),
-        Call::Back(1, Ok(())),
-        Call::Look(0, 4, 1),
-        Call::Back(1, Err(BackFault::ShortHistory)),
-    ];
-    play(&rt, rt.alloc(), 1, &one)?;
-    let two = [
-        Call::Run(5, whole(5, 8)),
-        Call::Back(0, Err(BackFault::Count)),
-        Call::Back(3, Err(BackFault::ShortHistory)),
-        Call::Back(2, Ok(())),
-        Call::Look(0, 4, 1),
-    ];
-    play(&rt, rt.alloc(), 2, &two)
+    for (depth, early, steps, pc, [first, second, third], place) in WALKS {
+        let mut debugger = debugger_of(&rt, rt.alloc(), &COUNTING, depth)?;
+        let is_run = debugger.step() == StepEnd::Done
+            && debugger.back(early.0) == early.1
+            && debugger.run(steps) == whole(steps, pc);
+        let is_back = debugger.back(first.0) == first.1
+            && debugger.back(second.0) == second.1
+            && debugger.back(third.0) == third.1;
+        let regs = debugger.regs();
+        assert!(rt;
+            is_run && is_back && (regs.pc, regs.npc, regs.words[1]) == place,
+            "{depth}"
+        );
+    }
+    Ok(())
 }

@@ -3,7 +3,30 @@
 use crate::random::Random;
 use rsp_listings::assembled_listing;
 use std::alloc::{AllocError, Global};
-use std::test::Fail;
+
+/// How many blocks of words look random; those after them have all low halves after some high halves.
+const RANDOM: u32 = 16;
+
+/// These high halves are a branch, vector instructions and vector loads.
+fn high_half(block: u32) -> u32 {
+    match block / 64 {
+        0 => 0x1022,
+        1 => 0x4ba3,
+        _ => 0xc8a4,
+    }
+}
+
+/// A block of words.
+fn words_of(n: u32, random: &mut Random) -> [u32; 1024] {
+    let mut words = [0; 1024];
+    for i in 0..1024u32 {
+        words[i as usize] = match n.checked_sub(RANDOM) {
+            None => random.bits(),
+            Some(block) => high_half(block) << 16 | (block & 63) << 10 | i,
+        };
+    }
+    words
+}
 
 /// Whether the listing of these words assembles to the same words.
 fn is_read_back(alloc: Global, words: &[u32; 1024]) -> Result<bool, AllocError> {
@@ -11,29 +34,11 @@ fn is_read_back(alloc: Global, words: &[u32; 1024]) -> Result<bool, AllocError> 
 }
 
 #[test]
-fn listings_are_read_back(rt: HostRuntime) -> Result<(), Fail> {
+fn listings_are_read_back(rt: HostRuntime) -> Result<(), AllocError> {
     let mut random = Random::new(0x0123_4567_89ab_cdef);
-    for _ in 0..16 {
-        let mut words = [0; 1024];
-        for i in 0..1024 {
-            words[i] = random.bits();
-        }
-        assert!(rt; is_read_back(rt.alloc(), &words)?);
-    }
-    Ok(())
-}
-
-/// All low halves after these high halves: a branch, vector instructions and vector loads.
-#[test]
-fn all_low_halves_are_read_back(rt: HostRuntime) -> Result<(), Fail> {
-    for high in [0x1022, 0x4ba3, 0xc8a4] {
-        for block in 0..64 {
-            let mut words = [0; 1024];
-            for low in 0..1024u32 {
-                words[low as usize] = high << 16 | block << 10 | low;
-            }
-            assert!(rt; is_read_back(rt.alloc(), &words)?);
-        }
+    for n in 0..RANDOM + 3 * 64 {
+        let words = words_of(n, &mut random);
+        assert!(rt; is_read_back(rt.alloc(), &words)?, "block {n}");
     }
     Ok(())
 }

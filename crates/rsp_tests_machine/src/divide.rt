@@ -1,112 +1,121 @@
-ghost use Rattle.std.specs.Prelude.{◌<◌};
+use crate::worked::{Both, Case, Side};
+use rsp_divide::{Divider, rcp_entry, reciprocal, root, rsq_entry};
+use std::alloc::AllocError;
 
-use rsp_acc::{Acc, Part, PlainAcc, PlaneAcc};
-use rsp_divide::{DivideOp, Divider, divide_op, rcp_entry, reciprocal, root, rsq_entry};
-use rsp_lanes::VReg;
-use std::process::Abort;
+/// Functions of divide instructions.
+const VRCP: u16 = 0x30;
 
-const RECIPROCALS: [(i16, u32); 5] = [
-    (0, 0x7fff_ffff),
-    (-32768, 0xffff_0000),
-    (1, 0x7fff_c000),
-    (3, 0x2aaa_a000),
-    (-3, 0xd555_5fff),
-];
+const VRCPL: u16 = 0x31;
 
-const ROOTS: [(i16, u32); 3] = [(2, 0x5a82_4000), (4, 0x3fff_e000), (-1, 0x8000_3fff)];
+const VRCPH: u16 = 0x32;
+
+const VRSQ: u16 = 0x34;
 
 #[test]
 fn entries_of_both_tables(rt: HostRuntime) {
-    assert_eq!(rt; [rcp_entry(1), rcp_entry(256)], [0xff00, 0x5555]);
-    let roots = [rsq_entry(0), rsq_entry(1), rsq_entry(2), rsq_entry(3)];
-    assert_eq!(rt; roots, [0x6a09, 0xffff, 0x6955, 0xff00]);
+    for (entry, value) in [
+        (rcp_entry(1), 0xff00),
+        (rcp_entry(256), 0x5555),
+        (rsq_entry(0), 0x6a09),
+        (rsq_entry(1), 0xffff),
+        (rsq_entry(2), 0x6955),
+        (rsq_entry(3), 0xff00),
+    ] {
+        assert!(rt; entry == value, "{value:04x}");
+    }
+}
+
+/// Function, operand and quotient.
+const QUOTIENTS: [(u16, i16, u32); 8] = [
+    (VRCP, 0, 0x7fff_ffff),
+    (VRCP, -32768, 0xffff_0000),
+    (VRCP, 1, 0x7fff_c000),
+    (VRCP, 3, 0x2aaa_a000),
+    (VRCP, -3, 0xd555_5fff),
+    (VRSQ, 2, 0x5a82_4000),
+    (VRSQ, 4, 0x3fff_e000),
+    (VRSQ, -1, 0x8000_3fff),
+];
+
+/// The word of `function $v3[lane], $v2[element]`.
+fn word_of(function: u16, element: u16, lane: u16) -> u32 {
+    0x4a02_00c0 | u32::from(element) << 21 | u32::from(lane) << 11 | u32::from(function)
+}
+
+/// What a divide reads or writes.
+fn side(low: [u16; 8], input: u16, output: u16, loaded: bool) -> Side {
+    Side {
+        accumulators: [[0; 8], [0; 8], low],
+        flags: [0; 3],
+        divider: Divider {
+            input,
+            output,
+            loaded,
+        },
+    }
 }
 
 #[test]
-fn quotients_of_signed_numbers(rt: HostRuntime) {
-    for (x, quotient) in RECIPROCALS {
-        assert_eq!(rt;
-            reciprocal(x as i32).cast_unsigned(),
-            quotient,
-            "reciprocal of {x}"
+fn quotients_of_short_operands(rt: HostRuntime) -> Result<(), AllocError> {
+    let mut both = Both::new(&rt, rt.alloc())?;
+    for (function, x, quotient) in QUOTIENTS {
+        let value = if function == VRCP {
+            reciprocal(i32::from(x))
+        } else {
+            root(i32::from(x))
+        };
+        let lanes = [x.cast_unsigned(); 8];
+        let [output, result] = [(quotient >> 16) as u16, (quotient & 0xffff) as u16];
+        let case = Case {
+            word: word_of(function, 0, 5),
+            operands: [[0; 8], lanes],
+            before: side([0; 8], 0, 0, false),
+            after: side(lanes, 0, output, false),
+            result: [7, 7, 7, 7, 7, result, 7, 7],
+        };
+        assert!(rt;
+            value.cast_unsigned() == quotient && both.agree(&case),
+            "{x}"
         );
     }
-    for (x, quotient) in ROOTS {
-        assert_eq!(rt; root(x as i32).cast_unsigned(), quotient, "root of {x}");
-    }
+    Ok(())
 }
 
-/// A register of sevens and the low accumulators, after a row.
-fn after_row<A: Acc + Drop>(
-    op: DivideOp,
-    e: usize,
-    de: usize,
-    vt: &VReg,
-    divider: &mut Divider,
-) -> (VReg, VReg)
-    requires element { e < 16 }
-    requires lane { de < 8 }
-{
-    let mut vd = VReg::splat(7);
-    let mut acc = A::zero();
-    divide_op(op, e, de, vt, &mut vd, divider, &mut acc);
-    (vd, acc.part(Part::Low))
-}
+/// Instructions with long operands, which read these lanes.
+const LONG: [u16; 8] = [1, 0, 3, 0, 0, 0, 0, 9];
 
-fn divides_short_operands<A: Acc + Drop>(rt: &impl Abort) {
-    for (op, table) in [
-        (DivideOp::Vrcp, &RECIPROCALS[..]),
-        (DivideOp::Vrsq, &ROOTS[..]),
+#[test]
+fn quotients_of_long_operands(rt: HostRuntime) -> Result<(), AllocError> {
+    let mut both = Both::new(&rt, rt.alloc())?;
+    for (word, before, after, result) in [
+        (
+            word_of(VRCPH, 8, 2),
+            side([0; 8], 0, 0, false),
+            side([1; 8], 1, 0, true),
+            [7, 7, 0, 7, 7, 7, 7, 7],
+        ),
+        (
+            word_of(VRCPL, 9, 3),
+            side([1; 8], 1, 0, true),
+            side([0; 8], 1, 0, false),
+            [7, 7, 7, 0x7fff, 7, 7, 7, 7],
+        ),
+        (
+            word_of(VRCPL, 2, 4),
+            side([0; 8], 0x1234, 0, false),
+            side([1, 1, 3, 3, 0, 0, 0, 0], 0x1234, 0x2aaa, false),
+            [7, 7, 7, 7, 0xa000, 7, 7, 7],
+        ),
     ] {
-        let function = op as u32;
-        for (x, quotient) in table.iter() {
-            let vt = VReg::splat(x.cast_unsigned());
-            let mut divider = Divider::new();
-            let (vd, low) = after_row::<A>(op, 0, 5, &vt, &mut divider);
-            assert_eq!(rt;
-                vd.lane(5) as u32,
-                *quotient % 65536,
-                "function {function:02x} of {x}"
-            );
-            assert_eq!(rt;
-                divider.output as u32,
-                *quotient / 65536,
-                "function {function:02x} of {x}"
-            );
-            assert_eq!(rt; low, vt);
-        }
+        let operands = [[0; 8], LONG];
+        let case = Case {
+            word,
+            operands,
+            before,
+            after,
+            result,
+        };
+        assert!(rt; both.agree(&case), "{word:08x}");
     }
-}
-
-fn divides_long_operands<A: Acc + Drop>(rt: &impl Abort) {
-    let vt = VReg::from_array([1, 0, 3, 0, 0, 0, 0, 9]);
-    let mut divider = Divider::new();
-    let (vd, low) = after_row::<A>(DivideOp::Vrcph, 8, 2, &vt, &mut divider);
-    assert_eq!(rt; vd, VReg::from_array([7, 7, 0, 7, 7, 7, 7, 7]));
-    assert_eq!(rt; low, VReg::splat(1));
-    assert_eq!(rt; (divider.input, divider.loaded), (1, true));
-    let (vd, low) = after_row::<A>(DivideOp::Vrcpl, 9, 3, &vt, &mut divider);
-    assert_eq!(rt; vd.lane(3), 0x7fff);
-    assert_eq!(rt; low, VReg::splat(0));
-    assert_eq!(rt; (divider.output, divider.loaded), (0, false));
-    divider.input = 0x1234;
-    let (vd, low) = after_row::<A>(DivideOp::Vrcpl, 2, 4, &vt, &mut divider);
-    assert_eq!(rt; vd.lane(4), 0xa000);
-    assert_eq!(rt; low, VReg::from_array([1, 1, 3, 3, 0, 0, 0, 0]));
-    assert_eq!(rt;
-        (divider.input, divider.output, divider.loaded),
-        (0x1234, 0x2aaa, false)
-    );
-}
-
-#[test]
-fn rows_over_plain_accumulators(rt: HostRuntime) {
-    divides_short_operands::<PlainAcc>(&rt);
-    divides_long_operands::<PlainAcc>(&rt);
-}
-
-#[test]
-fn rows_over_planes(rt: HostRuntime) {
-    divides_short_operands::<PlaneAcc>(&rt);
-    divides_long_operands::<PlaneAcc>(&rt);
+    Ok(())
 }

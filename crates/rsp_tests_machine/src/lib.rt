@@ -10,10 +10,6 @@ mod all_registers;
 #[cfg(test)]
 mod both_accumulators;
 #[cfg(test)]
-mod clip;
-#[cfg(test)]
-mod compare;
-#[cfg(test)]
 mod debugger;
 #[cfg(test)]
 mod disassembly;
@@ -22,20 +18,14 @@ mod divide;
 #[cfg(test)]
 mod machine;
 #[cfg(test)]
-mod machine_view;
+mod machines;
 #[cfg(test)]
 mod memory;
-#[cfg(test)]
-mod mpeg;
-#[cfg(test)]
-mod multiply;
 #[cfg(test)]
 mod out_of_memory;
 #[cfg(test)]
 mod random;
 #[cfg(test)]
-mod readers;
-#[cfg(test)]
 mod undo;
 #[cfg(test)]
-mod vector_words;
+mod worked;

@@ -12,17 +12,13 @@ fn images_have_whole_sizes(rt: HostRuntime) -> Result<(), AllocError> {
         return Ok(());
     };
     bytes = refused.bytes;
-    assert_eq!(rt; bytes.len(), 60);
+    assert!(rt; bytes.len() == 60);
     bytes.extend_from_slice(&[0; 4])?;
-    let Ok(mut image) = Rdram::from_bytes(bytes) else {
-        assert!(rt; false, "64 bytes are an image");
-        return Ok(());
-    };
+    let image = Rdram::from_bytes(bytes).ok();
+    let mut image = image.expect(&rt, "64 bytes are an image");
     image.set_byte(0x100_0001, 0xaa);
     image.set_byte(64, 0xbb);
-    assert_eq!(rt; image.byte(1), 0xaa);
-    assert_eq!(rt; image.byte(64), 0);
-    assert_eq!(rt; image.len(), 64);
-    assert_eq!(rt; image.into_bytes()[59], 60);
+    let is_held = image.byte(1) == 0xaa && image.byte(64) == 0 && image.len() == 64;
+    assert!(rt; is_held && image.into_bytes()[59] == 60);
     Ok(())
 }

@@ -1,10 +1,9 @@
-use crate::machine_view::{MachineView, code_of};
+use crate::machines::machine_of;
 use crate::random::Random;
-use crate::vector_words::{control_words, register_load};
 use rsp_acc::{Acc, PlainAcc, PlaneAcc};
 use rsp_decode::table;
-use rsp_machine::{Machine, Record, StepEnd};
-use rsp_memory::{Bank, Rdram};
+use rsp_machine::{AllRegisters, Machine, Record, StepEnd};
+use rsp_memory::Bank;
 use std::alloc::{AllocError, Global};
 use std::process::Abort;
 
@@ -24,174 +23,141 @@ fn any_word(random: &mut Random) -> u32 {
     }
 }
 
-/// The words that load all registers from DMEM and set all flags.
-fn head(alloc: Global, random: &mut Random) -> Result<Vec<u32>, AllocError> {
-    let mut words = Vec::new(alloc);
-    for n in 0..3 {
-        for word in control_words(n, random.lane()) {
-            words.push(word)?;
-        }
+/// Words that look random.
+fn any_words(random: &mut Random) -> [u32; 64] {
+    let mut words = [0; 64];
+    for i in 0..64 {
+        words[i] = any_word(random);
     }
-    for n in 1..32u32 {
-        // lw $n, 4 n($0)
-        words.push(0x8c00_0000 | (n & 31) << 16 | (n & 31) << 2)?;
-    }
-    for n in 0..32 {
-        words.push(register_load(n))?;
-    }
-    Ok(words)
+    words
 }
 
-/// Puts words into IMEM, from 0 on.
-fn put_words<A: Acc>(rt: &impl Abort, machine: &mut Machine<A>, words: &[u32]) {
-    let mut at: u32 = 0;
-    for word in words {
-        assert_eq!(rt;
-            machine.load_bytes(Bank::Imem, at, &word.to_be_bytes()),
-            Ok(())
-        );
-        at = at.wrapping_add(4);
-    }
-}
-
-/// A machine with random bytes in the first 512 bytes of DMEM, and all registers and flags loaded. Its pc is at the first of the
-/// given words.
-fn machine_of<A: Acc>(
+/// A machine at the first of these words, with this in SP_STATUS, all registers and flags loaded, and random lanes in the first 512
+/// bytes of DMEM.
+fn loaded<A: Acc>(
     rt: &impl Abort,
     alloc: Global,
     random: &mut Random,
     words: &[u32],
+    status: u32,
 ) -> Result<Machine<A>, AllocError> {
-    let mut bytes = Vec::new(alloc);
-    bytes.resize(64, 0x5a)?;
-    let image = Rdram::from_bytes(bytes).ok();
-    let mut machine = Machine::new(image.expect(rt, "64 bytes are an image"));
-    let mut at: u32 = 0;
-    for _ in 0..256 {
-        assert_eq!(rt;
-            machine.load_bytes(Bank::Dmem, at, &random.lane().to_be_bytes()),
-            Ok(())
-        );
-        at = at.wrapping_add(2);
+    let mut machine = machine_of(rt, alloc, words)?;
+    let given = random.registers(machine.all_registers().sp);
+    assert!(rt; machine.set_all_registers(&given).is_ok());
+    for i in 0..4 {
+        let lanes = random.scalars();
+        assert!(rt; machine.load_words(Bank::Dmem, 128 * i, &lanes).is_ok());
     }
-    let mut all = head(alloc, random)?;
-    let loads = all.len();
-    all.extend_from_slice(words)?;
-    put_words(rt, &mut machine, all.as_slice());
-    for _ in 0..loads {
-        assert_eq!(rt; machine.step(), StepEnd::Done);
-    }
+    machine.write_reg(4, status);
     Ok(machine)
 }
 
-/// The steps of a machine: an undo record of each, and what the machine showed before it.
+/// All that a machine shows.
 #[derive(Drop)]
-struct Trail {
-    records: Vec<Record>,
-    shown: Vec<MachineView>,
+struct Shown {
+    registers: AllRegisters,
+    dmem: [u8; 4096],
+    imem: [u8; 4096],
+    image: [u8; 128],
 }
 
-/// Makes steps until one isn't Done. A step that starts a DMA has no record, and the trail begins after it.
-fn walk<A: Acc>(alloc: Global, machine: &mut Machine<A>) -> Result<Trail, AllocError> {
-    let mut trail = Trail {
-        records: Vec::new(alloc),
-        shown: Vec::new(alloc),
-    };
+/// The bytes of the image.
+fn image_of<A: Acc>(machine: &Machine<A>) -> [u8; 128] {
+    let mut bytes = [0; 128];
+    for i in 0..128u32 {
+        bytes[i as usize] = machine.rdram().byte(i);
+    }
+    bytes
+}
+
+impl Shown {
+    /// What a machine shows now.
+    fn of<A: Acc>(machine: &Machine<A>) -> Shown {
+        Shown {
+            registers: machine.all_registers(),
+            dmem: *machine.dmem().bytes(),
+            imem: *machine.imem().bytes(),
+            image: image_of(machine),
+        }
+    }
+
+    /// Whether a machine shows the same now.
+    fn is_seen<A: Acc>(&self, machine: &Machine<A>) -> bool {
+        machine.all_registers() == self.registers
+            && machine.dmem().bytes()[..] == self.dmem[..]
+            && machine.imem().bytes()[..] == self.imem[..]
+            && machine.rdram().bytes() == &self.image[..]
+    }
+}
+
+/// Makes steps until one isn't Done, and returns what the machine showed before each, and its record. A step that starts a DMA has no
+/// record, and the list begins after it.
+fn walk<A: Acc>(
+    alloc: Global,
+    machine: &mut Machine<A>,
+) -> Result<Vec<(Shown, Record)>, AllocError> {
+    let mut trail = Vec::new(alloc);
     for _ in 0..STEPS {
-        trail.shown.push(MachineView::of(alloc, machine)?)?;
+        let shown = Shown::of(machine);
         match machine.step_recorded() {
-            (_, Some(record)) => trail.records.push(record)?,
-            (StepEnd::Done, None) => {
-                trail.records.clear();
-                trail.shown.clear();
-            }
-            (_, None) => {
-                let _ = trail.shown.pop();
-                return Ok(trail);
-            }
+            (_, Some(record)) => trail.push((shown, record))?,
+            (StepEnd::Done, None) => trail.clear(),
+            (_, None) => return Ok(trail),
         }
     }
     Ok(trail)
 }
 
-/// Undoes a trail step by step, each to what was seen on the way, and answers how many steps it had.
-fn go_back<A: Acc>(
-    rt: &impl Abort,
-    alloc: Global,
-    machine: &mut Machine<A>,
-    trail: Trail,
-) -> Result<usize, AllocError> {
-    let Trail { records, shown } = trail;
-    let code = code_of(alloc, machine)?;
-    assert_eq!(rt; records.len(), shown.len());
-    for (record, before) in records.iter().zip(shown.iter()).rev() {
-        machine.undo(record);
-        assert!(rt; before.is_same(&MachineView::of(alloc, machine)?));
-    }
-    assert_eq!(rt; code_of(alloc, machine)?.as_slice(), code.as_slice());
-    Ok(records.len())
-}
-
-/// Runs a program of random words, and undoes as many steps as possible.
+/// Runs a program of random words, and undoes as many steps as possible, each to what was seen on the way. Returns how many.
 fn try_program<A: Acc>(
     rt: &impl Abort,
     alloc: Global,
     random: &mut Random,
 ) -> Result<usize, AllocError> {
-    let mut words = Vec::new(alloc);
-    for _ in 0..64 {
-        words.push(any_word(random))?;
-    }
-    let mut machine: Machine<A> = machine_of(rt, alloc, random, words.as_slice())?;
+    let words = any_words(random);
     // Intbreak, and a signal.
-    machine.write_reg(4, 0x0000_0500);
+    let mut machine: Machine<A> = loaded(rt, alloc, random, &words, 0x0500)?;
     let trail = walk(alloc, &mut machine)?;
-    go_back(rt, alloc, &mut machine, trail)
+    for (shown, record) in trail.iter().rev() {
+        machine.undo(record);
+        assert!(rt; shown.is_seen(&machine));
+    }
+    Ok(trail.len())
 }
 
 #[test]
 fn steps_are_undone(rt: HostRuntime) -> Result<(), AllocError> {
-    let alloc = rt.alloc();
     let mut random = Random::new(0x9e37_79b9_7f4a_7c15);
     let mut undone: usize = 0;
-    for n in 0..PROGRAMS {
-        let steps = if n % 4 == 0 {
-            try_program::<PlainAcc>(&rt, alloc, &mut random)?
-        } else {
-            try_program::<PlaneAcc>(&rt, alloc, &mut random)?
-        };
-        undone = undone.saturating_add(steps);
+    for _ in 0..PROGRAMS / 4 {
+        undone = undone.wrapping_add(try_program::<PlainAcc>(&rt, rt.alloc(), &mut random)?);
+        for _ in 0..3 {
+            undone = undone.wrapping_add(try_program::<PlaneAcc>(&rt, rt.alloc(), &mut random)?);
+        }
     }
     assert!(rt; undone > 6_000, "{undone}");
     Ok(())
 }
 
-/// Steps over the first word, and over the second with a record, which then undoes it.
-fn try_row<A: Acc>(
-    rt: &impl Abort,
-    alloc: Global,
-    words: [u32; 2],
-    name: &str,
-) -> Result<(), AllocError> {
+/// Steps over the first word, and over the second with a record, which then undoes it. Returns whether the second step changed more
+/// than the program counters, and all is undone.
+fn is_undone<A: Acc>(rt: &impl Abort, alloc: Global, words: [u32; 2]) -> Result<bool, AllocError> {
     let mut random = Random::new(0x2545_f491_4f6c_dd1d);
-    let mut machine: Machine<A> = machine_of(rt, alloc, &mut random, words.as_slice())?;
     // Intbreak.
-    machine.write_reg(4, 0x100);
-    assert_eq!(rt; machine.step(), StepEnd::Done);
-    let before = MachineView::of(alloc, &machine)?;
-    let (end, record) = machine.step_recorded();
-    assert_eq!(rt; end, StepEnd::Done, "{name}");
-    let record = record.expect(rt, "a record");
-    assert!(rt;
-        before.is_changed(&MachineView::of(alloc, &machine)?),
-        "{name}"
-    );
+    let mut machine: Machine<A> = loaded(rt, alloc, &mut random, &words, 0x0100)?;
+    let is_before = machine.step() == StepEnd::Done;
+    let mut shown = Shown::of(&machine);
+    let (StepEnd::Done, Some(record)) = machine.step_recorded() else {
+        return Ok(false);
+    };
+    let [pc, npc] = [shown.registers.pc, shown.registers.npc];
+    shown.registers.pc = machine.pc();
+    shown.registers.npc = machine.npc();
+    let is_changed = !shown.is_seen(&machine);
+    shown.registers.pc = pc;
+    shown.registers.npc = npc;
     machine.undo(&record);
-    assert!(rt;
-        before.is_same(&MachineView::of(alloc, &machine)?),
-        "{name}"
-    );
-    Ok(())
+    Ok(is_before && is_changed && shown.is_seen(&machine))
 }
 
 #[test]
@@ -215,19 +181,17 @@ fn rows_are_undone(rt: HostRuntime) -> Result<(), AllocError> {
         ([0x3401_0ffb, 0xe822_2000], "sqv $v2[0], 0($1)"),
         ([0x3401_0ff9, 0xe822_1800], "sdv $v2[0], 0($1)"),
     ] {
-        try_row::<PlaneAcc>(&rt, rt.alloc(), words, name)?;
-        try_row::<PlainAcc>(&rt, rt.alloc(), words, name)?;
+        assert!(rt; is_undone::<PlaneAcc>(&rt, rt.alloc(), words)?, "{name}");
+        assert!(rt; is_undone::<PlainAcc>(&rt, rt.alloc(), words)?, "{name}");
     }
     Ok(())
 }
 
 #[test]
 fn no_way_leads_back(rt: HostRuntime) -> Result<(), AllocError> {
-    let alloc = rt.alloc();
-    let mut random = Random::new(0x2545_f491_4f6c_dd1d);
     // mtc0 $0, $c2; mtc0 $0, $c3; mfc0 $1, $c2; break
     let words = [0x4080_1000, 0x4080_1800, 0x4001_1000, 0x0000_000d];
-    let mut machine: Machine<PlaneAcc> = machine_of(&rt, alloc, &mut random, words.as_slice())?;
+    let mut machine: Machine<PlaneAcc> = machine_of(&rt, rt.alloc(), &words)?;
     for (end, is_recorded) in [
         (StepEnd::Done, false),
         (StepEnd::Done, false),
@@ -236,10 +200,10 @@ fn no_way_leads_back(rt: HostRuntime) -> Result<(), AllocError> {
         (StepEnd::Halted, false),
     ] {
         let (answer, record) = machine.step_recorded();
-        assert_eq!(rt; (answer, record.is_some()), (end, is_recorded));
+        assert!(rt; answer == end && record.is_some() == is_recorded);
     }
-    let before = MachineView::of(alloc, &machine)?;
+    let shown = Shown::of(&machine);
     machine.undo(&Record::new());
-    assert!(rt; before.is_same(&MachineView::of(alloc, &machine)?));
+    assert!(rt; shown.is_seen(&machine));
     Ok(())
 }
