@@ -120,11 +120,20 @@ fn is_set<A: Acc>(machine: &mut Machine<A>) -> bool {
     is_taken && are_read && is_kept && is_continued(machine)
 }
 
+/// Whether the planes are the accumulators that were set, the high ones first.
+fn are_planes(acc: &PlaneAcc) -> bool {
+    let [high, middle, low] = acc.planes();
+    let given = registers();
+    high.to_array() == given.accumulators_high
+        && middle.to_array() == given.accumulators_middle
+        && low.to_array() == given.accumulators_low
+}
+
 #[test]
 fn sets_each_part(rt: HostRuntime) -> Result<(), AllocError> {
     let mut planes: Machine<PlaneAcc> = start(&rt, rt.alloc())?;
     let mut plain: Machine<PlainAcc> = start(&rt, rt.alloc())?;
-    assert!(rt; is_set(&mut planes) && is_set(&mut plain));
+    assert!(rt; is_set(&mut planes) && are_planes(planes.acc()) && is_set(&mut plain));
     Ok(())
 }
 
