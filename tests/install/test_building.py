@@ -278,6 +278,19 @@ def test_another_kit(library_tree: Tiny, folder: Path) -> None:
     assert tree.run(C, "broken") == NOTHING
 
 
+@of_library
+def test_over_what_the_gate_proved(library_tree: Tiny, folder: Path) -> None:
+    """`rt ci` leaves libraries without stamps. Here they are in a folder whose name has a blank."""
+    tree = library_tree.copied(folder / "a folder")
+    sources = folder / "sources"
+    sources.write_text(tree.run(["tools/build", "--sources", "rsp_c"]).said)
+    for it in [*(tree.at / "crates").glob("*/out/rlib/stamp"), tree.at / "crates/rsp_c/out/librsp_c.a"]:
+        it.unlink()
+    ran = tree.run([C, "--proved", str(sources)])
+    assert ran.status == 0 and ran.proved == {"rsp_c"}
+    assert tree.run(C, "broken") == NOTHING
+
+
 @of_program
 def test_two_at_once(program_tree: Tiny, folder: Path) -> None:
     """One proves each crate, and the other one waits for it."""

@@ -33,7 +33,7 @@ BUILT = {
     "rsp_main": ("rsp", "rsp_main", "run", 1),
     "rsp_c": ("library/c/build", "librsp_c.a", "lib", PROCESSORS),
 }
-TOOK = "12 minutes on four processors, 17 on two"
+TOOK = "8 to 12 minutes on four processors, 10 to 17 on two"
 
 
 def changed_at(name: str) -> float:
@@ -145,7 +145,7 @@ class Build:
 
         The libraries that it leaves have no stamps, so `rt lib` would prove them all again.
         """
-        words = f"{source} --backend llvm --jobs {PROCESSORS} -o {to}".split()
+        words = [*f"{source} --backend llvm --jobs {PROCESSORS} -o".split(), str(to)]
         words += ["--toolchain", f"{kit_folder()}/toolchain"]
         self.run([*over_libraries("build", self.crate), *words])
 
