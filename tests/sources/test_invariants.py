@@ -3,9 +3,9 @@
 It fails if one is broken, or if an invariant of the page doesn't end with what checks it: a test, the prover,
 the gate or a reader. It runs nothing.
 
-One private loop makes all steps; `std::simd` and `unsafe` are where the page says, and the vectors hold nothing
-else; three matches inspect an instruction while a step executes it; no definition of the main theorem is called
-scaffolding.
+One private loop makes all steps; `std::simd` and `unsafe` are where the page says; the vectors hold nothing
+else; three matches inspect an instruction while a step executes it; no definition of the main theorem is
+called scaffolding.
 """
 
 import re
