@@ -2,7 +2,7 @@ use crate::worked::{Both, Case, Side};
 use rsp_divide::{Divider, rcp_entry, reciprocal, root, rsq_entry};
 use std::alloc::AllocError;
 
-/// Functions of divide instructions.
+// The functions of divide instructions.
 const VRCP: u16 = 0x30;
 
 const VRCPL: u16 = 0x31;

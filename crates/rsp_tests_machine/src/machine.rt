@@ -8,8 +8,8 @@ use std::alloc::AllocError;
 /// addiu $1, $1, 1
 const UP: u32 = 0x2421_0001;
 
-/// SP_STATUS, an address from which three words stand, which may wrap, the words, how many steps are asked for and made, pc and npc
-/// then, register 1, and whether the machine is halted.
+/// SP_STATUS, the address of the first of three words (they may wrap), the words, how many steps are wanted and made, and then pc
+/// and npc, register 1, and whether the machine is halted.
 const RUNS: [(u32, u16, [u32; 3], u64, u64, [u16; 2], u32, bool); 9] = [
     // addiu; j 0; addiu
     (0, 0, [UP, 0x0800_0000, UP], 7, 7, [4, 8], 5, false),

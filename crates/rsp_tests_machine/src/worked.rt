@@ -10,7 +10,7 @@ use rsp_memory::Bank;
 use std::alloc::{AllocError, Global};
 use std::process::Abort;
 
-/// Functions of vector instructions.
+// The functions of vector instructions.
 const VMULF: u16 = 0x00;
 
 const VMULU: u16 = 0x01;

@@ -2,7 +2,8 @@ use rsp_bench::{Session, parse_line};
 use rsp_memory::Rdram;
 use std::test::Fail;
 
-/// A line, whether it is read as one of a block, its reply, and what a script that ends after it is told: nothing if no block is open.
+/// A line, whether it is read as one of a block, its reply, and the last reply of a script that ends after it, which is empty if no
+/// block is open.
 type Line = (&'static str, bool, &'static str, &'static str);
 
 const LINES: &[Line] = &[
