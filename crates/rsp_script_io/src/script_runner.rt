@@ -1,5 +1,7 @@
-ghost use Rattle.std.specs.Prelude.{◌≡◌, ◌+◌, ◌-◌, ◌<◌, ◌^◌};
+ghost use Rattle.std.specs.Prelude.{◌≡◌, ◌+◌, ◌-◌, ◌<◌, ◌^◌, length, IfSome, IsErrOf};
 ghost use Rattle.rsp_script_io.specs.Faults.{failed_reads, failed_writes};
+ghost use Rattle.rsp_script_io.specs.EarlyEnd.{TakesAtMost, Takes};
+ghost use Rattle.rsp_script_io.specs.Feeds.{script_limit};
 
 use crate::run::RunFault;
 use crate::sink::Sink;
@@ -22,5 +24,8 @@ pub trait ScriptRunner {
         requires source { R.fault_count source.old < 2 ^ 64 - 1 }
         requires sink { W.fault_count sink.old < 2 ^ 64 - 1 }
         ensures reads { R.fault_count source.new ≡ R.fault_count source.old + failed_reads result }
-        ensures writes { W.fault_count sink.new ≡ W.fault_count sink.old + failed_writes result };
+        ensures writes { W.fault_count sink.new ≡ W.fault_count sink.old + failed_writes result }
+        ensures long { IfSome (R.rest source.old) (λ script. IsErrOf result RunFault.ScriptTooLong → script_limit < length script) }
+        ensures past { IsErrOf result RunFault.ScriptTooLong → Takes (script_limit + 1) (R.rest source.old) (R.rest source.new) }
+        ensures few { TakesAtMost (script_limit + 1) (R.rest source.old) (R.rest source.new) };
 }
