@@ -1,10 +1,11 @@
 -- A run of a script: what is written, and how it ends.
-use Rattle.std.specs.Prelude.{ℕ, List, Result, Ok, Err}
+use Rattle.std.specs.Prelude.{◌≡◌, ◌⊎◌, ℕ, List, Result, Ok, Err}
 use Rattle.std.specs.Str.Lines.{lines}
 use Rattle.rsp_script_io.specs.Replies.{final, written_of}
+use Rattle.rsp_script_io.specs.EarlyEnd.{ScriptRun, NoMemoryLeft}
 use Rattle.rsp_script_io.specs.declared.run.RunFault.{RunFault}
 use Rattle.rsp_script_io.specs.declared.run.RunFault.TheVariants as faults
-use Rattle.rsp_bench.specs.Session.{SessionState, line_answer, end_reply, first_session}
+use Rattle.rsp_bench.specs.Session.{SessionState, line_answer, end_reply, first_session, in_block}
 use Rattle.rsp_bench.specs.declared.run.BenchEnd.{BenchEnd}
 use Rattle.rsp_bench.specs.declared.run.BenchEnd.TheVariants.{Finished, ReadFault, WriteFault, ScriptTooLong, OutOfMemory}
 
@@ -32,3 +33,8 @@ IfFinished ReadFault p = Unit {0}
 IfFinished WriteFault p = Unit {0}
 IfFinished ScriptTooLong p = Unit {0}
 IfFinished OutOfMemory p = Unit {0}
+
+-- why a run is out of memory: there was none for the session, and nothing was read or written; or there was none to answer a line, before
+-- which a block was open
+abbrev pub LacksMemory : ScriptRun SessionState → Type 0
+LacksMemory r = ((r.unread ≡ r.script) × (r.written ≡ r.before)) ⊎ NoMemoryLeft in_block r

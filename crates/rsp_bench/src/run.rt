@@ -3,7 +3,7 @@ ghost use Rattle.std.specs.Io.KnownBytes.{append_known};
 ghost use Rattle.rsp_script_io.specs.Faults.{failed_reads, failed_writes};
 ghost use Rattle.rsp_script_io.specs.EarlyEnd.{TakesAtMost, Takes, LeavesWritten};
 ghost use Rattle.rsp_script_io.specs.Feeds.{script_limit};
-ghost use Rattle.rsp_bench.specs.Run.{out_of, session_of, outcome, IfFinished};
+ghost use Rattle.rsp_bench.specs.Run.{out_of, session_of, outcome, IfFinished, LacksMemory};
 ghost use Rattle.rsp_bench.specs.Session.{line_answer, end_reply, first_session};
 
 use crate::session::Session;
@@ -56,6 +56,17 @@ pub fn run_bench<R: Source, W: Sink>(
 
     // What a run that ends early has written.
     ensures left { LeavesWritten (outcome result) (record {
+      answer_to = line_answer;
+      end_reply = end_reply;
+      session = first_session image;
+      script = R.rest source.old;
+      unread = R.rest source.new;
+      before = W.written sink.old;
+      written = W.written sink.new;
+    }) }
+
+    // A run out of memory had none for its session, or for a line of an open block or its end.
+    ensures memory { result ≡ BenchEnd.OutOfMemory → LacksMemory (record {
       answer_to = line_answer;
       end_reply = end_reply;
       session = first_session image;

@@ -3,7 +3,7 @@ ghost use Rattle.std.specs.Io.KnownBytes.{append_known};
 ghost use Rattle.rsp_script_io.specs.Faults.{failed_reads, failed_writes};
 ghost use Rattle.rsp_script_io.specs.EarlyEnd.{TakesAtMost, Takes, LeavesWritten};
 ghost use Rattle.rsp_script_io.specs.Feeds.{script_limit};
-ghost use Rattle.rsp_bench.specs.Run.{out_of, session_of};
+ghost use Rattle.rsp_bench.specs.Run.{out_of, session_of, LacksMemory};
 ghost use Rattle.rsp_bench.specs.Session.{line_answer, end_reply, first_session};
 
 use crate::run::{BenchEnd, run_bench};
@@ -35,6 +35,15 @@ impl ScriptRunner for MachineRunner {
         ensures past { IsErrOf result RunFault.ScriptTooLong → Takes (script_limit + 1) (R.rest source.old) (R.rest source.new) }
         ensures few { TakesAtMost (script_limit + 1) (R.rest source.old) (R.rest source.new) }
         ensures left { LeavesWritten result (record {
+          answer_to = line_answer;
+          end_reply = end_reply;
+          session = first_session image;
+          script = R.rest source.old;
+          unread = R.rest source.new;
+          before = W.written sink.old;
+          written = W.written sink.new;
+        }) }
+        ensures memory { IsErrOf result RunFault.OutOfMemory → LacksMemory (record {
           answer_to = line_answer;
           end_reply = end_reply;
           session = first_session image;

@@ -2,9 +2,10 @@
 use Rattle.std.proofs.Common.{◌≡◌, ℕ, ◌+◌, List, [], ◌∷◌, ◌++◌, Option, ◌<◌, length, take, drop, refl, sym, ◌∙◌, ap, arith, append_assoc, length-append, length-take}
 use Rattle.std.proofs.lemmas.List.{append-nil, take_all, take_at, take-append-drop}
 use Rattle.std.specs.List.{position_or_len, before_first, after_first}
+use Rattle.std.specs.Prelude.{Bool, true}
 use Rattle.std.specs.Io.KnownBytes.{append_known}
 use Rattle.std.specs.Str.Lines.{strip_carriage_return}
-use Rattle.rsp_script_io.specs.Pieces.{PieceAnswered}
+use Rattle.rsp_script_io.specs.Pieces.{PieceAnswered, NoMemoryIn}
 use Rattle.rsp_script_io.specs.EarlyEnd.{WritesPrefix}
 use Rattle.rsp_script_io.specs.Lines.{is_newline, ended_after, open_after, kept, IsSameOrLong}
 use Rattle.rsp_script_io.specs.Replies.{Answer, LongLinesAlike, replies, final}
@@ -152,3 +153,46 @@ module _ {S : Type 0} (answer_to : List ℕ → S → Answer S) (alike : LongLin
       → WritesPrefix now new (replies answer_to (ended_after mid (take n rest)) t) → WritesPrefix old new (replies answer_to (ended_after line piece) s)
   leads-front {mid = mid} {after = after} {t = t} {u = u} n piece rest h next e f =
       prefix-along h.written.whole (prefix-then h.written.prefix h.written.grows (prefix-along (front-replies n mid after rest t u next e) (prefix-first _ f)))
+
+  -- a piece of which a front was answered
+  pub record Done (old new : Option (List ℕ)) (line mid : List ℕ) (s t : S) (piece rest : List ℕ) : Type 0 where
+    pub front : List ℕ
+    pub whole : front ++ rest ≡ piece
+    pub answers : PieceAnswered answer_to old new line mid s t front
+
+  pub done-none : (w : Option (List ℕ)) (line piece : List ℕ) (s : S) → Done w w line line s s piece piece
+  done-none w line piece s = record { front = []; whole = refl; answers = answers-none w line s }
+
+  pub done-more : {old now new : Option (List ℕ)} {line mid after : List ℕ} {s t u : S} (n : ℕ) (piece rest : List ℕ) → Done old now line mid s t piece rest
+      → new ≡ append_known now (replies answer_to (ended_after mid (take n rest)) t) → u ≡ final answer_to (ended_after mid (take n rest)) t
+      → after ≡ kept (open_after mid (take n rest)) → Done old new line after s u piece (drop n rest)
+  done-more {mid = mid} {after = after} n piece rest h w next e = record {
+    front = h.front ++ take n rest;
+    whole = append_assoc h.front (take n rest) (drop n rest) ∙ ap (λ r. h.front ++ r) (take-append-drop n rest) ∙ h.whole;
+    answers = answers-then h.front (take n rest) h.answers (record { written = w; session = next; last = ap kept e ∙ kept-kept (open_after mid (take n rest)) });
+  }
+
+  -- and there was no memory for what follows
+  pub done-short : {old now new : Option (List ℕ)} {line mid : List ℕ} {s t : S} {piece rest : List ℕ} (may_allocate : S → Bool) → Done old now line mid s t piece rest
+      → new ≡ now → may_allocate t ≡ true → NoMemoryIn answer_to may_allocate old new line s piece
+  done-short {rest = rest} may_allocate h same may = record {
+    front = h.front;
+    back = rest;
+    whole = h.whole;
+    written = same ∙ h.answers.written;
+    allocates = ap may_allocate (sym h.answers.session) ∙ may;
+  }
+
+  -- of two pieces, the first of which was answered
+  pub short-then : {old now new : Option (List ℕ)} {line mid : List ℕ} {s t : S} (a b : List ℕ) (may_allocate : S → Bool) → PieceAnswered answer_to old now line mid s t a
+      → NoMemoryIn answer_to may_allocate now new mid t b → NoMemoryIn answer_to may_allocate old new line s (a ++ b)
+  short-then {old = old} {line = line} {mid = mid} {s = s} {t = t} a b may_allocate h f = record {
+    front = a ++ f.front;
+    back = f.back;
+    whole = append_assoc a f.front f.back ∙ ap (λ r. a ++ r) f.whole;
+    written =
+        f.written ∙ ap (λ w. append_known w (replies answer_to (ended_after mid f.front) t)) h.written
+        ∙ append_known-append old (replies answer_to (ended_after line a) s) (replies answer_to (ended_after mid f.front) t)
+        ∙ ap (append_known old) (replies-pieces line mid a f.front s t h.last h.session);
+    allocates = ap may_allocate (sym (final-pieces line mid a f.front s t h.last h.session)) ∙ f.allocates;
+  }

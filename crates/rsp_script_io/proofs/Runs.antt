@@ -1,7 +1,7 @@
 -- How far a run came.
-use Rattle.std.proofs.Common.{◌≡◌, ◌≤◌, ◌<◌, ◌+◌, ◌-◌, ℕ, List, [], ◌++◌, min, Option, Some, None, IfSome, Err, length, take, refl, sym, ◌∙◌, ap, inl, inr, arith, append_assoc, length-append, length-take, ◌⊎◌}
+use Rattle.std.proofs.Common.{◌≡◌, ◌≤◌, ◌<◌, ◌+◌, ◌-◌, ℕ, List, [], ◌++◌, min, Option, Some, None, IfSome, Err, Bool, true, length, take, drop, refl, sym, ◌∙◌, ap, inl, inr, arith, append_assoc, length-append, length-take, ◌⊎◌}
 use Rattle.std.proofs.Math.Seq.{take-append-add}
-use Rattle.std.proofs.lemmas.List.{append-nil, take_all, take-append-le, take-take}
+use Rattle.std.proofs.lemmas.List.{append-nil, take_all, take-append-le, take-append-drop, take-take}
 use Rattle.std.proofs.lemmas.Bool.{cases_lt}
 use Rattle.std.proofs.lemmas.Option.{none-some}
 use Rattle.std.specs.Io.KnownBytes.{append_known, prepend_known, IsAtEnd}
@@ -10,12 +10,12 @@ use Rattle.rsp_script_io.specs.Feeds.{script_limit}
 use Rattle.rsp_script_io.specs.declared.run.RunFault.{RunFault}
 use Rattle.rsp_script_io.specs.declared.run.RunFault.TheVariants.{ReadFault, WriteFault, ScriptTooLong, OutOfMemory}
 use Rattle.rsp_script_io.specs.Faults.{IsAnswerFault}
-use Rattle.rsp_script_io.specs.Pieces.{PieceAnswered}
-use Rattle.rsp_script_io.specs.EarlyEnd.{WritesPrefix, TakesAtMost, Takes, ScriptRun, EndedLinesWritten, PrefixWritten, LeavesWritten}
+use Rattle.rsp_script_io.specs.Pieces.{PieceAnswered, NoMemoryIn}
+use Rattle.rsp_script_io.specs.EarlyEnd.{WritesPrefix, TakesAtMost, Takes, ScriptRun, EndedLinesWritten, PrefixWritten, LeavesWritten, NoMemoryLeft}
 use Rattle.rsp_script_io.specs.Lines.{ended_lines, ended_after, open_after, last_line, kept}
 use Rattle.rsp_script_io.specs.Replies.{Answer, LongLinesAlike, replies, final, written_of}
 use Rattle.rsp_script_io.proofs.LongLineReplies.{SameReplies, alike-last}
-use Rattle.rsp_script_io.proofs.PieceAnswers.{answers-none, answers-then, answers-front}
+use Rattle.rsp_script_io.proofs.PieceAnswers.{answers-none, answers-then, answers-front, short-then}
 use Rattle.rsp_script_io.proofs.KnownEnds.{append_known-append, prepend_known-append, prepend_known-nil}
 use Rattle.rsp_script_io.proofs.Prefixes.{prefix-along, prefix-then}
 use Rattle.rsp_script_io.proofs.Pieces.{ended_lines-after, lines-ended}
@@ -197,4 +197,41 @@ module _ {S : Type 0} (answer_to : List ℕ → S → Answer S) (end_reply : S �
         taken = h.taken;
         told = h.told ∙ ap (prepend_known h.taken) (e ∙ prepend_known-nil _);
         prefix = inr (d, prefix-along (out-pieces h.taken l s t a.last a.session) (prefix-then (replies answer_to (ended_after [] h.taken) s) a.written f));
+      }
+
+  -- there was no memory for a line that ended in a piece
+  pub progress-short : {r u v w x y : Option (List ℕ)} {l : List ℕ} {s t : S} {total : ℕ} (may_allocate : S → Bool) (piece within : List ℕ) → Progress answer_to r u w x l s t total
+      → u ≡ prepend_known piece v → total ≤ script_limit → within ≡ take (script_limit - total) piece
+      → NoMemoryIn answer_to may_allocate x y l t within
+      → NoMemoryLeft may_allocate (record { answer_to = answer_to; end_reply = end_reply; session = s; script = r; unread = v; before = w; written = y })
+  progress-short {v = v} {w = w} {y = y} {s = s} {total = total} may_allocate piece within h e few cut f =
+      let first : List ℕ = take script_limit h.taken in
+      let same : first ≡ h.taken = limit_all h.taken (omega (arith, h.count)) in
+      let k : NoMemoryIn answer_to may_allocate w y [] s (first ++ within) = short-then answer_to alike first within may_allocate h.answers f in
+      let rest : List ℕ = drop (script_limit - total) piece in
+      let whole : k.front ++ (k.back ++ rest) ≡ h.taken ++ piece =
+      sym (append_assoc k.front k.back rest) ∙ ap (λ b. b ++ rest) k.whole ∙ append_assoc first within rest ∙ ap (λ b. b ++ (within ++ rest)) same
+      ∙ ap (λ b. h.taken ++ b) (ap (λ b. b ++ rest) cut ∙ take-append-drop (script_limit - total) piece) in
+      record {
+        front = k.front;
+        back = k.back ++ rest;
+        told = h.told ∙ ap (prepend_known h.taken) e ∙ prepend_known-append _ h.taken piece ∙ ap (λ b. prepend_known b v) (sym whole);
+        few = omega (arith, h.count, ap length k.whole, length-append k.front k.back, length-append first within, ap length cut, length-take (script_limit - total) piece, ap length same);
+        written = k.written ∙ ap (λ ls. append_known w (replies answer_to ls s)) (sym (ended_lines-after k.front));
+        allocates = ap (λ ls. may_allocate (final answer_to ls s)) (ended_lines-after k.front) ∙ k.allocates;
+      }
+
+  -- or for the last line, which no newline ended
+  pub progress-end_short : {r u v w x y : Option (List ℕ)} {l : List ℕ} {s t : S} {total : ℕ} (may_allocate : S → Bool) → Progress answer_to r u w x l s t total
+      → u ≡ prepend_known [] v → total ≤ script_limit → (y ≡ x) × (may_allocate t ≡ true)
+      → NoMemoryLeft may_allocate (record { answer_to = answer_to; end_reply = end_reply; session = s; script = r; unread = v; before = w; written = y })
+  progress-end_short {v = v} {w = w} {x = x} {l = l} {s = s} {t = t} may_allocate h e few f =
+      let a : PieceAnswered answer_to w x [] l s t h.taken = rw (← limit_all h.taken (omega (arith, h.count))) h.answers in
+      record {
+        front = h.taken;
+        back = [];
+        told = h.told ∙ ap (prepend_known h.taken) (e ∙ prepend_known-nil _) ∙ ap (λ b. prepend_known b v) (sym (append-nil h.taken));
+        few = omega (arith, h.count);
+        written = f.0 ∙ a.written ∙ ap (λ ls. append_known w (replies answer_to ls s)) (sym (ended_lines-after h.taken));
+        allocates = ap (λ ls. may_allocate (final answer_to ls s)) (ended_lines-after h.taken) ∙ ap may_allocate (sym a.session) ∙ f.1;
       }

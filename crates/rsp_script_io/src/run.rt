@@ -2,7 +2,7 @@ ghost use Rattle.std.specs.Prelude.{◌≡◌, ℕ, ◌+◌, ◌-◌, ◌<◌, �
 ghost use Rattle.std.specs.Io.KnownBytes.{append_known};
 ghost use Rattle.std.specs.Str.Lines.{lines};
 ghost use Rattle.rsp_script_io.specs.Faults.{failed_reads, failed_writes};
-ghost use Rattle.rsp_script_io.specs.EarlyEnd.{TakesAtMost, Takes, LeavesWritten};
+ghost use Rattle.rsp_script_io.specs.EarlyEnd.{TakesAtMost, Takes, LeavesWritten, NoMemoryLeft};
 ghost use Rattle.rsp_script_io.specs.Feeds.{script_limit};
 ghost use Rattle.rsp_script_io.specs.Replies.{final, written_of};
 
@@ -59,6 +59,17 @@ pub fn answer_script<S: LineHandler, R: Source, W: Sink>(
 
     // What a run that ends early has written.
     ensures left { LeavesWritten result (record {
+      answer_to = S.answer_to;
+      end_reply = S.end_reply;
+      session = session.old;
+      script = R.rest source.old;
+      unread = R.rest source.new;
+      before = W.written sink.old;
+      written = W.written sink.new;
+    }) }
+
+    // Out of memory comes only at a line that may need some.
+    ensures memory { IsErrOf result RunFault.OutOfMemory → NoMemoryLeft S.may_allocate (record {
       answer_to = S.answer_to;
       end_reply = S.end_reply;
       session = session.old;

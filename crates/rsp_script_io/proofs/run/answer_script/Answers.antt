@@ -1,7 +1,7 @@
 use Rattle.std.proofs.Common.{◌≡◌, [], refl, arith, length-take}
 use Rattle.std.specs.Io.KnownBytes.{prepend_known, IsAtEnd}
 use Rattle.std.proofs.lemmas.Result.{err_from_is_err_and}
-use Rattle.rsp_script_io.proofs.Runs.{if_some, left_answer, read_cut, progress-more, progress-within, progress-ended, progress-front, progress-few, progress-past, progress-long, progress-end, progress-end_front}
+use Rattle.rsp_script_io.proofs.Runs.{if_some, left_answer, read_cut, progress-more, progress-within, progress-ended, progress-front, progress-few, progress-past, progress-long, progress-end, progress-end_front, progress-short, progress-end_short}
 use Rattle.rsp_script_io.proofs.run.answer_script.Goals as goal
 
 -- a read failed
@@ -28,6 +28,13 @@ returns-in_err-answer_end-clause-left g c =
     rw (p.1, p.2) (left_answer _ _ c.in_err-answer_end.ensures.cause
     (progress-end_front g.S.LineHandler.answer_to g.S.LineHandler.end_reply g.met.S.LineHandler.alike c.loop-n.invariant.progress told ended (omega arith)
     c.in_err-answer_end.ensures.prefix))
+
+pub returns-in_err-answer_end-clause-memory : goal.returns-in_err-answer_end-clause-memory
+returns-in_err-answer_end-clause-memory g c =
+    let told : g.R.Source.rest c.loop-n.source ≡ prepend_known [] (g.R.Source.rest c.read.new.self) = rw c.if-n-eq0.true at c.in-Ok.ensures.told in
+    let p = err_from_is_err_and c.from_residual.result c.from_residual.ensures.1 in
+    rw (p.1, p.2) (λ short. progress-end_short g.S.LineHandler.answer_to g.S.LineHandler.end_reply g.met.S.LineHandler.alike g.S.LineHandler.may_allocate c.loop-n.invariant.progress told (omega arith)
+    (c.in_err-answer_end.ensures.memory short))
 
 pub returns-then-n-eq0-clause-written : goal.returns-then-n-eq0-clause-written
 returns-then-n-eq0-clause-written g c =
@@ -63,6 +70,13 @@ returns-in_err-answer_piece-clause-left g c =
     (progress-front g.S.LineHandler.answer_to g.S.LineHandler.end_reply g.met.S.LineHandler.alike _ _ c.loop-n.invariant.progress c.in-Ok.ensures.told c.room-room.ensures.limit
     (read_cut c.read.new.buf _ c.in-Ok.n _ c.min-within.result _ (omega (arith, c.in-Ok.ensures.bound, c.read.auto.buf)) c.min-within.ensures c.room-room.ensures.value)
     c.in_err-answer_piece.ensures.prefix))
+
+pub returns-in_err-answer_piece-clause-memory : goal.returns-in_err-answer_piece-clause-memory
+returns-in_err-answer_piece-clause-memory g c =
+    let p = err_from_is_err_and c.from_residual-in_err-answer_piece.result c.from_residual-in_err-answer_piece.ensures.1 in
+    rw (p.1, p.2) (λ short. progress-short g.S.LineHandler.answer_to g.S.LineHandler.end_reply g.met.S.LineHandler.alike g.S.LineHandler.may_allocate _ _ c.loop-n.invariant.progress c.in-Ok.ensures.told c.room-room.ensures.limit
+    (read_cut c.read.new.buf _ c.in-Ok.n _ c.min-within.result _ (omega (arith, c.in-Ok.ensures.bound, c.read.auto.buf)) c.min-within.ensures c.room-room.ensures.value)
+    (c.in_err-answer_piece.ensures.memory short))
 
 pub loop-n-preserved : goal.loop-n-preserved
 loop-n-preserved g c = record {
