@@ -188,6 +188,10 @@ abbrev pub EndHidesNoBlockFault : Command → SessionState → Type 0
 EndHidesNoBlockFault End s = IfSome s.block HidesNoBlockFault
 EndHidesNoBlockFault _ s = Unit {0}
 
+-- a command for which there was no memory: a line of an open block, or its end, which hides no fault of the block
+abbrev pub CommandLacksMemory : Command → SessionState → Type 0
+CommandLacksMemory command s = (¬ (NeedsNoMemory command s)) × EndHidesNoBlockFault command s
+
 -- whether a block is open
 abbrev pub in_block : SessionState → Bool
 in_block s = is_some s.block
@@ -199,6 +203,14 @@ parsed_answer (Err fault) s = same (line_fault_text fault) s
 -- the answer to a line
 unfoldable pub line_answer : List ℕ → SessionState → Answer SessionState
 line_answer line s = parsed_answer (command_of line (in_block s)) s
+
+abbrev pub ParsedLacksMemory : Result Command LineFault → SessionState → Type 0
+ParsedLacksMemory (Ok command) s = CommandLacksMemory command s
+ParsedLacksMemory (Err fault) s = ⊥
+
+-- a line for which there was no memory
+unfoldable pub lacks_memory : List ℕ → SessionState → Type 0
+lacks_memory line s = ParsedLacksMemory (command_of line (in_block s)) s
 
 -- a block that is still open lacks the line that ends it
 abbrev pub end_reply_of : Option OpenBlock → List ℕ

@@ -3,7 +3,7 @@ ghost use Rattle.std.specs.List.{list_all};
 ghost use Rattle.rsp_commands.specs.Command.{IsCommand};
 ghost use Rattle.rsp_syntax.specs.Chars.{is_line_byte};
 ghost use Rattle.rsp_asm.specs.Block.{with_line, meaning_of_block};
-ghost use Rattle.rsp_bench.specs.Session.{NeedsNoMemory, HidesNoBlockFault, EndHidesNoBlockFault, answer_of, plain_answer, block_answer, with_block, end_answer, line_answer, first_session, end_reply, in_block};
+ghost use Rattle.rsp_bench.specs.Session.{NeedsNoMemory, HidesNoBlockFault, EndHidesNoBlockFault, answer_of, plain_answer, block_answer, with_block, end_answer, line_answer, lacks_memory, CommandLacksMemory, first_session, end_reply, in_block};
 ghost use Rattle.rsp_bench.specs.Replies.{line_fault_text};
 
 use crate::replies::{put_asm_fault, put_fault, put_ok, put_words};
@@ -174,7 +174,7 @@ impl Session {
         ensures next { OnOk result (self.new ≡ (answer_of command.now self.old).next) }
         ensures err { OnErr result (self.new ≡ self.old) }
         ensures cause { OnErr result (in_block self.old ≡ true) }
-        ensures hides { OnErr result (EndHidesNoBlockFault command.now self.old) }
+        ensures lacks { OnErr result (CommandLacksMemory command.now self.old) }
     {
         match (command, is_open) {
             (command, false) => self.answer_plain(alloc, command, reply),
@@ -197,7 +197,7 @@ impl Session {
 
     /// Answers a line in an empty reply. It isn't inlined, since a command's locals would slow empty lines down.
     #[inline(never)]
-    #[tactic(auto, unfolding(crate::specs::Session::line_answer))]
+    #[tactic(auto, unfolding(crate::specs::Session::line_answer, crate::specs::Session::lacks_memory))]
     fn answer_text(
         &mut self,
         alloc: Global,
@@ -211,6 +211,7 @@ impl Session {
         ensures next { OnOk result (self.new ≡ (line_answer line.now self.old).next) }
         ensures err { OnErr result (self.new ≡ self.old) }
         ensures cause { OnErr result (in_block self.old ≡ true) }
+        ensures lacks { OnErr result (lacks_memory line.now self.old) }
     {
         match &parse_line(line, is_open) {
             Ok(command) => self.exec_to(alloc, command, is_open, reply)?,
@@ -245,14 +246,16 @@ impl Session {
 }
 
 impl LineHandler for Session {
-    ghost use Rattle.rsp_bench.specs.Session.{line_answer, end_reply, in_block};
-    ghost use Rattle.rsp_bench.specs.LongLineAnswers.{long_alike};
+    ghost use Rattle.rsp_bench.specs.Session.{line_answer, end_reply, in_block, lacks_memory};
+    ghost use Rattle.rsp_bench.specs.LongLineAnswers.{long_alike, long_lack_alike};
 
     ghost answer_to = { line_answer };
 
     ghost end_reply = { end_reply };
 
     ghost may_allocate = { in_block };
+
+    ghost lacks_memory = { lacks_memory };
 
     fn answer(&mut self, alloc: Global, line: &[u8], reply: &mut Reply) -> Result<(), AllocError> {
         reply.clear();
@@ -275,4 +278,6 @@ impl LineHandler for Session {
     }
 
     ghost alike = { long_alike };
+
+    ghost lack_alike = { long_lack_alike };
 }

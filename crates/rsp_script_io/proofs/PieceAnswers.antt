@@ -1,5 +1,5 @@
 -- Pieces that are answered one after another.
-use Rattle.std.proofs.Common.{◌≡◌, ℕ, ◌+◌, List, [], ◌∷◌, ◌++◌, Option, ◌<◌, length, take, drop, refl, sym, ◌∙◌, ap, arith, append_assoc, length-append, length-take}
+use Rattle.std.proofs.Common.{◌≡◌, ℕ, ◌+◌, List, [], ◌∷◌, ◌++◌, Option, ◌<◌, length, take, drop, refl, sym, ◌∙◌, ap, arith, append_assoc, subst, length-append, length-take}
 use Rattle.std.proofs.lemmas.List.{append-nil, take_all, take_at, take-append-drop}
 use Rattle.std.specs.List.{position_or_len, before_first, after_first}
 use Rattle.std.specs.Prelude.{Bool, true}
@@ -7,10 +7,10 @@ use Rattle.std.specs.Io.KnownBytes.{append_known}
 use Rattle.std.specs.Str.Lines.{strip_carriage_return}
 use Rattle.rsp_script_io.specs.Pieces.{PieceAnswered, NoMemoryIn}
 use Rattle.rsp_script_io.specs.EarlyEnd.{WritesPrefix}
-use Rattle.rsp_script_io.specs.Lines.{is_newline, ended_after, open_after, kept, IsSameOrLong}
-use Rattle.rsp_script_io.specs.Replies.{Answer, LongLinesAlike, replies, final}
-use Rattle.rsp_script_io.proofs.LongLineReplies.{answered-like, replies-kept, final-kept}
-use Rattle.rsp_script_io.proofs.Kept.{kept-kept, open-kept}
+use Rattle.rsp_script_io.specs.Lines.{is_newline, ended_after, open_after, kept, through_newline, IsSameOrLong}
+use Rattle.rsp_script_io.specs.Replies.{Answer, LongLinesAlike, LongLinesLackAlike, OfFirst, replies, final}
+use Rattle.rsp_script_io.proofs.LongLineReplies.{answered-like, replies-kept, final-kept, lacks-like, lacks-append, lacks-kept}
+use Rattle.rsp_script_io.proofs.Kept.{kept-kept, open-kept, like-strips}
 use Rattle.rsp_script_io.proofs.KnownEnds.{append_known-nil, append_known-append}
 use Rattle.rsp_script_io.proofs.Prefixes.{Leaves, leaves-less, prefix-along, prefix-first, prefix-then}
 use Rattle.rsp_script_io.proofs.Pieces.{ended-append, open-append, ended-line, open-line, cut_at_newline}
@@ -172,27 +172,50 @@ module _ {S : Type 0} (answer_to : List ℕ → S → Answer S) (alike : LongLin
     answers = answers-then h.front (take n rest) h.answers (record { written = w; session = next; last = ap kept e ∙ kept-kept (open_after mid (take n rest)) });
   }
 
+  -- there was no memory for the line that the first newline ended, of which `ended` stands for the line
+  pub lacks-ended : (p : List ℕ → S → Type 0) → LongLinesLackAlike p → (line bytes ended : List ℕ) (s : S) → position_or_len is_newline bytes < length bytes
+      → IsSameOrLong ended (strip_carriage_return (kept (line ++ before_first is_newline bytes))) → p ended s
+      → OfFirst p (ended_after line (take (through_newline bytes) bytes)) s
+  lacks-ended p same line bytes ended s lt like h =
+      let all : List ℕ = line ++ before_first is_newline bytes in
+      let through : through_newline bytes ≡ position_or_len is_newline bytes + 1 = omega arith in
+      rw (through, ← one-ended line bytes lt)
+      (lacks-like p (strip_carriage_return (kept all)) (strip_carriage_return all) s same (like-strips (kept all) all (kept-kept all))
+      (lacks-like p ended (strip_carriage_return (kept all)) s same like h))
+
   -- and there was no memory for what follows
-  pub done-short : {old now new : Option (List ℕ)} {line mid : List ℕ} {s t : S} {piece rest : List ℕ} (may_allocate : S → Bool) → Done old now line mid s t piece rest
-      → new ≡ now → may_allocate t ≡ true → NoMemoryIn answer_to may_allocate old new line s piece
-  done-short {rest = rest} may_allocate h same may = record {
-    front = h.front;
-    back = rest;
-    whole = h.whole;
-    written = same ∙ h.answers.written;
-    allocates = ap may_allocate (sym h.answers.session) ∙ may;
-  }
+  pub done-short : {old now new : Option (List ℕ)} {line mid : List ℕ} {s t : S} {piece rest : List ℕ} (may_allocate : S → Bool) (p : List ℕ → S → Type 0) (n : ℕ)
+      → LongLinesLackAlike p → Done old now line mid s t piece rest
+      → new ≡ now → may_allocate t ≡ true → OfFirst p (ended_after mid (take n rest)) t → NoMemoryIn answer_to may_allocate p old new line s piece
+  done-short {line = line} {mid = mid} {t = t} {rest = rest} may_allocate p n same h w may lacks =
+      let all : OfFirst p (ended_after mid rest) t =
+      subst (λ text. OfFirst p (ended_after mid text) t) (take-append-drop n rest)
+      (rw (ended-append mid (take n rest) (drop n rest)) (lacks-append p (ended_after mid (take n rest)) _ t lacks)) in
+      record {
+        front = h.front;
+        back = rest;
+        whole = h.whole;
+        written = w ∙ h.answers.written;
+        allocates = ap may_allocate (sym h.answers.session) ∙ may;
+        lacks = rw (← h.answers.session) (lacks-kept p same mid (open_after line h.front) rest t h.answers.last all);
+      }
 
   -- of two pieces, the first of which was answered
-  pub short-then : {old now new : Option (List ℕ)} {line mid : List ℕ} {s t : S} (a b : List ℕ) (may_allocate : S → Bool) → PieceAnswered answer_to old now line mid s t a
-      → NoMemoryIn answer_to may_allocate now new mid t b → NoMemoryIn answer_to may_allocate old new line s (a ++ b)
-  short-then {old = old} {line = line} {mid = mid} {s = s} {t = t} a b may_allocate h f = record {
-    front = a ++ f.front;
-    back = f.back;
-    whole = append_assoc a f.front f.back ∙ ap (λ r. a ++ r) f.whole;
-    written =
-        f.written ∙ ap (λ w. append_known w (replies answer_to (ended_after mid f.front) t)) h.written
-        ∙ append_known-append old (replies answer_to (ended_after line a) s) (replies answer_to (ended_after mid f.front) t)
-        ∙ ap (append_known old) (replies-pieces line mid a f.front s t h.last h.session);
-    allocates = ap may_allocate (sym (final-pieces line mid a f.front s t h.last h.session)) ∙ f.allocates;
-  }
+  pub short-then : {old now new : Option (List ℕ)} {line mid : List ℕ} {s t : S} (a b : List ℕ) (may_allocate : S → Bool) (p : List ℕ → S → Type 0)
+      → LongLinesLackAlike p → PieceAnswered answer_to old now line mid s t a
+      → NoMemoryIn answer_to may_allocate p now new mid t b → NoMemoryIn answer_to may_allocate p old new line s (a ++ b)
+  short-then {old = old} {line = line} {mid = mid} {s = s} {t = t} a b may_allocate p same h f =
+      let ends : final answer_to (ended_after mid f.front) t ≡ final answer_to (ended_after line (a ++ f.front)) s = final-pieces line mid a f.front s t h.last h.session in
+      record {
+        front = a ++ f.front;
+        back = f.back;
+        whole = append_assoc a f.front f.back ∙ ap (λ r. a ++ r) f.whole;
+        written =
+            f.written ∙ ap (λ w. append_known w (replies answer_to (ended_after mid f.front) t)) h.written
+            ∙ append_known-append old (replies answer_to (ended_after line a) s) (replies answer_to (ended_after mid f.front) t)
+            ∙ ap (append_known old) (replies-pieces line mid a f.front s t h.last h.session);
+        allocates = ap may_allocate (sym ends) ∙ f.allocates;
+        lacks = rw (← ends)
+            (lacks-kept p same (open_after mid f.front) (open_after line (a ++ f.front)) f.back _
+            (open-kept mid (open_after line a) f.front h.last ∙ ap kept (sym (open-append line a f.front))) f.lacks);
+      }

@@ -1,11 +1,12 @@
 -- What was read and written when a run ended early.
-use Rattle.std.specs.Prelude.{◌≡◌, ◌≤◌, ℕ, ◌⊎◌, List, ◌++◌, take, length, Bool, true, Option, IfSome, Result, Ok, Err}
+use Rattle.std.specs.Prelude.{◌≡◌, ◌≤◌, ℕ, ◌⊎◌, List, ◌++◌, take, drop, length, Bool, true, Option, IfSome, Result, Ok, Err}
 use Rattle.std.specs.Io.KnownBytes.{append_known, prepend_known, IsAtEnd}
+use Rattle.std.specs.Str.Lines.{lines}
 use Rattle.rsp_script_io.specs.Feeds.{script_limit}
 use Rattle.rsp_script_io.specs.declared.run.RunFault.{RunFault}
 use Rattle.rsp_script_io.specs.declared.run.RunFault.TheVariants.{ReadFault, WriteFault, ScriptTooLong, OutOfMemory}
 use Rattle.rsp_script_io.specs.Lines.{ended_lines}
-use Rattle.rsp_script_io.specs.Replies.{Answer, replies, final, written_of}
+use Rattle.rsp_script_io.specs.Replies.{Answer, OfFirst, replies, final, written_of}
 
 -- a prefix of these bytes was written after the old ones, and nothing else
 pub record WritesPrefix (old new : Option (List ℕ)) (bytes : List ℕ) : Type 0 where
@@ -55,13 +56,14 @@ LimitWritten r = IfSome r.script (λ script. r.written ≡ append_known r.before
 
 -- There was no memory to answer a line: the lines that had ended before it, in a front of what was taken, were answered in full, nothing
 -- else was written, and what they leave may need memory.
-pub record NoMemoryLeft {S : Type 0} (may_allocate : S → Bool) (r : ScriptRun S) : Type 0 where
+pub record NoMemoryLeft {S : Type 0} (may_allocate : S → Bool) (lacks_memory : List ℕ → S → Type 0) (r : ScriptRun S) : Type 0 where
   pub front : List ℕ
   pub back : List ℕ
   pub told : r.script ≡ prepend_known (front ++ back) r.unread
   pub few : length front ≤ script_limit
   pub written : r.written ≡ append_known r.before (replies r.answer_to (ended_lines front) r.session)
   pub allocates : may_allocate (final r.answer_to (ended_lines front) r.session) ≡ true
+  pub lacks : OfFirst lacks_memory (drop (length (ended_lines front)) (lines (front ++ back))) (final r.answer_to (ended_lines front) r.session)
 
 -- what a run that ended early had written, by its fault
 abbrev pub LeavesWritten : {A S : Type 0} → Result A RunFault → ScriptRun S → Type 0

@@ -11,6 +11,15 @@ pub record Answer (S : Type 0) : Type 0 where
 abbrev pub LongLinesAlike : {S : Type 0} → (List ℕ → S → Answer S) → Type 0
 LongLinesAlike {S} answer_to = (line other : List ℕ) (s : S) → 256 < length line → 256 < length other → answer_to line s ≡ answer_to other s
 
+-- what is known of a line of more than 256 bytes for which there is no memory is known of each
+abbrev pub LongLinesLackAlike : {S : Type 0} → (List ℕ → S → Type 0) → Type 0
+LongLinesLackAlike {S} lacks_memory = (line other : List ℕ) (s : S) → 256 < length line → 256 < length other → lacks_memory line s → lacks_memory other s
+
+-- there is a first line, and this is known of it
+abbrev pub OfFirst : {S : Type 0} → (List ℕ → S → Type 0) → List (List ℕ) → S → Type 0
+OfFirst p [] s = ⊥
+OfFirst p (l ∷ ls) s = p l s
+
 -- the replies to lines, one after another
 abbrev pub replies : {S : Type 0} → (List ℕ → S → Answer S) → List (List ℕ) → S → List ℕ
 replies answer_to [] s = []

@@ -1,6 +1,6 @@
 ghost use Rattle.std.specs.Prelude.{◌≡◌, ◌+◌, ◌-◌, ◌<◌, ◌≤◌, true, length, take, IfOk, OnOk, OnErr};
 ghost use Rattle.rsp_script_io.specs.Lines.{through_newline, ended_after, open_after, kept, last_line};
-ghost use Rattle.rsp_script_io.specs.Replies.{replies, final};
+ghost use Rattle.rsp_script_io.specs.Replies.{replies, final, OfFirst};
 ghost use Rattle.rsp_script_io.specs.Feeds.{script_limit, no_bytes, bytes_after};
 
 use crate::line::LineSoFar;
@@ -32,6 +32,7 @@ fn take_line<S: LineHandler>(
     ensures same { OnErr result (line.new ≡ line.old) }
     ensures same_session { OnErr result (session.new ≡ session.old) }
     ensures cause { OnErr result (S.may_allocate session.old ≡ true) }
+    ensures lacks { OnErr result (OfFirst S.lacks_memory (ended_after line.old (take (through_newline bytes.now) bytes.now)) session.old) }
 {
     let end = len_before(b'\n', bytes);
     let before = line.len();
@@ -64,6 +65,7 @@ fn answer_last<S: LineHandler>(
     ensures session { OnOk result (session.new ≡ final S.answer_to (last_line line.now) session.old) }
     ensures same { OnErr result (session.new ≡ session.old) }
     ensures cause { OnErr result (S.may_allocate session.old ≡ true) }
+    ensures lacks { OnErr result (OfFirst S.lacks_memory (last_line line.now) session.old) }
 {
     if line.is_empty() {
         reply.clear();
@@ -129,6 +131,7 @@ impl Feed {
         ensures same { OnErr result (self.new ≡ self.old) }
         ensures same_session { OnErr result (session.new ≡ session.old) }
         ensures cause { OnErr result (S.may_allocate session.old ≡ true) }
+        ensures lacks { OnErr result (OfFirst S.lacks_memory (ended_after self.old.line (take (through_newline bytes.now) bytes.now)) session.old) }
     {
         let n = take_line(alloc, session, &mut self.line, bytes, reply)?;
         self.count += n;
@@ -147,6 +150,7 @@ impl Feed {
         ensures session { OnOk result (session.new ≡ final S.answer_to (last_line self.now.line) session.old) }
         ensures same { OnErr result (session.new ≡ session.old) }
         ensures cause { OnErr result (S.may_allocate session.old ≡ true) }
+        ensures lacks { OnErr result (OfFirst S.lacks_memory (last_line self.now.line) session.old) }
     {
         answer_last(alloc, session, self.line.last(), reply)
     }

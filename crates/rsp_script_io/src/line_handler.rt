@@ -1,5 +1,5 @@
 ghost use Rattle.std.specs.Prelude.{◌≡◌, ℕ, List, Bool, true, OnOk, OnErr};
-ghost use Rattle.rsp_script_io.specs.Replies.{Answer, LongLinesAlike};
+ghost use Rattle.rsp_script_io.specs.Replies.{Answer, LongLinesAlike, LongLinesLackAlike};
 
 use crate::reply::Reply;
 use std::alloc::{AllocError, Global};
@@ -16,6 +16,9 @@ pub trait LineHandler {
     /// Whether there may be no memory for the answer to the next line.
     ghost may_allocate: { Self → Bool };
 
+    /// What is known of a line and of what answers it, if there was no memory for the answer.
+    ghost lacks_memory: { List ℕ → Self → Type 0 };
+
     /// Answers a line, which comes without its LF and without the one CR before that. It may be any line; of one with more
     /// than 258 bytes only the first 258 come. The answer overwrites the reply: one reply serves for all lines, since it is too
     /// large to be moved for each. AllocError if there is no memory for the answer: then it stays as it was.
@@ -23,7 +26,8 @@ pub trait LineHandler {
         ensures reply { OnOk result (reply.new ≡ (answer_to line.now self.old).reply) }
         ensures next { OnOk result (self.new ≡ (answer_to line.now self.old).next) }
         ensures same { OnErr result (self.new ≡ self.old) }
-        ensures cause { OnErr result (may_allocate self.old ≡ true) };
+        ensures cause { OnErr result (may_allocate self.old ≡ true) }
+        ensures lacks { OnErr result (lacks_memory line.now self.old) };
 
     /// Overwrites the reply with what is written at the end of a script.
     fn put_end_reply(&self, reply: &mut Reply)
@@ -31,4 +35,7 @@ pub trait LineHandler {
 
     /// Lines of more than 256 bytes are answered alike, whatever they say. So a run need not keep them whole.
     ghost alike: { LongLinesAlike answer_to };
+
+    /// The same of those for which there was no memory.
+    ghost lack_alike: { LongLinesLackAlike lacks_memory };
 }

@@ -69,7 +69,7 @@ pub fn answer_script<S: LineHandler, R: Source, W: Sink>(
     }) }
 
     // Out of memory comes only at a line that may need some.
-    ensures memory { IsErrOf result RunFault.OutOfMemory → NoMemoryLeft S.may_allocate (record {
+    ensures memory { IsErrOf result RunFault.OutOfMemory → NoMemoryLeft S.may_allocate S.lacks_memory (record {
       answer_to = S.answer_to;
       end_reply = S.end_reply;
       session = session.old;

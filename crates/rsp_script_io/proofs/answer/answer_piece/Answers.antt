@@ -9,6 +9,11 @@ returns-in_default-clause-prefix g c =
     leads-front g.S.LineHandler.answer_to g.met.S.LineHandler.alike c.in-Ok.n c.args.piece.now c.loop-rest.rest.now c.loop-rest.invariant.leads
     c.in-Ok.ensures.session refl (prefix-along (c.bytes.ensures.value ∙ c.in-Ok.ensures.reply) c.in_default.ensures.prefix)
 
+pub returns-in-Err-clause-memory : goal.returns-in-Err-clause-memory
+returns-in-Err-clause-memory g c _ =
+    done-short g.S.LineHandler.answer_to g.met.S.LineHandler.alike g.S.LineHandler.may_allocate g.S.LineHandler.lacks_memory _ g.met.S.LineHandler.lack_alike c.loop-rest.invariant.done refl
+    c.in-Err.ensures.cause c.in-Err.ensures.lacks
+
 pub loop-rest-preserved : goal.loop-rest-preserved
 loop-rest-preserved g c = record {
   leads = rw (take_rest c.loop-rest.rest.now c.in-Ok.n)
