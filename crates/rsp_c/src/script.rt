@@ -3,7 +3,7 @@
 ghost use Rattle.std.specs.Prelude.{◌≡◌, ◌+◌, ◌++◌, ◌<◌, ◌≤◌, ◌↔◌, ◌⊎◌, Some, None, true, IfSome, IfNone, IfOk, IsTrue, IsSomeAnd, length, take, drop, option_map};
 ghost use Rattle.rsp_machine.specs.Host.{is_inside};
 ghost use Rattle.rsp_memory.specs.Image.{IsImageLength};
-ghost use Rattle.rsp_feed.specs.Bench.{first_bench, reply_to, bench_after, last_reply, bench_ended, bench_too_long, IsTooLong};
+ghost use Rattle.rsp_feed.specs.Bench.{first_bench, reply_to, bench_after, last_reply, bench_ended, bench_too_long, IsTooLong, LacksMemoryFor, LacksMemoryAtEnd};
 ghost use Rattle.rsp_feed.specs.declared.bench.Stage.TheVariants as stage;
 ghost use Rattle.rsp_bench.specs.Session.{in_block};
 ghost use Rattle.rsp_script_io.specs.Feeds.{script_limit, taken_of};
@@ -89,6 +89,7 @@ pub extern "C" fn rsp_bench_take(
     ensures len { result ≡ OK → IfSome handle.old.bench (λ b. written.new ≡ length (reply_to (take used.new bytes.now) b)) }
     ensures next { result ≡ OK → handle.new.bench ≡ option_map (bench_after (take used.new bytes.now)) handle.old.bench }
     ensures memory { result ≡ NO_MEMORY → IfSome handle.old.bench (λ b. in_block b.session ≡ true) }
+    ensures lacks { result ≡ NO_MEMORY → IfSome handle.old.bench (λ b. LacksMemoryFor (take (taken_of bytes.now b.fed) bytes.now) b) }
     ensures past { result ≡ TOO_LONG → handle.new.bench ≡ option_map bench_too_long handle.old.bench }
     ensures same { (result ≡ OK → ⊥) → (result ≡ TOO_LONG → ⊥) → handle.new.bench ≡ handle.old.bench }
     ensures refused { (result ≡ OK → ⊥) → (used.new ≡ used.old) × (reply.new ≡ reply.old) × (written.new ≡ written.old) }
@@ -141,6 +142,7 @@ pub extern "C" fn rsp_bench_end(
     ensures reply { result ≡ OK → IfSome handle.old.bench (λ b. reply.new ≡ last_reply b ++ drop written.new reply.old) }
     ensures len { result ≡ OK → IfSome handle.old.bench (λ b. written.new ≡ length (last_reply b)) }
     ensures memory { result ≡ NO_MEMORY → IfSome handle.old.bench (λ b. in_block b.session ≡ true) }
+    ensures lacks { result ≡ NO_MEMORY → IfSome handle.old.bench LacksMemoryAtEnd }
     ensures next { IsNext result bench_ended handle.old.bench handle.new.bench }
     ensures refused { (result ≡ OK → ⊥) → (reply.new ≡ reply.old) × (written.new ≡ written.old) }
 {

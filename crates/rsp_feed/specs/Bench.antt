@@ -2,8 +2,8 @@
 use Rattle.std.specs.Prelude.{◌≡◌, ◌<◌, ℕ, List, ◌++◌, ◌⊎◌}
 use Rattle.rsp_script_io.specs.Feeds.{script_limit, FedBytes, no_bytes, bytes_after}
 use Rattle.rsp_script_io.specs.Lines.{ended_after, last_line}
-use Rattle.rsp_script_io.specs.Replies.{replies, final}
-use Rattle.rsp_bench.specs.Session.{SessionState, line_answer, end_reply, first_session}
+use Rattle.rsp_script_io.specs.Replies.{OfFirst, replies, final}
+use Rattle.rsp_bench.specs.Session.{SessionState, line_answer, lacks_memory, end_reply, first_session}
 use Rattle.rsp_feed.specs.declared.bench.BenchFault.{BenchFault}
 use Rattle.rsp_feed.specs.declared.bench.BenchFault.TheVariants as fault
 use Rattle.rsp_feed.specs.declared.bench.Stage.{Stage}
@@ -43,6 +43,14 @@ last_reply b = last_line_reply b ++ end_reply (last_session b)
 
 abbrev pub bench_ended : BenchState → BenchState
 bench_ended b = record { session = last_session b; fed = b.fed; stage = Ended }
+
+-- There was no memory to answer the first line that ends in some bytes: it is a line of an open block, or the block's end, which hides no
+-- fault of the block. And there was none to answer the line that no newline ended.
+abbrev pub LacksMemoryFor : List ℕ → BenchState → Type 0
+LacksMemoryFor bytes b = OfFirst lacks_memory (ended_after b.fed.line bytes) b.session
+
+abbrev pub LacksMemoryAtEnd : BenchState → Type 0
+LacksMemoryAtEnd b = OfFirst lacks_memory (last_line b.fed.line) b.session
 
 -- whether n bytes more make the script too long, or others did before
 abbrev pub IsTooLong : ℕ → BenchState → Type 0

@@ -1,7 +1,7 @@
 ghost use Rattle.std.specs.Prelude.{◌≡◌, ◌+◌, ◌<◌, ◌≤◌, ◌↔◌, true, length, take, IfOk, IfErr, OnOk, OnErr, IsErrOf};
 ghost use Rattle.rsp_script_io.specs.Feeds.{script_limit, taken_of};
 ghost use Rattle.rsp_bench.specs.Session.{in_block, end_reply};
-ghost use Rattle.rsp_feed.specs.Bench.{first_bench, reply_to, bench_after, last_session, last_line_reply, bench_ended, IsTooLong, after_refusal};
+ghost use Rattle.rsp_feed.specs.Bench.{first_bench, reply_to, bench_after, last_session, last_line_reply, bench_ended, IsTooLong, LacksMemoryFor, LacksMemoryAtEnd, after_refusal};
 
 use rsp_acc::PlaneAcc;
 use rsp_bench::{Reply, Session};
@@ -84,6 +84,7 @@ impl Bench {
         ensures ended { IsErrOf result BenchFault.Ended ↔ (self.old.stage ≡ Stage.Ended) }
         ensures long { IsErrOf result BenchFault.ScriptTooLong ↔ IsTooLong (length bytes.now) self.old }
         ensures memory { IsErrOf result BenchFault.OutOfMemory → in_block self.old.session ≡ true }
+        ensures lacks { IsErrOf result BenchFault.OutOfMemory → LacksMemoryFor (take (taken_of bytes.now self.old.fed) bytes.now) self.old }
         ensures err { IfErr result (λ fault. self.new ≡ after_refusal fault self.old) }
     {
         match self.stage {
@@ -119,6 +120,7 @@ impl Bench {
         ensures ended { IsErrOf result BenchFault.Ended ↔ (self.old.stage ≡ Stage.Ended) }
         ensures long { IsErrOf result BenchFault.ScriptTooLong ↔ (self.old.stage ≡ Stage.TooLong) }
         ensures memory { IsErrOf result BenchFault.OutOfMemory → in_block self.old.session ≡ true }
+        ensures lacks { IsErrOf result BenchFault.OutOfMemory → LacksMemoryAtEnd self.old }
         ensures err { OnErr result (self.new ≡ self.old) }
     {
         match self.stage {
