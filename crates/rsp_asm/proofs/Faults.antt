@@ -1,5 +1,5 @@
 -- No text means a fault of memory.
-use Rattle.std.proofs.Common.{◌≡◌, refl, subst, ap, ◌∙◌, ℕ, zero, suc, ◌+◌, ◌*◌, List, [], ◌∷◌, length, Bool, true, false, sym, inl, inr}
+use Rattle.std.proofs.Common.{◌≡◌, ◌⊎◌, refl, subst, ap, ◌∙◌, ℕ, zero, suc, ◌+◌, ◌*◌, List, [], ◌∷◌, length, Bool, true, false, sym, inl, inr}
 use Rattle.std.specs.Prelude.{Option, Some, None, Result, Ok, Err, ◌==◌, if◌then◌else◌, nat_lt, ℤ}
 use Rattle.std.specs.List.{before_first, after_first}
 use Rattle.rsp_syntax.specs.declared.fault.AsmFault.{AsmFault}
@@ -13,7 +13,7 @@ use Rattle.rsp_syntax.specs.Statement.{Labels, OperandValue, Statement, nothing,
 use Rattle.rsp_syntax.specs.SourceLine.{LineParts, split_line, is_label_taken, has_bad_number, statement_fault, parts_fault, first_fault, statement_words, parts_words, line_words}
 use Rattle.std.specs.Str.Lines.{lines}
 use Rattle.std.proofs.lemmas.Bool.{false≢true}
-use Rattle.rsp_asm.specs.AssembleFaults.{IsFault, HidesNoFault, NoTextMeansOutOfMemory}
+use Rattle.rsp_asm.specs.AssembleFaults.{IsFault, IsOutOfMemory, HidesNoFault, NoTextMeansOutOfMemory}
 use Rattle.rsp_syntax.specs.SourceText.{all_labels, fault_of_line, words_of_line, or_fault, fault_before, and_words, words_before, unless, meaning_of_lines}
 
 -- a kind that a text can have
@@ -153,3 +153,9 @@ not_out_of_memory text origin f means e = false≢true (sym (ap of_text e) ∙ m
 pub short_hides : (origin : ℕ) (text : List ℕ) (f : AsmFault) → IsFault origin text f → f.kind ≡ OutOfMemory → HidesNoFault origin (lines text) f.line
 short_hides origin text f (inl means) e = absurd (not_out_of_memory text origin f means e)
 short_hides origin text f (inr short) e = short.hides
+
+-- the same, if the first pass found it
+pub first_hides : (origin : ℕ) (text : List ℕ) (f : AsmFault) → (fault_before origin (lines text) (length (lines text)) ≡ Some f) ⊎ IsOutOfMemory origin text f
+    → f.kind ≡ OutOfMemory → HidesNoFault origin (lines text) f.line
+first_hides origin text f (inl first) e = absurd (false≢true (sym (ap of_text e) ∙ fault_fine origin (lines text) (length (lines text)) f first))
+first_hides origin text f (inr short) e = short.hides

@@ -1,9 +1,10 @@
 // The operand for which a text is refused.
 
-ghost use Rattle.std.specs.Prelude.{◌≡◌, ◌≤◌, ◌-◌, ◌==◌, ℕ, None, Some, IfOk, length, option_map};
+ghost use Rattle.std.specs.Prelude.{◌≡◌, ◌≤◌, ◌-◌, ◌==◌, ℕ, None, Some, IfOk, OnErr, length, option_map};
 ghost use Rattle.std.specs.Str.Lines.{lines};
 ghost use Rattle.rsp_syntax.specs.Statement.{operand_texts, form_named};
 ghost use Rattle.rsp_syntax.specs.SourceText.{line_at};
+ghost use Rattle.rsp_asm.specs.AssembleFaults.{HidesNoFault};
 ghost use Rattle.rsp_asm.specs.Forms.{form};
 ghost use Rattle.rsp_asm.specs.Explanations.{bounds_of_range, text_at, is_required, verdict, operand_text, statement_name, faulty_in_operands, faulty_in_line, is_of_operand, operand_of_fault, explanation};
 ghost use Rattle.rsp_asm.specs.FormOperands.{expected_in, IsUsable, AreUsable, faulty_in_shape};
@@ -252,10 +253,12 @@ fn operand_of_fault(
 }
 
 /// The operand for which [`assemble`](crate::assemble) refuses a text whose first word is at `origin`, and what the statement takes
-/// there. None if it doesn't refuse the text, or for another reason than an operand. AllocError if there is no memory for a label.
+/// there. None if it doesn't refuse the text, or for another reason than an operand. AllocError if there is no memory for a label: no
+/// line up to the one with that label has a fault of the first pass.
 pub fn explain(alloc: Global, origin: u16, text: &str) -> Result<Option<FaultyOperand>, AllocError>
     requires { origin ≤ 4096 }
-    ensures { IfOk result (λ found. found ≡ explanation origin (lines text.now)) }
+    ensures value { IfOk result (λ found. found ≡ explanation origin (lines text.now)) }
+    ensures hides { OnErr result ((line : ℕ) × HidesNoFault origin (lines text.now) line) }
 {
     let bytes = text.as_bytes();
     match first_pass(alloc, origin, bytes) {

@@ -1,8 +1,9 @@
 // The operand for which a text is refused.
 
-ghost use Rattle.std.specs.Prelude.{◌≡◌, ◌<◌, ◌%◌, ◌↔◌, ◌⊎◌, Some};
+ghost use Rattle.std.specs.Prelude.{◌≡◌, ◌<◌, ◌%◌, ◌↔◌, ◌⊎◌, ℕ, Some};
 ghost use Rattle.std.specs.Str.{IsUtf8};
 ghost use Rattle.std.specs.Str.Lines.{lines};
+ghost use Rattle.rsp_asm.specs.AssembleFaults.{HidesNoFault};
 ghost use Rattle.rsp_asm.specs.Explanations.{explanation};
 ghost use Rattle.rsp_c.specs.Explained.{kind_number, c_operand};
 
@@ -86,13 +87,14 @@ fn operand_of(found: Option<FaultyOperand>) -> RspOperand
 }
 
 /// The operand for which `rsp_assemble` refuses a text, and what it may be. NO_MEANING if the text isn't UTF-8, NO_MEMORY if an
-/// allocation failed.
+/// allocation failed: no line up to one with a label has a fault that is found without the other lines' labels.
 #[unsafe(no_mangle)]
 pub extern "C" fn rsp_explain(alloc: Global, origin: u32, text: &[u8], out: &mut RspOperand) -> u32
     ensures range { (result ≡ OUT_OF_RANGE) ↔ ((4096 < origin) ⊎ ¬ (origin % 4 ≡ 0)) }
     ensures value { result ≡ OK → out.new ≡ c_operand (explanation origin (lines text.now)) }
     ensures no_text { ¬ (IsUtf8 text.now) → (result ≡ OUT_OF_RANGE) ⊎ (result ≡ NO_MEANING) }
     ensures text { IsUtf8 text.now → ¬ (result ≡ NO_MEANING) }
+    ensures hides { result ≡ NO_MEMORY → (line : ℕ) × HidesNoFault origin (lines text.now) line }
     ensures refused { (result ≡ OK → ⊥) → out.new ≡ out.old }
     ensures answer { (result ≡ OK) ⊎ (result ≡ NO_MEMORY) ⊎ (result ≡ OUT_OF_RANGE) ⊎ (result ≡ NO_MEANING) }
 {
