@@ -1,5 +1,5 @@
 -- The faults among the replies of a run.
-use Rattle.std.specs.Prelude.{ℕ, List, Bool, ◌+◌, ◌-◌, ◌^◌, ◌==◌, min, length, take, codes, if◌then◌else◌}
+use Rattle.std.specs.Prelude.{ℕ, List, Bool, slice_index, nat_lt, ◌&&◌, ◌+◌, ◌-◌, ◌^◌, ◌==◌, min, length, take, codes, if◌then◌else◌}
 use Rattle.std.specs.Str.{bytes_eq}
 
 -- a reply is a fault if it begins so
@@ -17,3 +17,11 @@ after_reply reply n = if is_fault reply then record {
   count = min (n.count + 1) (2 ^ 64 - 1);
   first = if n.count == 0 then take (min (length reply) 64) reply else n.first;
 } else n
+
+-- the faults after a write of some bytes, of which n were taken: they are those of a reply if a line begins with them
+abbrev pub after_write : List ℕ → ℕ → Bool → NotedFaults → NotedFaults
+after_write bytes n is_line_start f = if nat_lt 0 n && is_line_start then after_reply bytes f else f
+
+-- whether the next write begins a line: the last byte that was taken is a newline, and if none was taken, nothing changes
+abbrev pub starts_line : List ℕ → ℕ → Bool → Bool
+starts_line bytes n is_line_start = if n == 0 then is_line_start else slice_index bytes (n - 1) == 10

@@ -1,5 +1,6 @@
-ghost use Rattle.std.specs.Prelude.{◌≡◌, []};
-ghost use Rattle.rsp_cli.specs.Faults.{after_reply};
+ghost use Rattle.std.specs.Prelude.{◌≡◌, [], true, IfOk, OnErr};
+ghost use Rattle.std.specs.Io.{WritesAtMost};
+ghost use Rattle.rsp_cli.specs.Faults.{after_reply, after_write, starts_line};
 
 use std::io::{self, Write};
 use std::marker::Model;
@@ -82,7 +83,11 @@ pub(crate) struct CountingWriter<W> {
 }
 
 impl<W> CountingWriter<W> {
-    pub(crate) fn new(writer: W) -> CountingWriter<W> {
+    /// A writer that wrote nothing: no faults, and a reply may begin.
+    pub(crate) fn new(writer: W) -> CountingWriter<W>
+        ensures faults { result.faults ≡ record { count = 0; first = [] } }
+        ensures start { result.is_line_start ≡ true }
+    {
         CountingWriter {
             writer,
             faults: Faults::new(),
@@ -99,7 +104,12 @@ impl<W> CountingWriter<W> {
 }
 
 impl<W: Write> Write for CountingWriter<W> {
-    fn write(&mut self, bytes: &[u8]) -> io::Result<usize> {
+    fn write(&mut self, bytes: &[u8]) -> io::Result<usize>
+        ensures bound { WritesAtMost result bytes.now }
+        ensures noted { IfOk result (λ n. self.new.faults ≡ after_write bytes.now n self.old.is_line_start self.old.faults) }
+        ensures start { IfOk result (λ n. self.new.is_line_start ≡ starts_line bytes.now n self.old.is_line_start) }
+        ensures err { OnErr result ((self.new.faults ≡ self.old.faults) × (self.new.is_line_start ≡ self.old.is_line_start)) }
+    {
         let taken = self.writer.write(bytes)?;
         if taken > 0 {
             if self.is_line_start {
