@@ -15,3 +15,4 @@ pub mod Records
 pub mod Whole
 pub mod Copying
 pub mod WrittenRegisters
+pub mod Described

@@ -16,3 +16,4 @@ pub mod Footprints
 pub mod Transfers
 pub mod Pass
 pub mod Until
+pub mod DescribedDmas

@@ -4,6 +4,7 @@ ghost use Rattle.std.specs.Prelude.{◌≡◌};
 ghost use Rattle.rsp_machine.specs.Step.{step_of};
 ghost use Rattle.rsp_machine.specs.Laws.{steps_of, done_of};
 ghost use Rattle.rsp_machine.specs.Registers.{SetAsRead};
+ghost use Rattle.rsp_machine.specs.DescribedDmas.{DescribedDmasMove};
 ghost use Rattle.rsp_machine.specs.Footprints.{FootprintsHold, WritesHold, PassesAreSteps};
 
 use crate::{Machine, StepEnd};
@@ -56,4 +57,10 @@ pub fn writes()
 #[tactic(auto, using(crate::proofs::Passing::passing))]
 pub fn passes()
     ensures { PassesAreSteps }
+{}
+
+/// A host that moves the bytes of a described DMA itself, row by row, leaves what the machine's own DMA leaves.
+#[tactic(auto, using(crate::proofs::Described::described_moves))]
+pub fn described_dmas_move()
+    ensures { DescribedDmasMove }
 {}
