@@ -52,10 +52,9 @@ from .words import FAULTS
 __version__ = "1.0.0"
 __all__ = [
     "DMEM", "FAULTS", "IMEM", "RDRAM", "VERSION", "Accumulators", "AssemblyError", "Bank", "Bench", "Changes",
-    "Difference", "Divider", "Dma", "Emulator", "FirstDifference", "Flags", "Line", "Move", "Part", "Ran",
-    "Reason", "Rsp", "RspError", "Scalars", "ScriptError", "SpWords", "State", "Status", "Stop", "Traced",
-    "Words", "assemble",
-    "first_difference", "run_script", "state_fault", "text",
+    "Difference", "Divider", "Dma", "Emulator", "FirstDifference", "Flags", "Found", "Line", "Move", "Part",
+    "Ran", "Reason", "Rsp", "RspError", "Scalars", "ScriptError", "SpWords", "State", "Status", "Stop",
+    "Timeline", "Traced", "Words", "assemble", "first_difference", "run_script", "state_fault", "text",
 ]  # fmt: skip
 
 _S = TypeVar("_S", bound=Structure)
@@ -919,3 +918,6 @@ def run_script(script: Union[str, bytes], image: Optional[bytes] = None, strict:
     bench = Bench(image)
     replies = _strict_replies(bench, script) if strict else bench.feed(script) + bench.end()
     return Ran(replies, bench)
+
+
+from .timeline import Found, Timeline  # noqa: E402  (these need the names above)

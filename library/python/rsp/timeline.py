@@ -1,0 +1,218 @@
+"""A machine that goes to any of its steps, forwards and backwards, also across DMAs."""
+
+import collections
+from bisect import bisect
+from contextlib import contextmanager, suppress
+from typing import Callable, Counter, Iterator, List, NamedTuple, Optional, Set, Tuple
+
+from . import DMEM, IMEM, RDRAM, Reason, Rsp, RspError, State
+
+_PIECE = 1 << 16  # RDRAM is kept in pieces, which marks share as long as they are equal
+_TO_RDRAM = 1 << 3  # SP_WR_LEN, as a mask of SP registers
+_RUN = 1000000  # the most steps of a run
+
+Watch = Tuple[int, int]
+
+
+class Found(NamedTuple):
+    """Where a search ended: the `reason`, the number of the `step`, and after Reason.WATCH the `watch` whose
+    bytes the step before it has changed.
+
+    The reason is LIMIT if nothing was found, or if the search was interrupted.
+    """
+
+    reason: Reason
+    step: int
+    watch: Optional[Watch] = None
+
+
+class _Mark(NamedTuple):
+    """All of a machine before a step. `changed` says that the caller has changed it there."""
+
+    step: int
+    state: State
+    dmem: bytes
+    imem: bytes
+    rdram: Tuple[bytes, ...]
+    changed: bool
+
+
+class Timeline:
+    """A copy of a machine that can go to any of its steps. `step` is the number of steps up to the present
+    one, and `machine` is the machine there.
+
+    A machine is deterministic, so a step can be reached again from a mark before it. Marks are copies of all
+    registers and memories, one for each `gap` steps. If there are more than `most`, every second one is
+    dropped, and the gap is doubled. So any step can be undone, also a DMA, and what you have changed.
+
+    `machine` may be looked at as you like. After a change by its other calls, such as `load`, call `changed`.
+    `breaks` holds up to sixteen addresses of IMEM, and `watches` up to eight ranges of DMEM: pairs of an
+    address and a length of up to 64 bytes. Both may be changed at any time. `is_interrupted` is asked now and
+    then during long searches, and ends them by returning true.
+    """
+
+    def __init__(self, machine: Rsp, gap: int = 1 << 19, most: int = 32) -> None:
+        self.machine = Rsp(machine.memory(RDRAM, 0, machine.image_length), 4096)
+        for bank in DMEM, IMEM:
+            self.machine.load(bank, 0, machine.memory(bank, 0, 4096))
+        self.machine.set(machine.get())
+        self.step = 0
+        self.breaks: Set[int] = set()
+        self.watches: Set[Watch] = set()
+        self.is_interrupted: Callable[[], bool] = lambda: False
+        self._gap, self._most = gap, most
+        self._marks: List[_Mark] = []
+        self._rdram: Tuple[bytes, ...] = ()
+        self.changed()
+
+    def changed(self) -> None:
+        """Makes your changes of the machine part of the timeline. What came after them is forgotten."""
+        self._marks = [it for it in self._marks if it.step < self.step]
+        self._rdram_moved = True  # RDRAM may differ from _rdram
+        self._mark(True)
+
+    def goto(self, step: int) -> int:
+        """Goes to a step, whatever breakpoints and watches there are, and returns the number of the step at
+        which it arrives: another one if the machine halts before, or meets a reserved word."""
+        if 0 <= self.step - step <= self.machine.history():
+            if step < self.step:
+                self.machine.back(self.step - step)
+            self.step = step
+        else:
+            mark = self._marks[max(self._after(step) - 1, 0)]
+            if step < self.step or self.step < mark.step:
+                self._restore(mark)
+            while self.step < step:
+                if self._advance(step - self.step).reason in (Reason.HALT, Reason.RESERVED):
+                    break
+        return self.step
+
+    def run_to(self, step: int) -> Found:
+        """Runs forwards to the first reason to stop, at most to this step. A breakpoint at the present place
+        doesn't count."""
+        with self._armed():
+            while self.step < step and not self.is_interrupted():
+                found = self._advance(step - self.step)
+                if found.reason is not Reason.LIMIT:
+                    return found
+        return Found(Reason.LIMIT, self.step)
+
+    def back(self, least: int = 0) -> Found:
+        """Goes back to the last breakpoint or watched change, or to the step `least`. The change may be that
+        of the step just made, so to find the one before it, first go back by a step.
+
+        What is between two marks is run again in windows, the last one first.
+        """
+        start = end = self.step
+        least, window = max(0, min(least, start)), 4096
+        found = Found(Reason.LIMIT, least)
+        while end > least and found.reason is Reason.LIMIT:
+            if self.is_interrupted():
+                return Found(Reason.LIMIT, self.goto(end))
+            mark = self._marks[self._after(end - 1) - 1]
+            begin, window = max(mark.step, least, end - window), 16 * window
+            self.goto(begin)
+            with self._armed():
+                while self.step < end:
+                    here = self._advance(end - self.step)
+                    if self.step < start and self._is_at_break():
+                        found = Found(Reason.BREAK, self.step)
+                    elif here.reason is Reason.WATCH:
+                        found = here
+                    elif here.reason in (Reason.HALT, Reason.RESERVED):
+                        break  # only if the machine was changed without a call of `changed`
+            end = begin
+        self.goto(found.step)
+        return found
+
+    def counts(self, least: int = 0) -> Counter[int]:
+        """How often the instruction at each address was executed from the step `least` to the present one."""
+        here = self.step
+        counted: Counter[int] = collections.Counter()
+        marks = [it.step for it in self._marks if least < it.step < here]
+        for begin, end in zip([least, *marks], [*marks, here]):
+            if begin < end:
+                self.goto(begin)
+                copy = self.machine.copy()
+                counted.update(it.pc for it in copy.iter_trace(end - begin))
+        self.goto(here)
+        return counted
+
+    def _after(self, step: int) -> int:
+        """The number of marks up to a step."""
+        return bisect([it.step for it in self._marks], step)
+
+    def _is_at_break(self) -> bool:
+        return bool(self.breaks) and self.machine.regs().pc in self.breaks
+
+    def _mark(self, changed: bool) -> None:
+        if self._rdram_moved:
+            raw = self.machine.memory(RDRAM, 0, self.machine.image_length)
+            new = [raw[at : at + _PIECE] for at in range(0, len(raw), _PIECE)]
+            old = self._rdram or new
+            self._rdram = tuple(o if o == n else n for o, n in zip(old, new))
+            self._rdram_moved = False
+        dmem, imem = (self.machine.memory(it, 0, 4096) for it in (DMEM, IMEM))
+        self._marks.append(_Mark(self.step, self.machine.get(), dmem, imem, self._rdram, changed))
+        if len(self._marks) > self._most:
+            kept = [it for n, it in enumerate(self._marks) if it.changed or n % 2 == 0]
+            if len(kept) < len(self._marks):
+                self._marks, self._gap = kept, 2 * self._gap
+
+    def _restore(self, mark: _Mark) -> None:
+        for n, piece in enumerate(mark.rdram):
+            if self._rdram_moved or self._rdram[n] is not piece:
+                self.machine.load(RDRAM, n * _PIECE, piece)
+        self._rdram, self._rdram_moved = mark.rdram, False
+        self.machine.load(DMEM, 0, mark.dmem)
+        self.machine.load(IMEM, 0, mark.imem)
+        self.machine.set(mark.state)
+        self.step = mark.step
+
+    @contextmanager
+    def _armed(self) -> Iterator[None]:
+        """The machine has breakpoints and watches only while a search may stop at them."""
+        numbers: List[int] = []
+        try:
+            for place in self.breaks:
+                self.machine.add_break(place)
+            numbers += [self.machine.add_watch(*it) for it in self.watches]
+            yield
+        finally:
+            for place in self.breaks:
+                with suppress(RspError):  # if it couldn't be set
+                    self.machine.drop_break(place)
+            for number in numbers:
+                self.machine.drop_watch(number)
+
+    def _advance(self, steps: int) -> Found:
+        """Makes at most this many steps, up to a reason to stop, a change of the caller's or the end of a DMA
+        to RDRAM. Leaves a mark where one is due."""
+        after = self._after(self.step)
+        is_last = after == len(self._marks)
+        end = self._marks[-1].step + self._gap if is_last else self._marks[after].step
+        most = min(steps, max(end - self.step, 1), _RUN)
+        before = self.machine.memory(DMEM, 0, 4096)
+        stop = self.machine.run_until_move(most, 0, _TO_RDRAM)
+        reason, made = stop.reason, stop.steps
+        if reason is Reason.MOVE:
+            reason = Reason.LIMIT
+            if made < most:
+                self._rdram_moved = True
+                last = self.machine.run(1)
+                reason, made = last.reason, made + last.steps
+        self.step += made
+        watch = None
+        if self.watches and made and reason in (Reason.WATCH, Reason.HALT, Reason.RESERVED):
+            # A halt or a reserved word after a watched change is reported in its place.
+            now = self.machine.memory(DMEM, 0, 4096)
+            ranges = ((at, length, slice(at, at + length)) for at, length in sorted(self.watches))
+            watch = next(((at, length) for at, length, it in ranges if before[it] != now[it]), None)
+            reason = Reason.WATCH if watch else reason
+        if self.step >= end and is_last:
+            self._mark(False)
+        elif self.step == end and self._marks[after].changed:
+            self._restore(self._marks[after])
+            if not watch:
+                reason = Reason.BREAK if self._is_at_break() else Reason.LIMIT
+        return Found(reason, self.step, watch)

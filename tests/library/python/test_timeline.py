@@ -1,0 +1,106 @@
+"""`rsp.Timeline` beside a plain machine that makes single steps, on a program with DMAs both ways.
+
+They fail if a step that is reached again is another one, on whatever way, or if a search finds another place
+than a search among the single steps.
+"""
+
+import random
+from collections import Counter
+from typing import List, Tuple
+
+import pytest
+
+import rsp
+from lib.library.module import loaded
+from rsp import Found, Reason
+
+# 160 turns. Each stores at changing places; every 32nd sends bytes to RDRAM and brings others.
+PROGRAM = """turn: addiu $1, $1, 1; addiu $5, $5, 16; andi $5, $5, 0x7f0; sw $1, 0($5); lqv $v1[0], 0($5)
+vadd $v2, $v1, $v2; sqv $v2[0], 16($5); andi $2, $1, 31; bne $2, $0, turn; sw $2, 0x10($0); mtc0 $5, $c0
+sll $3, $1, 11; mtc0 $3, $c1; addiu $4, $0, 127; mtc0 $4, $c3; addiu $6, $5, 256; mtc0 $6, $c0
+addiu $3, $3, 64; mtc0 $3, $c1; mtc0 $4, $c2; addiu $7, $0, 160; bne $1, $7, turn; sw $1, 0x14($0); break"""
+PLACES = [4 * n for n in range(24)]
+EVER = 1 << 40
+Seen = Tuple[int, int, bytes]  # a hash of the whole machine, pc, DMEM
+
+
+def seen(machine: rsp.Rsp) -> Seen:
+    state, dmem = machine.get(), machine.memory(rsp.DMEM, 0, 4096)
+    rest = machine.memory(rsp.IMEM, 0, 4096) + machine.memory(rsp.RDRAM, 0, machine.image_length)
+    return hash(bytes(state) + dmem + rest), state.pc, dmem
+
+
+def both(chance: random.Random) -> Tuple[rsp.Timeline, List[Seen]]:
+    """A timeline at its end, which was changed in its middle, and all its steps."""
+    machine = rsp.Rsp(chance.randbytes(1 << 17))
+    machine.load_words(rsp.IMEM, 0, rsp.assemble(PROGRAM.replace("; ", "\n")))
+    line = rsp.Timeline(machine, chance.choice((40, 300, 5000)), chance.choice((3, 8, 32)))
+    steps, changed = [seen(machine)], chance.randrange(500, 1500)
+    while machine.step() is rsp.Status.OK:
+        if len(steps) == changed:
+            assert line.run_to(changed) == (Reason.LIMIT, changed, None)
+            for it in machine, line.machine:
+                it.set_reg(3, 77)
+                it.load(rsp.RDRAM, 8, b"changed")
+            line.changed()
+        steps.append(seen(machine))
+    assert line.run_to(EVER) == (Reason.HALT, len(steps) - 1, None)
+    return line, steps
+
+
+def found(line: rsp.Timeline, steps: List[Seen], at: int, forwards: bool) -> Found:
+    """What a search from a step should find."""
+    parts = [(it, slice(it[0], sum(it))) for it in sorted(line.watches)]
+    for n in range(at + 1, len(steps)) if forwards else range(at, 0, -1):
+        (_, _, old), (_, pc, new) = steps[n - 1 : n + 1]
+        watch = next((it for it, part in parts if old[part] != new[part]), None)
+        if pc in line.breaks and (not watch if forwards else n < at):
+            return Found(Reason.BREAK, n)
+        if watch:
+            return Found(Reason.WATCH, n, watch)
+    return Found(Reason.HALT, len(steps) - 1) if forwards else Found(Reason.LIMIT, 0)
+
+
+@pytest.mark.parametrize("seed", range(6))
+def test_steps_and_searches(seed: int) -> None:
+    chance = random.Random(seed)
+    line, steps = both(chance)
+    for _ in range(60):
+        at, more = chance.randrange(len(steps)), chance.choice((1, 30, 900))
+        assert line.goto(at) == line.step == at and seen(line.machine) == steps[at]
+        end = min(at + more, len(steps) - 1)
+        assert line.run_to(end).step == end and seen(line.machine) == steps[end]
+        assert line.goto(max(end - more, 0)) == max(end - more, 0) and seen(line.machine) == steps[line.step]
+    assert line.counts() == Counter(pc for _, pc, _ in steps[: line.step])
+    for _ in range(60):
+        line.breaks = {*chance.sample(PLACES, chance.randrange(3))}
+        starts = (16, 20, 4 * chance.randrange(512), 8 * chance.randrange(256))
+        line.watches = {(it, chance.choice((4, 64))) for it in chance.sample(starts, chance.randrange(3))}
+        begin = chance.randrange(len(steps))
+        for forwards in (False, True):
+            line.goto(begin)
+            got = line.run_to(EVER) if forwards else line.back()
+            assert got == found(line, steps, begin, forwards)
+            assert line.step == got.step and seen(line.machine) == steps[got.step]
+
+
+@pytest.mark.parametrize("single, reason", ((0x40, Reason.HALT), (0, Reason.RESERVED)))
+def test_change_before_an_end(single: int, reason: Reason) -> None:
+    """A watched change is found also if the machine makes single steps, or if a reserved word follows."""
+    line = rsp.Timeline(loaded("sw $1, 8($0)\n.word 0xffffffff\n"))
+    line.machine.set_reg(1, 5)
+    line.machine.write(4, single)
+    line.changed()
+    line.watches = {(8, 4)}
+    assert line.run_to(9) == (Reason.WATCH, 1, (8, 4)) and line.run_to(9) == (reason, 1, None)
+    assert line.back() == (Reason.WATCH, 1, (8, 4)) and line.goto(0) == 0
+    assert line.back() == (Reason.LIMIT, 0, None)
+
+
+@pytest.mark.parametrize("forwards", (True, False))
+def test_interrupted(forwards: bool) -> None:
+    line = rsp.Timeline(loaded("loop: j loop\nnop\n"))
+    here, answers = line.goto(0 if forwards else 3000000), iter((False, False, True))
+    line.is_interrupted = lambda: next(answers)
+    got = line.run_to(EVER) if forwards else line.back()
+    assert got == (Reason.LIMIT, line.step, None) and 0 < line.step != here
