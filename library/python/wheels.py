@@ -39,6 +39,7 @@ METADATA = "\n".join(
         (HERE / PROJECT["readme"]).read_text(encoding="utf-8"),
     ]
 )
+SCRIPTS = f"[console_scripts]\nrsp-gdb = {PROJECT['rsp-gdb']}\n"
 WHEEL = "Wheel-Version: 1.0\nGenerator: wheels\nRoot-Is-Purelib: false\n"
 FIRST = 315532800  # the first time that a wheel can have, 1980, in seconds since 1970
 COMMANDS = f"{NAME}.data/scripts/"  # what pip installs to be run, by its name
@@ -51,6 +52,7 @@ def write(
     seconds since 1970, which a wheel keeps as that of UTC."""
     info, lines, tags = f"{NAME}.dist-info", "", "".join(f"Tag: py3-none-{it}\n" for it in platforms)
     files = {**files, f"{info}/METADATA": METADATA.encode(), f"{info}/WHEEL": f"{WHEEL}{tags}".encode()}
+    files[f"{info}/entry_points.txt"] = SCRIPTS.encode()
     for path, data in files.items():
         digest = base64.urlsafe_b64encode(hashlib.sha256(data).digest()).rstrip(b"=").decode()
         lines += f"{path},sha256={digest},{len(data)}\n"

@@ -68,6 +68,9 @@ def check_metadata(text: str) -> None:
     assert found.get_payload() == (places.PYTHON / "README.md").read_text()
 
 
+INFO = "METADATA", "WHEEL", "RECORD", "entry_points.txt"
+
+
 def check_wheel(system: str, folder: Path) -> None:
     """The wheel's tags, its files, its record, and that its library is the one beside it."""
     info = f"rsp-{header.version()}.dist-info"
@@ -82,7 +85,7 @@ def check_wheel(system: str, folder: Path) -> None:
         said = run(sys.executable, "-c", IMPORTED, PYTHONS[system], cwd=at).stdout
         assert said == f"loads {Path(at).resolve()}/{library}\n"
     commands = {f"rsp-{header.version()}.data/scripts/{it}": it for it in [COMMANDS.get(system)] if it}
-    wanted = modules | {library} | {f"{info}/{it}" for it in ("METADATA", "WHEEL", "RECORD")} | {*commands}
+    wanted = modules | {library} | {f"{info}/{it}" for it in INFO} | {*commands}
     assert {*files} == wanted
     are_same = [files[it] == (folder / "bin" / name).read_bytes() for it, name in commands.items()]
     assert all(are_same), "the wheel has another program"

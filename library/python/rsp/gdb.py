@@ -1,0 +1,457 @@
+"""Lets GDB debug the RSP, forwards and backwards: docs/GDB.md.
+
+    gdb-multiarch -x "$(rsp-gdb --side)" microcode.elf -ex 'target remote | rsp-gdb' -ex load
+
+`rsp-gdb`, which is `python3 -m rsp.gdb`, speaks GDB's remote protocol on its standard input and output, or
+with --port on a socket.
+"""
+
+import argparse
+import itertools
+import os
+import re
+import select
+import signal
+import socket
+import struct
+import sys
+from pathlib import Path
+from typing import Callable, Dict, List, NamedTuple, Optional, Sequence, Set, Tuple
+
+import rsp
+import rsp.waits
+from rsp.timeline import Watch
+
+_IMEM = 0x04001000  # GDB's address of IMEM
+_STATE = struct.Struct("<32I256H24H2HBx5H17I")  # a State; GDB's registers are parts of this list of numbers
+_ACCUMULATORS, _FLAGS, _PC, _SP, _NUMBERS = 288, 312, 318, 320, 337
+_TYPES = """
+<vector id="v8i16" type="int16" count="8"/><vector id="v8u16" type="uint16" count="8"/>
+<vector id="v16u8" type="uint8" count="16"/><vector id="v8i64" type="int64" count="8"/>
+<union id="lanes"><field name="s" type="v8i16"/><field name="u" type="v8u16"/><field name="b" type="v16u8"/>
+</union>"""
+_STATUS = "halted broke dma_busy dma_full io_full sstep intbreak " + " ".join(f"sig{n}" for n in range(8))
+_SP_NAMES = "mem_addr dram_addr rd_len wr_len status dma_full dma_busy semaphore"
+_DPC_NAMES = "start end current status clock bufbusy pipebusy tmem"
+_SIGNALS = {"interrupted": 2, "reserved": 4, "cannot step": 17}  # SIGINT, SIGILL, SIGSTOP; else 5, SIGTRAP
+_EVER = 1 << 62
+_HELP = """\
+monitor task ADDR     starts the task whose structure is at an address of RDRAM
+monitor read N        reads SP register N, as the CPU does
+monitor write N V     writes SP register N, as the CPU does: `write 4 5` clears halted and broke
+monitor when          the number of the present step
+monitor goto STEP     goes to a step
+monitor counts [STEP] how often each instruction was executed, from a step to the present one
+monitor waits         the waits for a DMA that are missing from here to the halt, at most 1000000 steps on
+"""
+
+
+class _Register(NamedTuple):
+    """A register of GDB's: the form of its numbers for `struct`, where they are among the machine's, and how
+    many bytes they have. `at` is None if the machine has no such register."""
+
+    form: str
+    at: Optional[int]
+    size: int
+
+
+def _description() -> Tuple[bytes, List[_Register]]:
+    """What GDB reads as target.xml, and the registers in the order of their numbers."""
+    registers: List[_Register] = []
+
+    def regs(names: str, form: str, kind: str, at: Optional[int], group: str = "general") -> str:
+        """The text of registers that follow one another."""
+        made = ""
+        for name in names.split():
+            register = _Register(form, at, struct.calcsize(f">{form}"))
+            bits = f'bitsize="{8 * register.size}" regnum="{len(registers)}"'
+            made += f'<reg name="{name}" {bits} type="{kind}" group="{group}"/>'
+            registers.append(register)
+            at = None if at is None else at + len(form)
+        return made
+
+    # GDB demands registers of a MIPS that the RSP lacks. v0 and v1 are its names of r2 and r3, so vector
+    # registers have two digits.
+    cpu = regs(" ".join(f"r{n}" for n in range(32)), "I", "int32", 0)
+    cp0 = regs("status", "I", "int32", None)
+    cpu += regs("lo hi", "I", "int32", None)
+    cp0 += regs("badvaddr cause", "I", "int32", None)
+    cpu += regs("pc", "I", "code_ptr", _PC)
+    fpu = regs(" ".join(f"f{n}" for n in range(32)), "I", "ieee_single", None)
+    fpu += regs("fcsr fir", "I", "int32", None)
+    bits = "".join(f'<field name="{it}" start="{n}" end="{n}"/>' for n, it in enumerate(_STATUS.split()))
+    own = f'{_TYPES}<flags id="sp_status" size="4">{bits}</flags>'
+    own += regs(" ".join(f"v{n:02}" for n in range(32)), 8 * "H", "lanes", 32, "vector")
+    own += regs("acc", 8 * "q", "v8i64", _NUMBERS, "vector") + regs(
+        "vco vcc", "H", "uint16", _FLAGS, "vector"
+    )
+    own += regs("vce", "B", "uint8", _FLAGS + 2, "vector")
+    own += regs("div_in div_out div_loaded", "H", "uint16", _FLAGS + 3, "vector")
+    own += regs("npc", "I", "code_ptr", _PC + 1)
+    for n, name in enumerate(_SP_NAMES.split()):
+        own += regs(f"sp_{name}", "I", "sp_status" if name == "status" else "uint32", _SP + n, "system")
+    own += regs(" ".join(f"dpc_{it}" for it in _DPC_NAMES.split()), "I", "uint32", _SP + 8, "system")
+    own += regs("sp_interrupt", "I", "uint32", _SP + 16, "system")
+    mips = "org.gnu.gdb.mips."
+    features = {f"{mips}cpu": cpu, f"{mips}cp0": cp0, f"{mips}fpu": fpu, "rsp": own}
+    inside = "".join(f'<feature name="{name}">{held}</feature>' for name, held in features.items())
+    head = '<?xml version="1.0"?><!DOCTYPE target SYSTEM "gdb-target.dtd"><target version="1.0">'
+    return f"{head}<architecture>mips:3000</architecture>{inside}</target>".encode(), registers
+
+
+_XML, _REGISTERS = _description()
+
+
+def _place(address: int) -> Tuple[rsp.Bank, int]:
+    """The memory of an address, and the address there. RDRAM is in KSEG0 and KSEG1, as for the CPU, and the
+    SP's memories are there and at 0x04000000. Below 0x4000 are DMEM and IMEM too, as microcode has them."""
+    address &= 0xFFFFFFFF
+    physical = address & 0x1FFFFFFF if address >> 30 == 2 else address
+    if physical >> 18 == 0x04000000 >> 18 or address < 0x4000:
+        return (rsp.IMEM if physical & 0x1000 else rsp.DMEM), physical & 0xFFF
+    if physical == address:
+        raise ValueError
+    return rsp.RDRAM, physical
+
+
+def _two(numbers: str) -> Tuple[int, int]:
+    first, second = (int(it, 16) for it in numbers.split(","))
+    return first, second
+
+
+class Stub:
+    """Answers GDB's packets. `say` shows a text to the user while the machine runs, and `asked` says whether
+    the user wants it to stop."""
+
+    def __init__(self, line: rsp.Timeline, asked: Callable[[], bool], say: Callable[[str], None]) -> None:
+        self.line, self.asked, self.say = line, asked, say
+        self.no_ack = self.ended = False
+        line.is_interrupted = self._interrupted
+        self._was_interrupted = False
+        self._breaks: Set[int] = set()  # GDB's addresses; below 4096 that of a JR's target, which is a link
+        self._watches: Dict[Watch, int] = {}  # with GDB's address of each
+        self._fresh: Optional[int] = None  # the breakpoint that was set last since the last stop
+        self._calls: Dict[str, Callable[[str], Optional[bytes]]] = {
+            **dict.fromkeys("!HTD", lambda rest: b"OK"),
+            "k": lambda rest: None,
+            "?": lambda rest: self._stopped(),
+            "g": lambda rest: b"".join(it.hex().encode() if it else b"xx" * n for it, n in self._values()),
+            "s": lambda rest: self._go(1),
+            "c": lambda rest: self._go(_EVER),
+            "z": lambda rest: self._point(rest, True),
+            "Z": lambda rest: self._point(rest, False),
+            **{"q": self._query, "Q": self._mode, "P": self._set_register, "b": self._back},
+            **{"m": self._memory, "M": self._store, "X": self._store_binary, "v": self._resume},
+        }
+
+    def _interrupted(self) -> bool:
+        self._was_interrupted = self.asked()
+        return self._was_interrupted
+
+    def reply(self, packet: bytes) -> Optional[bytes]:
+        """The reply to a packet: empty if the packet isn't known, an error if it is wrong."""
+        name, rest = packet[:1].decode("latin-1"), packet[1:].decode("latin-1")
+        self.ended = name in ("D", "k")
+        try:
+            return self._calls[name](rest) if name in self._calls else b""
+        except (ValueError, LookupError, struct.error, rsp.RspError):
+            return b"E01"
+
+    # Registers
+
+    def _numbers(self) -> List[int]:
+        """The state as a list, with the accumulators once more as numbers of 48 bits."""
+        v = [*_STATE.unpack(bytes(self.line.machine.get()))]
+        parts = zip(*(v[n : n + 8] for n in range(_ACCUMULATORS, _FLAGS, 8)))
+        return v + [
+            (high << 32 | middle << 16 | low) - ((high & 0x8000) << 33) for high, middle, low in parts
+        ]
+
+    def _values(self) -> List[Tuple[Optional[bytes], int]]:
+        v = self._numbers()
+        for number in (_PC, _PC + 1):
+            v[number] |= _IMEM
+        return [
+            (None if it.at is None else struct.pack(f">{it.form}", *v[it.at : it.at + len(it.form)]), it.size)
+            for it in _REGISTERS
+        ]
+
+    def _set_register(self, rest: str) -> bytes:
+        number, raw = (bytes.fromhex(it.rjust(len(it) + len(it) % 2, "0")) for it in rest.split("="))
+        form, at, _ = _REGISTERS[int.from_bytes(number, "big")]
+        if at is None:
+            raise ValueError
+        v = self._numbers()
+        v[at : at + len(form)] = struct.unpack(f">{form}", raw)
+        if at in (_PC, _PC + 1):
+            v[at] &= 0xFFC
+        if at == _PC:
+            v[at + 1] = (v[at] + 4) & 0xFFC
+        v[_ACCUMULATORS:_FLAGS] = [it >> shift & 0xFFFF for shift in (32, 16, 0) for it in v[_NUMBERS:]]
+        v[0] = 0
+        self.line.machine.set(rsp.State.from_buffer_copy(_STATE.pack(*v[:_NUMBERS])))
+        self.line.changed()
+        return b"OK"
+
+    # Packets
+
+    def _query(self, rest: str) -> bytes:
+        name, _, more = rest.partition(":")
+        if name == "Supported":
+            return b"PacketSize=4000;QStartNoAckMode+;qXfer:features:read+;ReverseStep+;ReverseContinue+"
+        if name == "Xfer" and more.startswith("features:read:target.xml:"):
+            at, length = _two(more.split(":")[-1])
+            return (b"m" if at + length < len(_XML) else b"l") + _XML[at : at + length]
+        if name.startswith("Rcmd,"):
+            told = self._monitor(bytes.fromhex(name[5:]).decode("latin-1").split() or ["help"])
+            return told.encode().hex().encode() or b"OK"
+        if name == "rsp.text":
+            word, address = _two(more)
+            return _text(word, address & 0xFFC).encode().hex().encode()
+        return {"fThreadInfo": b"m1", "sThreadInfo": b"l", "C": b"QC1", "Attached": b"1"}.get(name, b"")
+
+    def _mode(self, rest: str) -> bytes:
+        self.no_ack = self.no_ack or rest == "StartNoAckMode"
+        return b"OK" if rest == "StartNoAckMode" else b""
+
+    def _memory(self, rest: str) -> bytes:
+        address, length = _two(rest)
+        bank, at = _place(address)
+        end = self.line.machine.image_length if bank == rsp.RDRAM else 4096
+        return self.line.machine.memory(bank, at, min(length, max(end - at, 1), 0x1F00)).hex().encode()
+
+    def _store_binary(self, rest: str) -> bytes:
+        head, raw = rest.split(":", 1)
+        plain = re.sub("}(.)", lambda it: chr(ord(it[1]) ^ 32), raw, flags=re.S)
+        return self._store(f"{head}:{plain.encode('latin-1').hex()}")
+
+    def _store(self, rest: str) -> bytes:
+        head, raw = rest.split(":", 1)
+        (address, length), data = _two(head), bytes.fromhex(raw)
+        if len(data) != length:
+            raise ValueError
+        if data:
+            self.line.machine.load(*_place(address), data)
+            self.line.changed()
+        return b"OK"
+
+    def _point(self, rest: str, remove: bool) -> bytes:
+        """Sets or removes a breakpoint or a watch."""
+        kind, numbers = rest.split(";")[0].split(",", 1)
+        at, size = _two(numbers)
+        bank, low = (rsp.IMEM, at) if at < 4096 and kind in "01" else _place(at)
+        if kind in "01":
+            if bank != rsp.IMEM:
+                raise ValueError
+            breaks = self._breaks - {at} if remove else self._breaks | {at}
+            places = {it & 0xFFC for it in breaks}
+            if len(places) > 16:
+                return b"E.there are at most sixteen breakpoints"
+            self._breaks, self.line.breaks = breaks, places
+            self._fresh = None if remove else low & 0xFFC
+        elif kind == "2":
+            if bank != rsp.DMEM or not 0 < size <= 4096 - low:
+                return b"E.only bytes of DMEM can be watched"
+            parts = {(low + n, min(64, size - n)): at for n in range(0, size, 64)}
+            kept = {it: told for it, told in self._watches.items() if it not in parts}
+            if not remove and len(kept) + len(parts) > 8:
+                return b"E.there are at most eight watches of at most 64 bytes"
+            self._watches = kept if remove else {**kept, **parts}
+            self.line.watches = {*self._watches}
+        return b"OK" if kind in "012" else b""
+
+    def _resume(self, rest: str) -> bytes:
+        if rest == "Cont?":
+            return b"vCont;c;C;s;S"
+        action = re.match("Cont;([cCsS])", rest)
+        return self._go(1 if action[1] in "sS" else _EVER) if action else b""
+
+    def _back(self, rest: str) -> bytes:
+        if rest not in ("c", "s"):
+            return b""
+        start, self._was_interrupted = self.line.step, False
+        found = self.line.back(start - 1 if rest == "s" else 0)
+        if found.reason is rsp.Reason.WATCH:
+            return self._stopped(watch=found.watch)
+        if self._was_interrupted:
+            return self._stopped("interrupted")
+        at_begin = found.reason is rsp.Reason.LIMIT and (rest == "c" or not start)
+        return self._stopped("begin" if at_begin else "")
+
+    def _go(self, steps: int) -> bytes:
+        """GDB steps a MIPS by a breakpoint at the next address and `continue`. In the delay slot of a branch
+        that is taken it gets that address wrong, so this makes one step there.
+
+        GDB believes that a MIPS stops before it makes a watched store, and steps over the store. So this goes
+        back to the step before."""
+        now, before, self._was_interrupted = self.line.machine.regs(), self.line.step, False
+        if now.npc != (now.pc + 4) & 0xFFC and self._fresh == (now.pc + 4) & 0xFFC:
+            steps = 1
+        self._fresh = None
+        found = self.line.run_to(before + steps)
+        if found.reason is rsp.Reason.WATCH:
+            self.line.goto(found.step - 1)
+            return self._stopped(watch=found.watch)
+        if found.reason is rsp.Reason.RESERVED:
+            self.say("[rsp] the word at pc is reserved\n")
+            return self._stopped("reserved")
+        if found.reason is rsp.Reason.HALT and found.step > before:
+            self.say(f"[rsp] halted after {found.step} steps\n")
+        elif found.reason is rsp.Reason.HALT:
+            self.say("[rsp] the machine is halted: `monitor write 4 5` clears halted and broke\n")
+            return self._stopped("cannot step")
+        return self._stopped("interrupted" if self._was_interrupted else "")
+
+    def _stopped(self, why: str = "", watch: Optional[Watch] = None) -> bytes:
+        told = f"watch:{self._watches[watch]:x};" if watch else "replaylog:begin;" * (why == "begin")
+        pc = _IMEM + self.line.machine.regs().pc
+        return f"T{_SIGNALS.get(why, 5):02x}{told}25:{pc:08x};thread:1;".encode()
+
+    def _monitor(self, words: Sequence[str]) -> str:
+        line, name, given = self.line, words[0], words[1:]
+        try:
+            if name in ("task", "read", "write"):
+                told = _change(line.machine, words)
+                line.changed()
+                return told
+            if name == "when" and not given:
+                return f"step {line.step}\n"
+            if name == "goto":
+                return f"step {line.goto(int(given[0], 0))}\n"
+            if name == "counts":
+                rows = sorted(line.counts(*(int(it, 0) for it in given)).items())
+                words_there = line.machine.memory_words(rsp.IMEM, 0, 1024)
+                return "".join(f"{n:9} {at:03x} {_text(words_there[at // 4], at)}\n" for at, n in rows)
+            if name == "waits" and not given:
+                found = [*rsp.waits.missing(line.machine.copy())]
+                return "".join(f"{it}\n" for it in found) or "none is missing\n"
+        except (rsp.RspError, LookupError, ValueError, TypeError) as fault:
+            return f"fault: {fault}\n"
+        return _HELP
+
+
+def _text(word: int, place: int) -> str:
+    """The disassembly. A linker's jumps have bits that the machine ignores, and the assembler refuses."""
+    return rsp.text(word & 0xFC0003FF if word >> 27 == 1 else word, place)
+
+
+def _change(machine: rsp.Rsp, words: Sequence[str]) -> str:
+    """Carries out a command of scripts that changes the machine, and returns its reply."""
+    name, *given = words
+    if name == "load":
+        machine.load(rsp.Bank[given[0].upper()], int(given[1], 0), bytes.fromhex(given[2]))
+        return "ok\n"
+    call = getattr(machine, {"task": "start_task", "pc": "set_pc"}.get(name, name))
+    told = call(*(int(it, 0) for it in given))
+    return f"{told:08x}\n" if name == "read" else "ok\n"
+
+
+def run_script(machine: rsp.Rsp, script: str) -> None:
+    """Carries out the lines of a script that change the machine, up to the first `run` or `step`."""
+    lines = iter(it.partition("#")[0] for it in script.splitlines())
+    for line in lines:
+        words = line.split() or [""]
+        if words[0] in ("run", "step"):
+            return
+        if words[0] == "asm":
+            block = "\n".join(itertools.takewhile(lambda it: it.split() != ["end"], lines))
+            at = int(words[1], 0)
+            machine.load_words(rsp.IMEM, at, rsp.assemble(block, at))
+        elif words[0] in ("load", "task", "pc", "write", "read"):
+            _change(machine, words)
+
+
+class Wire:
+    """Packets on a file descriptor, and to a sink."""
+
+    def __init__(self, source: int, sink: Callable[[bytes], object]) -> None:
+        self._source, self._sink = source, sink
+        self._held = self._last = b""
+        self._open = True
+
+    def _fill(self, wait: Optional[float]) -> None:
+        if self._open and select.select([self._source], [], [], wait)[0]:
+            more = os.read(self._source, 65536)
+            self._held, self._open = self._held + more, bool(more)
+
+    def interrupted(self) -> bool:
+        """Whether Ctrl-C or the end of the connection came while the machine ran."""
+        self._fill(0)
+        found = b"\x03" in self._held or not self._open
+        self._held = self._held.replace(b"\x03", b"", 1)
+        return found
+
+    def send(self, body: bytes) -> None:
+        """Sends a packet."""
+        body = re.sub(rb"[#$}*]", lambda it: b"}" + bytes([it[0][0] ^ 32]), body)
+        self._last = b"$%s#%02x" % (body, sum(body) & 255)
+        self._sink(self._last)
+
+    def packet(self, acks: Callable[[], bool]) -> Optional[bytes]:
+        """The next packet, or None at the end."""
+        while True:
+            head, dollar, rest = self._held.partition(b"$")
+            if b"-" in head and self._last:
+                self._sink(self._last)
+            body, _, tail = rest.partition(b"#")
+            if dollar and len(tail) >= 2:
+                self._held = tail[2:]
+                good = tail[:2].lower() == b"%02x" % (sum(body) & 255)
+                if acks():
+                    self._sink(b"+" if good else b"-")
+                if good:
+                    return body
+                continue
+            self._held = dollar + rest if len(rest) < 1 << 20 else b""
+            if not self._open:
+                return None
+            self._fill(None)
+
+
+def _serve(line: rsp.Timeline, source: int, sink: Callable[[bytes], object]) -> None:
+    wire = Wire(source, sink)
+    stub = Stub(line, wire.interrupted, lambda told: wire.send(b"O" + told.encode().hex().encode()))
+    while not stub.ended:
+        packet = wire.packet(lambda: not stub.no_ack)
+        if packet is None:
+            return
+        answer = stub.reply(packet)
+        if answer is not None:
+            wire.send(answer)
+
+
+def main() -> None:
+    """The command `rsp-gdb`."""
+    parser = argparse.ArgumentParser("rsp-gdb", description="lets GDB debug the RSP: target remote | rsp-gdb")
+    parser.add_argument("--rdram", metavar="FILE", help="the contents of RDRAM; without it 8 MiB of zeros")
+    parser.add_argument("--task", metavar="ADDR", type=lambda it: int(it, 0), help="starts the task there")
+    parser.add_argument("--script", metavar="FILE", help="carries a script out, up to its first run or step")
+    parser.add_argument("--port", type=int, metavar="N", help="listens on port N of 127.0.0.1 instead")
+    parser.add_argument("--side", action="store_true", help="prints the path of the file for GDB's option -x")
+    given = parser.parse_args()
+    if given.side:
+        print(Path(__file__).with_name("gdb_side.py"))
+        return
+    try:
+        machine = rsp.Rsp(Path(given.rdram).read_bytes() if given.rdram else bytes(8 << 20))
+        if given.script:
+            run_script(machine, Path(given.script).read_text())
+        if given.task is not None:
+            machine.start_task(given.task)
+    except (OSError, LookupError, ValueError, TypeError, rsp.RspError) as fault:
+        sys.exit(f"rsp-gdb: {fault}")
+    line = rsp.Timeline(machine)
+    if given.port is None:
+        signal.signal(signal.SIGINT, signal.SIG_IGN)  # GDB sends Ctrl-C as a byte
+        _serve(line, 0, lambda raw: os.write(1, raw))
+        return
+    with socket.create_server(("127.0.0.1", given.port)) as server:
+        print(f"rsp-gdb: listens on 127.0.0.1:{given.port}", file=sys.stderr)
+        while True:
+            with server.accept()[0] as link:
+                link.setsockopt(socket.IPPROTO_TCP, socket.TCP_NODELAY, 1)
+                _serve(line, link.fileno(), link.sendall)
+
+
+if __name__ == "__main__":
+    main()
