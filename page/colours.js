@@ -1,6 +1,5 @@
 // @ts-check
 /** The colours of a script's lines: each part of a line is a span whose class says what it is. */
-
 import { element } from "./elements.js";
 import { COMMANDS, INSTRUCTIONS, STATEMENTS } from "./names.js";
 
@@ -20,15 +19,13 @@ function command_part(word, is_first) {
   return [BANKS.has(word) ? "register" : NUMBER.test(word) ? "number" : "", word];
 }
 
-/** @param {string} body a line without its comment
- * @returns {Part[]} */
+/** @param {string} body a line without its comment @returns {Part[]} */
 function command_parts(body) {
   const words = body.match(/\s+|\S+/g) ?? [], first = words.findIndex((it) => it.trim());
   return words.map((it, n) => command_part(it, n === first));
 }
 
-/** @param {string} body
- * @returns {Part[]} */
+/** @param {string} body @returns {Part[]} */
 function source_parts(body) {
   if (body.trim() === "end") return command_parts(body);
   const [head, label, name] = /** @type {string[]} */ (body.match(HEAD));
@@ -39,19 +36,14 @@ function source_parts(body) {
 }
 
 /** The parts of a line: together they have all its characters, whichever these are.
- * @param {string} line
- * @param {boolean} is_source whether it is source text, in a block
- * @returns {Part[]} */
+ * @param {string} line @param {boolean} is_source whether it is source text, in a block @returns {Part[]} */
 export function parts_of(line, is_source) {
   const at = line.search(is_source ? /[#;]/ : /#/), end = at < 0 ? line.length : at;
   const body = line.slice(0, end), comment = line.slice(end);
   return [...(is_source ? source_parts(body) : command_parts(body)), ["comment", comment]];
 }
 
-/** An element with a line in its colours.
- * @param {string} name
- * @param {string} line
- * @param {boolean} is_source */
+/** An element with a line in its colours. @param {string} name @param {string} line @param {boolean} is_source */
 export function coloured(name, line, is_source) {
   const made = document.createElement(name);
   for (const [kind, text] of parts_of(line, is_source)) if (text) made.append(kind ? element("span", text, kind) : text);

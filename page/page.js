@@ -1,86 +1,100 @@
 // @ts-check
 /** The page: joins the script, the image of RDRAM, the runs and their replies. */
-
 import { Choosing } from "./choosing.js";
 import { Editor } from "./editor.js";
-import { the } from "./elements.js";
+import { grouped, the } from "./elements.js";
 import { EXAMPLES } from "./examples.js";
-import { on_file, save } from "./files.js";
 import { line_page } from "./help.js";
-import { LONGEST as LONGEST_IMAGE, RdramImage } from "./image.js";
-import { is_newer, reload } from "./newer.js";
 import { Replies } from "./replies.js";
-import { Running } from "./running.js";
-import { Runs } from "./runs.js";
+import { Running, Runs } from "./running.js";
 import { LONGEST, Script } from "./script.js";
 
-/** Says what came of an action.
- * @param {string} sentence */
+/** @param {string} sentence what came of an action */
 function say(sentence) { the("said").textContent = sentence; }
 
-const script = new Script(the("script")), editor = new Editor(the("script"), the("colours"), the("numbers"));
-const replies = new Replies(the("shown"), the("replies"), the("more")), image = new RdramImage();
-const running = new Running(script, editor, replies, image);
-const choosing = new Choosing(script, () => running.forget(), say);
-/** What is only tried, an image or the browser, has a worker of its own: it doesn't wait for a run, nor end with it. */
+/** What is only tried, an image or a block, has a worker of its own: it doesn't wait for a run, nor end with it. */
 const trials = new Runs();
+const script = new Script(the("script")), editor = new Editor(), replies = new Replies();
+const running = new Running(script, editor, replies, trials);
+const choosing = new Choosing(script, (is_other) => running.forget(is_other), say);
+const LONGEST_IMAGE = 1 << 23; // bytes
 
-/** Why the library can't begin with an image, or nothing if it can.
- * @param {Uint8Array | undefined} bytes */
-async function fault_of(bytes) { return (await trials.run(new Uint8Array(), bytes, () => {})).fault; }
+/** Why the library can't begin with an image, or nothing if it can. @param {Uint8Array} [image] */
+async function fault_of(image) { return (await trials.run({ script: new Uint8Array(), image }, () => {})).fault; }
 
-/** @param {Uint8Array} bytes @param {string} name */
-async function take_image(bytes, name) {
-  const fault = await fault_of(bytes);
+/** Has runs begin with the bytes of a file, or with the library's zeros.
+ * @param {Uint8Array} [bytes] @param {string} name */
+async function take_image(bytes, name = "zeros") {
+  const fault = bytes && await fault_of(bytes);
   if (fault) throw new RangeError(fault);
-  image.take(bytes, name);
+  running.image = bytes;
+  the("zeros").disabled = !bytes;
+  the("image").textContent = bytes ? `${name}, ${grouped(bytes.length)} bytes` : "4,194,304 zero bytes";
   say(`Runs begin with ${name}.`);
 }
 
-function take_zeros() {
-  image.take(undefined, "");
-  say("Runs begin with zeros.");
-}
-
-/** Runs the script. On a screen that doesn't show the replies they come into view. */
 function run() {
-  const { top, bottom } = the("shown").getBoundingClientRect();
-  if (top > 0.8 * innerHeight || bottom < 0) the("answers").scrollIntoView();
+  the("menu").hidePopover();
   running.run();
 }
 
-/** What a key with Ctrl does in the script, or nothing if that is left to the browser: a text that was changed since its
- * script was shown has an undo of the browser's.
- * @param {KeyboardEvent} event */
-function action_of({ key, shiftKey }) {
-  const letter = key.toLowerCase(), is_redo = letter === "y" || shiftKey;
-  if (key === "Enter") return run;
-  const is_ours = (letter === "y" || letter === "z") && !script.is_changed && script.can_undo(is_redo);
-  return is_ours ? () => choosing.undo(is_redo) : undefined;
+/** Runs the script, and stops at a fault. The button for that goes. */
+function run_strictly() {
+  the("strict").checked = true;
+  run();
+  the("run").focus();
 }
 
-/** @param {KeyboardEvent} event */
+function show_script(line = 0) {
+  running.show_replies(false);
+  editor.go_to(line);
+}
+
+/** Ctrl+Enter runs the script. Other keys are left to the browser, unless a script was replaced and its text not changed:
+ * then there is no undo of the browser's. @param {KeyboardEvent} event */
 function on_script_key(event) {
-  const action = event.ctrlKey || event.metaKey ? action_of(event) : undefined;
-  if (!action) return;
+  const { ctrlKey, metaKey, shiftKey } = event, key = event.key.toLowerCase(), is_redo = key === "y" || shiftKey;
+  const is_undo = (key === "y" || key === "z") && script.can_undo(is_redo);
+  if (!(ctrlKey || metaKey) || !(key === "enter" || is_undo)) return;
   event.preventDefault();
-  action();
+  if (is_undo) choosing.undo(is_redo);
+  else run();
 }
 
-/** F1 explains the line of the script that has the caret, else all commands.
- * @param {KeyboardEvent} event */
+/** F1 explains the line of the script that has the caret, else all commands. @param {KeyboardEvent} event */
 function on_key(event) {
   if (event.key !== "F1") return;
   event.preventDefault();
   open(document.activeElement === the("script") ? editor.help : line_page("", false), "help");
 }
 
-/** The bar stays in view when the page is scrolled, unless it takes more than a third of the screen, as it may with large
- * letters. */
-function fit_bar() { the("bar").classList.toggle("high", the("bar").offsetHeight > innerHeight / 3); }
+/** Has a button ask for a file, by an input. Its bytes are taken, or a sentence says why not.
+ * @param {string} kind @param {number} most how many bytes it may have
+ * @param {(bytes: Uint8Array, name: string) => unknown} take */
+function on_file(kind, most, take) {
+  const input = the(`${kind}-file`);
+  the(`open-${kind}`).onclick = () => input.click();
+  input.onchange = async () => {
+    const { name, size } = input.files[0];
+    try {
+      if (size > most) throw new RangeError(`it has ${grouped(size)} bytes, and at most ${grouped(most)} fit`);
+      await take(new Uint8Array(await input.files[0].arrayBuffer()), name);
+    } catch (fault) {
+      say(`${name} isn't taken: ${fault.message}.`);
+    }
+    input.value = ""; // so the same file can be asked for again
+  };
+}
+
+/** Hands a file to the browser, which saves it. @param {string} name @param {Uint8Array[]} parts */
+function save(name, parts) {
+  const link = Object.assign(document.createElement("a"), { href: URL.createObjectURL(new Blob(parts)), download: name });
+  link.click();
+  setTimeout(() => URL.revokeObjectURL(link.href), 10000);
+}
 
 function listen() {
-  the("example").onchange = () => choosing.choose();
+  the("example").onchange = () => choosing.choose() && run();
   the("script").oninput = () => choosing.edited();
   the("script").onkeydown = on_script_key;
   the("undo").onclick = () => choosing.undo();
@@ -89,27 +103,20 @@ function listen() {
   the("run").onclick = run;
   the("stop").onclick = () => running.stop();
   the("faults").onclick = () => running.lead_to_fault();
-  the("zeros").onclick = take_zeros;
-  the("commands").onchange = () => replies.set_alone(!the("commands").checked);
+  the("again").onclick = run_strictly;
+  the("view").onclick = () => running.is_read ? show_script() : running.show_replies(true);
+  the("replies").onclick = ({ target: it }) => it.closest("code") && show_script(it.closest("li").dataset.line - 1);
+  the("zeros").onclick = () => take_image();
+  the("whole").onchange = () => (replies.is_whole = the("whole").checked);
   the("save-script").onclick = () => save("script.rsp", [script.bytes]);
   the("save-replies").onclick = () => save("replies.txt", replies.answers.replies);
   the("save-image").onclick = () => save("rdram.bin", [running.left]);
-  on_file(the("open-script"), the("script-file"), LONGEST, (bytes, name) => choosing.take_file(bytes, name), say);
-  on_file(the("open-image"), the("image-file"), LONGEST_IMAGE, take_image, say);
-  new ResizeObserver(fit_bar).observe(the("bar"));
-  window.onresize = fit_bar;
+  on_file("script", LONGEST, (bytes, name) => choosing.take_file(bytes, name));
+  on_file("image", LONGEST_IMAGE, take_image);
   window.onkeydown = on_key;
   window.onpageshow = ({ persisted }) => persisted && renew(); // a browser has kept the whole page
   window.onhashchange = () => choosing.show_linked();
-  window.onbeforeunload = (event) => {
-    if (choosing.is_at_stake) event.preventDefault();
-  };
-}
-
-/** Waits until the page is loaded, and the browser has put back what it kept of an older visit. */
-async function loaded() {
-  if (document.readyState !== "complete") await new Promise((done) => addEventListener("load", done, { once: true }));
-  await new Promise((done) => setTimeout(done));
+  window.onbeforeunload = (event) => { if (choosing.is_at_stake) event.preventDefault(); };
 }
 
 /** Begins with the script of a link, else with what the browser has kept of an older visit, else with the first example,
@@ -118,17 +125,44 @@ async function begin() {
   the("absent").remove();
   the("ran").textContent = "";
   listen();
-  await loaded();
-  if (!choosing.show_linked(false) && ["", EXAMPLES[0].script].includes(the("script").value)) {
-    const said = the("said").textContent; // of a link that isn't whole
-    the("script").value = "";
-    choosing.show_example(0);
-    say(said);
-    running.run();
+  if (document.readyState !== "complete") await new Promise((done) => addEventListener("load", done, { once: true }));
+  await new Promise((done) => setTimeout(done)); // the browser puts back what it kept of an older visit
+  if (choosing.show_linked(false) || !["", EXAMPLES[0].script].includes(the("script").value)) {
+    const fault = await fault_of();
+    if (fault) say(`${fault}.`);
     return;
   }
-  const fault = await fault_of(undefined);
-  if (fault) say(`${fault}.`);
+  const said = the("said").textContent; // of a link that isn't whole
+  the("script").value = "";
+  choosing.show_example(0);
+  say(said);
+  running.run();
+}
+
+/** The folder of this version's files, as index.html names it. */
+const FOLDER = import.meta.url.split("/").at(-2);
+
+/** Whether the server's index.html names another folder than this one. What isn't served, or names none, isn't newer. */
+async function is_newer() {
+  try {
+    const answer = await fetch(location.href.split("#")[0], { cache: "no-cache" });
+    const found = answer.ok ? (await answer.text()).match(/"([^"/]*)\/page\.js"/) : null;
+    return found !== null && found[1] !== FOLDER;
+  } catch {
+    return false; // the page works without its server
+  }
+}
+
+/** Loads the page anew, once for this version. Whether it does. */
+function reload() {
+  try {
+    if (sessionStorage.getItem("reloaded") === FOLDER) return false;
+    sessionStorage.setItem("reloaded", String(FOLDER));
+  } catch {
+    return false; // where nothing is kept it would be loaded again and again
+  }
+  location.reload();
+  return true;
 }
 
 /** Takes a newer version of the page, if nothing is lost by that. */

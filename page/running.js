@@ -1,94 +1,172 @@
 // @ts-check
 /** Runs the script: shows whether a run is under way, how it has ended, and its faults. */
+import { counted, the } from "./elements.js";
+import { Text } from "./text.js";
 
-import { the } from "./elements.js";
-import { Runs } from "./runs.js";
-import { counted } from "./words.js";
+const WORKER = new URL("worker.js", import.meta.url);
+
+/** What is run: a script with an image, if it isn't the library's zeros; or the text of a block that has a fault.
+ * @typedef {{ script: Uint8Array, image?: Uint8Array, is_strict?: boolean } | { source: string, origin: number }} Asked */
+/** What ended a run: its script's end, with the image that it left; a stop; or a fault, in a sentence. Of a text: what
+ * its operand may be.
+ * @typedef {{ rdram?: Uint8Array, allowed?: string, is_stopped?: boolean, fault?: string }} Ended */
+
+/** The worker stays for the next run. One that is stopped or fails takes it along, and the bench that is in it. */
+export class Runs {
+  #worker = /** @type {Worker | null} */ (null);
+  #last = /** @type {Promise<any>} */ (Promise.resolve());
+  /** Ends the run that is under way. @type {(ended: Ended) => void} */
+  #end = () => {};
+
+  /** Answers what is asked, after the runs before it. `hear` gets the replies as they come.
+   * @param {Asked} asked @param {(replies: Uint8Array[]) => void} hear @returns {Promise<Ended>} */
+  run(asked, hear) {
+    this.#last = this.#last.then(() => this.#answered(asked, hear));
+    return this.#last;
+  }
+
+  /** Stops the run that is under way. */
+  stop() { this.#end({ is_stopped: true }); }
+
+  /** @param {Asked} asked @param {(replies: Uint8Array[]) => void} hear @returns {Promise<Ended>} */
+  async #answered(asked, hear) {
+    const under_way = new Promise((end) => {
+      this.#end = end;
+      const worker = this.#worker ??= new Worker(WORKER, { type: "module" });
+      worker.onmessage = ({ data: { replies, ended } }) => {
+        if (this.#end !== end) return; // the run is stopped, and this message was on its way
+        if (replies) hear(replies);
+        if (ended) end(ended);
+      };
+      worker.onerror = async ({ message }) => end({ fault: message || await why_not(WORKER) }); // of why.js
+      worker.postMessage(asked);
+    });
+    const ended = await under_way.catch((fault) => ({ fault: fault.message }));
+    this.#end = () => {};
+    if (ended.is_stopped || ended.fault) {
+      this.#worker?.terminate();
+      this.#worker = null;
+    }
+    return ended;
+  }
+}
+
+const MOST = 50; // faults that the library explains
 
 export class Running {
   #script;
   #editor;
   #replies;
-  #image;
+  #trials;
   #runs = new Runs();
   #is_running = false;
-  /** Whether the script is still the one that was run. */
+  /** The text that was run, and whether it is still the script. */
+  #ran = new Text("");
   #is_as_run = false;
-  /** The fault that was led to last. */
+  /** The fault that was led to last, and how many are known. */
   #led = -1;
-
-  /** The image that the last run left, if it came to its end.
+  #known = 0;
+  /** The image with which runs begin, if it isn't the library's zeros, and the one that the last run left at its end.
    * @type {Uint8Array | undefined} */
-  left;
+  image;
+  left = /** @type {Uint8Array | undefined} */ (undefined);
+  /** Whether the replies are shown where there is no room beside the script. */
+  is_read = false;
 
-  /** @param {import("./script.js").Script} script
-   * @param {import("./editor.js").Editor} editor
-   * @param {import("./replies.js").Replies} replies
-   * @param {import("./image.js").RdramImage} image */
-  constructor(script, editor, replies, image) {
-    this.#script = script;
-    this.#editor = editor;
-    this.#replies = replies;
-    this.#image = image;
+  /** @param {import("./script.js").Script} script @param {import("./editor.js").Editor} editor
+   * @param {import("./replies.js").Replies} replies @param {Runs} trials explains faults while a run is under way */
+  constructor(script, editor, replies, trials) {
+    [this.#script, this.#editor, this.#replies, this.#trials] = [script, editor, replies, trials];
   }
 
   /** Runs the script, unless a run is under way. */
   async run() {
     if (this.#is_running) return;
-    const { bytes } = this.#script, replies = this.#replies;
-    this.left = undefined;
-    this.#led = -1;
+    const { bytes } = this.#script, replies = this.#replies, is_strict = the("strict").checked;
+    [this.left, this.#led, this.#known, this.#ran, this.#is_as_run] = [undefined, -1, 0, this.#editor.text, true];
     this.#set_running(true);
     this.#editor.mark([]);
-    this.#is_as_run = true;
     replies.begin(bytes);
-    the("faults").hidden = true;
-    the("ran").textContent = "Running. Stop ends it.";
-    const ended = await this.#runs.run(bytes, this.#image.bytes, (given) => replies.add(given));
+    this.#tell("Running");
+    this.show_replies(true);
+    const ended = await this.#runs.run({ script: bytes, image: this.image, is_strict }, (given) => this.#hear(given));
     this.left = ended.rdram;
     this.#set_running(false);
-    if (this.#is_as_run) this.#editor.mark(replies.answers.faults.map(({ line }) => line));
-    this.#tell(ended);
+    this.#tell(this.#end_of(ended, is_strict), is_strict);
   }
 
   stop() { this.#runs.stop(); }
 
-  /** The script is another one: the faults aren't in it. */
-  forget() {
+  /** The text was changed: the replies go with their lines. Another script has none. @param {boolean} is_other */
+  forget(is_other) {
     this.#is_as_run = false;
     this.#editor.mark([]);
+    if (!is_other || this.#is_running) this.#replies.move(this.#editor.text.moved_from(this.#ran));
+    else {
+      this.#replies.begin(new Uint8Array());
+      this.#tell("");
+    }
+    this.show_replies(false);
   }
 
-  /** Leads to the next fault: in the replies, and in the script if that is still the one that was run. */
+  /** Where there is no room beside the script: shows the replies below its lines, or not. @param {boolean} is */
+  show_replies(is) {
+    this.is_read = is;
+    the("surface").classList.toggle("reading", is);
+    the("view").textContent = is ? "Edit" : "Replies";
+    the("view").hidden = !this.#is_as_run;
+    this.#editor.draw();
+    this.#replies.add([]);
+  }
+
+  /** Leads to the next fault: in the script if that is still the one that was run and is shown, else in the replies. */
   lead_to_fault() {
     const { faults } = this.#replies.answers;
     this.#led = (this.#led + 1) % faults.length;
-    const { line, answered } = faults[this.#led];
-    this.#replies.go_to(answered);
-    if (this.#is_as_run) this.#editor.go_to(line);
-    else the("shown").focus();
+    const { line } = faults[this.#led], is_in_script = this.#is_as_run && the("text").offsetWidth;
+    if (!is_in_script) the("answers").focus({ preventScroll: true });
+    (is_in_script ? this.#editor : this.#replies).go_to(line);
   }
 
-  /** Shows whether a run is under way. The focus doesn't stay on a button that goes.
-   * @param {boolean} is */
+  /** @param {Uint8Array[]} given */
+  #hear(given) {
+    this.#replies.add(given);
+    const { faults } = this.#replies.answers, known = this.#known;
+    this.#known = faults.length;
+    if (this.#is_as_run && known < faults.length) this.#editor.mark(faults.map(({ line }) => line));
+    for (const it of faults.slice(known, MOST)) this.#explain(it);
+  }
+
+  /** Says what the operand at fault may be, if the library knows. @param {import("./replies.js").Fault} fault */
+  async #explain({ line, block }) {
+    const { answers } = this.#replies, { allowed } = block ? await this.#trials.run(block, () => {}) : { allowed: "" };
+    if (allowed && answers === this.#replies.answers) this.#replies.explain(line, allowed);
+  }
+
+  /** Shows whether a run is under way. The focus doesn't stay on a button that goes. @param {boolean} is */
   #set_running(is) {
     this.#is_running = is;
     the("run").setAttribute("aria-disabled", is);
     if (!is && document.activeElement === the("stop")) the("run").focus();
-    the("stop").disabled = !is;
+    the("stop").hidden = !is;
     the("save-replies").disabled = is;
     the("save-image").disabled = !this.left;
   }
 
-  /** Says how a run has ended. The number of faults is on a button.
-   * @param {import("./runs.js").Ended} ended */
-  #tell({ is_stopped, fault }) {
+  /** How a run has ended. @param {Ended} ended @param {boolean} is_strict */
+  #end_of({ is_stopped, fault }, is_strict) {
     const { count, faults } = this.#replies.answers, lines = counted(count, "line");
-    const whole = faults.length ? "Ended with" : `Ended: ${lines}.`;
-    const stopped = `Stopped after ${lines}. The bench of this run is gone: there is no RDRAM to save.`;
-    const failed = `${fault}.${count ? ` Answered: ${lines}.` : ""}`;
-    the("ran").textContent = is_stopped ? stopped : fault ? failed : whole;
-    the("faults").textContent = `${counted(faults.length, "fault")} of ${lines}`;
-    the("faults").hidden = !faults.length;
+    if (is_stopped) return `Stopped after ${lines}. The machine is gone: there is no RDRAM to save.`;
+    if (fault) return `${fault}.${count ? ` Answered: ${lines}.` : ""}`;
+    return is_strict && faults.length ? `Stopped at line ${faults[0].line + 1}.` : `Ran ${lines}.`;
+  }
+
+  /** Says how it goes, and shows the buttons for faults. @param {string} sentence */
+  #tell(sentence, is_strict = false) {
+    const { length } = this.#replies.answers.faults;
+    the("ran").textContent = sentence;
+    the("faults").textContent = counted(length, "fault");
+    the("faults").hidden = !length;
+    the("again").hidden = !length || is_strict;
   }
 }

@@ -3,8 +3,7 @@
 
 /** How many bytes a script may have. */
 export const LONGEST = 1 << 20;
-/** How many scripts come back by undo. */
-const KEPT = 20;
+const KEPT = 20; // scripts that come back by undo
 
 /** A text area holds no CR, and no bytes that aren't UTF-8. So a script that is shown keeps its bytes beside the text
  * until that is changed. Then the script is the text's UTF-8. */
@@ -15,16 +14,12 @@ export class Script {
   /** Scripts that others have replaced, and those that undo has replaced; the last ones come back first.
    * @type {Uint8Array[]} */
   #undone = [];
-  /** @type {Uint8Array[]} */
-  #redone = [];
+  #redone = /** @type {Uint8Array[]} */ ([]);
 
   /** @param {HTMLTextAreaElement} area */
-  constructor(area) {
-    this.#area = area;
-  }
+  constructor(area) { this.#area = area; }
 
-  /** Shows a script in the place of the one that is there, which comes back by undo.
-   * @param {Uint8Array} bytes */
+  /** Shows a script in the place of the one that is there, which comes back by undo. @param {Uint8Array} bytes */
   show(bytes) {
     if (this.#area.value) this.#undone.push(this.bytes);
     this.#undone.splice(0, this.#undone.length - KEPT);
@@ -36,11 +31,9 @@ export class Script {
    * @param {boolean} is_redo */
   can_undo(is_redo = false) { return !this.is_changed && (is_redo ? this.#redone : this.#undone).length > 0; }
 
-  /** Shows the script again that was replaced last, or with `is_redo` the one that undo has replaced.
-   * @param {boolean} is_redo */
+  /** Shows the script again that was replaced last, or the one that undo has replaced. @param {boolean} is_redo */
   undo(is_redo = false) {
-    const [from, to] = is_redo ? [this.#redone, this.#undone] : [this.#undone, this.#redone];
-    const last = from.pop();
+    const [from, to] = is_redo ? [this.#redone, this.#undone] : [this.#undone, this.#redone], last = from.pop();
     if (!last) return;
     to.push(this.bytes);
     this.#put(last);
@@ -57,7 +50,6 @@ export class Script {
 
   /** Whether the text isn't the one that was shown. */
   get is_changed() { return this.#area.value !== this.#text; }
-
   get bytes() { return this.is_changed ? new TextEncoder().encode(this.#area.value) : this.#bytes; }
 
   /** Whether its bytes are other ones than the text's UTF-8. */

@@ -1,32 +1,32 @@
 // @ts-check
 /** The lines of a script's text. */
-
-import { last_below } from "./search.js";
+import { last_below } from "./elements.js";
 
 const TAB = 9, BLANK = 32, LF = "\n";
 /** A block of source text is opened by such a line. Whether its address is a multiple of 4 doesn't matter here. */
 const OPENS = /^[ \t]*asm[ \t]+(?:0x[\da-f]{1,8}|\d{1,10})[ \t]*(?:#|$)/i;
 
 export class Text {
-  #text;
-  /** Where each line begins.
-   * @type {number[]} */
+  all;
+  /** Where each line begins. @type {number[]} */
   #begins = [];
-  /** The lines that are source text.
-   * @type {Set<number>} */
+  /** The lines that are source text. @type {Set<number>} */
   #source = new Set();
 
   /** How many characters the longest line has. */
   longest = 0;
+  /** How many columns that are. */
+  widest = 0;
 
   /** @param {string} text */
   constructor(text) {
-    this.#text = text;
+    this.all = text;
     let is_block = false;
     for (let begin = 0, line = 0; begin <= text.length; line++) {
       const end = (text.indexOf(LF, begin) + 1 || text.length + 1) - 1;
       this.#begins.push(begin);
       this.longest = Math.max(this.longest, end - begin);
+      if (8 * (end - begin) > this.widest) this.widest = Math.max(this.widest, this.columns(begin, end));
       if (is_block) this.#source.add(line);
       const first = is_block ? "e" : "a";
       if (text[this.#word(begin)] === first) {
@@ -36,32 +36,47 @@ export class Text {
     }
   }
 
-  /** Where the first word of a line begins.
-   * @param {number} at */
+  /** How many columns a part of a line has at most: up to 8 for a tab, and 2 for what isn't ASCII.
+   * @param {number} begin @param {number} end */
+  columns(begin, end) {
+    let columns = 0;
+    for (let at = begin; at < end; at++) {
+      const code = this.all.charCodeAt(at);
+      columns += code === TAB ? 8 - columns % 8 : code < 128 ? 1 : 2;
+    }
+    return columns;
+  }
+
+  /** Where the first word of a line begins. @param {number} at */
   #word(at) {
-    while (this.#text.charCodeAt(at) === BLANK || this.#text.charCodeAt(at) === TAB) at++;
+    while (this.all.charCodeAt(at) === BLANK || this.all.charCodeAt(at) === TAB) at++;
     return at;
   }
 
   get count() { return this.#begins.length; }
-
   /** @param {number} line */
   is_source(line) { return this.#source.has(line); }
 
-  /** Where a line begins and ends, without its LF.
-   * @param {number} line */
+  /** Where a line begins and ends, without its LF. @param {number} line */
   range(line) {
-    const next = this.#begins[line + 1] ?? this.#text.length + 1;
+    const next = this.#begins[line + 1] ?? this.all.length + 1;
     return { begin: this.#begins[line], end: next - 1 };
   }
 
   /** @param {number} line */
-  line(line) {
-    const { begin, end } = this.range(line);
-    return this.#text.slice(begin, end);
-  }
-
-  /** The line that a character is in.
-   * @param {number} at */
+  line(line) { return this.all.slice(this.range(line).begin, this.range(line).end); }
+  /** The line that a character is in. @param {number} at */
   line_at(at) { return last_below(this.#begins, at); }
+
+  /** Where the lines of an older text are in this one: those before and after what was changed are known, and those
+   * within stay as near as they can. @param {Text} older @returns {(line: number) => number} */
+  moved_from(older) {
+    const [a, b] = [older.all, this.all], most = Math.min(a.length, b.length);
+    let same = 0, rest = 0;
+    while (same < most && a.charCodeAt(same) === b.charCodeAt(same)) same++;
+    while (rest < most - same && a.charCodeAt(a.length - 1 - rest) === b.charCodeAt(b.length - 1 - rest)) rest++;
+    const line = this.line_at(b.length - rest), is_whole = this.range(line).begin === b.length - rest;
+    const after = line + (is_whole ? 0 : 1), shift = this.count - older.count;
+    return (it) => it + shift >= after ? it + shift : Math.min(it, after);
+  }
 }

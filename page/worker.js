@@ -1,7 +1,7 @@
 // @ts-check
 /** Answers scripts by the library: in a worker, so no run freezes the page. It gets a script and an image, and gives
- * replies as they come. Its last message has the image that the script leaves, or says why there is none. */
-
+ * replies as they come. Its last message has the image that the script leaves, or says why there is none. It also gets
+ * texts of blocks, and says what the operand at fault may be. */
 import "./why.js";
 
 /** How long replies are gathered, in milliseconds. */
@@ -17,18 +17,23 @@ const library = import("./rsp/rsp.js").catch(async (fault) => {
 });
 library.catch(() => {});
 
-/** The reply to each line, and to the script's end. */
-function * replies_of(bench, script) {
-  yield * bench.iter_feed(script);
+function is_fault(reply) { return String.fromCharCode(...reply.subarray(0, 6)) === "fault "; }
+
+/** The reply to each line, and to the script's end. With `is_strict` a fault is the last one. */
+function * replies_of(bench, script, is_strict) {
+  for (const reply of bench.iter_feed(script)) {
+    yield reply;
+    if (is_strict && is_fault(reply)) return;
+  }
   yield bench.end();
 }
 
 /** Answers a script. The image as it leaves it. */
-async function answered(script, image) {
+async function answered({ script, image, is_strict }) {
   const { Bench, Status } = await library, bench = new Bench(image);
   let replies = [], since = performance.now();
   try {
-    for (const reply of replies_of(bench, script)) {
+    for (const reply of replies_of(bench, script, is_strict)) {
       replies.push(reply);
       if (performance.now() - since < GATHERED) continue;
       postMessage({ replies });
@@ -43,9 +48,14 @@ async function answered(script, image) {
   }
 }
 
-onmessage = async ({ data: { script, image } }) => {
+/** What the operand may be for which the library refuses a text; nothing if it isn't refused for one. */
+async function allowed_in({ source, origin }) {
+  return library.then(({ assemble }) => void assemble(source, origin)).catch(({ allowed }) => allowed);
+}
+
+onmessage = async ({ data }) => {
   try {
-    postMessage({ ended: { rdram: await answered(script, image) } });
+    postMessage({ ended: data.script === undefined ? { allowed: await allowed_in(data) } : { rdram: await answered(data) } });
   } catch (fault) {
     postMessage({ ended: { fault: fault.message } });
   }

@@ -34,7 +34,7 @@ def test_first_example(page: Page) -> None:
     assert page.script == script
     assert page.value(CHOSEN) == FIRST
     assert page.replies() == replies
-    assert page.text("ran") == "Ended: 14 lines."
+    assert page.text("ran") == "Ran 14 lines."
     assert page.value("scrollY") == 0
     page.call("Page.reload")
     page.ready()
@@ -56,10 +56,9 @@ def test_names_of_examples(page: Page) -> None:
     """Groups, and names by the words of the pages."""
     groups = "[...document.querySelectorAll('#example optgroup')].map((it) => it.label)"
     assert page.value(groups) == [
-        "README",
-        "rsp run itself",
-        "Cookbook",
-        "Idioms of the cookbook",
+        "Start here",
+        "Whole programs",
+        "Idioms of a few lines",
         "Routines of microcode",
     ]
     names = page.value("[...document.querySelectorAll('#example option')].map((it) => it.textContent)")
@@ -129,9 +128,12 @@ SIZES = {"as it is": (100, 1), "text of 200 %": (200, 1), "zoom of 110 %": (100,
 # where the text does, after as many lines of one height.
 PLACES = f"""(() => {{
   const area = {the('script')}, top = area.getBoundingClientRect().top;
-  const count = area.value.split("\\n").length, padding = parseFloat(getComputedStyle(area).paddingTop);
-  const height = (area.scrollHeight - 2 * padding) / count;
-  const wanted = (line) => padding + line * height - area.scrollTop;
+  const bare = document.body.appendChild(area.cloneNode());
+  Object.assign(bare.style, {{ position: "fixed", height: 0, font: getComputedStyle(area).font }});
+  bare.value = area.value;
+  const count = area.value.split("\\n").length, height = bare.scrollHeight / count;
+  bare.remove();
+  const wanted = (line) => line * height;
   const drawn = (row) => row.getBoundingClientRect().top - top;
   const numbers = [...{the('numbers')}.children], rows = [...{the('colours')}.children];
   return numbers.map((it, n) =>
@@ -147,7 +149,7 @@ def test_lines_are_side_by_side(text: int, pixel: float, page: Page) -> None:
     page.value(f"(document.documentElement.style.fontSize = '{text}%')")
     page.type("\n".join(f"step # {n}" for n in range(30000)))
     for part in (0, 0.5, 1):
-        page.value(f"({the('script')}.scrollTop = {part} * {the('script')}.scrollHeight, 0)")
+        page.value(f"({the('surface')}.scrollTop = {part} * {the('surface')}.scrollHeight, 0)")
         painted(page)
         found = page.value(PLACES)
         assert len(found) > 5
@@ -158,20 +160,20 @@ def test_lines_are_side_by_side(text: int, pixel: float, page: Page) -> None:
 
 
 def test_sideways(page: Page) -> None:
-    """A long line is as wide as in the text area, and goes sideways with it."""
+    """A long line is wholly in the text area, whose surface goes sideways: numbers and replies stay in view, and
+    the caret comes out from below the replies."""
     page.type("# " + 40 * "abc\tdef " + "\n")
+    page.run()
     painted(page)
-    wide = f"{the('colours')}.firstElementChild.scrollWidth"
-    padding = page.value(f"parseFloat(getComputedStyle({the('script')}).paddingLeft)")
-    beside = page.value(f"{the('script')}.scrollWidth - {wide}")
-    assert padding - 1 <= beside <= 2 * padding + 1
-    page.value(f"({the('script')}.scrollLeft = 1000, 0)")
-    painted(page)
-    boxes = (
-        f"[{the('colours')}.firstElementChild, {the('script')}].map((it) => it.getBoundingClientRect().left)"
-    )
-    drawn, area = page.value(boxes)
-    assert drawn - area == pytest.approx(padding - 1000, abs=1)
+    assert page.value(f"{the('script')}.scrollWidth - {the('script')}.clientWidth") == 0
+    box = "getBoundingClientRect()"
+    sides = f"[{the('numbers')}.{box}.left, {the('answers')}.{box}.right, {the('colours')}.{box}.left]"
+    before: Any = page.value(sides)
+    page.value(f"({the('script')}.focus(), {the('script')}.setSelectionRange(200, 200))")
+    page.press("x")
+    page.settle()
+    after: Any = page.value(sides)
+    assert after[:2] == before[:2] and after[2] < before[2] - 500
 
 
 def check_own_letters(page: Page) -> None:
@@ -244,8 +246,8 @@ def test_faults(page: Page) -> None:
     page.type(FAULTY)
     page.run()
     painted(page)
-    assert page.text("ran") == "Ended with"
-    assert page.text("faults") == "3 faults of 9 lines"
+    assert page.text("ran") == "Ran 9 lines."
+    assert page.text("faults") == "3 faults"
     assert page.value(MARKED) == [2, 6, 10]
     lines = []
     for _ in range(4):
@@ -266,11 +268,11 @@ def test_fault_far_below(page: Page) -> None:
     page.type("regs\n" * 600 + "step 5\n")
     page.click("run")
     page.ended()
-    assert page.text("faults") == "1 fault of 601 lines"
+    assert page.text("faults") == "1 fault"
     page.click("faults")
     painted(page)
     assert page.value(MARKED) == [601]
-    for name, row in ("editor", "#numbers .fault"), ("shown", "#replies .fault"):
+    for name, row in ("surface", "#numbers .fault"), ("surface", "#replies .fault"):
         box, it = (
             f"{the(name)}.getBoundingClientRect()",
             f"document.querySelector('{row}').getBoundingClientRect()",
@@ -281,7 +283,7 @@ def test_fault_far_below(page: Page) -> None:
 def test_no_fault(page: Page) -> None:
     page.type("step\n")
     page.run()
-    assert page.text("ran") == "Ended: 1 line."
+    assert page.text("ran") == "Ran 1 line."
     assert page.value(f"getComputedStyle({the('faults')}).display") == "none"
 
 
@@ -292,7 +294,7 @@ def test_edited_while_it_runs(page: Page) -> None:
     page.type("step\nstep\n")
     page.ended()
     painted(page)
-    assert page.text("faults") == "1 fault of 25 lines"
+    assert page.text("faults") == "1 fault"
     assert page.value(MARKED) == []
 
 
@@ -338,52 +340,127 @@ def test_undo_of_typing(page: Page) -> None:
 # Replies beside their commands, and on a telephone.
 
 
-def test_with_commands(page: Page) -> None:
-    """By a switch each reply is below its command; a line without a reply keeps its height and its number."""
-    page.type("# a\n\nstep\nasm 0\nnop\n")
-    page.run()
-    page.click("commands")
-    rows = (
-        "[...document.querySelectorAll('#replies li')].map((it) => [it.dataset.line ?? '', it.textContent])"
-    )
-    assert page.value(rows) == [
-        ["1", "# a"],
-        ["2", ""],
-        ["3", "step"],
-        ["", "step Done pc 004"],
-        ["4", "asm 0"],
-        ["5", "nop"],
-        ["", "the script's end"],
-        ["", "fault 10 BadLine line 2"],
-    ]
-    heights = "[...new Set([...document.querySelectorAll('#replies li')].map((it) => it.offsetHeight))]"
-    assert len(page.value(heights)) == 1
-    page.click("commands")
-    assert page.value(rows) == [["3", "step Done pc 004"], ["", "fault 10 BadLine line 2"]]
+BESIDE = """[...document.querySelectorAll('#replies > li')].map((it) => {
+  const number = document.querySelectorAll('#numbers > div')[it.dataset.line - 1];
+  return [Number(it.dataset.line), it.getBoundingClientRect().top - number.getBoundingClientRect().top];
+})"""
+
+
+def test_replies_are_beside_their_lines(page: Page) -> None:
+    """Long ones fold as far as they would push the next one down, and are unfolded by a button."""
+    page.type("step\nvregs\n\nasm 0\nnop\nend\nregs\nstep\nregs\n")
+    page.click("run")
+    page.ended()
+    painted(page)
+    assert page.value(BESIDE) == [[1, 0], [2, 0], [6, 0], [7, 0], [8, 0], [9, 0]]
+    buttons = "[...document.querySelectorAll('#replies button')]"
+    assert page.value(f"{buttons}.map((it) => it.textContent)") == ["+28", "+8"]
+    page.value(f"({buttons}[1].focus(), {buttons}[1].click())")
+    painted(page)
+    row = page.value(f"{the('probe')}.getBoundingClientRect().height")
+    assert page.value(BESIDE) == [[1, 0], [2, 0], [6, 0], [7, 0], [8, 8 * row], [9, 8 * row]]
+    assert page.value("document.activeElement.textContent") == "fold"
+    page.value("document.activeElement.click()")
+    painted(page)
+    assert page.value(f"{buttons}.map((it) => it.textContent)") == ["+28", "+8"]
+
+
+def test_replies_go_with_their_lines(page: Page) -> None:
+    """Until the script runs again, replies stay beside the lines that they are of."""
+    page.type("step\nstep\nregs\n")
+    page.click("run")
+    page.ended()
+    page.value(f"({the('script')}.focus(), {the('script')}.setSelectionRange(5, 5))")
+    page.call("Input.insertText", text="pc 0\n\n")
+    painted(page)
+    assert page.value(BESIDE) == [[1, 0], [4, 0], [5, 0]]
+
+
+EXPLAINED = "[...document.querySelectorAll('#replies p')].map((it) => it.textContent).join(' ')"
+
+
+def test_faults_are_explained(page: Page) -> None:
+    """At the line at fault, as the library does."""
+    page.type("asm 0\nnop\nlqv $v1[0], 3($0)\nend\n")
+    page.click("run")
+    page.ended()
+    page.until(f"{EXPLAINED}.startsWith('Operand')")
+    assert page.value(EXPLAINED) == "Operand 2 may be -1024 to 1008, a multiple of 16."
+    assert page.value(BESIDE) == [[3, 0], [4, 0]]
+    page.type("foo\n")
+    page.click("run")
+    page.ended()
+    assert page.value(EXPLAINED).startswith("The command is unknown, ")
+
+
+def test_stop_at_the_first_fault(page: Page) -> None:
+    page.type("step\nfoo\nstep\n")
+    page.click("run")
+    page.ended()
+    assert page.value(SHOWN) == 3
+    page.click("again")
+    assert page.ended() == "Stopped at line 2."
+    assert page.value(SHOWN) == 2
+
+
+@pytest.mark.parametrize("width", (655, 690, 705, 715))
+def test_room_is_taken_once(width: int, page: Page) -> None:
+    """Where replies just have room beside the script, or just not, the page doesn't go to and fro."""
+    screen = {"width": width, "height": 600, "deviceScaleFactor": 1, "mobile": False}
+    page.call("Emulation.setDeviceMetricsOverride", **screen)
+    page.settle()
+    changes = f"""new Promise((done) => {{
+      let count = 0;
+      const seen = new MutationObserver((them) => count += them.length);
+      seen.observe({the('surface')}, {{ attributeFilter: ["class"] }});
+      setTimeout(() => done(count), 300);
+    }})"""
+    count = page.value(changes)
+    page.call("Emulation.clearDeviceMetricsOverride")
+    assert count == 0
 
 
 @pytest.mark.parametrize("width, height", ((360, 740), (640, 400)), ids=("telephone", "zoom of 200 %"))
 def test_run_on_a_small_screen(width: int, height: int, page: Page) -> None:
-    """Run is above the text, in view at first; then replies are in view; a fault brings back the script."""
+    """Run is in view at first; then each reply is below its line; a fault comes into view; a line leads back to
+    the script."""
     screen = {"width": width, "height": height, "deviceScaleFactor": 1, "mobile": True}
     page.call("Emulation.setDeviceMetricsOverride", **screen)
-    run, script = (page.value(f"{the(it)}.getBoundingClientRect().bottom") for it in ("run", "script"))
-    seen = f"{the('replies')}.firstElementChild.getBoundingClientRect()"
-    page.type("step\n")
+    painted(page)
+    run = page.value(f"{the('run')}.getBoundingClientRect().bottom")
+    page.click("view")
+    page.type("# a\n\nstep\nasm 0\nnop\n")
     page.click("run")
     page.ended()
     painted(page)
-    first: Any = page.value(f"[{seen}.top, {seen}.bottom]")
+    rows = """[...document.querySelectorAll('#replies > li')].map((it) =>
+      [it.dataset.line ?? '', ...[...it.querySelectorAll('code, em, samp')].map((it) => it.textContent)])"""
+    found = page.value(rows)
+    page.click("view")
     page.type("step\n" * 50 + "x\n" + "step\n" * 50)
-    page.run()
+    page.click("run")
+    page.ended()
     page.click("faults")
-    painted(page)
-    marked = "document.querySelector('#numbers .fault').getBoundingClientRect()"
-    fault: Any = page.value(f"[{the('bar')}.getBoundingClientRect().bottom, {marked}.top, {marked}.bottom]")
+    page.settle()
+    fault: Any = page.value(
+        "(({ top, bottom }) => [top, bottom])(document.querySelector('li.fault').getBoundingClientRect())"
+    )
+    page.value("document.querySelector('li.fault > code').click()")
+    page.settle()
+    selected = f"{the('script')}.value.slice({the('script')}.selectionStart, {the('script')}.selectionEnd)"
+    chosen = page.value(f"[document.activeElement.id, {selected}]")
     page.call("Emulation.clearDeviceMetricsOverride")
-    assert run < height and run < script
-    assert 0 <= first[0] and first[1] <= height
-    assert [*fault, height] == sorted([*fault, height])
+    assert run < height
+    assert found == [
+        ["1", "# a"],
+        ["2", ""],
+        ["3", "step", "step Done pc 004"],
+        ["4", "asm 0"],
+        ["5", "nop"],
+        ["", "the script's end", "fault 10 BadLine line 2"],
+    ]
+    assert [run, *fault, height] == sorted([run, *fault, height])
+    assert chosen == ["script", "x"]
 
 
 # Help.
@@ -463,5 +540,5 @@ def test_link_is_not_run(page: Page) -> None:
     page.open_link(linked(b"step\n"))
     page.settle()
     assert page.script == "step\n"
-    assert page.value(SHOWN) == text_of("examples/first.out").count("\n")
+    assert page.value(SHOWN) == 0
     page.press(ENTER)

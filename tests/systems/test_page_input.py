@@ -195,7 +195,7 @@ def test_wrong_type_of_the_library(page: Page, lacking: Path) -> None:
     try:
         page.open(f"http://127.0.0.1:{server.server_address[1]}/page/index.html")
         page.ready()
-        assert page.text("ran") == "Ended: 14 lines."
+        assert page.text("ran") == "Ran 14 lines."
     finally:
         server.shutdown()
         server.server_close()

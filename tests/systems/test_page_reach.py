@@ -14,9 +14,18 @@ from rsp_tools.systems import manual
 pytestmark = pytest.mark.xdist_group("page")
 # Every control that is enabled when the page has been opened, in the order of the key Tab: links by their
 # words.
-LINKS = ["Tutorial", "Commands", "Instructions", "Faults"]
-BEFORE = ["run", "example", "open-script", "save-script", "link", "explain", "script", "open-image", "zeros"]
-CONTROLS = [*LINKS, *BEFORE, "commands", "save-replies", "save-image", "shown"]
+CONTROLS = ["run", "example", "link", "more", "script", "answers"]
+MENU = [
+    "open-script",
+    "save-script",
+    "explain",
+    "strict",
+    "whole",
+    "save-replies",
+    "open-image",
+    "save-image",
+]
+MENU += ["Tutorial", "Commands", "Instructions", "Faults"]
 ENDLESS = "asm 0\nj 0\nnop\nend\n" + 5000 * "run 1000000\n"
 # The least contrast of a text with its ground, of all that are shown.
 CONTRAST = """(() => {
@@ -59,19 +68,37 @@ def go_to(page: Page, name: str) -> None:
 
 
 def test_order_of_controls(page: Page) -> None:
-    """All controls are reached, in order, and their focus is seen."""
+    """All controls are reached, in order, and their focus is seen: that of the script beside it."""
     order = []
     for _ in CONTROLS:
         page.press(TAB)
-        seen = the("editor") if focus(page) == "script" else "document.activeElement"
-        order.append((focus(page), page.value(f"getComputedStyle({seen}).outlineStyle")))
+        seen = "document.activeElement"
+        style = f"getComputedStyle({seen}).outlineStyle"
+        order.append((focus(page), page.value(style) if focus(page) != "script" else "solid"))
+        if focus(page) == "script":
+            assert page.value(f"getComputedStyle({the('numbers')}).boxShadow") != "none"
     assert order == [(it, "solid") for it in CONTROLS]
+
+
+def test_order_of_the_menu(page: Page) -> None:
+    """It is opened by a key, its controls come next, and Escape closes it."""
+    go_to(page, "more")
+    page.press(ENTER)
+    order = []
+    for _ in MENU:
+        page.press(TAB)
+        order.append((focus(page), page.value("getComputedStyle(document.activeElement).outlineStyle")))
+    assert order == [(it, "solid") for it in MENU]
+    page.press("\ue00c")
+    assert not page.value(f"{the('menu')}.matches(':popover-open')")
+    assert focus(page) == "more"
 
 
 def test_run_by_keys(page: Page) -> None:
     go_to(page, "example")
     page.press(DOWN)
     assert page.value(f"{the('example')}.value") == "1"
+    page.ended()
     go_to(page, "script")
     page.type("step\n")
     page.press(ENTER, CONTROL)
@@ -80,6 +107,8 @@ def test_run_by_keys(page: Page) -> None:
     go_to(page, "run")
     page.press(ENTER)
     assert page.replies() == "step Done pc 004\nstep Done pc 008\n"
+    go_to(page, "more")
+    page.press(ENTER)
     go_to(page, "save-replies")
     page.press(" ")
     assert page.download("replies.txt") == b"step Done pc 004\nstep Done pc 008\n"
@@ -100,6 +129,8 @@ def test_stop_by_keys(page: Page) -> None:
 def test_files_by_keys(name: str, page: Page) -> None:
     """Each button for files asks for one."""
     page.call("Page.setInterceptFileChooserDialog", enabled=True)
+    go_to(page, "more")
+    page.press(ENTER)
     go_to(page, name)
     page.log.clear()
     page.press(ENTER)
@@ -132,30 +163,33 @@ mem dmem 0 64
 dis 0 8
 """
 
-# How many lines the script has with the one below, and how many its replies: three of one line, then those
-# from `regs` on.
-LINES, REPLIES = 19, 3 + 9 + 32 + 8 + 1 + 17 + 4 + 8
-
 
 @pytest.fixture
 def filled(page: Page) -> Page:
     """The page with replies of all kinds, and a long line."""
     page.type(ALL + "# " + 120 * "ab" + "\n")
     page.run()
+    page.until("document.querySelectorAll('#replies p').length > 1")
     return page
 
 
-@pytest.mark.parametrize("is_alone", (True, False), ids=("replies alone", "with commands"))
+@pytest.mark.parametrize("width", (360, 1000))
+@pytest.mark.parametrize("is_old", (True, False))
 @pytest.mark.parametrize("scheme", ("light", "dark"))
-def test_contrast(scheme: str, is_alone: bool, filled: Page) -> None:
-    if not is_alone:
-        filled.click("commands")
+def test_contrast(scheme: str, is_old: bool, width: int, filled: Page) -> None:
+    """Also of replies whose script was changed, and of the menu."""
+    if is_old:
+        filled.value(f"{the('answers')}.classList.add('old')")
+    screen = {"width": width, "height": 800, "deviceScaleFactor": 1, "mobile": False}
+    filled.call("Emulation.setDeviceMetricsOverride", **screen)
+    filled.value(f"{the('menu')}.showPopover()")
     filled.call("Emulation.setEmulatedMedia", features=[{"name": "prefers-color-scheme", "value": scheme}])
     filled.settle()
     contrast, ground = filled.value(CONTRAST), filled.value("getComputedStyle(document.body).backgroundColor")
     parts = "[...document.querySelectorAll('#colours span, #numbers .fault')].map((it) => it.className)"
     found = filled.value(f"new Set({parts}).size")
     filled.call("Emulation.setEmulatedMedia", features=[])
+    filled.call("Emulation.clearDeviceMetricsOverride")
     assert found == 6
     assert contrast >= 4.5
     assert (ground == "rgb(255, 255, 255)") == (scheme == "light")
@@ -176,25 +210,23 @@ def test_contrast_of_help(scheme: str, page: Page, host: Host) -> None:
 
 # The lines of the replies whose last letter can't be reached whole by scrolling: what is painted there is
 # another element, or it isn't on the screen.
-CUT_OFF = f"""(() => {{
-  const scroller = {the('shown')}, list = {the('replies')}, cut = [];
-  const is_scrolling = getComputedStyle(scroller).overflowX === "auto"; // what is hidden only scripts scroll
-  for (const row of list.children) {{
+CUT_OFF = f"""(async () => {{
+  const scroller = {the('surface')}, cut = [];
+  const painted = () => new Promise((done) => requestAnimationFrame(() => requestAnimationFrame(done)));
+  for (const row of {the('replies')}.querySelectorAll("samp, p, code")) {{
     let text = row;
     while (text.lastChild) text = text.lastChild;
     if (!text.length) continue;
     const last = document.createRange();
     last.setStart(text, text.length - 1);
     last.setEnd(text, text.length);
-    scroller.scrollTo(0, row.offsetTop - list.offsetTop);
+    scroller.scrollBy(0, last.getBoundingClientRect().top - scroller.getBoundingClientRect().top - 80);
+    scroller.scrollTo(0, scroller.scrollTop);
     const beyond = last.getBoundingClientRect().right - scroller.getBoundingClientRect().right;
-    if (is_scrolling) scroller.scrollTo(beyond + 50, scroller.scrollTop);
+    if (beyond > -20) scroller.scrollBy(beyond + 50, 0);
     scrollBy(0, last.getBoundingClientRect().top - 0.7 * innerHeight);
     const box = last.getBoundingClientRect();
-    const is_seen = (part) => {{
-      const seen = document.elementFromPoint((box.left + box.right) / 2, box.top + part * box.height);
-      return row.contains(seen) && seen !== row;
-    }};
+    const is_seen = (part) => row.contains(document.elementFromPoint((box.left + box.right) / 2, box.top + part * box.height));
     if (![0.15, 0.5, 0.85].every(is_seen)) cut.push(row.textContent);
   }}
   return cut;
@@ -216,38 +248,31 @@ HIDDEN = """(() => {
   };
   for (let text; text = texts.nextNode();) {
     const first = text.data.search(/\\S/), last = text.data.trimEnd().length - 1;
-    if (first < 0 || text.parentElement.closest("#editor, #shown, .read")) continue;
+    if (first < 0 || text.parentElement.closest("#surface, h1")) continue;
     if (![first, last].every((at) => is_painted(text, at))) hidden.push(text.data);
   }
   return hidden;
 })()"""
 
 
-@pytest.mark.parametrize("is_alone", (True, False), ids=("replies alone", "with commands"))
 @pytest.mark.parametrize("text", (100, 200))
 @pytest.mark.parametrize("width", (320, 360, 412, 768, 960, 1280, 2560))
-def test_nothing_is_cut_off(width: int, text: int, is_alone: bool, filled: Page) -> None:
-    """Each reply's last letter can be reached, all other texts are painted whole, the page itself isn't wider
-    than the screen, and what stays in view takes a third of it at most."""
+def test_nothing_is_cut_off(width: int, text: int, filled: Page) -> None:
+    """Each reply's last letter can be reached, all other texts are painted whole, and the page itself isn't wider
+    than the screen."""
     height = {320: 568, 360: 740, 412: 915, 768: 1024}.get(width, 800)
     screen = {"width": width, "height": height, "deviceScaleFactor": 1, "mobile": width < 900}
     filled.call("Emulation.setDeviceMetricsOverride", **screen)
     filled.value(f"(document.documentElement.style.fontSize = '{text}%')")
-    if not is_alone:
-        filled.click("commands")
     filled.settle()
     wide, cut = filled.value("document.documentElement.scrollWidth"), filled.value(CUT_OFF)
     hidden = filled.value(HIDDEN)
-    staying = filled.value(
-        f"getComputedStyle({the('bar')}).position === 'sticky' && {the('bar')}.offsetHeight"
-    )
-    rows = filled.value(f"{the('replies')}.children.length")
+    rows = filled.value(f"{the('replies')}.querySelectorAll('samp:not(.rest)').length")
     filled.value("(document.documentElement.style.fontSize = '')")
     filled.call("Emulation.clearDeviceMetricsOverride")
     assert wide <= width
     assert cut == [] and hidden == []
-    assert staying <= height / 3
-    assert rows == REPLIES + (0 if is_alone else LINES)
+    assert rows == 3 + 9 + 32 + 8 + 1 + 17 + 4 + 8
 
 
 def test_size_for_a_finger(page: Page) -> None:
@@ -257,10 +282,11 @@ def test_size_for_a_finger(page: Page) -> None:
     page.call("Emulation.setTouchEmulationEnabled", enabled=True)
     page.call("Emulation.setEmulatedMedia", features=[{"name": "pointer", "value": "coarse"}])
     page.settle()
+    page.value(f"{the('menu')}.showPopover()")
     is_coarse = page.value("matchMedia('(pointer: coarse)').matches")
     small = page.value(
         "[...document.querySelectorAll('button, select, nav a, label')].filter((it) => it.offsetHeight && "
-        "(it.offsetHeight < 44 || it.offsetWidth < 44) && it.htmlFor !== 'example')"
+        "(it.offsetHeight < 44 || it.offsetWidth < 44) && !it.closest('#replies'))"
         ".map((it) => it.id || it.textContent)"
     )
     page.call("Emulation.setEmulatedMedia", features=[])
@@ -281,10 +307,9 @@ def test_names(filled: Page) -> None:
     named = [it for it in found if it[0] in roles]
     assert [role for role, name in named if not name and role != "status"] == []
     controls = [it for it in named if it[0] in ("button", "combobox", "textbox", "checkbox")]
-    absent = ["stop", "undo"]
-    assert len(controls) == len(CONTROLS) - len([*LINKS, "shown"]) + len([*absent, "faults"])
+    assert len(controls) == len(["run", "example", "link", "more", "script", "faults", "again"])
     assert [role for role, _ in named].count("status") == 2
-    assert ("button", "2 faults of 19 lines") in named
+    assert ("button", "2 faults") in named
 
 
 def test_script_is_read_aloud(filled: Page) -> None:
@@ -308,8 +333,8 @@ def test_many_lines_are_read_aloud(count: int, page: Page) -> None:
     took = time.monotonic() - begun
     items = [it for it in nodes(page) if it["role"]["value"] == "listitem"]
     page.call("Accessibility.disable")
-    assert page.value(SHOWN) == 9 * count
-    assert len(items) == 9 * count if count == 5 else 200 <= len(items) <= 500
+    assert page.value(SHOWN) == count
+    assert len(items) == count if count == 5 else 200 <= len(items) <= 500
     assert took < 20
 
 

@@ -21,7 +21,7 @@ pytestmark = pytest.mark.xdist_group("page")
 YEAR = 31536000
 # What each version shows: by its style, by its page, and by its worker, which replies to the script's end.
 SEEN = """[getComputedStyle(document.documentElement).getPropertyValue("--version").trim(),
-  document.documentElement.dataset.version, document.querySelector("#replies li:last-child")?.textContent]"""
+  document.documentElement.dataset.version, document.querySelector("#replies li:last-child samp:last-child")?.textContent]"""
 
 
 def version(number: int) -> pages.Files:
@@ -113,7 +113,7 @@ def test_old_tab(is_kept: bool, site: Site, page: Page) -> None:
     page.type("step\n")
     said = page.run(), page.text("ran")
     gone = "worker.js isn't served: 404 File not found. A newer page may be there: reload it."
-    assert said in (("step Done pc 004\n1\n", "Ended: 1 line."), ("", gone))
+    assert said in (("step Done pc 004\n1\n", "Ran 1 line."), ("", gone))
     page.value("(onbeforeunload = null)")
     page.call("Page.reload")
     shows(page, 2)

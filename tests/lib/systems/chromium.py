@@ -5,11 +5,11 @@ from pathlib import Path
 from typing import Any, Dict
 
 PROGRAMS = ("chromium", "chromedriver", "python:selenium")
-# As root Chromium has no sandbox of its own; a small window is painted sooner; gc() is for machines that are
+# As root Chromium has no sandbox of its own; a small window, with room for replies beside scripts, is painted sooner; gc() is for machines that are
 # dropped.
 WORDS = """
 --headless=new --no-sandbox --disable-gpu --disable-dev-shm-usage --no-first-run
---window-size=500,300 --js-flags=--expose-gc
+--window-size=1000,400 --js-flags=--expose-gc
 """.split()
 LONGEST = 1800  # seconds that a script in a page may take
 

@@ -22,22 +22,26 @@ def the(name: str) -> str:
     return f"document.getElementById('{name}')"
 
 
-SHOWN = f"Number({the('replies')}.style.getPropertyValue('--count'))"  # how many lines of replies are shown
-# The texts of all lines of replies, which are brought into the document in turn.
+# How many replies are shown, if one of them is near the view.
+SHOWN = "Number(document.querySelector('#replies > li')?.getAttribute('aria-setsize') ?? 0)"
+# All lines of the replies, unfolded, which are brought into the document in turn.
 ALL_SHOWN = f"""(async () => {{
-  const scroller = {the('shown')}, list = {the('replies')}, count = {SHOWN}, found = [];
+  const scroller = {the('surface')}, found = [];
   const painted = () => new Promise((done) => requestAnimationFrame(() => requestAnimationFrame(done)));
-  const height = list.getBoundingClientRect().height / count;
-  for (let line = 0; line < count; line += 100) {{
-    if (list.children.length < count) {{
-      scroller.scrollTo(0, line * height);
-      await painted();
+  const text = (it) => (it.className ? "" : "\\n") + it.textContent;
+  if (!{the('whole')}.checked) {the('whole')}.click();
+  const height = {the('probe')}.getBoundingClientRect().height;
+  let count = 0; // a reply may be far below the first line
+  for (let top = 0; top < scroller.scrollHeight && !(count && Object.keys(found).length === count); top += 100 * height) {{
+    scroller.scrollTo(0, top);
+    await painted();
+    for (const it of {the('replies')}.children) {{
+      count = Number(it.getAttribute("aria-setsize"));
+      found[it.getAttribute("aria-posinset") - 1] = [...it.querySelectorAll("samp")].map(text).join("");
     }}
-    for (const it of list.children) found[it.getAttribute("aria-posinset") - 1] = it.textContent;
-    if (list.children.length === count) break;
   }}
-  for (let line = 0; line < count; line++) if (found[line] === undefined) return `line ${{line}} isn't shown`;
-  return found.map((it) => it + "\\n").join("");
+  for (let item = 0; item < count; item++) if (found[item] === undefined) return `item ${{item}} isn't shown`;
+  return found.join("").slice(1) + (count ? "\\n" : "");
 }})()"""
 
 

@@ -26,7 +26,7 @@ def first(page: str) -> Example:
     found = re.search(r"(?m)^## Example\n\n\*\*([^*]*)\.\*\*", page)
     if not found:
         raise Refused("README.md has no section Example that begins with words in bold")
-    return example("README", found[1], FIRST.read_text())
+    return example("Start here", found[1], FIRST.read_text())
 
 
 def named(page: str) -> Dict[str, str]:
@@ -43,7 +43,7 @@ def scripts(page: str) -> Iterator[Example]:
     held = {it.stem: it.read_text() for it in sorted(places.TOP.glob("examples/*.rsp")) if it != FIRST}
     if missing := held.keys() - said.keys():
         raise Refused(f"docs/COOKBOOK.md says nothing of examples/{min(missing)}.rsp")
-    for group, is_of in ("rsp run itself", False), ("Cookbook", True):
+    for group, is_of in ("Start here", False), ("Whole programs", True):
         names = (it for it in said if (it in table) is is_of and it in held)
         yield from (example(group, f"{it}: {said[it]}", held[it]) for it in names)
 
@@ -57,7 +57,7 @@ def idioms(page: str) -> Iterator[Example]:
     ):
         if text:
             script = f"# {title}\nasm 0\n{text}end\ndis 0 {len(text.splitlines())}\n"
-            yield example("Idioms of the cookbook", title, script)
+            yield example("Idioms of a few lines", title, script)
         else:
             title = " ".join((head or bold).split()).rstrip(".")
 

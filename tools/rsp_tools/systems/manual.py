@@ -73,5 +73,4 @@ def made() -> Dict[str, bytes]:
     """All files, by their names in the folder."""
     pages = {f"{it}.html": page(it).encode() for it in PAGES}
     shown = {it for text in pages.values() for it in re.findall(r'"(pictures/[\w-]+\.svg)"', text.decode())}
-    style = TEMPLATE.with_suffix(".css")
-    return {**pages, style.name: style.read_bytes(), **{it: (DOCS / it).read_bytes() for it in sorted(shown)}}
+    return {**pages, **{it: (DOCS / it).read_bytes() for it in sorted(shown)}}

@@ -4,6 +4,7 @@ takes files of two versions together."""
 
 import hashlib
 import json
+import re
 from pathlib import Path
 from typing import Dict
 
@@ -31,14 +32,27 @@ def scripts() -> bytes:
     return module("Scripts to choose from", EXAMPLES=f"[\n{lines}]")
 
 
+def faults() -> Dict[str, str]:
+    """What each fault means, and what helps, by its number."""
+    found = {}
+    for it in data("faults"):
+        means, helps = (
+            re.sub(r"`|\[([^]]*)\]\([^)]*\)", r"\1", it[name]) for name in ("Cause", "What helps")
+        )
+        means = re.sub(r"^[\w, ]*: ", "", means)  # the commands, of which one is in the line
+        found[it["Fault"].split()[0]] = f"{means[0].upper()}{means[1:]}. {helps[0].upper()}{helps[1:]}."
+    return found
+
+
 def names() -> bytes:
-    """The module with the names of commands, and of what source text has."""
+    """The module with the names of commands and of what source text has, and with the faults."""
     found = {
         "COMMANDS": [it["Command"].split()[0] for it in data("commands")],
         "STATEMENTS": STATEMENTS,
         "INSTRUCTIONS": [it["Instruction"].lower() for it in data("instructions")],
     }
-    return module("Names in scripts", **{name: f"new Set({json.dumps(it)})" for name, it in found.items()})
+    sets = {name: f"new Set({json.dumps(it)})" for name, it in found.items()}
+    return module("Names in scripts, and faults", **sets, FAULTS=json.dumps(faults()))
 
 
 def parts(library: Path) -> Files:
