@@ -2,11 +2,10 @@
 
 import argparse
 import os
-import resource
 import subprocess
 import sys
 from pathlib import Path
-from typing import Optional, Sequence, Tuple
+from typing import Optional
 
 from lib import TOP
 from lib.packages import is_here, without
@@ -47,11 +46,3 @@ def need_library() -> None:
     """Ends the command if the library isn't built."""
     if not LIBRARY.is_file():
         sys.exit(f"{Path(sys.argv[0]).stem}: {LIBRARY} isn't there: run library/c/build first")
-
-
-def timed(words: Sequence[object], script: bytes) -> "Tuple[float, subprocess.CompletedProcess[bytes]]":
-    """The processor's seconds that a command takes with this input, and the command as it ended."""
-    before = resource.getrusage(resource.RUSAGE_CHILDREN)
-    ran = subprocess.run([str(it) for it in words], input=script, capture_output=True, timeout=120)
-    after = resource.getrusage(resource.RUSAGE_CHILDREN)
-    return after.ru_utime + after.ru_stime - before.ru_utime - before.ru_stime, ran

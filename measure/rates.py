@@ -17,13 +17,13 @@ from typing import Any, Callable, List
 
 from lib import TESTS
 from measure import need, need_library, reader
-from rsp_conformance.campaign.shared import BATCH
+from rsp_conformance.campaign.protocol import BATCH
 from rsp_conformance.table import ROWS
 
 if importlib.util.find_spec("numpy"):  # --help does without
     import numpy as np
     from rsp_conformance.campaign.build import built
-    from rsp_conformance.campaign.child import check_cases
+    from rsp_conformance.campaign.worker_process import check_cases
     from rsp_conformance.campaign.emulators import Object
     from rsp_conformance.campaign.generator import END, cases_of, memories_of
 

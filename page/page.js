@@ -1,6 +1,6 @@
 // @ts-check
 /** The page: joins the script, the image of RDRAM, the runs and their replies. */
-import { Choosing } from "./choosing.js";
+import { Choosing } from "./script_source.js";
 import { Editor } from "./editor.js";
 import { grouped, the } from "./elements.js";
 import { EXAMPLES } from "./examples.js";
@@ -114,7 +114,6 @@ function listen() {
   on_file("script", LONGEST, (bytes, name) => choosing.take_file(bytes, name));
   on_file("image", LONGEST_IMAGE, take_image);
   window.onkeydown = on_key;
-  window.onpageshow = ({ persisted }) => persisted && renew(); // a browser has kept the whole page
   window.onhashchange = () => choosing.show_linked();
   window.onbeforeunload = (event) => { if (choosing.is_at_stake) event.preventDefault(); };
 }
@@ -139,41 +138,4 @@ async function begin() {
   running.run();
 }
 
-/** The folder of this version's files, as index.html names it. */
-const FOLDER = import.meta.url.split("/").at(-2);
-
-/** Whether the server's index.html names another folder than this one. What isn't served, or names none, isn't newer. */
-async function is_newer() {
-  try {
-    const answer = await fetch(location.href.split("#")[0], { cache: "no-cache" });
-    const found = answer.ok ? (await answer.text()).match(/"([^"/]*)\/page\.js"/) : null;
-    return found !== null && found[1] !== FOLDER;
-  } catch {
-    return false; // the page works without its server
-  }
-}
-
-/** Loads the page anew, once for this version. Whether it does. */
-function reload() {
-  try {
-    if (sessionStorage.getItem("reloaded") === FOLDER) return false;
-    sessionStorage.setItem("reloaded", String(FOLDER));
-  } catch {
-    return false; // where nothing is kept it would be loaded again and again
-  }
-  location.reload();
-  return true;
-}
-
-/** Takes a newer version of the page, if nothing is lost by that. */
-async function renew() {
-  if (!await is_newer()) return;
-  if (!choosing.is_at_stake) {
-    the("script").value = ""; // else the browser keeps the example of this version
-    if (reload()) return;
-  }
-  say("There is a newer version of this page. Save your script, and reload the page.");
-}
-
 begin();
-renew();

@@ -38,7 +38,7 @@ export class Runs {
         if (replies) hear(replies);
         if (ended) end(ended);
       };
-      worker.onerror = async ({ message }) => end({ fault: message || await why_not(WORKER) }); // of why.js
+      worker.onerror = async ({ message }) => end({ fault: message || await why_not(WORKER) }); // of load_error.js
       worker.postMessage(asked);
     });
     const ended = await under_way.catch((fault) => ({ fault: fault.message }));

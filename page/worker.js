@@ -2,7 +2,7 @@
 /** Answers scripts by the library: in a worker, so no run freezes the page. It gets a script and an image, and gives
  * replies as they come. Its last message has the image that the script leaves, or says why there is none. It also gets
  * texts of blocks, and says what the operand at fault may be. */
-import "./why.js";
+import "./load_error.js";
 
 /** How long replies are gathered, in milliseconds. */
 const GATHERED = 50;

@@ -14,7 +14,7 @@ import pytest
 
 pytest.register_assert_rewrite("lib")  # before its first import
 
-from lib import TOP, outside  # noqa: E402
+from lib import TOP, slow_marker  # noqa: E402
 from lib.packages import need  # noqa: E402
 from lib.program import Ran, ran  # noqa: E402
 from rsp_tools.build import Build  # noqa: E402
@@ -38,7 +38,7 @@ def pytest_configure(config: pytest.Config) -> None:
         "needs(tool, ..): skipped where a program, a file or `python:MODULE` isn't, with its Debian package"
     )
     config.addinivalue_line("markers", needs)
-    config.pluginmanager.register(outside, "outside")
+    config.pluginmanager.register(slow_marker, "outside")
 
 
 @pytest.hookimpl(optionalhook=True)

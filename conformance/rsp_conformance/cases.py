@@ -5,12 +5,12 @@ The same row, seed and number give the same case, on every version of Python.
 
 from typing import Any, Callable, Dict, Iterator, List, Optional, Sequence, Tuple
 
-from rsp_conformance.aims import TRIES, aim, near
-from rsp_conformance.draws import LANES, Random
+from rsp_conformance.wanted_lanes import TRIES, aim, near
+from rsp_conformance.random import LANES, Random
 from rsp_conformance.outcomes import possible, selected, signed
 from rsp_conformance.states import Texts
 from rsp_conformance.table import FORMS, MPEG, SCALE, Row, destination, ignored_bits, uses_memory, word_of
-from rsp_conformance.whole import DIVIDENDS, elements_of, zeros
+from rsp_conformance.case_outcomes import DIVIDENDS, elements_of, zeros
 
 Fields = Dict[str, int]
 Made = Tuple[Fields, Texts]

@@ -29,11 +29,11 @@ from types import ModuleType
 from typing import Any, Dict, Iterator, List, NamedTuple
 from unittest.mock import patch
 
-from rsp_conformance import HERE, bench, coverage, flat, full, generate, planted, play, steps
+from rsp_conformance import HERE, bench, coverage, flat, full, generate, planted_faults, run_programs, steps
 from rsp_conformance.commands import PROGRAM, Complaints, counted, reader, unless
-from rsp_conformance.draws import Random
+from rsp_conformance.random import Random
 from rsp_conformance.programs import DIVIDING
-from rsp_conformance.spoil import spoilt_entries
+from rsp_conformance.corrupt import spoilt_entries
 from rsp_conformance.states import texts_of
 from rsp_conformance.table import ROWS
 from rsp_conformance.vectors import VECTORS, entries_in, manifest_in
@@ -85,8 +85,8 @@ def spoilt_steps_found(program: str, names: List[str]) -> Iterator[Complaints]:
 class Spoilt(NamedTuple):
     """A program, a byte in a field of a case, and DMEM at its end: right, and wrong in that byte."""
 
-    entry: play.Entry
-    case: play.Entry
+    entry: run_programs.Entry
+    case: run_programs.Entry
     what: str
     at: int
     right: bytes
@@ -98,7 +98,7 @@ def spoilt_program(name: str) -> Spoilt:
     entry = random.pick(manifest_in(VECTORS, name)["programs"])
     case = random.pick(entry["cases"])
     what, offset, length = random.pick(entry["layouts"][case["layout"]])
-    at = (int(case["at"], 16) + offset + random.below(length)) % play.MEMORY
+    at = (int(case["at"], 16) + offset + random.below(length)) % run_programs.MEMORY
     right = (PROGRAMS / f"{entry['name']}.after").read_bytes()
     wrong = right[:at] + bytes([right[at] ^ 1 << random.below(8)]) + right[at + 1 :]
     return Spoilt(entry, case, what, at, right, wrong)
@@ -107,11 +107,11 @@ def spoilt_program(name: str) -> Spoilt:
 def spoilt_program_found(name: str) -> Iterator[Complaints]:
     """That the byte of a program's end that is changed is named by case and field, one dropped by program."""
     entry, case, what, at, right, wrong = spoilt_program(name)
-    found = play.complaints(entry, wrong, right)
+    found = run_programs.complaints(entry, wrong, right)
     named = what in ("vco", "vcc", "vce") or (found and f", {what}, " in found[0])
     is_found = len(found) == 1 and found[0].startswith(f"{case['name']} (") and named
     yield unless(is_found, f"{case['name']}: {what}: {found}")
-    found = play.complaints(entry, right[:at] + right[at + 1 :], right)
+    found = run_programs.complaints(entry, right[:at] + right[at + 1 :], right)
     is_found = bool(found) and found[0].startswith(f"{entry['name']}: ")
     yield unless(is_found, f"{entry['name']}: a dropped byte was answered by {found}")
 
@@ -139,9 +139,9 @@ def faults_found(name: str, outcomes: coverage.Found) -> Iterator[Complaints]:
     """That each outcome of an instruction occurs in each lane, and that a fault in any is found."""
     row = ROWS[name.lower()]
     yield from coverage.complaints(row, outcomes)
-    yield from planted.results(row, outcomes)
-    yield from planted.in_steps(row, outcomes)
-    yield from planted.in_programs(row, outcomes, manifest_in(VECTORS, name), PROGRAMS)
+    yield from planted_faults.results(row, outcomes)
+    yield from planted_faults.in_steps(row, outcomes)
+    yield from planted_faults.in_programs(row, outcomes, manifest_in(VECTORS, name), PROGRAMS)
 
 
 def divides_where_it_may(name: str) -> Complaints:
@@ -156,7 +156,9 @@ def divides_where_it_may(name: str) -> Complaints:
 
 def runs_true(program: str, name: str) -> Iterator[Complaints]:
     """That each program of an instruction ends as its file says."""
-    yield from (found[:1] for found in play.run_manifest(program, manifest_in(VECTORS, name), PROGRAMS))
+    yield from (
+        found[:1] for found in run_programs.run_manifest(program, manifest_in(VECTORS, name), PROGRAMS)
+    )
 
 
 def refusals(program: str) -> Iterator[Complaints]:
@@ -272,9 +274,9 @@ def machine_on(program: str, name: str) -> Any:
 
         def run(self) -> None:
             script, one = bench.Script(), bench.Script()
-            play.run_images(one, self.memories["imem"], self.memories["dmem"])
+            run_programs.run_images(one, self.memories["imem"], self.memories["dmem"])
             script.append(one, 0)
-            (found,) = play.played(program, script, 1)
+            (found,) = run_programs.played(program, script, 1)
             self.memories["dmem"] = bytes.fromhex(found["dmem"])
 
     return Rsp

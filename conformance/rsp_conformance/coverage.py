@@ -5,7 +5,7 @@ An outcome is decided from a case's word and its state before, by outcomes.py an
 
 from typing import Any, Dict, Iterator, List, Optional, Tuple
 
-from rsp_conformance import bench, outcomes, whole
+from rsp_conformance import bench, outcomes, case_outcomes
 from rsp_conformance.commands import Complaints, unless
 from rsp_conformance.outcomes import Kind
 from rsp_conformance.steps import Entry
@@ -38,19 +38,21 @@ REASONS_HEAD = "| Outcome | Instructions | Why it can't occur |\n|---|---|---|\n
 def kinds_of(row: Row) -> Tuple[List[Kind], List[Kind]]:
     """The outcomes of an instruction that occur in lanes, and those that a case has as a whole."""
     if row.form == "vector":
-        return [*outcomes.KINDS.get(row.name, ()), *SHARED], whole.pair_kinds(row)
+        return [*outcomes.KINDS.get(row.name, ()), *SHARED], case_outcomes.pair_kinds(row)
     if row.form == "lane":
-        elements = whole.each("element", ELEMENTS, whole.element_of)
-        return whole.divide_kinds(row.name), [*elements, *whole.pair_kinds(row)]
-    return [], whole.kinds_of(row)
+        elements = case_outcomes.each("element", ELEMENTS, case_outcomes.element_of)
+        return case_outcomes.divide_kinds(row.name), [*elements, *case_outcomes.pair_kinds(row)]
+    return [], case_outcomes.kinds_of(row)
 
 
 def reason(row: Row, kind: Kind) -> Optional[str]:
     """Why an instruction's rule can't give an outcome; None if it can."""
-    return outcomes.IMPOSSIBLE.get((row.name, kind.text)) or whole.IMPOSSIBLE.get((row.name, kind.text))
+    return outcomes.IMPOSSIBLE.get((row.name, kind.text)) or case_outcomes.IMPOSSIBLE.get(
+        (row.name, kind.text)
+    )
 
 
-def lanes_in(row: Row, it: whole.Whole) -> Dict[int, Any]:
+def lanes_in(row: Row, it: case_outcomes.Whole) -> Dict[int, Any]:
     """The lanes that a case shows, each with what it reads."""
     if row.form == "vector":
         return dict(enumerate(outcomes.lanes_of(it.fields, it.before)))
@@ -63,7 +65,9 @@ def shown(row: Row, entries: List[Entry]) -> Found:
     found: Found = {kind: {lane: [] for lane in LANES} for kind in in_lanes}
     found.update({kind: {None: []} for kind in as_wholes})
     for entry in entries:
-        it = whole.Whole(row, fields_of(row, int(entry["word"], 16)), {**bench.DEFAULT, **entry["before"]})
+        it = case_outcomes.Whole(
+            row, fields_of(row, int(entry["word"], 16)), {**bench.DEFAULT, **entry["before"]}
+        )
         read = [(kind, lane, lanes) for lane, lanes in lanes_in(row, it).items() for kind in in_lanes]
         for kind, lane, numbers in [*read, *((kind, None, it) for kind in as_wholes)]:
             if kind.when(numbers):

@@ -20,7 +20,7 @@ from concurrent.futures import ThreadPoolExecutor
 from pathlib import Path
 from typing import Callable, Dict, Iterator, List, Optional, Sequence, Tuple
 
-from rsp_conformance import bench, flat, full, play, steps
+from rsp_conformance import bench, flat, full, run_programs, steps
 from rsp_conformance.cases import small_count
 from rsp_conformance.commands import PROGRAM, printable, reader, say
 from rsp_conformance.files import FileFault, make_folder, write
@@ -43,7 +43,7 @@ def write_row(program: str, row: Row, seed: str, count: int, out: Path, more: Se
     for form in more:
         suffix, made = MORE[form]
         write(out / form / f"{name}.{suffix}", made(steps.read_row(text)))
-    for file, content in play.row_files(program, row, seed, count).items():
+    for file, content in run_programs.row_files(program, row, seed, count).items():
         write(out / "programs" / file, content)
 
 

@@ -1,7 +1,7 @@
 """`programs`: whole programs for machines that can only run microcode. Each holds many cases of one
 instruction, and stores what they left.
 
-This file writes their text and their data; play.py runs them.
+This file writes their text and their data; run_programs.py runs them.
 """
 
 import copy
@@ -10,7 +10,7 @@ from typing import Any, Callable, Dict, Iterator, List, Sequence, Tuple
 from rsp_conformance import bench
 from rsp_conformance.bench import ONES_DATA, accumulator_data, accumulator_program
 from rsp_conformance.cases import WINDOW_LENGTH, WRAPPING, Case, make_case, paired_element, reached_windows
-from rsp_conformance.draws import Random
+from rsp_conformance.random import Random
 from rsp_conformance.table import Row, uses_memory, word_of
 
 Layout = List[Tuple[str, int, int]]  # the fields that a case stores: what, offset, length

@@ -13,7 +13,7 @@ import sys
 from pathlib import Path
 from typing import Iterator
 
-from rsp_conformance import bench, play, steps
+from rsp_conformance import bench, run_programs, steps
 from rsp_conformance.commands import PROGRAM, Complaints, counted, printable, reader
 from rsp_conformance.files import FileFault
 from rsp_conformance.vectors import VECTORS, VectorsFault, entries_in, manifest_in, names_in
@@ -23,7 +23,7 @@ def run_row(program: str, folder: Path, name: str) -> Iterator[Complaints]:
     """The complaints of each case and each program of an instruction."""
     try:
         yield from steps.run_entries(program, entries_in(folder, name))
-        yield from play.run_manifest(program, manifest_in(folder, name), folder / "programs")
+        yield from run_programs.run_manifest(program, manifest_in(folder, name), folder / "programs")
     except bench.RspError as fault:
         raise VectorsFault(f"{name}: {fault}") from None
     except OSError as fault:

@@ -13,7 +13,7 @@ from rsp_conformance.table import ROWS
 
 if is_here("python:numpy"):
     import numpy as np
-    from rsp_conformance.campaign import pairs
+    from rsp_conformance.campaign import pair_coverage
     from rsp_conformance.campaign.build import built
     from rsp_conformance.campaign.emulators import Object
     from rsp_conformance.campaign.generator import END, WORDS, Draw, cases_of, memories_of
@@ -100,11 +100,11 @@ def test_limits_of_clamps() -> None:
 @pytest.mark.parametrize("name", ROWS)
 def test_pairs(name: str) -> None:
     """Over 65,536 cases each pair that matters is as frequent as in independent draws."""
-    assert pairs.short(ROWS[name], cases_of(name, "1", 0, pairs.COUNT)[0]) == []
+    assert pair_coverage.short(ROWS[name], cases_of(name, "1", 0, pair_coverage.COUNT)[0]) == []
 
 
 def test_command_of_pairs() -> None:
-    said = succeeds(TOP / "tools/python", "rsp_conformance.campaign.pairs", "lqv", "VMOV")
+    said = succeeds(TOP / "tools/python", "rsp_conformance.campaign.pair_coverage", "lqv", "VMOV")
     assert said == "LQV has all\nVMOV has all\n"
 
 
@@ -120,7 +120,7 @@ def test_command_of_pairs() -> None:
 )
 def test_missing_pairs(name: str, low: int, field: int, value: Callable[[Any, Any], Any]) -> None:
     """A lacking pair is found."""
-    cases = cases_of(name, "1", 0, pairs.COUNT)[0]
+    cases = cases_of(name, "1", 0, pair_coverage.COUNT)[0]
     word = cases["word"].astype(np.int64)
-    cases["word"] = word & ~(field << low) | value(word, np.arange(pairs.COUNT)) << low
-    assert pairs.short(ROWS[name], cases)
+    cases["word"] = word & ~(field << low) | value(word, np.arange(pair_coverage.COUNT)) << low
+    assert pair_coverage.short(ROWS[name], cases)

@@ -8,7 +8,7 @@ import pytest
 from lib.campaigns import EMULATOR, campaign, counts_of, faulty, said_of
 from lib.packages import is_here
 from rsp_conformance.campaign import CampaignFault
-from rsp_conformance.campaign.shared import name_of
+from rsp_conformance.campaign.protocol import name_of
 
 if is_here("python:numpy"):
     from rsp_conformance.campaign.emulators import Command

@@ -8,7 +8,7 @@ import pytest
 
 from lib.campaigns import agreed, campaign, counts_of, faulty, programs_in, said_of
 from lib.processes import run, succeeds
-from rsp_conformance.campaign.shared import name_of
+from rsp_conformance.campaign.protocol import name_of
 
 pytestmark = [pytest.mark.needs("cc", "python:numpy"), pytest.mark.usefixtures("library")]
 

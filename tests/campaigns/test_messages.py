@@ -12,13 +12,13 @@ from lib.campaigns import agreed, campaign, counts_of, faulty, results_of, said_
 from lib.packages import is_here
 from rsp_conformance.campaign import __main__ as command
 from rsp_conformance.campaign.report import text_table
-from rsp_conformance.campaign.shared import Result
-from rsp_conformance.campaign.task import nothing
+from rsp_conformance.campaign.protocol import Result
+from rsp_conformance.campaign.supervise import nothing
 from rsp_conformance.table import ROWS, ignored_bits, row_of
 
 if is_here("python:numpy"):
     from rsp_conformance.campaign.generator import cases_of
-    from rsp_conformance.campaign.sides import named
+    from rsp_conformance.campaign.compare import named
 
 pytestmark = [pytest.mark.needs("cc", "python:numpy"), pytest.mark.usefixtures("library")]
 

@@ -1,4 +1,4 @@
-"""Which fault that is planted in a second core is found by what: as found_after.tsv lists it.
+"""Which fault that is planted in a second core is found by what.
 
 second.c is a core of its own, written from the pages alone, and bugs.tsv lists the faults that can be planted
 in it. Each test builds the core with one of them (0 is the core without a fault), and looks for it in
@@ -7,7 +7,7 @@ in it. Each test builds the core with one of them (0 is the core without a fault
   programs  100 random programs of 1,000 steps, of all instructions
   vectors   the small set of all instructions, `steps` and `programs`, those of the list first
 
-The list has the case, the program and the vector that show it first, or `no`; of cases also how many do.
+MISSED lists the faults that one of these doesn't find. None is missed by all three.
 """
 
 import ctypes
@@ -21,7 +21,7 @@ import rsp
 from lib import TESTS, TOP
 from lib.processes import compiled
 from rsp_conformance import HERE as CONFORMANCE, bench, library_states, states
-from rsp_conformance.campaign.task import check
+from rsp_conformance.campaign.supervise import check
 from rsp_conformance.steps import Entry
 from rsp_conformance.table import ROWS
 from rsp_conformance.vectors import VECTORS, entries_in
@@ -42,7 +42,11 @@ def table(name: str) -> Dict[int, List[str]]:
 
 
 BUGS = {0: [*ROWS], **{bug: names.split(",") for bug, (_, names, _) in table("bugs.tsv").items()}}
-FOUND = table("found_after.tsv")
+MISSED = {
+    "cases": {2},
+    "programs": {4, 11, 12, 24, 64},
+    "vectors": {2, 14, 25, 61, 64},
+}
 
 
 class Core(ctypes.Structure):
@@ -60,10 +64,10 @@ def checked(core: Path, name: str, first: int, count: int) -> Dict[str, Any]:
 
 
 def in_cases(core: Path, names: List[str]) -> str:
-    """The first case that differs, of the first instruction that has one, and how many do."""
+    """The first case that differs, of the first instruction that has one."""
     for name in names:
         if (result := checked(core, name, 0, CASES))["differ"]:
-            return f"{result['shown'][0].split()[0]}, {result['differ']} of {CASES}"
+            return str(result["shown"][0].split()[0])
     return "no"
 
 
@@ -120,7 +124,7 @@ def in_vectors(path: Path, names: List[str]) -> str:
 
 def test_tables_have_the_bugs_of_the_core() -> None:
     inside = {0, *map(int, re.findall(r"BUG\((\d+)\b", CORE.read_text())), 83}  # BUG(82 + !is_load)
-    assert inside == BUGS.keys() == FOUND.keys()
+    assert inside == BUGS.keys()
     assert {name for names in BUGS.values() for name in names} <= ROWS.keys()
 
 
@@ -135,4 +139,10 @@ def test_bug(bug: int, folder: Path) -> None:
     folders = [f"-I{TOP}/library/c", f"-I{CONFORMANCE}/campaigns"]
     core = compiled(folder / "second.so", *words, *folders, f"-DPLANTED={bug}", CORE)
     names = BUGS[bug]
-    assert [in_cases(core, names), in_programs(core), in_vectors(core, names)] == FOUND[bug]
+    found = {
+        "cases": in_cases(core, names),
+        "programs": in_programs(core),
+        "vectors": in_vectors(core, names),
+    }
+    wanted = {way: bug != 0 and bug not in missed for way, missed in MISSED.items()}
+    assert {way: first != "no" for way, first in found.items()} == wanted, found

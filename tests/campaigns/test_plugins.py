@@ -1,5 +1,6 @@
 """Campaigns against plugins of mupen64plus: one that nobody knows, and z64."""
 
+import json
 import re
 import shlex
 from pathlib import Path
@@ -9,10 +10,9 @@ import pytest
 from lib import TOP
 from lib.campaigns import SOURCES, agreed, campaign, counts_of, results_of, said_of
 from lib.pages import blocks_of, page
-from lib.processes import succeeds
 from lib.z64 import PLUGIN as Z64
 from rsp_conformance.campaign.build import built
-from rsp_conformance.campaign.shared import name_of
+from rsp_conformance.campaign.protocol import name_of
 
 pytestmark = [pytest.mark.needs("cc", "python:numpy"), pytest.mark.usefixtures("library")]
 
@@ -62,10 +62,12 @@ def test_memories_of_a_case() -> None:
 
 
 @pytest.mark.needs(Z64)
-def test_sentences_about_z64(folder: Path) -> None:
-    """Each sentence of Z64.md holds of 200 cases."""
-    succeeds(TOP / "conformance/differences", "--cases", Z64, 200, folder / "cases")
-    assert (folder / "cases").read_text().count("\n") > 1000
+def test_table_of_z64(folder: Path) -> None:
+    """Of 500 cases none differs of an instruction on which Z64.md says that z64 agrees."""
+    known = json.loads((TOP / "conformance/z64/campaign.json").read_text())["instructions"]
+    agree = ",".join(name for name, it in known.items() if not it["differ"])
+    said = said_of(folder, f"plugin:{Z64}", "--instructions", agree, "--cases", 500)
+    assert counts_of(folder) == agreed(agree, 500), said
 
 
 @pytest.mark.needs(Z64)

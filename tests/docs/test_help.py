@@ -43,7 +43,7 @@ def commands() -> List[List[str]]:
     files = [*TOP.glob("conformance/*"), *TOP.glob("tools/*"), TOP / "release"]
     found = [it for it in sorted(files) if it.is_file() and os.access(it, os.X_OK) and it.name != "python"]
     measures = [it for it in sorted(TOP.glob("measure/*.py")) if "__main__" in it.read_text()]
-    modules = ["rsp_tools.pages", "drawings", "drawings.crates", *(f"measure.{it.stem}" for it in measures)]
+    modules = ["rsp_tools.page_tables", *(f"measure.{it.stem}" for it in measures)]
     return [[str(it.relative_to(TOP))] for it in found] + [["tools/python", it] for it in modules]
 
 

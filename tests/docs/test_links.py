@@ -7,13 +7,19 @@ import pytest
 from lib import TOP
 from lib.links import broken_in, pages_below
 
-# Those of the archives' page lead to files of an archive, whose test follows them.
-PAGES = [it for it in pages_below(TOP) if it != TOP / "tools/packaging/README.md"]
+# The links of the archives' READMEs lead to files of an archive, whose tests follow them.
+PAGES = [it for it in pages_below(TOP) if TOP / "tools/packaging/readme" not in it.parents]
 
 
 @pytest.mark.parametrize("page", PAGES, ids=lambda it: str(it.relative_to(TOP)))
 def test_links(page: Path) -> None:
     assert not broken_in(page)
+
+
+def test_pictures() -> None:
+    """Each picture is on a page."""
+    texts = "".join(it.read_text() for it in TOP.glob("docs/*.md"))
+    assert [it.name for it in TOP.glob("docs/pictures/*.svg") if f"(pictures/{it.name})" not in texts] == []
 
 
 def test_pages() -> None:

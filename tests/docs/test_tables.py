@@ -1,12 +1,12 @@
 """The tables of docs/data against the program, and what pages have of them.
 
 It fails if the program does something else than a line of a table says, or if a page isn't what
-`tools/python rsp_tools.pages` makes of the tables, of crates.txt and of the test vectors.
+`tools/python rsp_tools.page_tables` makes of the tables, of crates.txt and of the test vectors.
 
   docs/data/instructions.tsv   each instruction's word, and its worked case, stepped once
   docs/data/commands.tsv       each command's sample, and how many lines it is answered with
   docs/data/faults.tsv         each fault is what its example ends with; `$ ` begins a command of the shell
-  conformance/README.md        how many cases the small set has, and the instructions of whole programs
+  conformance/README.md        the instructions of whole programs
 """
 
 import re
@@ -18,14 +18,13 @@ from typing import Any, Dict, Iterable, Iterator, List, Set, Tuple
 
 import pytest
 
-from lib import worked
+from lib import worked_cases
 from lib.lists import see_same
 from lib.pages import cells_of, data, page, replies, tables, words_of
 from lib.processes import run
 from rsp_conformance import bench, flat, programs
 from rsp_conformance.table import ROWS, Row
-from rsp_conformance.vectors import VECTORS, entries_in, names_in
-from rsp_tools import pages
+from rsp_tools import page_tables
 
 Line = Dict[str, str]
 OF_VECTORS = "conformance/README.md"
@@ -38,46 +37,20 @@ def lines_of(name: str) -> Any:
     return pytest.mark.parametrize("line", data(name), ids=lambda it: next(iter(it.values())))
 
 
-@pytest.mark.parametrize("name", sorted(it.stem for it in pages.DATA.glob("*.tsv")))
+@pytest.mark.parametrize("name", sorted(it.stem for it in page_tables.DATA.glob("*.tsv")))
 def test_cells(name: str) -> None:
     head, *lines = [it.split("\t") for it in page(f"docs/data/{name}.tsv").splitlines()]
     assert lines and {len(cells) for cells in lines} == {len(head)}
 
 
-@pytest.mark.parametrize("name", [*pages.TABLES.values(), pages.LAYERS, OF_VECTORS])
+@pytest.mark.parametrize("name", [*page_tables.TABLES.values(), page_tables.LAYERS, OF_VECTORS])
 def test_made_pages(name: str) -> None:
     """Each page that is made is the one that is made again."""
-    made = unified_diff(page(name).splitlines(), pages.made()[name].splitlines(), name, "as it is made", n=0)
+    made = unified_diff(
+        page(name).splitlines(), page_tables.made()[name].splitlines(), name, "as it is made", n=0
+    )
     differ = "\n".join(made)
-    assert not differ, "`tools/python rsp_tools.pages` makes it again"
-
-
-def test_cases_of_vectors() -> None:
-    """How many cases the page says that the small set has, of how many instructions, and of each at least and
-    at most."""
-    form = r"([\d,]+) cases, (\d+) to (\d+) of each of the (\d+) instructions"
-    (said,) = re.findall(form, " ".join(page(OF_VECTORS).split()))
-    counts = [len(entries_in(VECTORS, name)) for name in names_in(VECTORS)]
-    assert said == (f"{sum(counts):,}", f"{min(counts)}", f"{max(counts)}", f"{len(counts)}")
-
-
-def test_choices_without_a_mark() -> None:
-    """The cases that the page names as examples are there, have no mark, and are as many as it says."""
-    (listed,) = re.findall(r"(?m)^Five choices have no mark:\n\n((?:- .*\n|  .*\n)+)", page(OF_VECTORS))
-    cases = {it["name"]: it for name in names_in(VECTORS) for it in entries_in(VECTORS, name)}
-    named = re.findall(r"\b[A-Z0-9]+-\d{3}\b", listed)
-    assert listed.count("\n- ") + 1 == 5 and len(named) == 4
-    assert [it for it in named if "choice" in cases[it]] == []
-
-
-def test_z64() -> None:
-    """README says on how many instructions z64 agrees as its page does."""
-    text = " ".join(page("conformance/Z64.md").split())
-    (said,) = re.findall(r"agrees in every case on (\d+) of (\d+) instructions", text)
-    assert re.findall(r"agrees on (\d+) of (\d+) instructions", page("README.md")) == [said]
-    ((chosen, others),) = re.findall(r"\) On (.*?) z64 differs only in .*? On the other (\d+) it", text)
-    counts = int(others), len(re.findall(r"\b[A-Z][A-Z0-9]+\b", chosen))
-    assert int(said[0]) + sum(counts) == int(said[1])
+    assert not differ, "`tools/python rsp_tools.page_tables` makes it again"
 
 
 def test_layout_of_states() -> None:
@@ -117,7 +90,7 @@ def ran(program: Path) -> Dict[str, Tuple[List[str], Dict[str, Any]]]:
     examples = words_of(program, [(it["Example"], place) for it, place in zip(lines, at)])
     steps = words_of(program, [(it["Worked"], 0) for it in lines])
     states = [
-        (ROWS[it["Instruction"].lower()], int(word, 16), worked.state_of(it["Before"]))
+        (ROWS[it["Instruction"].lower()], int(word, 16), worked_cases.state_of(it["Before"]))
         for it, (_, word, _) in zip(lines, steps)
     ]
     looks = bench.observe(str(program), states)
@@ -126,8 +99,8 @@ def ran(program: Path) -> Dict[str, Tuple[List[str], Dict[str, Any]]]:
 
 def differing(look: Dict[str, Any], cell: str) -> Iterator[str]:
     """What differs in a look from a cell of a worked case."""
-    for key, value in worked.parts(cell):
-        found = worked.part(look, key)
+    for key, value in worked_cases.parts(cell):
+        found = worked_cases.part(look, key)
         if found != value:
             yield f"{key} is {found}, not {value}"
 
@@ -205,10 +178,3 @@ def test_messages() -> None:
     assert len(messages) == 11
     for it in messages:
         assert f"rsp: {re.sub('{.*?}', lambda found: shown[str(found[0])], it)}" in listed
-
-
-def test_glossary() -> None:
-    """Its words are in the order of the alphabet, and each leads to a page."""
-    words = [cells[0] for cells in tables("docs/GLOSSARY.md")]
-    assert len(words) > 60 and all(re.fullmatch(r"\[[^]]+\]\([^)]+\)", it) for it in words)
-    assert words == sorted(words, key=lambda it: it.lower().partition("]")[0])

@@ -41,7 +41,7 @@ def released(request: pytest.FixtureRequest, tmp_path_factory: pytest.TempPathFa
     """A folder with both, which one of xdist's workers makes for all."""
     if request.config.getoption("--archive"):
         pytest.skip("the archives are given by --archive")
-    need("rt", "cc", "ar", "objdump", "dpkg-deb", "clean-tree")
+    need("rt", "cc", "ar", "objdump", "clean-tree")
     for name in "program", "library":
         request.getfixturevalue(name)
     root = tmp_path_factory.getbasetemp()

@@ -9,7 +9,7 @@ from typing import Iterator, NamedTuple
 
 import pytest
 
-from lib.install.commands import Block, blocks_in, check, in_table, lines_of, with_ways
+from lib.install.page_commands import Block, blocks_in, check, in_table, lines_of, with_ways
 from lib.install.unpacked import BARE
 from lib.install.ways import WAYS, Way
 from lib.library import LOCKSTEP

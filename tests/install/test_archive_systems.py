@@ -27,24 +27,25 @@ from lib.install.unpacked import (
 from lib.install.ways import LOOP_CODE, LOOP_TEXT, LOOP_WORDS
 from lib.library import LOCKSTEP
 from lib.library.typescript import OPTIONS, USE
-from lib.links import broken
+from lib.links import broken_everywhere
 from lib.packages import need
 from lib.pages import page
 from lib.processes import Ended, bytes_of, run, succeeds
 from lib.systems import browser, files, macos, node, rust
 from lib.systems.kinds import KINDS
 from lib.systems.runners import Runner
-from rsp_tools.packaging import archives, installed, repository, systems
-from rsp_tools.packaging.about import About
+from rsp_tools.packaging import archives, install_tree, repository, systems
+from rsp_tools.packaging.release_info import About
 from rsp_tools.systems import packages
 from rsp_tools.systems.toolchain import llvm
+from rsp_tools.targets import TARGETS
 
 # What an archive for C, Python and Rust has on each system.
 COMMON = """
 README.md CHANGELOG.md SHA256SUMS include/rsp.h include/rsp.hpp include/rsp_compare.h
-lib/cmake/rsp/rspConfig.cmake lib/cmake/rsp/rspConfigVersion.cmake python/rsp/__init__.py
-rust/Cargo.toml rust/build.rs rust/src/lib.rs docs/README.md docs/SYSTEMS.md examples/first.rsp
-examples/c/lockstep.c microcode/README.md microcode/copy.s
+lib/cmake/rsp/rspConfig.cmake lib/cmake/rsp/rspConfigVersion.cmake library/python/rsp/__init__.py
+library/rust/Cargo.toml library/rust/build.rs library/rust/src/lib.rs library/c/rsp.h docs/README.md
+docs/SYSTEMS.md examples/first.rsp examples/c/lockstep.c microcode/README.md microcode/copy.s
 """
 # What one with the program has for shells and for `man`.
 SHELLS = """
@@ -61,28 +62,29 @@ MADE = {
     "page": "index.html",
 }
 MORE = {
-    "linux-aarch64": f"{COMMON} {SHELLS} rsp rust/lib/aarch64-unknown-linux-gnu/librsp.a",
-    "macos": f"{COMMON} rust/lib/aarch64-apple-darwin/librsp.a rust/lib/x86_64-apple-darwin/librsp.a",
-    "windows-x86_64": f"{COMMON} {SHELLS} rust/lib/x86_64-pc-windows-gnu/librsp.a "
-    "rust/lib/x86_64-pc-windows-msvc/rsp_static.lib",
+    "linux-aarch64": f"{COMMON} {SHELLS} rsp library/rust/lib/aarch64-unknown-linux-gnu/librsp.a",
+    "macos": f"{COMMON} library/rust/lib/aarch64-apple-darwin/librsp.a "
+    "library/rust/lib/x86_64-apple-darwin/librsp.a",
+    "windows-x86_64": f"{COMMON} {SHELLS} library/rust/lib/x86_64-pc-windows-gnu/librsp.a "
+    "library/rust/lib/x86_64-pc-windows-msvc/rsp_static.lib",
     "wasm64": "README.md CHANGELOG.md SHA256SUMS docs/EMBEDDING.md examples/js/lockstep.js microcode/copy.s",
     "page": "README.md CHANGELOG.md SHA256SUMS",
 }
 # What none of them has, since it was never run there, or is in an archive of its own.
 ABSENT = "plugin docs/PLUGIN.md docs/CAMPAIGN.md conformance".split()
-ABOUT = About(installed.version()[0], "2000-01-01", "0123", 946684800, "no logic")
+ABOUT = About(install_tree.version()[0], "2000-01-01", "0123", 946684800, "no logic")
 outside = pytest.mark.outside("it tests archives of other systems: `--archive dist`")
 
 
 def check_files(top: Path, system: str) -> None:
     """The files that it has and hasn't, those that its README names, and the links of its pages."""
-    check_common(top, system)
-    assert broken(top, 0 if system == "page" else 21) == []
+    check_common(top)
+    assert broken_everywhere(top, 0 if system == "page" else 21) == []
     assert [it for it in f"{MADE[system]} {MORE[system]}".split() if not (top / it).exists()] == []
     assert [it for it in ABSENT if (top / it).exists()] == []
     text = (top / "README.md").read_text()
-    assert text.startswith(f"# rsp {installed.version()[0]} for ")
-    folders = "bin|lib|include|share|python|rust|examples|conformance"
+    assert text.startswith(f"# rsp {install_tree.version()[0]} for ")
+    folders = "bin|lib|include|share|python|library|examples|conformance"
     named = re.findall(rf"(?<![\w/\\~-])(?:{folders})[/\\][\w./\\*-]+", text)
     paths = [it.replace("\\", "/") for it in named]
     assert [it for it in paths if not [*top.glob(it), *top.glob(f"{it}.exe")]] == []
@@ -96,8 +98,8 @@ def stand_in(system: str, folder: Path) -> None:
         path.write_text(name)
     if system in rust.TARGETS:
         packages.header(folder)
-        packages.cmake(folder, "unix", "", "", LIBRARY="", SONAME="")
-        packages.wheel(folder, folder / MADE[system].split()[0], "library", files.PLATFORMS[system])
+        packages.cmake(folder, TARGETS[system], LIBRARY="", SONAME="")
+        packages.wheel(folder, folder / MADE[system].split()[0], "library", TARGETS[system].wheel)
 
 
 @pytest.mark.parametrize("system", MADE)
@@ -167,12 +169,12 @@ def test_wheel(packed_for: Path, top: Path, system: str) -> None:
 @of(*rust.TARGETS)
 def test_crate(top: Path, folder: Path, system: str) -> None:
     """Its build script finds the library of each target, and cargo packs it."""
-    crate = top / "rust"
+    crate = top / "library/rust"
     own = {**BARE, "PATH": os.environ["PATH"], "HOME": os.environ.get("HOME", "/")}
-    where = {**own, "CARGO_MANIFEST_DIR": str(crate), "CARGO_PKG_VERSION": installed.version()[0]}
+    where = {**own, "CARGO_MANIFEST_DIR": str(crate), "CARGO_PKG_VERSION": install_tree.version()[0]}
     succeeds("rustc", "--edition", "2021", "-o", folder / "script", crate / "build.rs", cwd=top, env=where)
     listed = succeeds("cargo", "package", "--list", "--allow-dirty", "--offline", cwd=crate, env=own)
-    for target, (name, _) in rust.TARGETS[system].items():
+    for target, name in TARGETS[system].rust.items():
         status, said = rust.said(folder / "script", target)
         assert status == 0 and f"cargo:rustc-link-search=native={crate}/lib/{target}\n" in said
         assert f"lib/{target}/{name}" in listed.splitlines()
@@ -205,12 +207,12 @@ def test_c(top: Path, runner: Runner, system: str) -> None:
 @of(*CROSS)
 def test_wheel_installed(top: Path, runner: Runner, system: str) -> None:
     """By this machine's pip, for the other system, whose Python isn't here. Its command is run."""
-    to, tag = runner.at / "installed", files.PLATFORMS[system][0]
+    to, tag = runner.at / "installed", TARGETS[system].wheel[0]
     (wheel,) = (top / "python").glob("*.whl")
     words = ("--no-index", "--disable-pip-version-check", "--only-binary=:all:", "--platform", tag)
     succeeds(sys.executable, "-m", "pip", "install", "-q", *words, "--target", to, wheel)
     assert (to / "rsp/__init__.py").is_file()
-    command = [*runner.start, to / "bin" / files.COMMANDS[system], "run"]
+    command = [*runner.start, to / TARGETS[system].program, "run"]
     ended = bytes_of(command[0], command[1:], FIRST, env=runner.env)
     assert ended.stdout == page("examples/first.out").encode()
 
@@ -233,7 +235,7 @@ def test_cmake(top: Path, runner: Runner, system: str) -> None:
 @of(*rust.TESTED)
 def test_example_of_the_crate(top: Path, runner: Runner, system: str) -> None:
     """Where Debian has Rust's own library for the system."""
-    crate = shutil.copytree(top / "rust", runner.at / "rust")
+    crate = shutil.copytree(top / "library/rust", runner.at / "rust")
     assert rust.cargo(runner, "run", "--example", "lockstep", at=crate) == LOCKSTEP
 
 
@@ -285,7 +287,7 @@ def test_macos(top: Path, folder: Path) -> None:
     """The files are only read."""
     macos.check(top, folder)
     for target, processor in systems.THIN.items():
-        held = llvm("llvm-lipo", "-archs", top / "rust/lib" / target / "librsp.a").split()
+        held = llvm("llvm-lipo", "-archs", top / "library/rust/lib" / target / "librsp.a").split()
         assert held == [processor], target
 
 
@@ -338,7 +340,7 @@ LOADED = (
 )
 ADDRESS = r"\b(?:https?|wss?)://[^\s\"'<>)]+"
 # What the archive has beside the page.
-BESIDE = "README.md CHANGELOG.md SHA256SUMS rsp.spdx.json".split()
+BESIDE = "README.md CHANGELOG.md SHA256SUMS COMMIT".split()
 # The name of SVG, which is no file, and this machine.
 NEAR = ("http://www.w3.org/", "http://127.0.0.1:", "http://localhost:")
 

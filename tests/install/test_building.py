@@ -15,7 +15,7 @@ from typing import Iterator, NamedTuple
 
 import pytest
 
-from lib.install.tiny import C, RSP, Data, Ran, Tiny
+from lib.install.toy_repository import C, RSP, Data, Ran, Tiny
 from lib.user import AS_NOBODY
 from rsp_tools.proof import PROCESSORS
 

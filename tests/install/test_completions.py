@@ -17,7 +17,7 @@ import pytest
 
 from lib.processes import succeeds
 from lib.program import ran
-from rsp_tools.packaging import completions
+from rsp_tools.packaging import install_tree
 
 COMMANDS = ("run", "asm", "dis")
 BASH = """
@@ -45,9 +45,8 @@ LONGEST = 20  # seconds for a shell to answer
 def prefix(tmp_path_factory: pytest.TempPathFactory) -> Path:
     """A prefix with the files, in which there is one file `text.s`."""
     folder = tmp_path_factory.mktemp("prefix")
-    for name, text in completions.files().items():
-        (folder / name).parent.mkdir(parents=True, exist_ok=True)
-        (folder / name).write_text(text)
+    for it in install_tree.shared():
+        it.write(folder / it.name)
     (folder / "text.s").write_text("nop\n")
     return folder
 

@@ -15,8 +15,8 @@ import pytest
 
 from lib import TOP
 from lib.install.clone import cloned
-from lib.install.commands import Block, check
-from lib.install.newcomer import shown
+from lib.install.page_commands import Block, check
+from lib.install.needed_packages import shown
 from lib.install.ways import Way
 from lib.user import User
 
@@ -28,7 +28,7 @@ pytestmark = [
 # These tests read neither names nor paths nor git.
 OF_NO_PLACE = """
 tests/mathematics tests/program/test_vectors.py tests/program/test_bad_input.py
-tests/program/test_failing_allocations.py tests/docs/test_drawings.py tests/install/test_building.py
+tests/program/test_failing_allocations.py tests/docs/test_flags.py tests/install/test_building.py
 """.split()
 # This would prove all crates in the clone if its program isn't built here.
 OTHER_COMPILER = "tests/program/test_second_compiler.py", "crates/rsp_main/out/rsp_main.by-rattle"

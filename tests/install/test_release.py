@@ -11,15 +11,15 @@ from pathlib import Path
 import pytest
 
 from lib import TOP, packages
-from lib.install import newcomer
-from lib.install.commands import Block, check, lines_of
+from lib.install import needed_packages
+from lib.install.page_commands import Block, check, lines_of
 from lib.install.ways import Way
 from lib.processes import run, succeeds
 from lib.user import User
 from rsp_tools import release
 
 FEW = "sh dirname readlink python3".split()
-LINKERS = "git cc ar ld objcopy dpkg-deb".split()
+LINKERS = "git cc ar ld objcopy".split()
 SKIPPED = """
 import pytest
 
@@ -69,7 +69,7 @@ def test_no_kit() -> None:
 def test_missing_packages(folder: Path) -> None:
     """All of them are in one line: those that link, and those of each system."""
     said = refused("--untested", "--systems", path=path_with(folder, *FEW))
-    named = "git gcc binutils dpkg gcc-aarch64-linux-gnu libc6-dev-arm64-cross gcc-mingw-w64-x86-64 cmark-gfm"
+    named = "git gcc binutils gcc-aarch64-linux-gnu libc6-dev-arm64-cross gcc-mingw-w64-x86-64 cmark-gfm"
     assert said == f"release: packages of Debian are missing: apt-get install {named}\n"
 
 
@@ -86,7 +86,7 @@ def test_packages_of_the_newcomer(monkeypatch: pytest.MonkeyPatch) -> None:
     """What the pages' commands need is looked for too, unless nobody types them."""
     lost = "/usr/include/mupen64plus", "/usr/bin/pkg-config"
     monkeypatch.setattr(packages, "is_here", lambda tool: tool not in lost)
-    assert sorted(newcomer.missing()) == ["libmupen64plus-dev", "pkg-config"]
+    assert sorted(needed_packages.missing()) == ["libmupen64plus-dev", "pkg-config"]
     monkeypatch.setattr(release, "said", lambda *_: "libmupen64plus-dev pkg-config")
     monkeypatch.setattr(release, "missing", lambda *_: "")
     monkeypatch.setattr(shutil, "which", str)

@@ -4,8 +4,9 @@ import re
 from pathlib import Path
 from typing import Iterator, List, Tuple
 
+from lib import TOP
 from lib.pages import anchor
-from rsp_tools.pages import ANCHOR
+from rsp_tools.page_tables import ANCHOR
 
 NO_PAGES = ("out", "vectors", "target", "node_modules")  # folders of what is built, and of test vectors
 
@@ -31,13 +32,14 @@ def links_of(page: Path) -> Iterator[Tuple[str, str]]:
 
 
 def broken_in(page: Path) -> List[str]:
-    """The links of a page to a file, or to a heading of a page, that isn't there."""
-    dead = []
+    """The links of a page whose file is missing, or whose file has no such heading."""
+    broken_links = []
     for file, heading in links_of(page):
         target = page.parent / file if file else page
-        is_there = target.exists() and (not heading or target.is_file() and heading in headings(target))
-        dead += [] if is_there else [f"{page}: {file}#{heading}"]
-    return dead
+        has_heading = not heading or (target.is_file() and heading in headings(target))
+        if not (target.exists() and has_heading):
+            broken_links.append(f"{page}: {file}#{heading}")
+    return broken_links
 
 
 def broken(root: Path, least: int = 1) -> List[str]:
@@ -46,3 +48,10 @@ def broken(root: Path, least: int = 1) -> List[str]:
     count = sum(len([*links_of(it)]) for it in pages)
     assert count >= least, f"{root} has only {count} links in {len(pages)} pages"
     return [it for page in pages for it in broken_in(page)]
+
+
+def broken_everywhere(archive: Path, least: int) -> List[str]:
+    """The links of an archive's pages to what neither the archive nor the repository has at that place."""
+    dead = (it.partition(": ") for it in broken(archive, least))
+    links = ((TOP / Path(page).relative_to(archive), target) for page, _, target in dead)
+    return [f"{page}: {target}" for page, target in links if f"{page}: {target}" in broken_in(page)]

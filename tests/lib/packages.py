@@ -24,7 +24,6 @@ PACKAGES = {
     "nm": "binutils",
     "objdump": "binutils",
     "readelf": "binutils",
-    "dot": "graphviz",
     "Xvfb": "xvfb",
     "tsc": "node-typescript",
     "/usr/bin/c++": "g++",

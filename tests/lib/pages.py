@@ -6,8 +6,8 @@ import tempfile
 from pathlib import Path
 from typing import Iterable, Iterator, List, Optional, Sequence, Tuple
 
-from rsp_tools.pages import ANCHOR, blocks_of, page
-from rsp_tools.pages import anchor, data  # noqa: F401 (for those who import them from here)
+from rsp_tools.page_tables import ANCHOR, blocks_of, page
+from rsp_tools.page_tables import anchor, data  # noqa: F401 (for those who import them from here)
 
 
 def blocks(name: str) -> List[str]:
@@ -22,16 +22,18 @@ def block_with(name: str, start: str, more: int = 0) -> str:
 
 
 def turns_of(block: str) -> List[Tuple[str, str]]:
-    """A block that has replies beside its commands: the commands up to each one with replies, and these.
+    """Splits a transcript into pairs of commands and the replies to them.
 
-    Three or more blanks are between a command and what is beside it, which is a remark if it begins with `#`.
+    A line has a command, or a reply after at least three spaces, or both. A reply that begins with `#` is a
+    comment. A pair ends at the first command after its replies.
     """
     turns: List[Tuple[str, str]] = []
     for line in block.splitlines():
-        command, *beside = re.split(r" {3,}", line, maxsplit=1)
-        told = "".join(f"{it}\n" for it in beside if not it.startswith("#"))
-        before = turns.pop() if turns and not (command and turns[-1][1]) else ("", "")
-        turns.append((before[0] + (f"{command}\n" if command else ""), before[1] + told))
+        command, *columns = re.split(r" {3,}", line, maxsplit=1)
+        reply = "".join(f"{text}\n" for text in columns if not text.startswith("#"))
+        starts_a_turn = not turns or (command and turns[-1][1])
+        commands, replies_so_far = ("", "") if starts_a_turn else turns.pop()
+        turns.append((commands + (f"{command}\n" if command else ""), replies_so_far + reply))
     return turns
 
 
@@ -98,7 +100,7 @@ def words_of(program: object, named: Iterable[Tuple[str, object]]) -> List[List[
     return [shown.split(" ", 2) if told.startswith("ok") else [told, "", ""] for told, shown in pairs]
 
 
-def see_reply(told: str, wanted: str) -> None:
-    """A reply must be as a page has it, `..` being any lines."""
-    lines, form = told.strip("\n").split("\n"), wanted.strip("\n").split("\n")
-    assert matches(lines, form), f"{wanted!r} is wanted, {told!r} is printed"
+def see_reply(actual: str, expected: str) -> None:
+    """Asserts that a reply has the expected lines, of which `..` matches any number."""
+    lines, form = actual.strip("\n").split("\n"), expected.strip("\n").split("\n")
+    assert matches(lines, form), f"expected {expected!r}, got {actual!r}"

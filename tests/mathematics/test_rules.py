@@ -11,7 +11,7 @@ from typing import Any, Dict, Iterator, List
 
 import pytest
 
-from drawings.looks import CLEAR, FLAGS, Flags, accumulators_of, after, case
+from lib.lanes import CLEAR, FLAGS, Flags, accumulators_of, after, case
 from lib.numbers import edged, packed, signed
 from lib.pages import blocks, tables
 from rsp_conformance import bench

@@ -13,7 +13,7 @@ import pytest
 
 from lib import TOP
 from lib.processes import succeeds
-from rsp_tools.systems import page as pages
+from rsp_tools.systems import web_page as pages
 
 pytestmark = pytest.mark.needs("node")
 Told = Callable[[str], Any]

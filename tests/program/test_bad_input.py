@@ -19,7 +19,7 @@ import pytest
 
 from lib import devices
 from lib.program import content
-from lib.stored import SCRIPTS, Stored
+from lib.script_cases import SCRIPTS, Stored
 
 STOP = re.compile(rb"stop (Reserved|Halted|Limit) steps (\d+) pc [0-9a-f]{3}")
 TOO_LONG = b"rsp: fault 42 ScriptTooLong\n"

@@ -46,7 +46,7 @@ def with_python(version: str, folder: Path) -> Dict[str, str]:
 def test_command(version: str, program: Path, folder: Path, strange: Path) -> None:
     """They do what they are for, also by a link."""
     how = {"cwd": strange, "env": with_python(version, folder)}
-    for name in ("campaign", "differences", "generate", "library"):
+    for name in ("campaign", "generate", "library"):
         (folder / name).symlink_to(TOP / "conformance" / name)
         ended = run(folder / name, "--help", **how)
         assert ended.returncode == 0 and ended.stdout.startswith(f"usage: conformance/{name} "), ended.stdout

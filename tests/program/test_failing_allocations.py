@@ -21,7 +21,7 @@ from lib import TOP, failing
 from lib.pages import page
 from lib.processes import bytes_of
 from lib.program import Ran, need_binary
-from lib.stored import SCRIPTS, Stored
+from lib.script_cases import SCRIPTS, Stored
 
 pytestmark = pytest.mark.needs("cc")
 

@@ -21,21 +21,11 @@ ROM = ("mips-linux-gnu-gcc", str(HEADERS), str(CORE))
 RUNS: dict[str, tuple[list[str], str]] = {
     "speed --line step": (["valgrind"], r".*\n.*\n\| `step` \| \d,\d{3} \|\n"),
     "host run-six": (["cc", "valgrind"], r".*\n.*\n\| of six \| 474 \| 400 \| \d{3} \|\n"),
-    "against_z64 ADD VMULU": ([Z64], r"(?s).*\n1 instructions without a difference, 1 with some\n"),
-    "python_calls": (
-        [str(TOP / "library/c/librsp.so")],
-        r".*\n.*\n(?:\| .* \| [\d,]+\.\d\d \| [\d,]+\.\d \|\n){10}",
-    ),
-    "slowest --only VNOP --tries 2": (
-        [],
-        r"\|.*\|\n\|---.*\n\| VNOP \| \d+ \| 0\.\d\d \|\nVNOP: words 4a.*\n",
-    ),
     "rates --instructions vadd": (["cc", "python:numpy"], r"(?s).*\nVADD( +\d+\.\d+){5}\nmean of all: .*\n"),
 }
 LONG_RUNS: dict[str, tuple[list[str], str]] = {
     "speed": (["valgrind", "rt"], rf"(?s).*(?:{FIGURES}){{6}}.*"),
     "speed --lines": (["valgrind"], r"(?s).*(?:\| .* \| [\d,]+ \|\n){15}"),
-    "slowest --only DMA --tries 1": ([], r"(?s).*(?:\| DMA .* \| [\d,]+ \| \d+\.\d\d \|\n){6}DMA .*\n"),
     "speed --z64": (["valgrind", Z64], rf"(?s).*{FIGURES}"),
     "speed --time": ([Z64], rf"(?s).*(?:{FIGURES}){{3}}"),
     "plugin_speed": (["cc", "valgrind", Z64], r"(?s)(?:.*\|---.*\|.*\d \|\n){3}\n"),

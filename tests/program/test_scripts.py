@@ -1,7 +1,7 @@
 """The replies to the repository's scripts, and what the program makes of files and of its command line.
 
 They fail if a reply, an exit status or a file that is written differs from what is stored beside the script
-(lib.stored) or said here.
+(lib.script_cases) or said here.
 """
 
 import os
@@ -17,7 +17,7 @@ import pytest
 from lib import TOP
 from lib.processes import run
 from lib.program import Ran, content
-from lib.stored import Stored, stored
+from lib.script_cases import Stored, stored
 
 LONGEST_IMAGE = 8388608
 LONGEST_SCRIPT = 1048576

@@ -1,7 +1,7 @@
 """What a DMA costs whose side in RDRAM is past the image's end, or comes over it, beside one inside.
 
 It fails if such a DMA takes more than twice the host instructions of one inside, as valgrind's callgrind
-counts them. `tools/python measure.slowest` searches for the slowest steps of all kinds.
+counts them.
 """
 
 import re

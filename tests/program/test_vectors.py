@@ -1,8 +1,8 @@
-"""The test vectors of conformance/, on the program and on the library, and what z64 does otherwise.
+"""The test vectors of conformance/, on the program and on the library.
 
-They fail as conformance/check, conformance/library and conformance/differences do, whose checks these are: if
-a state differs, if a file isn't what conformance/generate makes, or if a tool of the suite doesn't find a
-planted fault. Each instruction is a test.
+They fail as conformance/check and conformance/library do, whose checks these are: if a state differs, if a
+file isn't what conformance/generate makes, or if a tool of the suite doesn't find a planted fault. Each
+instruction is a test.
 """
 
 import json
@@ -17,7 +17,7 @@ import pytest
 from lib import TOP, devices
 from lib.pages import cells_of, page
 from lib.processes import Ended, run, succeeds
-from rsp_conformance import check, coverage, generate, play, steps
+from rsp_conformance import check, coverage, generate, run_programs, steps
 from rsp_conformance.commands import Complaints
 from rsp_conformance.library import IMAGE, run_row
 from rsp_conformance.table import ROWS
@@ -136,7 +136,7 @@ def test_many_programs(program: Path, folder: Path) -> None:
     right = (VECTORS / "programs/ADD-1.after").read_bytes()
     (folder / "ADD-119.after").unlink()
     (folder / "ADD-119.after").write_bytes(bytes(byte ^ 0xFF for byte in right))
-    *passed, failed = play.run_manifest(str(program), {"programs": made}, folder)
+    *passed, failed = run_programs.run_manifest(str(program), {"programs": made}, folder)
     assert passed == [[]] * 119
     pair = f"expected {right[0] ^ 255:02x}, got {right[0]:02x}"
     assert failed[0] == f"ADD-119: DMEM 000, which no case stores to: {pair}"
@@ -177,7 +177,7 @@ def test_library(name: str, machine: Any) -> None:
     see(run_row(machine, VECTORS, name))
 
 
-@pytest.mark.parametrize("words", ("library conformance/vectors VCH", "differences"))
-def test_command(words: str, library: Path) -> None:
-    """On one instruction, since the tests above do the same of all; and each sentence of Z64.md."""
-    assert re.search(r"(?m)^[1-9]\d* passed, 0 failed$", succeeds(*f"conformance/{words}".split()))
+def test_command(library: Path) -> None:
+    """On one instruction, since the tests above do the same of all."""
+    told = succeeds("conformance/library", "conformance/vectors", "VCH")
+    assert re.search(r"(?m)^[1-9]\d* passed, 0 failed$", told)

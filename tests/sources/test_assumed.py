@@ -19,7 +19,8 @@ ROWS = {row[0].strip("`"): row for row in tables("docs/GUARANTEES.md", "## Assum
 
 def linked() -> Set[str]:
     """The files of C that the modules of tools name, except those of the program in C."""
-    modules = [*TOP.glob("tools/rsp_tools/systems/*.py"), *TOP.glob("tools/rsp_tools/packaging/*.py")]
+    folders = ("tools/rsp_tools", "tools/rsp_tools/systems", "tools/rsp_tools/packaging")
+    modules = [path for it in folders for path in TOP.glob(f"{it}/*.py")]
     nodes = [node for it in modules for node in ast.walk(ast.parse(it.read_text()))]
     texts = [it.value for it in nodes if isinstance(it, ast.Constant) and isinstance(it.value, str)]
     named = {re.sub(".*/", "", it) for it in texts if re.fullmatch(r"[\w/]+\.c", it)}

@@ -25,7 +25,7 @@ from lib import TESTS, TOP
 from lib.definitions import rests_on
 from lib.lists import see_same
 from lib.pages import data, page
-from rsp_tools.pages import crates
+from rsp_tools.page_tables import crates
 
 GUARANTEES = "docs/GUARANTEES.md"
 # What a source is read by: the beginning and the end of a block of methods, a function, a precondition, and a
@@ -155,7 +155,7 @@ def test_assumed() -> None:
 
 def test_system() -> None:
     """Where a page names the system, it names the kind of processor too: the program needs x86-64-v2."""
-    more = TOP / "tools/packaging/README.md", TOP / "library/c/rsp.h"
+    more = TOP / "tools/packaging/readme/linux-x86_64.md", TOP / "library/c/rsp.h"
     pages = [*TOP.glob("*.md"), *TOP.glob("docs/*.md"), *more]
     assert not [it for it in pages if re.search(r"\b(?:on|for)\s+x86-64\b(?!-v2)", it.read_text())]
 

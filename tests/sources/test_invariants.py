@@ -1,8 +1,5 @@
 """Those invariants of docs/ARCHITECTURE.md that a search of the sources can find broken.
 
-It fails if one is broken, or if an invariant of the page doesn't end with what checks it: a test, the prover,
-the gate or a reader. It runs nothing.
-
 One private loop makes all steps; `std::simd` and `unsafe` are where the page says; the vectors hold nothing
 else; three matches inspect an instruction while a step executes it; no definition of the main theorem is
 called scaffolding.
@@ -16,7 +13,6 @@ import pytest
 from lib import TOP
 from lib.definitions import rests_on
 from lib.lists import see_same
-from lib.pages import page
 
 STEP = "crates/rsp_machine/src/step.rt"
 CALLS = ["step", "step_recorded", "steps", "steps_recorded_until", "steps_until"]
@@ -42,10 +38,6 @@ MATCHES = {
     "rsp_machine": "footprint_of perform stored_at take",
     "rsp_debug": "take",
 }
-INVARIANTS = [
-    " ".join(it.split())
-    for it in re.split(r"\n- ", page("docs/ARCHITECTURE.md").partition("\n## Invariants\n")[2])[1:]
-]
 Texts = Dict[str, str]
 
 
@@ -100,15 +92,3 @@ def test_matches(texts: Texts) -> None:
 def test_scaffolding() -> None:
     files, _ = rests_on(TOP / "crates/rsp_bench/src/run.rt")
     assert files and not [it for it in files if it.read_text().startswith("-- Scaffolding")]
-
-
-@pytest.mark.parametrize("invariant", INVARIANTS, ids=lambda it: it[:40])
-def test_page(invariant: str) -> None:
-    """It ends with what checks it, in parentheses: tests that are there, or `By reading.` .."""
-    last = re.search(r"\(([^()]*)\)\.?$", invariant)
-    assert last and re.match(r"`tests/|`rt ci`|The prover|By reading", last[1])
-    assert not [it for it in re.findall(r"`(tests/[^`]*)`", last[1]) if not (TOP / it).exists()]
-
-
-def test_invariants() -> None:
-    assert len(INVARIANTS) >= 8

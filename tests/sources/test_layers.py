@@ -1,7 +1,7 @@
 """The layers of the Python packages and the tests, which docs/ARCHITECTURE.md lists, against their imports.
 
 It fails if a module imports one of a higher layer, or is in none. That the page lists the crates is shown by
-tests/docs/test_tables.py, and that the picture shows them by tests/docs/test_drawings.py.
+tests/docs/test_tables.py.
 """
 
 import ast

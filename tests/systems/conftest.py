@@ -13,7 +13,7 @@ from lib.systems.kinds import KINDS
 from lib.systems.page import Host, Page
 from lib.systems.runners import Native, Runner
 from rsp_tools.systems import manual
-from rsp_tools.systems import page as pages
+from rsp_tools.systems import web_page as pages
 from rsp_tools.systems import places
 
 WHY = "what tools/systems makes takes minutes, and wants cross compilers and emulators"

@@ -12,10 +12,11 @@ import pytest
 from lib.hardening import check_elf
 from lib.processes import succeeds
 from lib.systems import macos
-from lib.systems.files import PLATFORMS, check_wheel, shown
+from lib.systems.files import check_wheel, shown
 from lib.systems.kinds import of
 from rsp_tools.systems import header, wasm
 from rsp_tools.systems.__main__ import SYSTEMS
+from rsp_tools.targets import CROSS
 from rsp_tools.systems.modules import module
 from rsp_tools.systems.toolchain import llvm
 
@@ -33,7 +34,7 @@ def test_made_again(made: Path, folder: Path) -> None:
     assert again and sorted(it for it in {*again, *before} if again.get(it) != before.get(it)) == []
 
 
-@of(*PLATFORMS)
+@of(*(it.name for it in CROSS if it.wheel))
 def test_wheel(made: Path) -> None:
     check_wheel(made.name, made)
 

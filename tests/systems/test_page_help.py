@@ -10,7 +10,7 @@ import pytest
 from lib.pages import blocks_of
 from lib.pages import page as text_of
 from lib.systems.page import Host, Page
-from rsp_tools.pages import ANCHOR, data
+from rsp_tools.page_tables import ANCHOR, data
 from rsp_tools.systems import manual
 
 pytestmark = pytest.mark.xdist_group("page")

@@ -9,7 +9,7 @@ import pytest
 
 from lib.systems.browser import Server
 from lib.systems.page import Host, Page, linked, the
-from rsp_tools.systems import page as pages
+from rsp_tools.systems import web_page as pages
 from rsp_tools.systems.toolchain import Refused
 
 pytestmark = pytest.mark.xdist_group("page")

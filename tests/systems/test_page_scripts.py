@@ -10,7 +10,7 @@ from typing import Any, Tuple
 import pytest
 
 import rsp
-from lib.stored import Stored, stored
+from lib.script_cases import Stored, stored
 from lib.systems.page import ENTER, LINKED, SHOWN, Host, Page, linked, the, way_of
 from rsp_tools.systems import places
 

@@ -21,11 +21,11 @@ def test_build_script(made: Path, folder: Path) -> None:
     script, crate = folder / "build-script", folder / "crate"
     env = {**os.environ, "CARGO_MANIFEST_DIR": str(crate), "CARGO_PKG_VERSION": header.version()}
     succeeds("rustc", "--edition", "2021", "-o", script, places.RUST / "build.rs", env=env)
-    for target, (name, called) in TARGETS[made.name].items():
+    for target, name in TARGETS[made.name].items():
         status, text = said(script, target)
-        assert status != 0 and f"{called} for {target} isn't found" in text
+        assert status != 0 and f"{name} for {target} isn't found" in text
         (crate / "lib" / target).mkdir(parents=True)
-        shutil.copy(made / "lib" / name, crate / "lib" / target / called)
+        shutil.copy(made / "lib" / name, crate / "lib" / target / name)
         linked = "rsp_static" if target.endswith("-msvc") else "rsp"
         wanted = f"native={crate}/lib/{target}\ncargo:rustc-link-lib=static={linked}\n"
         status, text = said(script, target)

@@ -14,7 +14,7 @@ from lib import TESTS, TOP
 from lib.library import LOCKSTEP
 from lib.pages import page
 from lib.processes import compiled, succeeds
-from lib.stored import Stored, stored
+from lib.script_cases import Stored, stored
 from lib.systems import node
 from lib.systems.kinds import JAVASCRIPT, of, on
 from lib.systems.runners import see_passed

@@ -1,7 +1,6 @@
 """library/c/install PREFIX: installs the library below the folder PREFIX.
 
-library/c/build builds it first, if it isn't built. If a file can't be written, none is replaced, and it
-fails.
+library/c/build builds it first, if it isn't built. It fails at the first file that can't be written.
 
   PREFIX/include/rsp.h             and rsp.hpp, a class for C++17
   PREFIX/include/rsp_compare.h     the first difference from another emulator
@@ -20,16 +19,15 @@ replaces the first one. To remove an installation, delete these files.
 import argparse
 import os
 import re
-import secrets
 import signal
 import subprocess
 import sys
-from contextlib import suppress
+import tempfile
 from pathlib import Path
-from typing import List, NamedTuple, NoReturn, Optional
+from typing import List, NoReturn, Optional
 
 from rsp_tools import TOP
-from rsp_tools.packaging.installed import File, contents
+from rsp_tools.packaging.install_tree import File, contents
 from rsp_tools.packaging.link import linked_program
 
 NAME = "library/c/install"
@@ -46,58 +44,22 @@ def program() -> Optional[bytes]:
     return linked_program(made) if made.is_file() and "proved and built by" in about else None
 
 
-class Place(NamedTuple):
-    """Where a file goes. Until all are there, `new` beside it is the file, and `old` what it replaces."""
-
-    path: Path
-    new: Path
-    old: Path
-
-
-def place(path: Path) -> Place:
-    """Such a place. Nobody else can guess the names beside it, and take them first."""
-    return Place(path, *(path.with_name(f".{path.name}.{secrets.token_hex(8)}") for _ in range(2)))
-
-
-def prepare(at: Place, file: File) -> None:
-    """Writes the file, and keeps what it replaces, which an immutable one refuses before any is replaced."""
-    if at.path.is_dir():
-        fail(f"{at.path} is a folder")
-    file.write(at.new)
-    with suppress(FileNotFoundError):
-        os.link(at.path, at.old, follow_symlinks=False)
-
-
-def put_back(at: Place) -> None:
-    """Puts what a file has replaced in its place again."""
-    if os.path.lexists(at.new):
-        return  # it hasn't replaced anything
-    if os.path.lexists(at.old):
-        os.replace(at.old, at.path)
-    else:
-        at.path.unlink()
-
-
 def install(prefix: Path, files: List[File]) -> None:
-    """Writes all files beside their places, and only then puts them there: all, or none."""
-    places = [place(prefix / it.name) for it in files]
-    at, put = places[0], []
+    """Writes all files into a folder beside their places, for which there may be no room, and only then puts
+    each in its place, so that a library in use stays as it is."""
+    path = prefix
     try:
-        for at, file in zip(places, files):
-            prepare(at, file)
-        for at in places:
-            put.append(at)
-            os.replace(at.new, at.path)
-    except BaseException as fault:
-        for it in put:
-            put_back(it)
-        if isinstance(fault, OSError):
-            fail(f"cannot write {at.path}: {fault.strerror}")
-        raise
-    finally:
-        for path in (path for it in places for path in (it.new, it.old)):
-            if os.path.lexists(path):
-                path.unlink()
+        prefix.mkdir(parents=True, exist_ok=True)
+        with tempfile.TemporaryDirectory(dir=prefix, prefix=".rsp-") as beside:
+            for it in files:
+                path = prefix / it.name
+                it.write(Path(beside, it.name))
+            for it in files:
+                path = prefix / it.name
+                path.parent.mkdir(parents=True, exist_ok=True)
+                os.replace(Path(beside, it.name), path)
+    except OSError as fault:
+        fail(f"cannot write {path}: {fault.strerror}")
 
 
 def main() -> None:

@@ -7,21 +7,20 @@ It packs what ./rsp and library/c/build build:
                    microcode
   conformance      .tar.gz: the test vectors with their tools, for all systems
   source           .tar.gz: the repository
-  rsp_VERSION_amd64.deb, the package of Debian with what the first one installs
 
 With --systems it also makes the archives for other systems, after tools/systems has made their libraries:
 
-  linux-aarch64    .tar.gz, with the program; and rsp_VERSION_arm64.deb
+  linux-aarch64    .tar.gz, with the program
   macos            .tar.gz
   windows-x86_64   .zip, with the program
   wasm64           .tgz, which npm installs
   page             .zip, a folder for a web server: the machine in a browser. Its library is that of wasm64
 
-Each archive has its README.md, CHANGELOG.md, SHA256SUMS of its files, and rsp.spdx.json, a list of what it
-is made of. dist/SHA256SUMS has the sums of what this run made. Two runs from one commit give the same bytes.
-Before it makes anything it names the packages of Debian that are missing, in one line of apt-get. It fails
-if the work tree isn't clean, a version differs, the newcomer's tests fail, or a system isn't made. Then it
-leaves what was in dist. The last lines say what was left out, and why.
+Each archive has its README.md, CHANGELOG.md, SHA256SUMS of its files, and COMMIT. dist/SHA256SUMS has the
+sums of what this run made. Two runs from one commit give the same bytes. Before it makes anything it names
+the packages of Debian that are missing, in one line of apt-get. It fails if the work tree isn't clean, a
+version differs, the newcomer's tests fail, or a system isn't made. Then it leaves what was in dist. The last
+lines say what was left out, and why.
 """
 
 import argparse
@@ -35,8 +34,8 @@ from typing import Dict, Iterator, List, NoReturn
 from xml.etree import ElementTree
 
 from rsp_tools import TOP
-from rsp_tools.packaging import about, archives, deb, installed, packed
-from rsp_tools.packaging.about import About
+from rsp_tools.packaging import release_info, archives, install_tree, archive_formats
+from rsp_tools.packaging.release_info import About
 from rsp_tools.packaging.archives import Archive
 from rsp_tools.packaging.link import linked_program
 from rsp_tools.packaging.repository import said
@@ -48,7 +47,7 @@ OTHERS = [*SYSTEMS, "page"]
 OBJECT = TOP / "crates/rsp_main/out/rsp_main.o"
 NEWCOMER = "tests/install/test_newcomer.py"
 # What links and packs, for any system.
-PROGRAMS = "git cc ar ld objcopy dpkg-deb".split()
+PROGRAMS = "git cc ar ld objcopy".split()
 HOW = b"# sha256sum --ignore-missing -c SHA256SUMS checks those of these files that are here\n"
 # Where the packages of other languages and the list of changes name the version.
 VERSIONS = {
@@ -95,7 +94,7 @@ def check_packages(names: List[str], is_tested: bool) -> None:
     packages = missing(
         *PROGRAMS, *(program for it in libraries_of(names) for program in SYSTEMS[it].programs)
     )
-    more = said("tools/python", "lib.install.newcomer") if is_tested else ""
+    more = said("tools/python", "lib.install.needed_packages") if is_tested else ""
     if packages:
         both = " ".join(dict.fromkeys([*packages.split(), *more.split()]))
         fail(f"packages of Debian are missing: apt-get install {both}")
@@ -104,11 +103,13 @@ def check_packages(names: List[str], is_tested: bool) -> None:
 
 
 def left_out(report: Path) -> List[str]:
-    """What pytest's report says of tests that were skipped, and of those that a test started."""
-    cases = [*ElementTree.parse(report).iter("testcase")]
-    skipped = [f"{it.get('name')}: {why.get('message')}" for it in cases for why in it.iter("skipped")]
-    inside = [str(it.get("value")) for case in cases for it in case.iter("property")]
-    return [*dict.fromkeys([*skipped, *inside])]
+    """The skipped tests of a JUnit report with their reasons, and the properties that tests recorded."""
+    testcases = list(ElementTree.parse(report).iter("testcase"))
+    skipped = [
+        f"{case.get('name')}: {skip.get('message')}" for case in testcases for skip in case.iter("skipped")
+    ]
+    recorded = [str(prop.get("value")) for case in testcases for prop in case.iter("property")]
+    return list(dict.fromkeys(skipped + recorded))
 
 
 def tested() -> List[str]:
@@ -139,24 +140,13 @@ def every(given: Path, names: List[str], release: About) -> Iterator[Archive]:
         yield archives.of_system(it, places.MADE / it, release)
 
 
-def packages(made: List[Archive], release: About) -> Dict[str, bytes]:
-    """The packages of Debian, of the archives for Linux."""
-    files = {it.name: it.files for it in made}
-    names = {it: archives.name_of(it, release.version) for it in deb.ARCHITECTURES}
-    return {
-        deb.name_of(system, release.version): deb.package(system, files[name], release)
-        for system, name in names.items()
-        if name in files
-    }
-
-
 def put(made: Dict[str, bytes]) -> None:
     """Writes all archives with their sums beside their places, and only then puts them there."""
     dist, path = TOP / "dist", TOP / "dist"
     try:
         dist.mkdir(exist_ok=True)
         with tempfile.TemporaryDirectory(dir=dist, prefix=".new-") as beside:
-            for name, data in {**made, "SHA256SUMS": HOW + packed.sums(made)}.items():
+            for name, data in {**made, "SHA256SUMS": HOW + archive_formats.sums(made)}.items():
                 path = dist / name
                 Path(beside, name).write_bytes(data)
             for it in sorted(Path(beside).iterdir()):
@@ -183,7 +173,7 @@ def main() -> None:
     check_packages(names, not asked.untested)
     if said("git", "status", "--porcelain"):
         fail("the work tree differs from its commit")
-    version = installed.version()[0]
+    version = install_tree.version()[0]
     check_versions(version)
     if asked.object == OBJECT:
         succeed("./rsp has built nothing", "./rsp", "run")
@@ -191,10 +181,8 @@ def main() -> None:
     if not asked.object.is_file():
         fail(f"{asked.object} isn't there: run `rt run -- run` in crates/rsp_main")
     left = [f"{NEWCOMER}: --untested"] if asked.untested else tested()
-    release = about.of_head()
-    listed = [*every(asked.object, names, release)]
-    made = {it.name: it.packed() for it in listed}
-    made.update(packages(listed, release))
+    release = release_info.of_head()
+    made = {it.name: it.packed() for it in every(asked.object, names, release)}
     put(made)
     for name, data in made.items():
         print(f"dist/{name}: {len(data)} bytes, version {version}, commit {release.commit[:12]}")

@@ -23,8 +23,8 @@ from rsp_conformance.table import ROWS as INSTRUCTIONS
 from . import CampaignFault
 from .folder import RANGES, Folder, given_in
 from .report import html_table, text_table
-from .shared import PROGRAM, VERSION, counted, name_of
-from .task import check
+from .protocol import PROGRAM, VERSION, counted, name_of
+from .supervise import check
 from .workers import options_of, results
 
 MILLION = range(1, 10**6 + 1)  # a limit in milliseconds has to be a C int

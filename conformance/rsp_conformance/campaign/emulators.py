@@ -25,7 +25,7 @@ from . import CampaignFault, words_of
 from .build import built, microcode
 from .generator import BANKS, END, IMEM, MEMORIES, RDRAM, STATE, Array
 from .hashes import find_module
-from .task import end_with_parent
+from .supervise import end_with_parent
 
 Changed = Dict[int, int]  # the bytes of memories that differ, by their addresses
 End = Tuple[Any, int, Changed]  # a state, the status, and the bytes

@@ -14,7 +14,7 @@ from rsp_conformance.table import ROWS
 from . import CampaignFault
 from .hashes import files_of, hashes
 from .report import AGAIN, MOST, file_of, is_result, results_in, task_of
-from .shared import PROGRAM, VERSION, Result, Task, counted
+from .protocol import PROGRAM, VERSION, Result, Task, counted
 
 # What decides a campaign's cases and programs.
 GIVEN = ("emulator", "instructions", "seed", "cases", "size", "programs", "programs_size", "steps")

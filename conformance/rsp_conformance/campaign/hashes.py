@@ -14,10 +14,9 @@ from rsp_conformance import HERE, TOP
 from . import CampaignFault, words_of
 
 SOURCES = HERE / "campaigns"
-# The repository has the library in library/c/, a release archive in include/ and lib/.
-IN_REPOSITORY = (TOP / "library/c/rsp.h", TOP / "library/c/librsp.a")
-IN_ARCHIVE = (TOP / "include/rsp.h", TOP / "lib/librsp.a")
-HEADER, LIBRARY = IN_REPOSITORY if IN_REPOSITORY[0].is_file() else IN_ARCHIVE
+HEADER = TOP / "library/c/rsp.h"
+# The library of a release archive, else that of the repository.
+LIBRARY = next((it for it in [TOP / "lib/librsp.a"] if it.is_file()), TOP / "library/c/librsp.a")
 
 
 def find_module(name: str) -> Optional[ModuleSpec]:

@@ -13,9 +13,9 @@ import rsp
 from . import CampaignFault
 from .generator import EDGE, FIRST_EDGE, IMEM, INSTRUCTIONS, MEMORIES
 from .generator import Array, Draw, cases_of, generator, registers
-from .shared import PROGRAM, SHOWN, Result, name_of
+from .protocol import PROGRAM, SHOWN, Result, name_of
 from .shrink import cut_down, settable
-from .sides import Program, Sides, in_brief, in_words, named
+from .compare import Program, Sides, in_brief, in_words, named
 
 EVERY, LENGTH, WORDS = 100, 1024, 1024
 NEVER = ("break",)

@@ -10,8 +10,8 @@ from rsp_conformance.files import MOST_JSON, read
 from rsp_conformance.table import ROWS
 
 from . import CampaignFault
-from .shared import PROGRAM, Result, Task, counted
-from .task import LISTS, NUMBERS, add, nothing
+from .protocol import PROGRAM, Result, Task, counted
+from .supervise import LISTS, NUMBERS, add, nothing
 
 HEADS = ("", "cases", "not shown", "differ", "choices", "faults", "first difference")
 STYLE = """body { font: 15px/1.4 system-ui, sans-serif; margin: 2em; color: #222 }

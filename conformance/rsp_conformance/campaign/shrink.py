@@ -13,8 +13,8 @@ from rsp_conformance.states import texts_of
 from . import generator
 from .generator import BANKS, STATE
 from .search import fewest, minimal
-from .shared import Result
-from .sides import Program, Sides, in_words
+from .protocol import Result
+from .compare import Program, Sides, in_words
 
 Parts = List[Tuple[int, int]]
 

@@ -1,8 +1,8 @@
 """Has the tasks of a campaign done: in this process, on this computer's processors, or on a cluster, the last
 two by Dask.
 
-A task on a worker is a process of its own, `tools/python rsp_conformance.campaign.task`, at the same path as
-here. So a worker needs nothing but the repository or the archive, and Dask.
+A task on a worker is a process of its own, `tools/python rsp_conformance.campaign.supervise`, at the same
+path as here. So a worker needs nothing but the repository or the archive, and Dask.
 """
 
 import argparse
@@ -16,10 +16,10 @@ import sys
 from typing import Any, Iterator, List, Set, Union
 
 from . import CampaignFault
-from .shared import Options, Result, Task
-from .task import PYTHON, check
+from .protocol import Options, Result, Task
+from .supervise import PYTHON, check
 
-COMMAND = [str(PYTHON), "rsp_conformance.campaign.task"]
+COMMAND = [str(PYTHON), "rsp_conformance.campaign.supervise"]
 
 
 def options_of(args: argparse.Namespace) -> Options:

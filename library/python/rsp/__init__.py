@@ -39,15 +39,15 @@ from typing import (
 
 from . import arrays as _arrays
 from . import _explain
-from . import items as _items
-from . import words as _in_words
+from . import fields as _items
+from . import errors as _in_words
 from .compare import Emulator, FirstDifference, first_difference
 from .script import Ran, ScriptError
 from .script import strict_replies as _strict_replies
-from .shown import Difference, Part
+from .formatting import Difference, Part
 from .state import Accumulators, Changes, Divider, Flags, Scalars, SpWords, State, Traced, unset
 from .state import alike as _alike
-from .words import FAULTS
+from .errors import FAULTS
 
 __version__ = "1.0.0"
 __all__ = [
@@ -266,7 +266,7 @@ def _library() -> str:
     """The library in the package; otherwise that of the release archive, or the one that library/c/build
     has made."""
     here = os.path.dirname(os.path.abspath(__file__))
-    for folder in ("", "../../lib", "../../bin", "../../c"):
+    for folder in ("", "../../../lib", "../../../bin", "../../c"):
         place = os.path.join(here, folder, _NAME)
         if os.path.exists(place):
             return place

@@ -3,8 +3,8 @@
 from html import escape
 from typing import TYPE_CHECKING, Any, Iterator, NamedTuple, Optional, Protocol, Sequence, Tuple
 
-from . import words as _in_words
-from .shown import Difference, Part
+from . import errors as _in_words
+from .formatting import Difference, Part
 from .state import State
 
 if TYPE_CHECKING:

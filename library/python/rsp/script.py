@@ -2,7 +2,7 @@
 
 from typing import TYPE_CHECKING, Any, Iterator, List, Union
 
-from . import words as _in_words
+from . import errors as _in_words
 
 if TYPE_CHECKING:
     from . import Bench

@@ -4,9 +4,9 @@ the bench shows."""
 from ctypes import Structure, c_uint8, c_uint16, c_uint32
 from typing import TYPE_CHECKING, Any, ClassVar, Dict, List, Tuple, Type, TypeVar
 
-from . import shown
-from .items import Lanes, Sp, SpItems, StoredBytes, Vectors, Words, taken
-from .shown import Difference, Part
+from . import formatting
+from .fields import Lanes, Sp, SpItems, StoredBytes, Vectors, Words, taken
+from .formatting import Difference, Part
 
 if TYPE_CHECKING:
     from . import typed
@@ -77,15 +77,15 @@ class Plain(Structure):
         held = ", ".join(f"{name}={getattr(self, name)!r}" for name in self._kinds)
         return f"{type(self).__name__}({held})"
 
-    def _parts(self) -> shown.Named:
+    def _parts(self) -> formatting.Named:
         """The name, the value and the hexadecimal digits of each part."""
         raise NotImplementedError
 
     def __str__(self) -> str:
-        return shown.line(self._parts())
+        return formatting.line(self._parts())
 
     def _repr_html_(self) -> str:
-        return shown.table(it.split() for it in str(self).splitlines())
+        return formatting.table(it.split() for it in str(self).splitlines())
 
     def diff(self: _P, other: _P) -> Difference:
         """The parts in which they differ, each with its name and both values."""
@@ -106,14 +106,14 @@ class Scalars(Plain):
         pc: int
         npc: int
 
-    def _parts(self) -> shown.Named:
-        return shown.scalar_parts(self)
+    def _parts(self) -> formatting.Named:
+        return formatting.scalar_parts(self)
 
     def __repr__(self) -> str:
         return f"<{self._title()}: pc {self.pc:03x}, npc {self.npc:03x}>"
 
     def __str__(self) -> str:
-        return "\n".join(shown.regs(self))
+        return "\n".join(formatting.regs(self))
 
 
 class Accumulators(Plain):
@@ -125,11 +125,11 @@ class Accumulators(Plain):
         middle: typed.NumbersField
         low: typed.NumbersField
 
-    def _parts(self) -> shown.Named:
-        return shown.acc_parts(self)
+    def _parts(self) -> formatting.Named:
+        return formatting.acc_parts(self)
 
     def __str__(self) -> str:
-        return "\n".join(shown.acc(self))
+        return "\n".join(formatting.acc(self))
 
 
 class Flags(Plain):
@@ -144,8 +144,8 @@ class Flags(Plain):
         clip: int
         extra: int
 
-    def _parts(self) -> shown.Named:
-        return shown.flag_parts(self)
+    def _parts(self) -> formatting.Named:
+        return formatting.flag_parts(self)
 
 
 class Divider(Plain):
@@ -158,8 +158,8 @@ class Divider(Plain):
         output: int
         loaded: int
 
-    def _parts(self) -> shown.Named:
-        return shown.divider_parts(self)
+    def _parts(self) -> formatting.Named:
+        return formatting.divider_parts(self)
 
 
 class SpWords(Plain):
@@ -171,8 +171,8 @@ class SpWords(Plain):
         words: typed.NumbersField
         interrupt: int
 
-    def _parts(self) -> shown.Named:
-        return shown.sp_parts(self.words, self.interrupt)
+    def _parts(self) -> formatting.Named:
+        return formatting.sp_parts(self.words, self.interrupt)
 
     def __str__(self) -> str:
         return "\n".join(f"{name} {value:0{digits}x}" for name, value, digits in self._parts())
@@ -206,11 +206,11 @@ class Traced(Plain):
         stored: int
         lanes: typed.NumbersField
 
-    def _parts(self) -> shown.Named:
-        return shown.traced_parts(self)
+    def _parts(self) -> formatting.Named:
+        return formatting.traced_parts(self)
 
     def __str__(self) -> str:
-        return shown.traced(self)
+        return formatting.traced(self)
 
 
 class Changes(Plain):
@@ -240,12 +240,16 @@ class Changes(Plain):
         accumulators: Accumulators
         bytes: typed.NumbersField
 
-    def _parts(self) -> shown.Named:
-        return shown.changed_parts(self)
+    def _parts(self) -> formatting.Named:
+        return formatting.changed_parts(self)
 
     def __str__(self) -> str:
         return "\n".join(
-            [str(self.traced), *shown.acc(self.accumulators), shown.line(shown.rest_parts(self))]
+            [
+                str(self.traced),
+                *formatting.acc(self.accumulators),
+                formatting.line(formatting.rest_parts(self)),
+            ]
         )
 
 
@@ -289,14 +293,16 @@ class State(Plain):
         if "npc" not in given:
             self.npc = (self.pc + 4) % 4096
 
-    def _parts(self) -> shown.Named:
-        return shown.state_parts(self)
+    def _parts(self) -> formatting.Named:
+        return formatting.state_parts(self)
 
     def __repr__(self) -> str:
         return f"<{self._title()}: pc {self.pc:03x}, npc {self.npc:03x}>"
 
     def __str__(self) -> str:
-        return "\n".join([*shown.regs(self), *shown.vregs(self.vectors), f"{self.flags} {self.divider}"])
+        return "\n".join(
+            [*formatting.regs(self), *formatting.vregs(self.vectors), f"{self.flags} {self.divider}"]
+        )
 
 
 def unset(kind: Type[_P]) -> _P:

@@ -2,7 +2,7 @@
 
 from typing import Any, Iterable, Iterator, List, Union, overload
 
-from .items import Items
+from .fields import Items
 
 class Numbers(Items):
     """An array of numbers."""

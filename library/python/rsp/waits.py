@@ -33,7 +33,7 @@ is under way when the program ends is reported only if you ask for that, because
 from typing import Iterator, List, NamedTuple, Optional, Sequence, Set, Tuple
 
 from . import DMEM, IMEM, Move, Reason, Rsp, Status
-from . import words as _in_words
+from . import errors as _in_words
 
 __all__ = ["AHEAD", "Missing", "Transfer", "missing"]
 

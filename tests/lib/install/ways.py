@@ -33,7 +33,7 @@ LEFT = (
         "it is for the crate that the reader works on",
     ),
     (r"^rt ci|--crates", "it is the gate's"),
-    (r"^tests/|^conformance/(check|library|differences)\b", "it is a test of tests/all, or all of them"),
+    (r"^tests/|^conformance/(check|library)\b", "it is a test of tests/all, or all of them"),
     (r"add\.rsp", "tests/docs runs that script"),
     (
         r"^(rsp asm|pip install|tools/python [^-]\S*)$|--listing$",
@@ -74,11 +74,9 @@ LOOP_TEXT, LOOP_CODE = (
 LOOP_WORDS = "addiu $1, $1, -1\nbne $1, $0, 0x000\nnop\nbreak\n"
 LOOP = file_of("loop.s", LOOP_TEXT)
 MY_C = file_of("my.c", block_with(EMBEDDING, '#include "rsp.h"'))
-# What the page's block before it does, unless it was typed: in an archive, and in a clone.
-INSTALLED = """
-[ -d ~/prefix ] || if [ -d include ]; then mkdir ~/prefix && cp -dR include lib ~/prefix
-else library/c/install ~/prefix; fi
-"""
+# Makes a prefix: in an archive, whose top folder is one, and in a clone.
+PREFIX = "if [ -d include ]; then cp -dR bin include lib share ~/prefix; else library/c/install ~/prefix; fi"
+INSTALLED = f"\n[ -d ~/prefix ] || {{ mkdir ~/prefix; {PREFIX}; }}\n"
 MY_C_PRINTS = "..\n2 steps, $2 is 1234"
 CMAKE = """
 cmake_minimum_required(VERSION 3.10)
@@ -213,9 +211,12 @@ WAYS = (
     ),
     Way(
         EMBEDDING,
-        "cp -dR ",
+        "library/c/build",
         first="mkdir -p ~/prefix",
-        instead=(("PREFIX", "~/prefix"),),
+        instead=(
+            ("library/c/build ", "[ -d include ] || library/c/build "),
+            ("library/c/install PREFIX", PREFIX),
+        ),
         then="test -s ~/prefix/lib/librsp.so",
     ),
     Way(
@@ -226,11 +227,19 @@ WAYS = (
         then="./a.out",
         prints=MY_C_PRINTS,
     ),
-    Way(EMBEDDING, "cc -O2 ", first=MY_C, then="./a.out", prints=MY_C_PRINTS),
+    Way(
+        EMBEDDING,
+        "cc -O2 ",
+        first=MY_C + INSTALLED,
+        instead=(("PREFIX/", "$HOME/prefix/"),),
+        then="./a.out",
+        prints=MY_C_PRINTS,
+    ),
     Way(
         EMBEDDING,
         "python3 -m venv ",
         first=file_of("~/mine.py", block_with(EMBEDDING, "import rsp")),
+        instead=(("./library/python", "$(ls python/rsp-*.whl || echo ./library/python)"),),
         then="cd /\n~/rsp-python/bin/python ~/mine.py",
         prints="..\nHALT 0x1234",
     ),
@@ -248,7 +257,12 @@ WAYS = (
         then="cat renamed.s",
         prints="vadd $v11, $v12, $v12",
     ),
-    Way("docs/PLUGIN.md", "plugin/build", then="test -s plugin/mupen64plus-rsp-proved.so"),
+    Way(
+        "docs/PLUGIN.md",
+        "library/c/build",
+        instead=(("library/c/build ", "[ -d include ] || library/c/build "),),
+        then="test -s plugin/mupen64plus-rsp-proved.so",
+    ),
     Way(
         "docs/SCRIPT.md",
         "truncate ",
@@ -286,6 +300,4 @@ IN_A_CLONE = (
         "tools/python lib.plugin",
         instead=(("/tmp/", "~/"), ("/usr/games", ": /usr/games")),
     ),
-    Way(EMBEDDING, "library/c/build", instead=(("PREFIX", "~/prefix"),)),
-    Way("docs/PLUGIN.md", "library/c/build", then="test -s plugin/mupen64plus-rsp-proved.so"),
 )

@@ -9,25 +9,14 @@ import tempfile
 import zipfile
 from email import message_from_string
 from pathlib import Path
-from typing import Dict, List, Set
+from typing import Dict, Set
 
 from lib.processes import run
 from rsp_tools.systems import header, places
 from rsp_tools.systems.toolchain import llvm
+from rsp_tools.targets import TARGETS
 
-PLATFORMS: Dict[str, List[str]] = {
-    "linux-aarch64": ["manylinux_2_17_aarch64", "manylinux2014_aarch64"],
-    "windows-x86_64": ["win_amd64"],
-    "macos": ["macosx_11_0_universal2"],
-}
-COMMANDS = {"linux-aarch64": "rsp", "windows-x86_64": "rsp.exe"}  # what the wheel installs to be typed
-LIBRARIES = {
-    "linux-aarch64": "lib/librsp.so",
-    "windows-x86_64": "bin/rsp.dll",
-    "macos": "lib/librsp.dylib",
-}
-# What Python calls each system, and a program that imports the module there, up to what it would load.
-PYTHONS = {"linux-aarch64": "linux", "windows-x86_64": "win32", "macos": "darwin"}
+# A program that imports the module on a system, up to what it would load.
 IMPORTED = """import ctypes, sys
 def load(path):
     sys.exit(f"loads {path}")
@@ -73,24 +62,24 @@ INFO = "METADATA", "WHEEL", "RECORD", "entry_points.txt"
 
 def check_wheel(system: str, folder: Path) -> None:
     """The wheel's tags, its files, its record, and that its library is the one beside it."""
-    info = f"rsp-{header.version()}.dist-info"
+    info, target = f"rsp-{header.version()}.dist-info", TARGETS[system]
     (path,) = (folder / "python").glob("*.whl")
-    assert path.name == f"rsp-{header.version()}-py3-none-{'.'.join(PLATFORMS[system])}.whl"
-    library = f"rsp/{Path(LIBRARIES[system]).name}"
+    assert path.name == f"rsp-{header.version()}-py3-none-{'.'.join(target.wheel)}.whl"
+    library = f"rsp/{Path(target.shared).name}"
     ours = (places.PYTHON / "rsp").iterdir()
     modules = {f"rsp/{it.name}" for it in ours if it.suffix in (".py", ".pyi") or it.name == "py.typed"}
     with tempfile.TemporaryDirectory() as at, zipfile.ZipFile(path) as wheel:
         files = {it: wheel.read(it) for it in wheel.namelist()}
         wheel.extractall(at)
-        said = run(sys.executable, "-c", IMPORTED, PYTHONS[system], cwd=at).stdout
+        said = run(sys.executable, "-c", IMPORTED, target.python, cwd=at).stdout
         assert said == f"loads {Path(at).resolve()}/{library}\n"
-    commands = {f"rsp-{header.version()}.data/scripts/{it}": it for it in [COMMANDS.get(system)] if it}
+    commands = {f"rsp-{header.version()}.data/scripts/{it}": it for it in [Path(target.program).name] if it}
     wanted = modules | {library} | {f"{info}/{it}" for it in INFO} | {*commands}
     assert {*files} == wanted
     are_same = [files[it] == (folder / "bin" / name).read_bytes() for it, name in commands.items()]
     assert all(are_same), "the wheel has another program"
     check_metadata(files[f"{info}/METADATA"].decode())
-    is_same = files[library] == (folder / LIBRARIES[system]).read_bytes()
+    is_same = files[library] == (folder / target.shared).read_bytes()
     assert is_same, "the wheel has another library"
-    assert re.findall(r"(?m)^Tag: py3-none-(.*)$", files[f"{info}/WHEEL"].decode()) == PLATFORMS[system]
+    assert re.findall(r"(?m)^Tag: py3-none-(.*)$", files[f"{info}/WHEEL"].decode()) == [*target.wheel]
     check_record(files[f"{info}/RECORD"].decode(), files)

@@ -8,8 +8,9 @@ import pytest
 from lib.systems.browser import Chromium
 from lib.systems.node import Node
 from lib.systems.runners import Arm, MacArm, MacIntel, Runner, Windows
+from rsp_tools.targets import CROSS
 
-SYSTEMS = ("linux-aarch64", "windows-x86_64", "macos", "wasm64")
+SYSTEMS = tuple(it.name for it in CROSS)
 KINDS: Dict[str, Type[Runner]] = {
     "linux-aarch64": Arm,
     "windows-x86_64": Windows,

@@ -11,6 +11,7 @@ from lib.library import LOCKSTEP
 from lib.processes import Ended, run, succeeds
 from lib.systems import macho
 from rsp_tools.systems import places
+from rsp_tools.targets import TARGETS
 
 STRICT = ("-std=c99", "-O2", "-Wall", "-Wextra", "-Werror")
 LONGEST = 1800  # seconds that a program may take
@@ -102,12 +103,11 @@ class Native(Runner):
 class Arm(Runner):
     """Linux on ARM, under qemu."""
 
-    system = "linux-aarch64"
-    cmake = "Linux", "aarch64"
+    target = TARGETS["linux-aarch64"]
+    system, compiler, start = target.name, target.compiler, target.emulator
+    cmake = "Linux", target.processor
     dll = "lib/librsp.so.1"
-    compiler = "aarch64-linux-gnu-gcc"
-    programs = ("aarch64-linux-gnu-gcc", "qemu-aarch64")
-    start = ("qemu-aarch64", "-L", "/usr/aarch64-linux-gnu")
+    programs = (compiler, start[0])
 
 
 class Windows(Runner):
@@ -115,10 +115,9 @@ class Windows(Runner):
 
     system = "windows-x86_64"
     cmake = "Windows", "AMD64"
-    dll = "bin/rsp.dll"
-    compiler = "x86_64-w64-mingw32-gcc"
-    programs = ("x86_64-w64-mingw32-gcc", "wine")
-    start = ("wine",)
+    target = TARGETS[system]
+    dll, compiler, start = target.shared, target.compiler, target.emulator
+    programs = (compiler, start[0])
     ending = ".exe"
     threads = ("-pthread", "-static")
 

@@ -3,22 +3,16 @@
 import os
 import shutil
 from pathlib import Path
-from typing import Dict, Tuple
+from typing import Tuple
 
 import pytest
 
 from lib.processes import run, succeeds
 from lib.systems.runners import Runner
+from rsp_tools.targets import CROSS
 
-# The library of a system's folder for each target, and what the crate calls it.
-TARGETS: Dict[str, Dict[str, Tuple[str, str]]] = {
-    "linux-aarch64": {"aarch64-unknown-linux-gnu": ("librsp.a", "librsp.a")},
-    "windows-x86_64": {
-        "x86_64-pc-windows-gnu": ("librsp.a", "librsp.a"),
-        "x86_64-pc-windows-msvc": ("rsp_static.lib", "rsp_static.lib"),
-    },
-    "macos": {it: ("librsp.a", "librsp.a") for it in ("aarch64-apple-darwin", "x86_64-apple-darwin")},
-}
+# The static library of a system's folder for each of Rust's targets.
+TARGETS = {it.name: it.rust for it in CROSS if it.rust}
 # The target for which the crate's tests are run, and Debian's package with Rust's own library for it.
 TESTED = {"windows-x86_64": ("x86_64-pc-windows-gnu", "libstd-rust-dev-windows")}
 

@@ -10,7 +10,7 @@ from pathlib import Path
 from lib.systems import chromium
 from lib.systems.page import Host, Page
 from rsp_tools import TOP
-from rsp_tools.systems import page as pages
+from rsp_tools.systems import web_page as pages
 
 PICTURE = TOP / "docs/pictures/page.png"
 WIDTH, HEIGHT = 1000, 740

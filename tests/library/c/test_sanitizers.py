@@ -17,7 +17,7 @@ from lib.pages import block_with
 from lib.processes import compiled, succeeds
 from lib.program import ran
 from lib.sanitizers import sanitizers
-from lib.stored import stored
+from lib.script_cases import stored
 from rsp_tools.systems import places
 
 pytestmark = [pytest.mark.needs("cc"), pytest.mark.usefixtures("library")]

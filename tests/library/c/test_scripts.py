@@ -11,7 +11,7 @@ import pytest
 from lib.library.programs import HERE, built
 from lib.packages import need
 from lib.program import content, ran
-from lib.stored import Stored, stored
+from lib.script_cases import Stored, stored
 
 # The most bytes of a call; with 0 they are 1 to 97, in a fixed disorder.
 PIECES = (1, 2, 7, 100, 4096, 10_000_000, 0)

@@ -1,6 +1,6 @@
 """How long a call of the library takes at most: what docs/EMBEDDING.md says of the number of its steps.
 
-It fails if so many of the slowest steps that measure.slowest found take longer than the page says, by the
+It fails if so many of the slowest steps that a search found take longer than the page says, by the
 processor's time, the least of five calls.
 """
 

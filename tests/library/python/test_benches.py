@@ -18,7 +18,7 @@ import pytest
 import rsp
 from lib.library.module import raised, refused
 from lib.program import content, ran
-from lib.stored import Stored, stored
+from lib.script_cases import Stored, stored
 from rsp import RspError, Status
 
 COUNT, PARTS = 1000, 2  # random scripts, and the tests that share them

@@ -12,7 +12,7 @@ from typing import Dict, Iterator, Sequence, Tuple
 import pytest
 
 import rsp
-from lib import worked
+from lib import worked_cases
 from lib.library.shapes import groups
 from lib.pages import data
 from rsp_conformance.library_states import state_of
@@ -47,7 +47,7 @@ def named(text: str, scalars: Sequence[int]) -> Tuple[int, int, int, int]:
 def values(entry: rsp.Traced, after: str) -> Iterator[Tuple[object, str, str]]:
     """What an entry shows and what the worked case ends with, of each part that both have."""
     lanes = "".join(f"{it:04x}" for it in entry.lanes)
-    for key, value in worked.parts(after):
+    for key, value in worked_cases.parts(after):
         if key == f"r{entry.scalar}":
             yield key, f"{entry.value:08x}", value
         elif key == f"v{entry.vector}":
@@ -73,7 +73,7 @@ def changed(before: rsp.State, dmem: bytes, by: rsp.Changes) -> Tuple[rsp.State,
 
 def machine_of(case: Dict[str, str]) -> rsp.Rsp:
     """A machine that is about to run the instruction of a worked case."""
-    machine, before = rsp.Rsp(bytes(4096)), worked.state_of(case["Before"])
+    machine, before = rsp.Rsp(bytes(4096)), worked_cases.state_of(case["Before"])
     machine.set(state_of(numbers_of(before)))
     for address, digits in before.get("dmem", {}).items():
         machine.load(rsp.DMEM, int(address, 16), bytes.fromhex(digits))

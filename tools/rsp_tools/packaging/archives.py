@@ -3,16 +3,16 @@
 from pathlib import Path
 from typing import Iterable, List, NamedTuple
 
-from rsp_tools.packaging import native, packed, pages, readme, repository, spdx, systems
-from rsp_tools.packaging.about import About
-from rsp_tools.packaging.installed import File
+from rsp_tools.packaging import linux_x86_64, archive_formats, readme, repository, systems
+from rsp_tools.packaging.release_info import About
+from rsp_tools.packaging.install_tree import File
+from rsp_tools.targets import NATIVE, TARGETS
 
 # What vectors and campaigns need of the repository, and the pages that theirs lead to, with their pictures.
 CONFORMANCE = """
 conformance tools/python library/c/rsp.h library/c/rsp_compare.h docs/CAMPAIGN.md docs/INSTRUCTIONS.md
 docs/MACHINE.md docs/pictures CHANGELOG.md
 """.split()
-ENDINGS = {"windows-x86_64": "zip", "page": "zip", "wasm64": "tgz"}  # all others are .tar.gz
 
 
 class Archive(NamedTuple):
@@ -24,29 +24,27 @@ class Archive(NamedTuple):
 
     def packed(self) -> bytes:
         """Its bytes."""
-        pack = packed.zipped if self.name.endswith(".zip") else packed.tarred
+        pack = archive_formats.zipped if self.name.endswith(".zip") else archive_formats.tarred
         return pack(self.folder, self.files)
 
 
 def name_of(system: str, version: str) -> str:
     """The name of an archive's file."""
-    return f"rsp-{version}-{system}.{ENDINGS.get(system, 'tar.gz')}"
+    ending = TARGETS[system].ending if system in TARGETS else "tar.gz"
+    return f"rsp-{version}-{system}.{ending}"
 
 
 def finished(system: str, files: Iterable[File], about: About) -> Archive:
-    """An archive of these files, with the list of what it is made of, and sums. npm packs into a folder
-    `package`."""
+    """An archive of these files, with the file COMMIT, and sums. npm packs into a folder `package`."""
     name = name_of(system, about.version)
     folder = "package" if system == "wasm64" else f"rsp-{about.version}-{system}"
-    listed = [*files, spdx.file(system, about)]
-    if system != "source":
-        listed = [*pages.in_archive(listed, folder, f"rsp-{about.version}-{native.SYSTEM}")]
-    return Archive(name, folder, packed.with_sums(listed))
+    listed = [*files, File("COMMIT", f"{about.commit}\n".encode())]
+    return Archive(name, folder, archive_formats.with_sums(listed))
 
 
 def of_native(program: bytes, plugin: bytes, about: About) -> Archive:
     """That for Linux on x86-64, of the linked program and the plugin."""
-    return finished(native.SYSTEM, native.contents(program, plugin, about), about)
+    return finished(NATIVE.name, linux_x86_64.contents(program, plugin, about), about)
 
 
 def of_system(system: str, made: Path, about: About, thin: systems.Thin = systems.thinned) -> Archive:

@@ -18,7 +18,7 @@ from pathlib import Path
 from typing import List, NoReturn
 
 from rsp_tools import TOOLS, TOP, hardening
-from rsp_tools.packaging import installed
+from rsp_tools.packaging import install_tree
 from rsp_tools.systems import header
 
 NAME = "tools/python rsp_tools.packaging.link"
@@ -55,7 +55,7 @@ def put(folder: Path, name: str) -> None:
 
 
 def link_library(archives: List[str]) -> None:
-    name, keep = installed.soname(), [f"--keep-global-symbol={it}" for it in header.calls()]
+    name, keep = install_tree.soname(), [f"--keep-global-symbol={it}" for it in header.calls()]
     with tempfile.TemporaryDirectory() as folder:
         at = Path(folder)
         call("ld", "-r", "-o", at / "all.o", "--whole-archive", *archives)

@@ -5,8 +5,7 @@ import subprocess
 from typing import Iterator, Sequence
 
 from rsp_tools import TOP
-from rsp_tools.packaging import pages
-from rsp_tools.packaging.installed import File, file
+from rsp_tools.packaging.install_tree import File, file
 
 # What only the archive of the test vectors has. The page of campaigns is of no use without them.
 OF_CONFORMANCE = ("conformance/", "docs/CAMPAIGN.md")
@@ -26,11 +25,6 @@ def committed() -> int:
     return int(said("git", "log", "-1", "--format=%ct"))
 
 
-def committer() -> str:
-    """Who committed HEAD, by name and address."""
-    return said("git", "log", "-1", "--format=%cn <%ce>")
-
-
 def names(*parts: str) -> Iterator[str]:
     """The files of these parts, or of all, that are no links."""
     listed = said("git", "ls-files", "-z", "--", *parts).split("\0")
@@ -38,8 +32,8 @@ def names(*parts: str) -> Iterator[str]:
 
 
 def tracked(parts: Sequence[str]) -> Iterator[File]:
-    """The files of these parts, each under the name that an archive has for it."""
-    yield from (file(pages.moved(it), TOP / it) for it in names(*parts) if not it.endswith(".gitignore"))
+    """The files of these parts, in the places where the repository has them."""
+    yield from (file(it, TOP / it) for it in names(*parts) if not it.endswith(".gitignore"))
 
 
 def of_systems(parts: Sequence[str]) -> Iterator[File]:

@@ -23,10 +23,13 @@ import shutil
 import signal
 import sys
 import tempfile
+from functools import partial
 from pathlib import Path
 from typing import Callable, Dict, Mapping, NamedTuple, Tuple
 
-from . import linux, macos, manual, page, places, wasm, windows
+from rsp_tools.targets import CROSS, Target
+
+from . import linux, macos, manual, web_page, places, wasm, windows
 from .modules import Source, module
 from .toolchain import Refused, missing
 
@@ -40,12 +43,18 @@ class System(NamedTuple):
     more: Mapping[str, Callable[[Path, Path], None]] = {}
 
 
-SYSTEMS: Dict[str, System] = {
-    "linux-aarch64": System(linux.make, ("aarch64-linux-gnu-gcc",)),
-    "windows-x86_64": System(windows.make, ("x86_64-w64-mingw32-gcc",)),
-    "macos": System(macos.make),
-    "wasm64": System(wasm.make, (manual.CONVERTER,), more={"page": page.make}),
-}
+def system_of(target: Target) -> System:
+    """How the folder of a target is made."""
+    if target.is_linux:
+        return System(partial(linux.make, target), (target.compiler,))
+    return {
+        "windows-x86_64": System(windows.make, (target.compiler,)),
+        "macos": System(macos.make),
+        "wasm64": System(wasm.make, (manual.CONVERTER,), more={"page": web_page.make}),
+    }[target.name]
+
+
+SYSTEMS: Dict[str, System] = {it.name: system_of(it) for it in CROSS}
 
 
 def put(made: Path, to: Path) -> None:

@@ -4,6 +4,8 @@ macOS, and linked against the names that libSystem.tbd lists."""
 from pathlib import Path
 from typing import Dict, List
 
+from rsp_tools.targets import TARGETS
+
 from . import header, packages, places
 from .modules import Source, module
 from .objects import compiled
@@ -39,7 +41,5 @@ def make(out: Path, at: Path, source: Source = module) -> None:
     llvm("llvm-lipo", "-create", *static, "-output", out / "lib" / "librsp.a")
     packages.header(out)
     packages.pkg_config(out)
-    packages.cmake(
-        out, "unix", "Darwin", "x86_64|arm64", LIBRARY="librsp.dylib", SONAME="@rpath/librsp.dylib"
-    )
-    packages.wheel(out, out / "lib" / "librsp.dylib", "librsp.dylib", ["macosx_11_0_universal2"])
+    packages.cmake(out, TARGETS["macos"], LIBRARY="librsp.dylib", SONAME="@rpath/librsp.dylib")
+    packages.wheel(out, out / "lib" / "librsp.dylib", "librsp.dylib", TARGETS["macos"].wheel)

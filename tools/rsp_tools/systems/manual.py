@@ -2,11 +2,11 @@
 Debian's cmark-gfm, which reads Markdown as the usual viewers do."""
 
 import html
+import posixpath
 import re
 from typing import Dict, Iterator, Match
 
-from rsp_tools.packaging.pages import bare, with_links
-from rsp_tools.pages import anchor, data
+from rsp_tools.page_tables import anchor, data
 
 from . import places
 from .toolchain import call
@@ -14,6 +14,7 @@ from .toolchain import call
 CONVERTER = "cmark-gfm"
 DOCS = places.TOP / "docs"
 TEMPLATE = places.TOP / "page" / "help.html"
+LINK = re.compile(r"!?\[([^\]]*)\]\(([^)\s#]*)[^)\s]*\)")
 # The pages in the order in which each of them names all.
 PAGES = "SCRIPT INSTRUCTIONS FAULTS ASSEMBLY MACHINE COOKBOOK TUTORIAL GLOSSARY".split()
 
@@ -39,11 +40,16 @@ def with_rows(text: str) -> str:
     return text
 
 
-def converted(name: str, text: str) -> str:
+def is_here(target: str) -> bool:
+    """Whether a link leads to a page or a picture of this folder, into its own page, or to an address."""
+    name = posixpath.normpath(target)
+    is_picture = name.startswith("pictures/") and (DOCS / name).is_file()
+    return not target or "://" in target or is_picture or name in {f"{it}.md" for it in PAGES}
+
+
+def converted(text: str) -> str:
     """A page's Markdown as HTML. Links lead to pages that are here, and others are their words alone."""
-    pictures = {f"docs/pictures/{it.name}" for it in DOCS.glob("pictures/*.svg")}
-    here = pictures | {f"docs/{it}.md" for it in PAGES}
-    live = with_links(f"docs/{name}.md", text, lambda it: it if it in here else "", bare)
+    live = LINK.sub(lambda link: link[0] if is_here(link[2]) else link[1], text)
     # The anchors of the pages are HTML.
     made = call(CONVERTER, "--unsafe", "--extension", "table", "--to", "html", given=live)
     made = re.sub(r"<h([1-6])>(.*?)</h\1>", with_anchor, made)
@@ -65,7 +71,7 @@ def title(name: str) -> str:
 def page(name: str) -> str:
     """A whole page."""
     links = "\n".join(f'    <a href="{it}.html">{title(it)}</a>' for it in PAGES)
-    words = {"TITLE": title(name), "LINKS": links, "BODY": converted(name, markdown(name))}
+    words = {"TITLE": title(name), "LINKS": links, "BODY": converted(markdown(name))}
     return re.sub(r"@([A-Z]+)@", lambda it: words[it[1]], TEMPLATE.read_text())
 
 

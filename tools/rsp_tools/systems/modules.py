@@ -11,13 +11,14 @@ import tempfile
 from pathlib import Path
 from typing import Callable, Dict, List, NamedTuple
 
+from rsp_tools import targets
 from rsp_tools.build import over_libraries
 from rsp_tools.crates import with_below
 
 from . import places
 from .toolchain import Refused, call, kit, llvm
 
-TARGETS: Dict[str, str] = {"x86_64": "x86_64-unknown-linux-gnu", "aarch64": "aarch64-unknown-linux-gnu"}
+TARGETS: Dict[str, str] = {it.processor: it.triple for it in targets.TARGETS.values() if it.is_linux}
 
 
 class Module(NamedTuple):

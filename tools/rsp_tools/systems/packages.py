@@ -6,10 +6,14 @@ from pathlib import Path
 from typing import Sequence
 
 import wheels
+from rsp_tools import TOOLS
 from rsp_tools.packaging import repository
+from rsp_tools.targets import Target
 
 from . import places
 from .header import filled
+
+TEMPLATES = TOOLS / "packaging"
 
 
 def header(out: Path) -> None:
@@ -22,16 +26,18 @@ def header(out: Path) -> None:
 def pkg_config(out: Path, rpath: str = " -Wl,-rpath,${libdir}") -> None:
     """Writes rsp.pc, which finds the folder that it lies in. By `rpath` a program finds the library there."""
     (out / "lib" / "pkgconfig").mkdir(parents=True)
-    text = filled(places.PARTS / "rsp.pc.in", RPATH=rpath)
+    text = filled(TEMPLATES / "rsp.pc.in", PREFIX="${pcfiledir}/../..", RPATH=rpath)
     (out / "lib" / "pkgconfig" / "rsp.pc").write_text(text)
 
 
-def cmake(out: Path, kind: str, system: str, processors: str, **words: str) -> None:
-    """Writes what find_package(rsp) reads."""
-    folder, words = out / "lib/cmake/rsp", {**words, "SYSTEM": system, "PROCESSORS": processors}
+def cmake(out: Path, target: Target, **words: str) -> None:
+    """Writes what find_package(rsp) reads. `words` are LIBRARY, its file in lib/, and its SONAME."""
+    folder, kind = out / "lib/cmake/rsp", "unix" if words else "windows"
+    system, processors = target.cmake
     folder.mkdir(parents=True)
     for made, template in ("rspConfig", f"rspConfig-{kind}"), ("rspConfigVersion", "rspConfigVersion"):
-        (folder / f"{made}.cmake").write_text(filled(places.PARTS / f"{template}.cmake.in", **words))
+        text = filled(TEMPLATES / f"{template}.cmake.in", SYSTEM=system, PROCESSORS=processors, **words)
+        (folder / f"{made}.cmake").write_text(text)
 
 
 def date() -> int:

@@ -16,7 +16,6 @@ PACKAGES: Dict[str, str] = {
     "ar": "binutils",
     "ld": "binutils",
     "objcopy": "binutils",
-    "dpkg-deb": "dpkg",
     "aarch64-linux-gnu-gcc": "gcc-aarch64-linux-gnu libc6-dev-arm64-cross",
     "aarch64-linux-gnu-objdump": "binutils-aarch64-linux-gnu",
     "x86_64-w64-mingw32-objdump": "binutils-mingw-w64-x86-64",

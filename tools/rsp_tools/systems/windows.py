@@ -4,6 +4,7 @@ MSVC. One rsp.dll is for both, and each has an import library and a static one. 
 from pathlib import Path
 
 from rsp_tools import hardening
+from rsp_tools.targets import TARGETS
 
 from . import header, packages, places, program
 from .modules import Source, module
@@ -66,5 +67,5 @@ def make(out: Path, at: Path, source: Source = module) -> None:
     link_program(out / "bin" / "rsp.exe", at, out / "lib" / "librsp.a")
     packages.header(out)
     packages.pkg_config(out, rpath="")
-    packages.cmake(out, "windows", "Windows", "AMD64|x86_64|x64")
-    packages.wheel(out, out / "bin" / "rsp.dll", "rsp.dll", ["win_amd64"], out / "bin" / "rsp.exe")
+    packages.cmake(out, TARGETS[SYSTEM])
+    packages.wheel(out, out / "bin" / "rsp.dll", "rsp.dll", TARGETS[SYSTEM].wheel, out / "bin" / "rsp.exe")

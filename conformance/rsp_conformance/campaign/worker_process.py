@@ -1,0 +1,119 @@
+"""The work of a task's child process: batches of cases, or programs, on the library and on the emulator.
+
+Each batch's result goes to its parent. As a program it takes the parent's process and two descriptors from
+task.py.
+"""
+
+import mmap
+import os
+import sys
+import time
+from multiprocessing.connection import Connection
+from typing import Iterator, List
+
+import numpy as np
+import rsp
+
+from . import CampaignFault, operands_read
+from .generator import END, Array, cases_of, memories_of
+from .programs import check_programs
+from .protocol import BATCH, PROGRAM, RESERVED, SHOWN, UNDONE, UNSHOWN, Result, name_of
+from .compare import Sides, differences, in_brief, named, parts_that_differ
+from .supervise import end_with_parent
+
+NOT_THERE = f"because the emulator answers that the word is reserved (status {RESERVED})"
+
+
+class Cases:
+    """Cases of an instruction on both sides."""
+
+    def __init__(self, spec: str, name: str, seed: str) -> None:
+        self.name, self.seed, self.memories = name, seed, memories_of(name, seed)
+        self.sides, self.expected = Sides(spec, self.memories), np.zeros(BATCH, END)
+
+    def memories_after(self, case: Array, expected: Array, got: Array) -> List[str]:
+        """What differs in memories, by addresses if the case was executed and the emulator can show them."""
+        if expected["changed"] == got["changed"]:
+            return []
+        found = self.sides.memories_after(case, self.memories.tobytes()) if got["status"] != RESERVED else []
+        return found or ["bytes of memories"]
+
+    def head(self, number: int, case: Array) -> str:
+        """What a case is called, with its word."""
+        pc = int(case["state"]["pc"])
+        return f"{name_of(self.name, self.seed, number)} ({named(int(case['word']), pc)} at {pc:03x}"
+
+    def shown(self, number: int, case: Array, expected: Array, got: Array, whole: bool) -> str:
+        """A case that differs, in a line or in whole."""
+        word, state = int(case["word"]), rsp.State.from_buffer_copy(case["state"].tobytes())
+        lines = [*differences(expected, got), *self.memories_after(case, expected, got)]
+        head = self.head(number, case)
+        if not whole:
+            return f"{head}{operands_read.in_brief(self.name, word, state, lines[0])}): {in_brief(lines)}"
+        before = operands_read.reads_of(self.name, word, state, self.memories)
+        told = [f"before: {what} {value}" for what, value in before]
+        return "\n  ".join([f"{head})", *told, *lines])
+
+    def batch(self, at: int, n: int, ends: Array, room: int, whole: bool) -> Result:
+        """The result of `n` cases. At most `room` of them are shown, each of which takes milliseconds."""
+        cases, choices = cases_of(self.name, self.seed, at, n)
+        ends["status"] = UNDONE
+        differ = self.sides.run(cases, self.expected[:n], ends[:n])
+        statuses = ends["status"][:n]
+        if (statuses == UNDONE).any():
+            raise CampaignFault("it answered too few cases")
+        unshown, missing = statuses == UNSHOWN, statuses == RESERVED
+        missing &= (missing | unshown).all()  # if only some cases are, that is a fault of its decoder
+        differ &= ~unshown & ~missing
+        found = np.nonzero(differ)[0]
+        shown = [
+            self.shown(at + i, cases[i], self.expected[i], ends[i], whole) for i in found[:room].tolist()
+        ]
+        if whole and missing.any():
+            shown = [f"{self.head(at, cases[0])}): not there, {NOT_THERE}"]
+        return {
+            "count": n,
+            "unshown": int(unshown.sum()),
+            "missing": int(missing.sum()),
+            "differ": len(found),
+            "choices": int((differ & choices).sum()),
+            "parts": parts_that_differ(self.expected[found], ends[found]),
+            "shown": shown,
+        }
+
+
+def check_cases(
+    spec: str, name: str, seed: str, start: int, count: int, ends: Array, whole: bool = False
+) -> Iterator[Result]:
+    """Yields the result of each batch, and an empty one when both sides have begun."""
+    cases, room = Cases(spec, name, seed), SHOWN
+    yield {"count": 0, "unseen": cases.sides.unseen}
+    for at in range(start, start + count, BATCH):
+        result = cases.batch(at, min(BATCH, start + count - at), ends, room, whole)
+        room -= len(result["shown"])
+        yield result
+
+
+def main(parent: int, shared: int, answers: int) -> None:
+    """The ends of the batch at hand are in shared memory, so the parent knows which cases are done."""
+    end_with_parent()
+    if os.getppid() != parent:
+        sys.exit("the parent is gone")
+    connection, used = Connection(answers), 0.0
+    (spec, name, seed, start, count), options = connection.recv()
+    if name == PROGRAM:
+        results = check_programs(spec, seed, start, count, options["instructions"], options["steps"])
+    else:
+        ends = np.frombuffer(mmap.mmap(shared, 0), END)
+        results = check_cases(spec, name, seed, start, count, ends, options["whole"])
+    try:
+        for result in results:
+            before, used = used, time.process_time()
+            connection.send({**result, "processor": used - before})
+    except Exception as fault:  # of an emulator in Python, too
+        said = str(fault) if isinstance(fault, CampaignFault) else f"{type(fault).__name__}: {fault}"
+        connection.send({"fault": said})
+
+
+if __name__ == "__main__":
+    main(*map(int, sys.argv[1:]))

@@ -1,0 +1,196 @@
+"""Refusals in words: what a call was given, and what it takes."""
+
+import operator
+from typing import Any, Dict, List, Mapping, NamedTuple, Sequence, Tuple
+
+from .fields import list_of
+from .formatting import SP_NAMES
+
+BELOW = 1 << 32
+FAULTS = {
+    10: "BadLine", 11: "UnknownName", 12: "BadOperand", 13: "OutOfRange", 14: "LabelTwice",
+    15: "LabelMissing", 16: "PastEnd", 17: "OutOfMemory", 33: "NotText",
+}  # fmt: skip
+
+
+def printable(text: str) -> str:
+    """A line with each character that would control a terminal as its escape: \\x1b."""
+    return "".join(it if it.isprintable() or it == "\t" else ascii(it)[1:-1] for it in text)
+
+
+class Range(NamedTuple):
+    """The numbers that an argument may be."""
+
+    numbers: range
+    text: str
+
+
+WORD = Range(range(BELOW), "0 to 4294967295")
+PLACE = Range(range(0, 4096, 4), "a multiple of 4 below 4096")
+COUNT = Range(range(1, 1000001), "1 to 1000000")
+MASK = Range(range(65536), "0 to 65535")
+REGISTER = Range(range(32), "0 to 31")
+BANKS = "DMEM", "IMEM", "RDRAM"
+BANK = Range(range(3), "rsp.DMEM, rsp.IMEM or rsp.RDRAM")
+
+# The arguments of each call, in order.
+ARGUMENTS: Dict[str, Dict[str, Range]] = {
+    "Rsp": {"depth": Range(range(4097), "0 to 4096")},
+    "load": {"bank": BANK, "address": WORD},
+    "load_words": {"bank": BANK, "address": WORD},
+    "memory": {"bank": BANK, "address": WORD, "length": WORD},
+    "memory_words": {"bank": BANK, "address": WORD, "count": WORD},
+    "start_task": {"address": WORD},
+    "set_pc": {"pc": PLACE},
+    "run": {"steps": COUNT},
+    "run_until_move": {"steps": COUNT, "reads": MASK, "writes": MASK},
+    "event": {"steps": COUNT, "reads": MASK, "writes": MASK},
+    "trace": {"steps": COUNT},
+    "back": {"states": COUNT},
+    "pass_move": {"value": WORD},
+    "add_break": {"place": PLACE},
+    "drop_break": {"place": PLACE},
+    "add_watch": {"address": Range(range(4096), "0 to 4095"), "length": Range(range(1, 65), "1 to 64")},
+    "drop_watch": {"number": WORD},
+    "reg": {"number": REGISTER},
+    "vreg": {"number": REGISTER},
+    "set_reg": {"number": REGISTER, "value": WORD},
+    "set_vreg": {"number": REGISTER},
+    "read": {"number": WORD},
+    "peek": {"number": WORD},
+    "write": {"number": WORD, "value": WORD},
+    "assemble": {"origin": Range(range(0, 4097, 4), "a multiple of 4 up to 4096")},
+    "text": {"word": WORD, "place": PLACE},
+    "listing": {"place": PLACE, "count": Range(range(1025), "0 to 1024")},
+    "first_difference": {"every": COUNT, "limit": WORD},
+    "missing": {"limit": WORD},
+}
+
+# What is wrong if each number is in its range.
+TOGETHER = {
+    "load": "the bytes from {address} on pass the end of {bank}",
+    "load_words": "the words from {address} on pass the end of {bank}",
+    "memory": "{length} bytes from {address} on pass the end of {bank}",
+    "memory_words": "{count} words from {address} on pass the end of {bank}",
+    "pass_move": "the word at pc is no MFC0 or MTC0",
+    "set_reg": "register 0 holds 0, and not {value}",
+    "pass_dma": "the word at pc starts no DMA",
+    "set_sp": "a word can't be read from its SP register, or interrupt isn't 0 or 1",
+    "listing": "{count} words from {place} on pass the end of IMEM",
+    "add_watch": "{length} bytes from {address} on pass the end of DMEM",
+}
+
+# By status; {} is the first number that the call was given, {owner} what the handle is of.
+SENTENCES = {
+    1: "the {owner} is closed",
+    2: "an allocation failed",
+    7: "{} isn't a multiple of 8, or the 64 bytes from there pass the image's end",
+    8: "the size of the boot code, the word at offset 12 of the structure at {}, isn't 1 to 4096",
+    9: "sixteen addresses have a breakpoint",
+    10: "{} has a breakpoint",
+    11: "{} has no breakpoint",
+    12: "there are eight watches",
+    13: "no watch has the number {}",
+    14: "the history holds fewer states than {}",
+    15: "the text has more than 1024 words",
+    16: "the script has ended",
+    17: "the script has more than 1048576 bytes",
+}
+
+
+def call_name(name: str) -> str:
+    """The name in Python of a call of the library."""
+    return {"rsp_new": "Rsp", "rsp_task": "start_task"}.get(name) or (
+        name[4:] if name.startswith("rsp_") else name
+    )
+
+
+def named(call: str, numbers: Sequence[Any]) -> Mapping[str, Any]:
+    """The numbers by the names of the call's arguments."""
+    names = [*ARGUMENTS.get(call, {})]
+    return dict(zip(names + [f"argument {n + 1}" for n in range(len(names), len(numbers))], numbers))
+
+
+def out_of_range(call: str, numbers: Sequence[int]) -> str:
+    """The first number that isn't in its range, or what is wrong with all of them."""
+    ranges = ARGUMENTS.get(call, {})
+    given = named(call, numbers)
+    for name, number in given.items():
+        allowed = ranges.get(name, WORD)
+        if number not in allowed.numbers:
+            return f"{name} is {int(number)}, not {allowed.text}"
+    words = {**given, "bank": BANKS[given["bank"]]} if "bank" in given else given
+    return TOGETHER.get(call, "a number is out of its range").format(**words)
+
+
+def refusal(status: int, name: str, numbers: Sequence[int] = (), owner: str = "machine") -> str:
+    """Why a call was refused, in a sentence."""
+    call = call_name(name)
+    if status == 3:
+        return f"{call}: {out_of_range(call, numbers)}"
+    return f"{call}: {SENTENCES.get(status, 'refused').format(*numbers, owner=owner)}"
+
+
+def integers(name: str, numbers: Sequence[Any]) -> Tuple[int, ...]:
+    """The arguments as integers. TypeError names the first that is none."""
+    try:
+        return tuple(map(operator.index, numbers))
+    except TypeError:
+        call = call_name(name)
+        first, value = next(
+            (it, value) for it, value in named(call, numbers).items() if not hasattr(value, "__index__")
+        )
+        raise TypeError(f"{call}: {first} is of type {type(value).__name__}, not an integer") from None
+
+
+def bytes_of(call: str, name: str, data: Any) -> bytes:
+    """The bytes of a buffer, as they are in memory."""
+    if type(data) is bytes:
+        return data
+    try:
+        return bytes(memoryview(data))
+    except TypeError:
+        raise TypeError(
+            f"{call}: {name} is of type {type(data).__name__}, not bytes or another buffer"
+        ) from None
+
+
+def script_of(call: str, script: Any) -> bytes:
+    """The bytes of a script, which a text may be."""
+    return script.encode() if isinstance(script, str) else bytes_of(call, "script", script)
+
+
+def items_of(call: str, name: str, words: Any) -> List[Any]:
+    """The items of an iterable."""
+    items: Any = words if type(words) is list else list_of(words)
+    if items is None:
+        raise TypeError(f"{call}: {name} is of type {type(words).__name__}, not a list of integers")
+    return list(items)
+
+
+def words_of(call: str, name: str, items: List[Any]) -> Tuple[int, ...]:
+    """Items as integers. TypeError names the first that is none."""
+    try:
+        return tuple(map(operator.index, items))
+    except TypeError:
+        n, item = next((n, it) for n, it in enumerate(items) if not hasattr(it, "__index__"))
+        raise TypeError(f"{call}: {name}[{n}] is of type {type(item).__name__}, not an integer") from None
+
+
+# What `set` takes in a field.
+FIELDS = {
+    "words[0]": "0",
+    "divider.loaded": "0 or 1",
+    "pc": PLACE.text,
+    "npc": PLACE.text,
+    "interrupt": "0 or 1",
+}
+
+
+def state_fault(field: str, state: Any) -> str:
+    """Why `set` refuses a state for this field."""
+    if field in FIELDS:
+        value = state.words[0] if field == "words[0]" else operator.attrgetter(field)(state)
+        return f"{field} is {value}, not {FIELDS[field]}"
+    number = int(field[3:-1])
+    return f"{field} is {state.sp[number]:#x}, which {SP_NAMES[number]} can't hold"

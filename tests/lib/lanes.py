@@ -1,0 +1,37 @@
+"""Computing instructions on lanes, accumulators and flags, and what the program leaves of them."""
+
+from typing import Any, Dict, List, Sequence, Tuple
+
+from rsp_conformance import bench, coverage, outcomes
+from rsp_conformance.table import ROWS, word_of
+
+Look = Dict[str, Any]
+Flags = Dict[str, str]
+Lanes = Sequence[int]
+Case = Tuple[Any, int, Look]
+
+# The flags in the words of the pages: each with its register, and the bit of lane 0 there.
+FLAGS = {coverage.NAMES.get(flag, flag): at for flag, at in outcomes.FLAGS.items()}
+CLEAR = {"vco": "0000", "vcc": "0000", "vce": "00"}
+ZEROS = [0] * 8
+
+
+def case(
+    name: str, a: Lanes = ZEROS, b: Lanes = ZEROS, accs: Lanes = ZEROS, flags: Flags = CLEAR, **fields: int
+) -> Case:
+    """An instruction `$v3, $v1, $v2`, but for these fields, on these lanes, accumulators and flags."""
+    word = word_of(ROWS[name], {"e": 0, "vt": 2, "vs": 1, "vd": 3, "de": 0, **fields})
+    vectors = {
+        f"v{n}": "".join(f"{it % 65536:04x}" for it in lanes) for n, lanes in enumerate((a, b, ZEROS), 1)
+    }
+    values = {f"a{lane}": f"{it % 2**48:012x}" for lane, it in enumerate(accs)}
+    return ROWS[name], word, {**bench.DEFAULT, **flags, **vectors, **values}
+
+
+def after(program: str, cases: Sequence[Case]) -> List[Look]:
+    """The looks after these instructions."""
+    return [it["after"] for it in bench.observe(program, cases)]
+
+
+def accumulators_of(look: Look) -> List[int]:
+    return [(int(look[f"a{lane}"], 16) ^ 1 << 47) - (1 << 47) for lane in range(8)]

@@ -1,0 +1,98 @@
+"""What an installation holds below its prefix. library/c/install writes it, and the release packs it."""
+
+import os
+from pathlib import Path
+from typing import Iterator, NamedTuple, Optional, Tuple, Union
+
+from rsp_tools import TOOLS, TOP
+from rsp_tools.systems import header
+from rsp_tools.targets import NATIVE
+
+# The script `rsp` of an archive. On another processor an emulator may run the program; if none does, what the
+# shell says of it doesn't name the processor.
+STARTER = """#!/bin/sh
+# rsp: runs the program in bin/. --version also names the commit that it was built from, and what proved it.
+top=$(dirname -- "$(readlink -f -- "$0")")
+[ "$*" != --version ] || exec printf '%s\\n' '{built}' '{proved}'
+[ "$(uname -m)" != {processor} ] || exec "$top/bin/rsp" "$@"
+"$top/bin/rsp" "$@"
+ended=$?
+[ $ended -lt 126 ] || echo "rsp: this program is for {processor}, and this machine is $(uname -m)" >&2
+exit $ended
+"""
+
+
+SHARE = TOOLS / "packaging/share"
+RPATH = " -Wl,-rpath,${libdir}"
+# What pkg-config and CMake read, and the templates in tools/packaging.
+TEMPLATES = {
+    "lib/pkgconfig/rsp.pc": "rsp.pc.in",
+    "lib/cmake/rsp/rspConfig.cmake": "rspConfig-unix.cmake.in",
+    "lib/cmake/rsp/rspConfigVersion.cmake": "rspConfigVersion.cmake.in",
+}
+
+
+class File(NamedTuple):
+    """A file: its bytes or the name that a link leads to, and whether it can be run."""
+
+    name: str
+    data: Union[bytes, str]
+    can_run: bool = False
+
+    def write(self, path: Path) -> None:
+        """Puts it there, where nothing may be: a link that is there leads to another's file."""
+        path.parent.mkdir(parents=True, exist_ok=True)
+        if isinstance(self.data, str):
+            path.symlink_to(self.data)
+            return
+        with path.open("xb") as made:
+            made.write(self.data)
+            os.fchmod(made.fileno(), 0o755 if self.can_run else 0o644)
+
+
+def file(name: str, path: Path) -> File:
+    return File(name, path.read_bytes(), bool(path.stat().st_mode & 0o100))
+
+
+def shared() -> Iterator[File]:
+    """What is below share/ wherever the program is: the man page, and what completes its words in shells."""
+    number, day = header.dated_version().split()
+    for path in sorted(it for it in SHARE.rglob("*") if it.is_file()):
+        text = path.read_text().replace("@VERSION@", number).replace("@DAY@", day.strip("()"))
+        yield File(str(path.relative_to(SHARE.parent)), text.encode())
+
+
+def starter(about: Tuple[str, str], processor: str) -> File:
+    """The script `rsp` of an archive for a processor, by the name that `uname -m` gives it. It says these two
+    lines of its version."""
+    built, proved = about
+    return File("rsp", STARTER.format(built=built, proved=proved, processor=processor).encode(), True)
+
+
+def version() -> Tuple[str, str]:
+    """The version and its day."""
+    number, day = header.dated_version().split()
+    return number, day.strip("()")
+
+
+def soname() -> str:
+    """The name of the shared library, with the version of its interface."""
+    return f"librsp.so.{header.interface()}"
+
+
+def contents(prefix: str, program: Optional[bytes]) -> Iterator[File]:
+    """Each file. `prefix` is what rsp.pc says, and `program` the bytes of the program, if there is one."""
+    library = TOP / "library/c"
+    for name in "rsp.h", "rsp.hpp", "rsp_compare.h":
+        yield File(f"include/{name}", (library / name).read_bytes())
+    yield File("lib/librsp.a", (library / "librsp.a").read_bytes())
+    yield File(f"lib/{soname()}", (library / soname()).read_bytes(), True)
+    yield File("lib/librsp.so", soname())
+    system, processors = NATIVE.cmake
+    words = {"LIBRARY": soname(), "SONAME": soname(), "SYSTEM": system, "PROCESSORS": processors}
+    for name, template in TEMPLATES.items():
+        text = header.filled(TOOLS / "packaging" / template, PREFIX=prefix, RPATH=RPATH, **words)
+        yield File(name, text.encode(errors="surrogateescape"))
+    yield from shared()
+    if program:
+        yield File("bin/rsp", program, True)

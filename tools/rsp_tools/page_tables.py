@@ -1,0 +1,118 @@
+"""Writes what pages have of tables, of crates.txt and of the test vectors.
+
+`tools/python rsp_tools.page_tables` writes
+
+  docs/SCRIPT.md, docs/FAULTS.md   the table of docs/data: the columns that the head names
+  docs/ARCHITECTURE.md             the list of crates, from the top
+  conformance/README.md            the example of a manifest
+
+It fails, and writes nothing, if a page has no place for one of them. tests/docs/test_tables.py fails if a
+page differs from what this writes.
+"""
+
+import argparse
+import re
+from typing import Dict, Iterator, List, Tuple
+
+from rsp_conformance import programs
+from rsp_conformance.run_programs import short
+from rsp_conformance.vectors import VECTORS, manifest_in
+from rsp_tools import TOP
+
+DATA = TOP / "docs/data"
+TABLES = {"commands": "docs/SCRIPT.md", "faults": "docs/FAULTS.md"}
+ANCHOR = re.compile(r'<a id="(\w+)"></a>')  # by which a link leads to a place that isn't a heading
+LAYERS, OF_VECTORS = "docs/ARCHITECTURE.md", "conformance/README.md"
+EXAMPLE = "VCH-003"  # the case of `programs` that OF_VECTORS shows
+
+
+def page(name: str) -> str:
+    return (TOP / name).read_text()
+
+
+def anchor(heading: str) -> str:
+    """What a link has after its `#`, as the usual viewers of Markdown make it."""
+    return re.sub(r"[^\w\- ]", "", heading.lower()).replace(" ", "-")
+
+
+def blocks_of(text: str) -> List[str]:
+    """The fenced blocks of a text, without their fences."""
+    return re.findall(r"(?ms)^```\w+\n(.*?)^```$", text)
+
+
+def data(name: str) -> List[Dict[str, str]]:
+    """The lines of a table of docs/data, each as its cells by the names of the columns."""
+    names, *lines = [line.split("\t") for line in (DATA / f"{name}.tsv").read_text().splitlines()]
+    return [dict(zip(names, cells)) for cells in lines]
+
+
+def crates() -> Dict[str, Tuple[str, List[str]]]:
+    """Each crate of crates.txt with what it is, by the comment of three blanks above it, and the crates of
+    the repository that it uses; the lower ones first."""
+    found = re.findall(r"(?m)^#   (.*)\n(\w+)(?: staticlib)?:(.*)$", page("crates.txt"))
+    names = {name for _, name, _ in found}
+    return {name: (words, [it for it in used.split() if it in names]) for words, name, used in found}
+
+
+def replaced(text: str, pattern: str, wanted: str) -> str:
+    """The text with its first place of this form, or the group of it, made anew."""
+    found = re.search(pattern, text)
+    if found is None:
+        raise LookupError(f"nothing has the form {pattern!r}")
+    start, end = found.span(found.re.groups)
+    return text[:start] + wanted + text[end:]
+
+
+def shown(column: str, line: Dict[str, str]) -> str:
+    """A cell of docs/data as a page has it."""
+    cell = line[column]
+    return f"`{cell}`" if column in ("Fault", "Command", "Example") and cell != "-" else cell
+
+
+def with_table(text: str, name: str) -> str:
+    """A page's text with its table of docs/data."""
+    lines = data(name)
+    head = re.findall(rf"(?m)^\| {next(iter(lines[0]))} \|.*$", text)[0]
+    rows = (" | ".join(shown(it, line) for it in head[2:-2].split(" | ")) for line in lines)
+    wanted = "".join(f"| {row} |\n".replace("|  |", "| |") for row in rows)
+    return replaced(text, rf"{re.escape(head)}\n\|[-|]+\|\n((?:\|.*\n)+)", wanted)
+
+
+def manifest_shown() -> Iterator[Tuple[str, str]]:
+    """A block and a line on EXAMPLE: each as a pattern, and as its manifest has it."""
+    manifest = manifest_in(VECTORS, EXAMPLE.partition("-")[0])
+    cases = [(entry, it) for entry in manifest["programs"] for it in entry["cases"]]
+    entry, case = next(pair for pair in cases if pair[1]["name"] == EXAMPLE)
+    fields = entry["layouts"][case["layout"]]
+    vcc = next(it for it in fields if it[0] == "vcc")
+    layout = f"[{short(fields[0])},{short(fields[1])},..,{short(vcc)},..]"
+    head = short({"name": entry["name"], "steps": entry["steps"]})[:-1]
+    lines = (
+        f'{{"row":"{manifest["row"]}","programs":[',
+        f' {head},"layouts":{{"{case["layout"]}":{layout}}},"cases":[',
+    )
+    block = "".join(f"{it}\n" for it in (*lines, "  ..", f"  {short(case)},", "  ..]}]}"))
+    yield r'(?ms)^{"row":.*?\]}\]}\n', block
+    flags = (int(case["at"], 16) + vcc[1]) % programs.MEMORY
+    told = f"begin at 0x{case['at']}, and its `vcc` is {vcc[1]} bytes after that, at 0x{flags:03x}."
+    wanted = f"{told} So the byte at 0x{flags + 1:03x} is"
+    yield r"begin at \w+, and its `vcc` is .* So the byte at \w+ is", wanted
+
+
+def made() -> Dict[str, str]:
+    """Each page with what this writes, as a whole."""
+    pages = {at: with_table(page(at), name) for name, at in TABLES.items()}
+    layers = "".join(f"{name:19} {words}\n" for name, (words, _) in reversed(crates().items()))
+    pages[LAYERS] = replaced(page(LAYERS), r"(?ms)^## Layers\n.*?^```text\n(.*?)^```$", layers)
+    pages[OF_VECTORS] = page(OF_VECTORS)
+    for pattern, wanted in manifest_shown():
+        pages[OF_VECTORS] = replaced(pages[OF_VECTORS], pattern, wanted)
+    return pages
+
+
+if __name__ == "__main__":
+    words = argparse.ArgumentParser("tools/python rsp_tools.page_tables", description=__doc__)
+    words.formatter_class = argparse.RawDescriptionHelpFormatter
+    words.parse_args()
+    for name, text in made().items():
+        (TOP / name).write_text(text)

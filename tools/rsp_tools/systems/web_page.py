@@ -1,0 +1,89 @@
+"""The page that answers scripts in a browser: a folder of static files for any host. Beside index.html all
+files are in one folder, which is named by their contents: a new version has other addresses, so no browser
+takes files of two versions together."""
+
+import hashlib
+import json
+import re
+from pathlib import Path
+from typing import Dict
+
+from rsp_tools.page_tables import data
+
+from . import examples, header, manual, places
+from .toolchain import Refused
+
+SOURCES = places.TOP / "page"
+LIBRARY = places.MADE / "wasm64"
+START = "index.html"
+STATEMENTS = ("nop", ".word")  # what source text has beside instructions
+Files = Dict[str, bytes]
+
+
+def module(about: str, **values: str) -> bytes:
+    """A module of JavaScript that exports these values."""
+    lines = "".join(f"export const {name} = {value};\n" for name, value in values.items())
+    return f"/** {about}: made by tools/systems. */\n\n{lines}".encode()
+
+
+def scripts() -> bytes:
+    """The module with the scripts to choose from."""
+    lines = "".join(f"  {json.dumps(it)},\n" for it in examples.examples())
+    return module("Scripts to choose from", EXAMPLES=f"[\n{lines}]")
+
+
+def faults() -> Dict[str, str]:
+    """What each fault means, and what helps, by its number."""
+    found = {}
+    for it in data("faults"):
+        means, helps = (
+            re.sub(r"`|\[([^]]*)\]\([^)]*\)", r"\1", it[name]) for name in ("Cause", "What helps")
+        )
+        means = re.sub(r"^[\w, ]*: ", "", means)  # the commands, of which one is in the line
+        found[it["Fault"].split()[0]] = f"{means[0].upper()}{means[1:]}. {helps[0].upper()}{helps[1:]}."
+    return found
+
+
+def names() -> bytes:
+    """The module with the names of commands and of what source text has, and with the faults."""
+    found = {
+        "COMMANDS": [it["Command"].split()[0] for it in data("commands")],
+        "STATEMENTS": STATEMENTS,
+        "INSTRUCTIONS": [it["Instruction"].lower() for it in data("instructions")],
+    }
+    sets = {name: f"new Set({json.dumps(it)})" for name, it in found.items()}
+    return module("Names in scripts, and faults", **sets, FAULTS=json.dumps(faults()))
+
+
+def parts(library: Path) -> Files:
+    """All files but index.html, by their names in the folder. Refused if the library, which
+    `tools/systems wasm64` makes, isn't there."""
+    if not (library / "rsp.wasm").is_file():
+        raise Refused(f"there is no {library / 'rsp.wasm'}: tools/systems wasm64 makes it")
+    found: Files = {it.name: it.read_bytes() for it in [*SOURCES.glob("*.js"), SOURCES / "style.css"]}
+    for path in [*library.glob("*.js"), library / "rsp.wasm"]:
+        found[f"rsp/{path.name}"] = path.read_bytes()
+    for name, content in manual.made().items():
+        found[f"help/{name}"] = content
+    return {**found, "examples.js": scripts(), "names.js": names()}
+
+
+def name_of(files: Files) -> str:
+    """The name of the folder with these files: the same if, and only if, all of them are the same."""
+    sums = [f"{name} {hashlib.sha256(files[name]).hexdigest()}\n" for name in sorted(files)]
+    return hashlib.sha256("".join(sums).encode()).hexdigest()[:16]
+
+
+def write(folder: Path, files: Files) -> None:
+    """Writes these files below the folder that they name, and index.html beside that."""
+    name = name_of(files)
+    for path, content in files.items():
+        (folder / name / path).parent.mkdir(parents=True, exist_ok=True)
+        (folder / name / path).write_bytes(content)
+    text = header.filled(SOURCES / START, FOLDER=name, DATED=header.dated_version())
+    (folder / START).write_text(text)
+
+
+def make(folder: Path, library: Path = LIBRARY) -> None:
+    """Writes the whole folder, beside which the page needs nothing."""
+    write(folder, parts(library))
