@@ -1,6 +1,6 @@
 /* runner FILE..: runs the test vectors of `flat`, and prints for each case that differs its first difference. A file that has something else is
- * refused. To test another machine, link its rsp_new, rsp_free, rsp_load, rsp_memory, rsp_set, rsp_get and rsp_step instead of the library. */
-#include "rsp_compare.h"
+ * refused. To test another machine, link its brsp_new, brsp_free, brsp_load, brsp_memory, brsp_set, brsp_get and brsp_step instead of the library. */
+#include "brsp_compare.h"
 
 typedef struct { uint32_t size, word, has_choice; char name[16]; uint32_t pieces; } head;
 typedef struct { uint32_t is_after, bank, address, length; } piece; /* its bytes follow, up to a multiple of 4 */
@@ -43,11 +43,11 @@ static int put_pieces(rest from, uint32_t count, uint32_t is_after)
 }
 
 /* Runs the case that comes next, and takes it. Returns 1 if it differs, -1 if it isn't a case. */
-static int run(rsp *m, rest *file)
+static int run(brsp_machine *m, rest *file)
 {
-    static rsp_part parts[RSP_COMPARE_PARTS + sizeof found / RSP_QUADWORD];
-    rsp_compare_seen after = { .bytes = expected }, got = { .bytes = found };
-    rsp_state before;
+    static brsp_part parts[BRSP_COMPARE_PARTS + sizeof found / BRSP_QUADWORD];
+    brsp_compare_seen after = { .bytes = expected }, got = { .bytes = found };
+    brsp_state before;
     head h;
     rest r = *file;
     if (!take(&r, &h, sizeof h) || h.has_choice > 1 || h.size < sizeof h || h.size > (size_t)(file->end - file->at)) return -1;
@@ -55,11 +55,11 @@ static int run(rsp *m, rest *file)
     if (!take(&r, &before, sizeof before) || !take(&r, &after.state, sizeof before)) return -1;
     memset(expected, 0, sizeof expected);
     if (!put_pieces(r, h.pieces, 0)) return -1;
-    for (uint32_t bank = 0; bank < 3; bank++) rsp_load(m, bank, 0, expected + 4096 * bank, length_of(bank));
+    for (uint32_t bank = 0; bank < 3; bank++) brsp_load(m, bank, 0, expected + 4096 * bank, length_of(bank));
     put_pieces(r, h.pieces, 1);
-    int is_made = rsp_set(m, &before) == RSP_OK && rsp_step(m) == RSP_OK && rsp_get(m, &got.state) == RSP_OK;
-    for (uint32_t bank = 0; bank < 3; bank++) rsp_memory(m, bank, 0, found + 4096 * bank, length_of(bank));
-    size_t count = rsp_compare_parts(&after, &got, sizeof found, parts);
+    int is_made = brsp_set(m, &before) == BRSP_OK && brsp_step(m) == BRSP_OK && brsp_get(m, &got.state) == BRSP_OK;
+    for (uint32_t bank = 0; bank < 3; bank++) brsp_memory(m, bank, 0, found + 4096 * bank, length_of(bank));
+    size_t count = brsp_compare_parts(&after, &got, sizeof found, parts);
     if (is_made && !count) return 0;
     printf("%s (word %08x%s), ", shown(h.name, sizeof h.name), h.word, h.has_choice ? ", choice" : "");
     int high = parts->digits > 16 ? 16 : 0, low = high ? 16 : (int)parts->digits; /* the digits of a value's two halves */
@@ -70,7 +70,7 @@ static int run(rsp *m, rest *file)
 }
 
 /* Runs the cases of a file, and counts them. Returns 0 if it is refused. */
-static int run_file(rsp *m, const char *path, uint32_t *cases, uint32_t *failed)
+static int run_file(brsp_machine *m, const char *path, uint32_t *cases, uint32_t *failed)
 {
     static uint8_t data[LONGEST_FILE];
     FILE *file = fopen(path, "rb");
@@ -93,11 +93,11 @@ static int run_file(rsp *m, const char *path, uint32_t *cases, uint32_t *failed)
 
 int main(int count, char **files)
 {
-    rsp m = RSP_NONE;
+    brsp_machine m = BRSP_NONE;
     uint32_t cases = 0, failed = 0;
-    int is_refused = rsp_new(&m, found + 8192, RDRAM_LENGTH, 0) != RSP_OK;
+    int is_refused = brsp_new(&m, found + 8192, RDRAM_LENGTH, 0) != BRSP_OK;
     for (int i = 1; i < count && !is_refused; i++) is_refused = !run_file(&m, files[i], &cases, &failed);
-    rsp_free(&m);
+    brsp_free(&m);
     if (is_refused) return 2;
     printf("%u passed, %u failed\n", cases - failed, failed);
     if (fflush(stdout) || ferror(stdout)) return fprintf(stderr, "standard output takes no more\n"), 2;

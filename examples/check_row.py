@@ -1,7 +1,7 @@
 #!/usr/bin/env python3
 """check_row.py [PROGRAM]: checks the row VMULF against a model of one's own, over pipes to `rsp run`.
 
-Copy `Bench`: it sends a command and reads as many lines as the command answers with. Then put your row and
+Copy `Session`: it sends a command and reads as many lines as the command answers with. Then put your row and
 your model in the place of `VMULF` and `model`.
 """
 import random
@@ -10,7 +10,7 @@ import sys
 from typing import List
 
 
-class Bench:
+class Session:
     """A running `rsp run`, which is asked line by line."""
 
     LINES = {"regs": 9, "vregs": 32, "acc": 8, "sp": 17}
@@ -65,7 +65,7 @@ def model(a: int, b: int) -> int:
 
 
 def main() -> None:
-    bench = Bench(sys.argv[1] if len(sys.argv) > 1 else "./rsp")
+    bench = Session(sys.argv[1] if len(sys.argv) > 1 else "./rsp")
     assert bench.assemble(0, VMULF) == "ok 5 words"
     chance = random.Random(1)
     edges = [0, 1, 0x7FFF, 0x8000, 0xFFFF]

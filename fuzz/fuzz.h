@@ -2,7 +2,7 @@
  * TARGET.c, which fuzz/build links with libFuzzer. */
 #ifndef FUZZ_H
 #define FUZZ_H
-#include "rsp.h"
+#include "brsp.h"
 #include <stdio.h>
 #include <stdlib.h>
 #include <string.h>
@@ -95,30 +95,30 @@ static inline size_t next_piece(size_t left, uint32_t cut, uint32_t *seed)
     return piece < left ? piece : left;
 }
 
-/* Gives a bench with an image of so many zeros a script: in pieces of at most 3 * cut bytes, or whole if that is 0. */
+/* Gives a session with an image of so many zeros a script: in pieces of at most 3 * cut bytes, or whole if that is 0. */
 static inline played play(const uint8_t *script, size_t len, uint32_t cut, size_t image_len)
 {
     played it = { 0 };
-    rsp_bench bench = RSP_NONE;
-    uint8_t *reply = room(RSP_REPLIES), *image = calloc(image_len, 1);
+    brsp_session session = BRSP_NONE;
+    uint8_t *reply = room(BRSP_REPLIES), *image = calloc(image_len, 1);
     uint32_t seed = cut;
     size_t written;
-    MUST(image && rsp_bench_new(&bench, image, image_len) == RSP_OK);
+    MUST(image && brsp_session_new(&session, image, image_len) == BRSP_OK);
     free(image);
     for (size_t at = 0, used; at < len; at += used) {
         size_t piece = next_piece(len - at, cut, &seed);
         uint8_t *bytes = copy_of(script + at, piece);
-        MUST(rsp_bench_take(&bench, bytes, piece, &used, reply, RSP_REPLIES, &written) == RSP_OK);
-        MUST(used >= 1 && used <= piece && written <= RSP_REPLIES);
+        MUST(brsp_session_take(&session, bytes, piece, &used, reply, BRSP_REPLIES, &written) == BRSP_OK);
+        MUST(used >= 1 && used <= piece && written <= BRSP_REPLIES);
         keep_reply(&it, reply, written);
         free(bytes);
     }
-    MUST(rsp_bench_end(&bench, reply, RSP_REPLIES, &written) == RSP_OK && written <= RSP_REPLIES);
+    MUST(brsp_session_end(&session, reply, BRSP_REPLIES, &written) == BRSP_OK && written <= BRSP_REPLIES);
     keep_reply(&it, reply, written);
     free(reply);
-    MUST(rsp_bench_memory(&bench, RSP_DMEM, 0, it.dmem, sizeof it.dmem) == RSP_OK);
-    MUST(rsp_bench_memory(&bench, RSP_RDRAM, 0, it.rdram, sizeof it.rdram) == RSP_OK);
-    rsp_bench_free(&bench);
+    MUST(brsp_session_memory(&session, BRSP_DMEM, 0, it.dmem, sizeof it.dmem) == BRSP_OK);
+    MUST(brsp_session_memory(&session, BRSP_RDRAM, 0, it.rdram, sizeof it.rdram) == BRSP_OK);
+    brsp_session_free(&session);
     return it;
 }
 

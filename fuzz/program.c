@@ -18,7 +18,7 @@ typedef struct stream {
 } stream;
 static stream given[2], written[3]; /* standard input and `in`; standard output, standard error and the file that was written last */
 static void *kept[MOST_KEPT];
-static rsp_bench bench; /* the handle of a run is gone when it ends */
+static brsp_session session; /* the handle of a run is gone when it ends */
 static jmp_buf end;
 
 /* The program's calls. */
@@ -37,7 +37,7 @@ int caught_rename(const char *from, const char *to);
 int caught_unlink(const char *path);
 void *caught_malloc(size_t len);
 void *caught_calloc(size_t count, size_t len);
-uint32_t caught_rsp_bench_new(rsp_bench *b, const uint8_t *image, size_t len);
+uint32_t caught_brsp_session_new(brsp_session *b, const uint8_t *image, size_t len);
 
 _Noreturn void caught_exit(int status) { longjmp(end, 1 + status); }
 int caught_close(int file) { return (void)file, 0; }
@@ -93,10 +93,10 @@ static void *keep(void *at)
 void *caught_malloc(size_t len) { return keep(malloc(len)); }
 void *caught_calloc(size_t count, size_t len) { return keep(calloc(count, len)); }
 
-uint32_t caught_rsp_bench_new(rsp_bench *b, const uint8_t *image, size_t len)
+uint32_t caught_brsp_session_new(brsp_session *b, const uint8_t *image, size_t len)
 {
-    uint32_t status = rsp_bench_new(&bench, image, len);
-    *b = bench;
+    uint32_t status = brsp_session_new(&session, image, len);
+    *b = session;
     return status;
 }
 
@@ -120,9 +120,9 @@ static void see_replies(const uint8_t *script, size_t len)
 static void see_words(int status, const uint8_t *text, size_t len)
 {
     static uint32_t words[1024];
-    rsp_assembled out;
-    uint32_t assembled = rsp_assemble(0, text, len, words, 1024, &out);
-    MUST((assembled == RSP_OK) == (status == 0) && written[2].len == 4 * (assembled == RSP_OK ? out.count : 0));
+    brsp_assembled out;
+    uint32_t assembled = brsp_assemble(0, text, len, words, 1024, &out);
+    MUST((assembled == BRSP_OK) == (status == 0) && written[2].len == 4 * (assembled == BRSP_OK ? out.count : 0));
     for (size_t i = 0; i < written[2].len; i++) MUST(written[2].at[i] == (uint8_t)(words[i / 4] >> (24 - i % 4 * 8)));
 }
 
@@ -132,8 +132,8 @@ static void see_text(int status, const uint8_t *bytes, size_t len)
     MUST((status == 0) == (len <= 4096 && len % 4 == 0));
     for (size_t i = 0; status == 0 && i < len; i += 4) {
         uint32_t word = (uint32_t)bytes[i] << 24 | (uint32_t)bytes[i + 1] << 16 | (uint32_t)bytes[i + 2] << 8 | bytes[i + 3];
-        rsp_line line;
-        MUST(rsp_text(word, (uint32_t)i, &line) == RSP_OK && written[0].len - at > line.len);
+        brsp_line line;
+        MUST(brsp_text(word, (uint32_t)i, &line) == BRSP_OK && written[0].len - at > line.len);
         MUST(!memcmp(written[0].at + at, line.text, line.len) && written[0].at[at + line.len] == '\n');
         at += line.len + 1u;
     }
@@ -144,7 +144,7 @@ static void clear(void)
 {
     for (int i = 0; kept[i]; i++) free(kept[i]), kept[i] = NULL;
     for (int i = 0; i < 3; i++) free(written[i].at), written[i] = (stream){ 0 };
-    rsp_bench_free(&bench);
+    brsp_session_free(&session);
 }
 
 int LLVMFuzzerTestOneInput(const uint8_t *data, size_t size)

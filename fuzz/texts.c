@@ -7,53 +7,53 @@ enum { MOST_WORDS = 1024, MOST_LABELS = 40, FRESH = 0xa5a5a5a5u };
 /* A word's text assembles to that word alone. */
 static void see_round_trip(uint32_t word, uint32_t address)
 {
-    rsp_line line;
-    rsp_assembled made;
+    brsp_line line;
+    brsp_assembled made;
     uint32_t again;
-    MUST(rsp_text(word, address, &line) == RSP_OK && line.word == word && line.place == address && line.len <= 64);
+    MUST(brsp_text(word, address, &line) == BRSP_OK && line.word == word && line.place == address && line.len <= 64);
     for (size_t i = 0; i < sizeof line.text; i++) MUST((line.text[i] != 0) == (i < line.len));
     uint8_t *text = copy_of(line.text, line.len);
-    MUST(rsp_assemble(address, text, line.len, &again, 1, &made) == RSP_OK && made.count == 1 && again == word);
+    MUST(brsp_assemble(address, text, line.len, &again, 1, &made) == BRSP_OK && made.count == 1 && again == word);
     free(text);
 }
 
 /* What is said of a text that isn't taken. */
-static void see_fault(const rsp_assembled *made, uint32_t explained, const rsp_operand *operand)
+static void see_fault(const brsp_assembled *made, uint32_t explained, const brsp_operand *operand)
 {
     int is_text = made->fault != 33, has_operand = made->fault == 12 || made->fault == 13 || made->fault == 15;
     MUST(!made->count && (is_text ? made->fault >= 10 && made->fault <= 16 && made->line : !made->line));
-    MUST(explained == (is_text ? RSP_OK : RSP_NO_MEANING));
+    MUST(explained == (is_text ? BRSP_OK : BRSP_NO_MEANING));
     MUST(!is_text || (operand->number != 0) == has_operand);
-    MUST(operand->kind <= RSP_OPERAND_VECTOR_LANE && (operand->step ? operand->low <= operand->high : !operand->low && !operand->high));
+    MUST(operand->kind <= BRSP_OPERAND_VECTOR_LANE && (operand->step ? operand->low <= operand->high : !operand->low && !operand->high));
 }
 
 /* The labels of a text: there are some only if it has no fault, and none is filled if there is no room for all. */
 static void see_labels(uint32_t origin, const uint8_t *text, size_t len, uint32_t assembled)
 {
-    static const rsp_label fresh;
-    rsp_label labels[MOST_LABELS] = { fresh };
+    static const brsp_label fresh;
+    brsp_label labels[MOST_LABELS] = { fresh };
     size_t count = 0, capacity = len % (MOST_LABELS + 1);
-    uint32_t status = rsp_labels(origin, text, len, labels, capacity, &count);
-    if (assembled == RSP_OUT_OF_RANGE || assembled == RSP_NO_MEANING) MUST(status == assembled && !count);
-    else MUST(status == (count > capacity ? RSP_NO_ROOM : RSP_OK));
-    for (size_t i = status == RSP_OK ? count : 0; i < MOST_LABELS; i++) MUST(!memcmp(&labels[i], &fresh, sizeof fresh));
-    for (size_t i = 0; status == RSP_OK && i < count; i++) MUST(labels[i].address >= origin && labels[i].address <= 4096);
+    uint32_t status = brsp_labels(origin, text, len, labels, capacity, &count);
+    if (assembled == BRSP_OUT_OF_RANGE || assembled == BRSP_NO_MEANING) MUST(status == assembled && !count);
+    else MUST(status == (count > capacity ? BRSP_NO_ROOM : BRSP_OK));
+    for (size_t i = status == BRSP_OK ? count : 0; i < MOST_LABELS; i++) MUST(!memcmp(&labels[i], &fresh, sizeof fresh));
+    for (size_t i = 0; status == BRSP_OK && i < count; i++) MUST(labels[i].address >= origin && labels[i].address <= 4096);
 }
 
 static void see_text(uint32_t origin, const uint8_t *text, size_t len, size_t capacity)
 {
     uint32_t *words = room(4 * capacity);
     for (size_t i = 0; i < capacity; i++) words[i] = FRESH;
-    rsp_assembled made;
-    rsp_operand operand = { 0 };
-    uint32_t status = rsp_assemble(origin, text, len, words, capacity, &made), explained = rsp_explain(origin, text, len, &operand);
+    brsp_assembled made;
+    brsp_operand operand = { 0 };
+    uint32_t status = brsp_assemble(origin, text, len, words, capacity, &made), explained = brsp_explain(origin, text, len, &operand);
     int is_origin = origin <= 4096 && origin % 4 == 0;
-    MUST((status == RSP_OUT_OF_RANGE) == !is_origin && (explained == RSP_OUT_OF_RANGE) == !is_origin);
-    MUST(status == RSP_OK || status == RSP_OUT_OF_RANGE || status == RSP_NO_MEANING || status == RSP_NO_ROOM);
-    if (status == RSP_NO_MEANING) see_fault(&made, explained, &operand);
-    if (status == RSP_NO_ROOM || status == RSP_OK) MUST((made.count > capacity) == (status == RSP_NO_ROOM) && !made.fault && !made.line && !operand.number);
+    MUST((status == BRSP_OUT_OF_RANGE) == !is_origin && (explained == BRSP_OUT_OF_RANGE) == !is_origin);
+    MUST(status == BRSP_OK || status == BRSP_OUT_OF_RANGE || status == BRSP_NO_MEANING || status == BRSP_NO_ROOM);
+    if (status == BRSP_NO_MEANING) see_fault(&made, explained, &operand);
+    if (status == BRSP_NO_ROOM || status == BRSP_OK) MUST((made.count > capacity) == (status == BRSP_NO_ROOM) && !made.fault && !made.line && !operand.number);
     see_labels(origin, text, len, status);
-    size_t count = status == RSP_OK ? made.count : 0;
+    size_t count = status == BRSP_OK ? made.count : 0;
     for (size_t i = 0; i < count; i++) see_round_trip(words[i], origin + 4 * (uint32_t)i);
     for (size_t i = count; i < capacity; i++) MUST(words[i] == FRESH);
     free(words);

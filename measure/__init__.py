@@ -11,7 +11,7 @@ from lib import TOP
 from lib.packages import is_here, without
 
 PROGRAM = TOP / "crates/rsp_main/out/rsp_main"
-LIBRARY = TOP / "library/c/librsp.a"
+LIBRARY = TOP / "library/c/libbrsp.a"
 
 
 def reader(doc: Optional[str]) -> argparse.ArgumentParser:

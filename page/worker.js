@@ -20,31 +20,31 @@ library.catch(() => {});
 function is_fault(reply) { return String.fromCharCode(...reply.subarray(0, 6)) === "fault "; }
 
 /** The reply to each line, and to the script's end. With `is_strict` a fault is the last one. */
-function * replies_of(bench, script, is_strict) {
-  for (const reply of bench.iter_feed(script)) {
+function * replies_of(session, script, is_strict) {
+  for (const reply of session.iter_feed(script)) {
     yield reply;
     if (is_strict && is_fault(reply)) return;
   }
-  yield bench.end();
+  yield session.end();
 }
 
 /** Answers a script. The image as it leaves it. */
 async function answered({ script, image, is_strict }) {
-  const { Bench, Status } = await library, bench = new Bench(image);
+  const { Session, Status } = await library, session = new Session(image);
   let replies = [], since = performance.now();
   try {
-    for (const reply of replies_of(bench, script, is_strict)) {
+    for (const reply of replies_of(session, script, is_strict)) {
       replies.push(reply);
       if (performance.now() - since < GATHERED) continue;
       postMessage({ replies });
       [replies, since] = [[], performance.now()];
     }
-    return bench.rdram;
+    return session.rdram;
   } catch (fault) {
     throw new Error(REFUSED[Status[fault.status]] ?? fault.message);
   } finally {
     postMessage({ replies });
-    bench.free();
+    session.free();
   }
 }
 

@@ -21,13 +21,13 @@ static void keep_pages(uint32_t address, uint32_t len)
 {
     for (uint32_t page = address / PAGE; page <= (address + len - 1) / PAGE; page++) {
         if (is_kept[page]) continue;
-        memcpy(kept + (size_t)page * PAGE, (uint8_t *)ours->memory[RSP_RDRAM] + (size_t)page * PAGE, PAGE);
+        memcpy(kept + (size_t)page * PAGE, (uint8_t *)ours->memory[BRSP_RDRAM] + (size_t)page * PAGE, PAGE);
         is_kept[page] = 1;
         kept_pages[n_kept++] = page;
     }
 }
 
-const uint8_t *page_before(size_t page) { return (is_kept[page] ? kept : (uint8_t *)ours->memory[RSP_RDRAM]) + page * PAGE; }
+const uint8_t *page_before(size_t page) { return (is_kept[page] ? kept : (uint8_t *)ours->memory[BRSP_RDRAM]) + page * PAGE; }
 
 /* The lists that the task gave to the RDP, and what the graphics plugin made of the DPC's registers: the other plugin sees the same. */
 enum { LISTS_MOST = 1024 };
@@ -93,9 +93,9 @@ void check_begin(void)
     if (!is_open) return;
     start.task++;
     n_lists = 0;
-    rsp_get(&ours->machine, &start.state);
-    memcpy(start.memory[RSP_DMEM], ours->memory[RSP_DMEM], sizeof start.memory[0]);
-    memcpy(start.memory[RSP_IMEM], ours->memory[RSP_IMEM], sizeof start.memory[0]);
+    brsp_get(&ours->machine, &start.state);
+    memcpy(start.memory[BRSP_DMEM], ours->memory[BRSP_DMEM], sizeof start.memory[0]);
+    memcpy(start.memory[BRSP_IMEM], ours->memory[BRSP_IMEM], sizeof start.memory[0]);
     take_registers(start.registers);
     while (n_kept) is_kept[kept_pages[--n_kept]] = 0;
 }
@@ -114,7 +114,7 @@ static int rdram_differs(void)
 {
     uint32_t at;
     for (uint32_t i = 0; i < n_kept; i++) use_pages(kept_pages[i] * PAGE, PAGE);
-    return pages_differ(ours->memory[RSP_RDRAM], &at) && differ("RDRAM", at, ours->memory[RSP_RDRAM] + at / 4, other.memory[RSP_RDRAM] + at / 4, 4);
+    return pages_differ(ours->memory[BRSP_RDRAM], &at) && differ("RDRAM", at, ours->memory[BRSP_RDRAM] + at / 4, other.memory[BRSP_RDRAM] + at / 4, 4);
 }
 
 /* The bits that are compared of each register. SP_PC has ten, and the emulator's DPC belongs to the RDP. */
@@ -142,8 +142,8 @@ void check_end(uint32_t steps)
     if (!begin_lock_step(&start, steps)) tell(M64_WARNING, "check: task %lu: there is no process for single steps", start.task);
     if (has_ended) {
         run_other();
-        found = differ("DMEM", 0, ours->memory[RSP_DMEM], other.memory[RSP_DMEM], 4 * MEMORY_WORDS);
-        found |= differ("IMEM", 0, ours->memory[RSP_IMEM], other.memory[RSP_IMEM], 4 * MEMORY_WORDS);
+        found = differ("DMEM", 0, ours->memory[BRSP_DMEM], other.memory[BRSP_DMEM], 4 * MEMORY_WORDS);
+        found |= differ("IMEM", 0, ours->memory[BRSP_IMEM], other.memory[BRSP_IMEM], 4 * MEMORY_WORDS);
         found |= rdram_differs() | registers_differ();
     }
     stop_watching();

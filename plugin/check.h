@@ -8,8 +8,8 @@ enum { PAGE = 4096, RDRAM_BYTES = 0x800000, REGISTERS = 18, REGISTER_PC = 16, RE
 
 /* A task's beginning: the machine's registers, and what the emulator has. */
 typedef struct task_start {
-    rsp_state state;
-    uint32_t memory[2][MEMORY_WORDS]; /* by rsp_bank */
+    brsp_state state;
+    uint32_t memory[2][MEMORY_WORDS]; /* by brsp_bank */
     uint32_t registers[REGISTERS];    /* SP and DPC registers, SP_PC, MI_INTR */
     unsigned long task;
 } task_start;
@@ -28,7 +28,7 @@ int pages_differ(const uint32_t *rdram, uint32_t *address);
 
 /* other.c: the other plugin, with memories and registers of its own. */
 typedef struct other_plugin {
-    uint32_t *memory[3]; /* by rsp_bank */
+    uint32_t *memory[3]; /* by brsp_bank */
     size_t rdram_size;   /* that of the emulator */
     unsigned registers[REGISTERS];
     int is_z64, steps_by_count, steps_by_flag;
@@ -41,9 +41,9 @@ void step_other(uint32_t word);
 
 /* z64.c: the registers of one known plugin. */
 int is_z64(const void *base, size_t size, const uint32_t *dmem);
-void set_z64(const rsp_state *state);
+void set_z64(const brsp_state *state);
 void clear_z64_bits(uint32_t number, uint32_t bits);
-void get_z64(rsp_state *state);
+void get_z64(brsp_state *state);
 
 /* lockstep.c: both from a task's beginning on, step by step, in a process of its own. */
 int begin_lock_step(const task_start *start, uint32_t steps);
@@ -51,15 +51,15 @@ int end_lock_step(int is_wanted);
 
 /* divider.c; make_searcher is called before. */
 int make_searcher(void);
-const char *divided_for(const rsp_state *state, uint16_t *half);
+const char *divided_for(const brsp_state *state, uint16_t *half);
 
 /* report.c: the files about a difference. */
 typedef struct difference {
     unsigned long task, step;                 /* both from 1 */
     uint32_t word;
-    rsp_line line;
+    brsp_line line;
     char text[256];                           /* what differs */
-    rsp_state from, before, after;            /* where the script begins, and around the instruction */
+    brsp_state from, before, after;            /* where the script begins, and around the instruction */
     uint32_t from_memory[2][MEMORY_WORDS];
     unsigned long from_step;
     dma_rows rows;                            /* what a DMA reads, if the instruction begins one; else count is 0 */

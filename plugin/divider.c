@@ -22,15 +22,15 @@ static const char search[] =
 enum { NAMES = 4, SEARCH_WORDS = 14 };
 static const char *const names[NAMES] = { "vrcpl", "vrcp", "vrsql", "vrsq" };
 static uint32_t programs[NAMES][SEARCH_WORDS];
-static rsp searcher;
-static rsp_state fresh;
+static brsp_machine searcher;
+static brsp_state fresh;
 
 static int assemble(const char *name, uint32_t *words)
 {
     char text[sizeof search + 8];
     size_t len = (size_t)snprintf(text, sizeof text, search, name);
-    rsp_assembled made;
-    return rsp_assemble(0, (const uint8_t *)text, len, words, SEARCH_WORDS, &made) == RSP_OK;
+    brsp_assembled made;
+    return brsp_assemble(0, (const uint8_t *)text, len, words, SEARCH_WORDS, &made) == BRSP_OK;
 }
 
 /* Makes them. Returns 0 if there is no memory. */
@@ -39,26 +39,26 @@ int make_searcher(void)
     static const uint8_t image[64];
     if (searcher.at) return 1;
     for (int i = 0; i < NAMES; i++) if (!assemble(names[i], programs[i])) return 0;
-    return rsp_new(&searcher, image, sizeof image, 0) == RSP_OK && rsp_get(&searcher, &fresh) == RSP_OK;
+    return brsp_new(&searcher, image, sizeof image, 0) == BRSP_OK && brsp_get(&searcher, &fresh) == BRSP_OK;
 }
 
 /* Runs a program. Returns whether a half was found. */
 static int find(const uint32_t *program, uint16_t in, uint16_t out, uint16_t *half)
 {
-    rsp_stop stop = { 0 };
-    rsp_state s = fresh;
+    brsp_stop stop = { 0 };
+    brsp_state s = fresh;
     s.words[2] = in, s.words[3] = out, s.words[4] = 0x10000;
-    rsp_load_words(&searcher, RSP_IMEM, 0, program, SEARCH_WORDS);
-    rsp_set(&searcher, &s);
-    do rsp_run(&searcher, 1000000, &stop);
-    while (stop.reason == RSP_AT_LIMIT);
-    rsp_get(&searcher, &s);
+    brsp_load_words(&searcher, BRSP_IMEM, 0, program, SEARCH_WORDS);
+    brsp_set(&searcher, &s);
+    do brsp_run(&searcher, 1000000, &stop);
+    while (stop.reason == BRSP_AT_LIMIT);
+    brsp_get(&searcher, &s);
     *half = (uint16_t)s.words[1];
     return s.words[6] == 1;
 }
 
 /* Returns the instruction that leaves the state's DIV_OUT when it divides this half after DIV_IN was loaded, or NULL if none does. */
-const char *divided_for(const rsp_state *state, uint16_t *half)
+const char *divided_for(const brsp_state *state, uint16_t *half)
 {
     for (int i = 0; i < NAMES; i++) if (find(programs[i], state->divider.input, state->divider.output, half)) return names[i];
     return NULL;

@@ -22,11 +22,11 @@ static void take_list(void) { replay_list(n_lists++, registers + DPC_START); }
 static int make_unit(size_t rdram_size)
 {
     if (mine.machine.at && mine.rdram_size == rdram_size) return 1;
-    rsp_free(&mine.machine);
-    free(mine.memory[RSP_RDRAM]);
-    if (!(mine.memory[RSP_RDRAM] = malloc(rdram_size))) return 0;
-    mine.memory[RSP_DMEM] = memories[RSP_DMEM];
-    mine.memory[RSP_IMEM] = memories[RSP_IMEM];
+    brsp_free(&mine.machine);
+    free(mine.memory[BRSP_RDRAM]);
+    if (!(mine.memory[BRSP_RDRAM] = malloc(rdram_size))) return 0;
+    mine.memory[BRSP_DMEM] = memories[BRSP_DMEM];
+    mine.memory[BRSP_IMEM] = memories[BRSP_IMEM];
     for (int n = 0; n < 16; n++) mine.sp[n] = registers + n;
     mine.pc = registers + REGISTER_PC;
     mine.interrupts = registers + REGISTER_INTERRUPTS;
@@ -39,19 +39,19 @@ static int make_unit(size_t rdram_size)
 /* Gives the second machine the task's beginning. */
 static void restart(const task_start *start)
 {
-    for (size_t page = 0; page < mine.rdram_size / PAGE; page++) memcpy((uint8_t *)mine.memory[RSP_RDRAM] + page * PAGE, page_before(page), PAGE);
+    for (size_t page = 0; page < mine.rdram_size / PAGE; page++) memcpy((uint8_t *)mine.memory[BRSP_RDRAM] + page * PAGE, page_before(page), PAGE);
     memcpy(memories, start->memory, sizeof memories);
     memcpy(registers, start->registers, sizeof registers);
     begin_task(&mine);
-    rsp_set(&mine.machine, &start->state);
+    brsp_set(&mine.machine, &start->state);
 }
 
 /* Where a script can begin: after this step nothing of RDRAM has to be loaded to go on. */
 static void begin_script_here(unsigned long step)
 {
-    rsp_get(&mine.machine, &found.from);
-    memcpy(found.from_memory[RSP_DMEM], memories[RSP_DMEM], sizeof memories[RSP_DMEM]);
-    memcpy(found.from_memory[RSP_IMEM], memories[RSP_IMEM], sizeof memories[RSP_IMEM]);
+    brsp_get(&mine.machine, &found.from);
+    memcpy(found.from_memory[BRSP_DMEM], memories[BRSP_DMEM], sizeof memories[BRSP_DMEM]);
+    memcpy(found.from_memory[BRSP_IMEM], memories[BRSP_IMEM], sizeof memories[BRSP_IMEM]);
     found.from_step = step;
 }
 
@@ -76,14 +76,14 @@ static int differs(const char *name, uint32_t address, const uint32_t *here, con
 static int rdram_differs(void)
 {
     uint32_t at;
-    return pages_differ(mine.memory[RSP_RDRAM], &at) && differs("RDRAM", at, mine.memory[RSP_RDRAM] + at / 4, other.memory[RSP_RDRAM] + at / 4, 1);
+    return pages_differ(mine.memory[BRSP_RDRAM], &at) && differs("RDRAM", at, mine.memory[BRSP_RDRAM] + at / 4, other.memory[BRSP_RDRAM] + at / 4, 1);
 }
 
 /* Whether memories differ after a step. */
 static int memories_differ(uint32_t number, int moved)
 {
-    if (differs("DMEM", 0, mine.memory[RSP_DMEM], other.memory[RSP_DMEM], MEMORY_WORDS)) return 1;
-    if (moved && number == SP_RD_LEN && differs("IMEM", 0, mine.memory[RSP_IMEM], other.memory[RSP_IMEM], MEMORY_WORDS)) return 1;
+    if (differs("DMEM", 0, mine.memory[BRSP_DMEM], other.memory[BRSP_DMEM], MEMORY_WORDS)) return 1;
+    if (moved && number == SP_RD_LEN && differs("IMEM", 0, mine.memory[BRSP_IMEM], other.memory[BRSP_IMEM], MEMORY_WORDS)) return 1;
     return moved && number == SP_WR_LEN && rdram_differs();
 }
 
@@ -111,7 +111,7 @@ static int lanes_differ(const char *name, const uint16_t *here, const uint16_t *
     return 1;
 }
 
-static int scalars_differ(const rsp_state *here, const rsp_state *there)
+static int scalars_differ(const brsp_state *here, const brsp_state *there)
 {
     for (int n = 0; n < 32; n++) {
         if (here->words[n] == there->words[n]) continue;
@@ -121,9 +121,9 @@ static int scalars_differ(const rsp_state *here, const rsp_state *there)
     return 0;
 }
 
-static int vectors_differ(const rsp_state *here, const rsp_state *there)
+static int vectors_differ(const brsp_state *here, const brsp_state *there)
 {
-    const rsp_accumulators *a = &here->accumulators, *b = &there->accumulators;
+    const brsp_accumulators *a = &here->accumulators, *b = &there->accumulators;
     for (int n = 0; n < 32; n++) {
         char name[8];
         snprintf(name, sizeof name, "$v%d", n);
@@ -133,9 +133,9 @@ static int vectors_differ(const rsp_state *here, const rsp_state *there)
         || lanes_differ("the accumulator's low part", a->low, b->low);
 }
 
-static int flags_differ(const rsp_state *here, const rsp_state *there)
+static int flags_differ(const brsp_state *here, const brsp_state *there)
 {
-    const rsp_flag_bits *a = &here->flags, *b = &there->flags;
+    const brsp_flag_bits *a = &here->flags, *b = &there->flags;
     if (!memcmp(a, b, sizeof *a)) return 0;
     snprintf(found.text, sizeof found.text, "VCO, VCC, VCE are %02x%02x, %02x%02x, %02x here and %02x%02x, %02x%02x, %02x there", a->differ, a->carry,
         a->clip, a->compare, a->extra, b->differ, b->carry, b->clip, b->compare, b->extra);
@@ -145,7 +145,7 @@ static int flags_differ(const rsp_state *here, const rsp_state *there)
 /* Whether anything that can be seen of the other plugin differs after a step, whose word has been executed. */
 static int step_differs(uint32_t word)
 {
-    rsp_state theirs = found.after;
+    brsp_state theirs = found.after;
     uint32_t number, pc = other.registers[REGISTER_PC] & 0xffc;
     int moved = is_move(word, &number);
     if (other.is_z64) {
@@ -169,15 +169,15 @@ static void hide_flag(uint32_t word)
 static int step(unsigned long number)
 {
     uint32_t moved;
-    rsp_get(&mine.machine, &found.before);
+    brsp_get(&mine.machine, &found.before);
     found.word = word_at(&mine, found.before.pc);
     found.step = number;
-    rsp_text(found.word, found.before.pc, &found.line);
+    brsp_text(found.word, found.before.pc, &found.line);
     found.rows = (dma_rows){ 0 };
     if (is_move(found.word, &moved) && (moved == SP_RD_LEN || moved == SP_WR_LEN)) found.rows = rows_of(found.before.sp[SP_DRAM_ADDR], found.before.words[found.word >> 16 & 31]);
     run_task(&mine, 1);
     end_task(&mine);
-    rsp_get(&mine.machine, &found.after);
+    brsp_get(&mine.machine, &found.after);
     step_other(found.word);
     hide_flag(found.word);
     if (step_differs(found.word)) return 1;
@@ -195,9 +195,9 @@ static int lock_step(const task_start *start, uint32_t steps)
     while (number <= steps && !step(number)) number++;
     if (number > steps) return 0;
     tell(M64_WARNING, "check: task %lu, step %lu, %03x: %08x %s: %s", found.task, found.step, found.before.pc, found.word, found.line.text, found.text);
-    found.rdram = mine.memory[RSP_RDRAM];
-    found.our_dmem = mine.memory[RSP_DMEM];
-    found.their_dmem = other.memory[RSP_DMEM];
+    found.rdram = mine.memory[BRSP_RDRAM];
+    found.our_dmem = mine.memory[BRSP_DMEM];
+    found.their_dmem = other.memory[BRSP_DMEM];
     write_report(&found);
     return 1;
 }

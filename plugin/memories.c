@@ -37,7 +37,7 @@ void carry_in(rsp_unit *unit, uint32_t bank)
     if (!it.len) return;
     memcpy(copy->words + it.first, unit->memory[bank] + it.first, 4 * it.len);
     swap_bytes(copy->bytes + 4 * it.first, copy->words + it.first, it.len);
-    rsp_load(&unit->machine, bank, 4 * it.first, copy->bytes + 4 * it.first, 4 * it.len);
+    brsp_load(&unit->machine, bank, 4 * it.first, copy->bytes + 4 * it.first, 4 * it.len);
 }
 
 /* Gives the emulator what the machine has changed in DMEM or IMEM. */
@@ -45,7 +45,7 @@ void carry_out(rsp_unit *unit, uint32_t bank)
 {
     memory_copy *copy = &unit->copy[bank];
     uint8_t bytes[4 * MEMORY_WORDS];
-    rsp_memory(&unit->machine, bank, 0, bytes, sizeof bytes);
+    brsp_memory(&unit->machine, bank, 0, bytes, sizeof bytes);
     span it = differing(copy->bytes, bytes);
     if (!it.len) return;
     memcpy(copy->bytes + 4 * it.first, bytes + 4 * it.first, 4 * it.len);
@@ -78,7 +78,7 @@ void rows_in(rsp_unit *unit, uint32_t address, uint32_t length_word)
     dma_rows rows = rows_of(address, length_word);
     for (; rows.count; rows.count--, rows.address = (rows.address + rows.stride) & 0xffffff) {
         uint32_t from, len = row_inside(unit->rdram_size, rows.address, rows.len, &from);
-        if (len) rsp_load_words(&unit->machine, RSP_RDRAM, from, unit->memory[RSP_RDRAM] + from / 4, len / 4);
+        if (len) brsp_load_words(&unit->machine, BRSP_RDRAM, from, unit->memory[BRSP_RDRAM] + from / 4, len / 4);
     }
 }
 
@@ -90,6 +90,6 @@ void rows_out(rsp_unit *unit, uint32_t address, uint32_t length_word)
         uint32_t from, len = row_inside(unit->rdram_size, rows.address, rows.len, &from);
         if (!len) continue;
         if (unit->storing) unit->storing(from, len);
-        rsp_memory_words(&unit->machine, RSP_RDRAM, from, unit->memory[RSP_RDRAM] + from / 4, len / 4);
+        brsp_memory_words(&unit->machine, BRSP_RDRAM, from, unit->memory[BRSP_RDRAM] + from / 4, len / 4);
     }
 }

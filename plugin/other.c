@@ -22,7 +22,7 @@ static void initiate_other(void)
 {
     static unsigned cycles;
     unsigned *r = other.registers;
-    m64p_rsp_info info = { (void *)other.memory[RSP_RDRAM], (void *)other.memory[RSP_DMEM], (void *)other.memory[RSP_IMEM], r + REGISTER_INTERRUPTS, r, r + 1,
+    m64p_rsp_info info = { (void *)other.memory[BRSP_RDRAM], (void *)other.memory[BRSP_DMEM], (void *)other.memory[BRSP_IMEM], r + REGISTER_INTERRUPTS, r, r + 1,
         r + 2, r + 3, r + 4, r + 5, r + 6, r + REGISTER_PC, r + 7, r + 8, r + 9, r + 10, r + 11, r + 12, r + 13, r + 14, r + 15,
         nothing, nothing, nothing, take_list, nothing };
     initiate(info, &cycles);
@@ -32,9 +32,9 @@ static void initiate_other(void)
 static void probe(const void *base, size_t size)
 {
     static const uint32_t words[] = { 0x3c011234, 0x34215678, 0xc8032000, 0x0000000d }; /* lui, ori $1; lqv $v3[0], 0($0); break */
-    uint32_t *dmem = other.memory[RSP_DMEM], pc[2];
+    uint32_t *dmem = other.memory[BRSP_DMEM], pc[2];
     for (int flag = 0; flag < 2; flag++) {
-        memcpy(other.memory[RSP_IMEM], words, sizeof words);
+        memcpy(other.memory[BRSP_IMEM], words, sizeof words);
         memset(other.registers, 0, sizeof other.registers);
         for (int i = 0; i < 4; i++) dmem[i] = 0x01020304u * (uint32_t)(i + 1);
         other.registers[SP_STATUS] = flag ? SINGLE_STEP : 0;
@@ -83,10 +83,10 @@ int open_other(const char *path)
     if (!find_calls(path) || !dladdr(*(void **)&run, &at)) return 0;
     extent[0] = at.dli_fbase;
     dl_iterate_phdr(measure, extent);
-    if (!other.memory[RSP_RDRAM]) other.memory[RSP_RDRAM] = (uint32_t *)make_pages();
-    if (!other.memory[RSP_DMEM]) other.memory[RSP_DMEM] = calloc(1, SP_SPACE);
-    if (!other.memory[RSP_RDRAM] || !other.memory[RSP_DMEM]) return tell(M64_ERROR, "check: there is no memory for it"), 0;
-    other.memory[RSP_IMEM] = other.memory[RSP_DMEM] + MEMORY_WORDS;
+    if (!other.memory[BRSP_RDRAM]) other.memory[BRSP_RDRAM] = (uint32_t *)make_pages();
+    if (!other.memory[BRSP_DMEM]) other.memory[BRSP_DMEM] = calloc(1, SP_SPACE);
+    if (!other.memory[BRSP_RDRAM] || !other.memory[BRSP_DMEM]) return tell(M64_ERROR, "check: there is no memory for it"), 0;
+    other.memory[BRSP_IMEM] = other.memory[BRSP_DMEM] + MEMORY_WORDS;
     close_pages();
     initiate_other();
     probe(at.dli_fbase, (size_t)extent[1]);
@@ -99,8 +99,8 @@ void begin_other(const task_start *start)
 {
     close_pages();
     n_lists = 0;
-    memcpy(other.memory[RSP_DMEM], start->memory[RSP_DMEM], 4 * MEMORY_WORDS);
-    memcpy(other.memory[RSP_IMEM], start->memory[RSP_IMEM], 4 * MEMORY_WORDS);
+    memcpy(other.memory[BRSP_DMEM], start->memory[BRSP_DMEM], 4 * MEMORY_WORDS);
+    memcpy(other.memory[BRSP_IMEM], start->memory[BRSP_IMEM], 4 * MEMORY_WORDS);
     memcpy(other.registers, start->registers, sizeof other.registers);
     if (other.is_z64) set_z64(&start->state);
 }

@@ -25,7 +25,7 @@ EXPORTED int PluginShutdown(void)
 {
     if (!is_started) return M64_NOT_INIT;
     is_started = is_initiated = 0;
-    rsp_free(&unit.machine);
+    brsp_free(&unit.machine);
     tell_by(NULL, NULL);
     return M64_SUCCESS;
 }
@@ -51,9 +51,9 @@ EXPORTED void InitiateRSP(m64p_rsp_info given, unsigned *cycles)
         given.DPC_BUFBUSY, given.DPC_PIPEBUSY, given.DPC_TMEM };
     if (is_started) read_options();
     emulator = given;
-    unit.memory[RSP_RDRAM] = (uint32_t *)given.RDRAM;
-    unit.memory[RSP_DMEM] = (uint32_t *)given.DMEM;
-    unit.memory[RSP_IMEM] = (uint32_t *)given.IMEM;
+    unit.memory[BRSP_RDRAM] = (uint32_t *)given.RDRAM;
+    unit.memory[BRSP_DMEM] = (uint32_t *)given.DMEM;
+    unit.memory[BRSP_IMEM] = (uint32_t *)given.IMEM;
     memcpy(unit.sp, sp, sizeof sp);
     unit.pc = given.SP_PC;
     unit.interrupts = given.MI_INTR;
@@ -75,9 +75,9 @@ static void report_end(int interrupt)
 /* Lists that the user wants other plugins to have. The task then counts as done. Returns whether this is one. */
 static int is_sent_on(void)
 {
-    uint32_t type = unit.memory[RSP_DMEM][TASK_TYPE];
+    uint32_t type = unit.memory[BRSP_DMEM][TASK_TYPE];
     void (*process)(void) = NULL;
-    if (type == 1 && options.graphics_by_plugin && unit.memory[RSP_DMEM][TASK_DATA]) process = emulator.ProcessDlistList;
+    if (type == 1 && options.graphics_by_plugin && unit.memory[BRSP_DMEM][TASK_DATA]) process = emulator.ProcessDlistList;
     if (type == 2 && options.audio_by_plugin) process = emulator.ProcessAlistList;
     if (!process) return 0;
     process();
@@ -107,6 +107,6 @@ EXPORTED void RomClosed(void)
 {
     tell(M64_INFO, "%lu tasks", tasks);
     check_close();
-    rsp_free(&unit.machine);
+    brsp_free(&unit.machine);
     tasks = 0;
 }

@@ -8,7 +8,7 @@
 enum { VECTORS = 0, HIGH = 0x200, MIDDLE = 0x210, LOW = 0x220, ONES = 0x230, DIVIDED = 0x240, CONTROLS = 0x250, SCALARS = 0x280, DATA = 0x300,
     SETTING_STEPS = 82, SHOWN = 256 };
 
-static void write_vectors(FILE *out, const rsp_state *s)
+static void write_vectors(FILE *out, const brsp_state *s)
 {
     for (int n = 0; n < 256; n++) {
         if (n % 8 == 0) fprintf(out, "v%02d", n / 8);
@@ -17,7 +17,7 @@ static void write_vectors(FILE *out, const rsp_state *s)
 }
 
 /* The replies of regs, vregs, acc and flags. */
-static void write_registers(FILE *out, const rsp_state *s)
+static void write_registers(FILE *out, const brsp_state *s)
 {
     fprintf(out, "pc %03x npc %03x\n", s->pc, s->npc);
     for (int n = 0; n < 32; n += 4) fprintf(out, "r%02d %08x %08x %08x %08x\n", n, s->words[n], s->words[n + 1], s->words[n + 2], s->words[n + 3]);
@@ -40,7 +40,7 @@ static void write_loads(FILE *out, const char *bank, uint32_t address, const uin
 static void put(uint32_t *data, uint32_t address, uint16_t half) { data[address / 4] |= (uint32_t)half << (address & 2 ? 0 : 16); }
 
 /* Loads what the setting program sets the registers from. */
-static void write_data(FILE *out, const rsp_state *s, uint16_t half)
+static void write_data(FILE *out, const brsp_state *s, uint16_t half)
 {
     uint32_t data[DATA / 4] = { 0 };
     for (uint32_t i = 0; i < 256; i++) put(data, VECTORS + 2 * i, s->vectors[i / 8][i % 8]);
@@ -59,7 +59,7 @@ static void write_data(FILE *out, const rsp_state *s, uint16_t half)
 
 /* Microcode that sets the registers: the divider, the accumulators, the flags, the vectors, the scalars. An accumulator's high part can't be set by one
  * instruction: high * 65536 is added as high * (7fff + 7fff + 2). */
-static void write_setting(FILE *out, const rsp_state *s, const char *divides)
+static void write_setting(FILE *out, const brsp_state *s, const char *divides)
 {
     fprintf(out, "asm 0\nlqv $v1[0], %d($0)\nvrcph $v2[0], $v1[0]\n%s $v2[0], $v1[1]\n%s\n", DIVIDED, divides, s->divider.loaded ? "vrcph $v2[0], $v1[0]" : "nop");
     fprintf(out, "lqv $v3[0], %d($0)\nlqv $v1[0], %d($0)\nvmudh $v0, $v1, $v3[0]\nvmadh $v0, $v1, $v3[0]\nvmadh $v0, $v1, $v3[1]\n", ONES, HIGH);
@@ -71,7 +71,7 @@ static void write_setting(FILE *out, const rsp_state *s, const char *divides)
 }
 
 /* SP registers, but for the skip that registers 2 and 3 keep, which only a DMA sets. */
-static void write_sp(FILE *out, const rsp_state *s)
+static void write_sp(FILE *out, const brsp_state *s)
 {
     uint32_t pairs = s->interrupt << 4 | (s->sp[SP_STATUS] >> 5 & 1) << 6 | (s->sp[SP_STATUS] >> 6 & 1) << 8;
     for (int signal = 0; signal < 8; signal++) pairs |= (s->sp[SP_STATUS] >> (7 + signal) & 1) << (10 + 2 * signal);
@@ -81,7 +81,7 @@ static void write_sp(FILE *out, const rsp_state *s)
 }
 
 /* pc and npc. If npc isn't the next address, a jump before pc is stepped over, and its word put back. */
-static void write_pc(FILE *out, const rsp_state *s, const uint32_t *imem)
+static void write_pc(FILE *out, const brsp_state *s, const uint32_t *imem)
 {
     uint32_t before = (s->pc - 4u) & 0xffc;
     if (s->npc == ((s->pc + 4) & 0xffc)) {
@@ -140,11 +140,11 @@ static void write_script(FILE *out, const difference *it)
     if (it->rows.count && it->rows.address + it->rows.count * it->rows.stride > 0x400000) fprintf(out, "# It needs an image of 8388608 bytes: rsp run --rdram FILE.\n");
     write_data(out, &it->from, half);
     write_setting(out, &it->from, divides ? divides : "vrcpl");
-    write_loads(out, "dmem", 0, it->from_memory[RSP_DMEM], MEMORY_WORDS);
-    write_loads(out, "imem", 0, it->from_memory[RSP_IMEM], MEMORY_WORDS);
+    write_loads(out, "dmem", 0, it->from_memory[BRSP_DMEM], MEMORY_WORDS);
+    write_loads(out, "imem", 0, it->from_memory[BRSP_IMEM], MEMORY_WORDS);
     write_rows(out, it);
     write_sp(out, &it->from);
-    write_pc(out, &it->from, it->from_memory[RSP_IMEM]);
+    write_pc(out, &it->from, it->from_memory[BRSP_IMEM]);
     write_runs(out, it->step - 1 - it->from_step);
     fprintf(out, "regs\nvregs\nacc\nflags\nstep\nregs\nvregs\nacc\nflags\n");
     if (len) fprintf(out, "mem dmem %u %u\n", address, len);
@@ -153,7 +153,7 @@ static void write_script(FILE *out, const difference *it)
 static void write_text(FILE *out, const difference *it)
 {
     uint32_t len, address = differing_dmem(it, &len);
-    rsp_state theirs = it->after;
+    brsp_state theirs = it->after;
     write_title(out, "", it);
     fprintf(out, "\nOur registers before it:\n");
     write_registers(out, &it->before);

@@ -20,18 +20,18 @@ void begin_search(wait_search *search, uint32_t steps) { search_after(search, st
 
 static void keep_read(rsp_unit *unit, wait_search *search)
 {
-    rsp_get(&unit->machine, &search->state);
-    rsp_memory(&unit->machine, RSP_DMEM, 0, search->dmem, sizeof search->dmem);
+    brsp_get(&unit->machine, &search->state);
+    brsp_memory(&unit->machine, BRSP_DMEM, 0, search->dmem, sizeof search->dmem);
     search->left = search->span / STEPS_A_READ;
 }
 
 static int is_as_kept(rsp_unit *unit, const wait_search *search)
 {
-    rsp_state state;
+    brsp_state state;
     uint8_t dmem[sizeof search->dmem];
-    rsp_get(&unit->machine, &state);
+    brsp_get(&unit->machine, &state);
     if (memcmp(&state, &search->state, sizeof state)) return 0;
-    rsp_memory(&unit->machine, RSP_DMEM, 0, dmem, sizeof dmem);
+    brsp_memory(&unit->machine, BRSP_DMEM, 0, dmem, sizeof dmem);
     return !memcmp(dmem, search->dmem, sizeof dmem);
 }
 

@@ -24,7 +24,7 @@ int is_z64(const void *base, size_t size, const uint32_t *dmem)
     return 1;
 }
 
-void set_z64(const rsp_state *s)
+void set_z64(const brsp_state *s)
 {
     memcpy(z64->words, s->words, sizeof z64->words);
     memcpy(z64->v, s->vectors, sizeof z64->v);
@@ -44,7 +44,7 @@ void set_z64(const rsp_state *s)
 void clear_z64_bits(uint32_t number, uint32_t bits) { z64->words[number] &= ~bits; }
 
 /* All but the SP registers, which are in other.registers, and `loaded`, which it doesn't keep. */
-void get_z64(rsp_state *s)
+void get_z64(brsp_state *s)
 {
     memcpy(s->words, z64->words, sizeof z64->words);
     memcpy(s->vectors, z64->v, sizeof z64->v);
@@ -53,7 +53,7 @@ void get_z64(rsp_state *s)
         s->accumulators.middle[lane] = (uint16_t)(z64->accumulators[lane] >> 32);
         s->accumulators.low[lane] = (uint16_t)(z64->accumulators[lane] >> 16);
     }
-    s->flags = (rsp_flag_bits){ (uint8_t)z64->flags[0], (uint8_t)(z64->flags[0] >> 8), (uint8_t)z64->flags[1], (uint8_t)(z64->flags[1] >> 8),
+    s->flags = (brsp_flag_bits){ (uint8_t)z64->flags[0], (uint8_t)(z64->flags[0] >> 8), (uint8_t)z64->flags[1], (uint8_t)(z64->flags[1] >> 8),
         (uint8_t)z64->flags[2] };
     s->divider.input = (uint16_t)z64->in;
     s->divider.output = (uint16_t)((uint32_t)z64->out >> 16);

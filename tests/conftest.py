@@ -97,7 +97,7 @@ def program(request: pytest.FixtureRequest) -> Path:
 @pytest.fixture(scope="session")
 def library(request: pytest.FixtureRequest) -> Path:
     """The folder of the C library, built of the sources as they are."""
-    if not (LIBRARY / "librsp.so").is_file() or not Build("rsp_c").is_built():
+    if not (LIBRARY / "libbrsp.so").is_file() or not Build("rsp_c").is_built():
         stop(request, f"{LIBRARY} has no library of the sources as they are: type `library/c/build`")
     return LIBRARY
 

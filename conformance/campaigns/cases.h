@@ -1,29 +1,29 @@
 /* A shared object of cases: an emulator that conformance/campaign checks, a batch of cases a call. library.c is one, and a pattern for others.
  * For C11 and C++17. */
 #pragma once
-#include "rsp.h"
+#include "brsp.h"
 #include <string.h>
 #ifdef __cplusplus
 extern "C" {
 #endif
 
 /* A case: all registers, and the word at their pc. The memories before it are those of cases_open. */
-typedef struct rsp_case { rsp_state state; uint32_t word; } rsp_case;
+typedef struct brsp_case { brsp_state state; uint32_t word; } brsp_case;
 
-/* What it leaves. `status` is that of rsp_step, or UNSHOWN; RSP_RESERVED, of all cases of an instruction, says that the emulator lacks it.
+/* What it leaves. `status` is that of brsp_step, or UNSHOWN; BRSP_RESERVED, of all cases of an instruction, says that the emulator lacks it.
  * `changed` is the digest of the memories, 0 if no byte has changed. */
-typedef struct rsp_end { rsp_state state; uint32_t status; uint64_t changed; } rsp_end;
+typedef struct brsp_end { brsp_state state; uint32_t status; uint64_t changed; } brsp_end;
 #define UNSHOWN 0xFFFFFFFEu /* the emulator can't be given this case */
 
 /* The memories in one array: DMEM, IMEM, and an RDRAM that ends after these bytes. */
 enum { DMEM = 0, IMEM = 4096, RDRAM = 8192, RDRAM_LENGTH = 16384, MEMORIES = RDRAM + RDRAM_LENGTH };
 
 void *cases_open(const char *what, const uint8_t *memories); /* NULL if it can't. `what` is "" but for plugins */
-int cases_run(void *at, const rsp_case *in, rsp_end *out, size_t n); /* 0, or 1 + the number of a case whose state no machine can have */
-void cases_seen(void *at, rsp_end *seen); /* optional: clears the bits of an end that the emulator can't show */
-/* For programs: all registers, all memories, and steps up to a status other than RSP_OK. */
-void cases_set(void *at, const rsp_state *state);
-void cases_get(void *at, rsp_state *state);
+int cases_run(void *at, const brsp_case *in, brsp_end *out, size_t n); /* 0, or 1 + the number of a case whose state no machine can have */
+void cases_seen(void *at, brsp_end *seen); /* optional: clears the bits of an end that the emulator can't show */
+/* For programs: all registers, all memories, and steps up to a status other than BRSP_OK. */
+void cases_set(void *at, const brsp_state *state);
+void cases_get(void *at, brsp_state *state);
 void cases_load(void *at, const uint8_t *memories);
 void cases_look(void *at, uint8_t *memories);
 void cases_step(void *at, uint32_t steps);

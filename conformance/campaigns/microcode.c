@@ -16,13 +16,13 @@ void *cases_open(const char *what, const uint8_t *memories)
     return &other;
 }
 
-void cases_seen(void *at, rsp_end *seen) /* vectors, accumulators, flags, scalar registers, and which bytes changed */
+void cases_seen(void *at, brsp_end *seen) /* vectors, accumulators, flags, scalar registers, and which bytes changed */
 {
     (void)at;
-    memset(&seen->state.divider, 0, sizeof seen->state - offsetof(rsp_state, divider));
+    memset(&seen->state.divider, 0, sizeof seen->state - offsetof(brsp_state, divider));
 }
 
-static int is_shown(const rsp_case *in) /* not branches, jumps and BREAK, not SP registers, and not the two that read DIV_OUT */
+static int is_shown(const brsp_case *in) /* not branches, jumps and BREAK, not SP registers, and not the two that read DIV_OUT */
 {
     uint32_t word = in->word, opcode = word >> 26, function = word & 63;
     if ((opcode >= 1 && opcode <= 7) || opcode == 16) return 0;
@@ -30,12 +30,12 @@ static int is_shown(const rsp_case *in) /* not branches, jumps and BREAK, not SP
     return !((word & 0xFE000000) == 0x4A000000 && (function == 0x32 || function == 0x36));
 }
 
-static void set(const rsp_state *s) /* puts the data of SETTING into DMEM */
+static void set(const brsp_state *s) /* puts the data of SETTING into DMEM */
 {
-    const rsp_flag_bits *f = &s->flags;
+    const brsp_flag_bits *f = &s->flags;
     const uint16_t vco = (uint16_t)(f->carry | f->differ << 8), vcc = (uint16_t)(f->compare | f->clip << 8);
     const uint16_t rest[] = { 0x7FFF, 2, 1, 0, 0, 0, 0, 0, 0, 0xFFFF, s->divider.input, 0, 0, 0, 0, 0, vco, vcc, f->extra };
-    uint32_t *dmem = other.memory[RSP_DMEM];
+    uint32_t *dmem = other.memory[BRSP_DMEM];
     uint16_t data[SCALARS] = { 0 };
     memcpy(data + VECTORS, s->vectors, sizeof s->vectors);
     memcpy(data + ACCUMULATORS, &s->accumulators, sizeof s->accumulators);
@@ -45,23 +45,23 @@ static void set(const rsp_state *s) /* puts the data of SETTING into DMEM */
     memcpy(dmem + SCALARS / 2, s->words, sizeof s->words);
 }
 
-static void get(rsp_state *s) /* takes from DMEM what SAVING left */
+static void get(brsp_state *s) /* takes from DMEM what SAVING left */
 {
-    const uint32_t *dmem = other.memory[RSP_DMEM];
+    const uint32_t *dmem = other.memory[BRSP_DMEM];
     uint16_t data[SCALARS];
     const uint8_t *flags = (const uint8_t *)(data + CONTROLS); /* the low byte of a half is first */
     for (int k = 0; k < SCALARS / 2; k++) { data[2 * k] = (uint16_t)(dmem[k] >> 16); data[2 * k + 1] = (uint16_t)dmem[k]; }
     memcpy(s->vectors, data + VECTORS, sizeof s->vectors);
     memcpy(&s->accumulators, data + ACCUMULATORS, sizeof s->accumulators);
-    s->flags = (rsp_flag_bits){ flags[0], flags[1], flags[2], flags[3], flags[4] };
+    s->flags = (brsp_flag_bits){ flags[0], flags[1], flags[2], flags[3], flags[4] };
     memcpy(s->words + 1, dmem + SCALARS / 2 + 1, 31 * 4);
 }
 
-static void play(const rsp_case *in, const uint32_t *end, size_t length) /* SETTING, the word, and an end */
+static void play(const brsp_case *in, const uint32_t *end, size_t length) /* SETTING, the word, and an end */
 {
-    uint32_t *imem = other.memory[RSP_IMEM];
-    swap(other.memory[RSP_DMEM], before, RDRAM);
-    memcpy(other.memory[RSP_RDRAM] + COPY / 4, other.memory[RSP_DMEM], 2 * HALVES); /* SETTING ends with a DMA from there over its data */
+    uint32_t *imem = other.memory[BRSP_IMEM];
+    swap(other.memory[BRSP_DMEM], before, RDRAM);
+    memcpy(other.memory[BRSP_RDRAM] + COPY / 4, other.memory[BRSP_DMEM], 2 * HALVES); /* SETTING ends with a DMA from there over its data */
     set(&in->state);
     memcpy(imem, setting, sizeof setting);
     if (in->state.divider.loaded) imem[3] = LOADING; /* instead of nop: vrcph $v2[0], $v1[2] */
@@ -73,18 +73,18 @@ static void play(const rsp_case *in, const uint32_t *end, size_t length) /* SETT
     run_other();
 }
 
-int cases_run(void *at, const rsp_case *in, rsp_end *out, size_t n)
+int cases_run(void *at, const brsp_case *in, brsp_end *out, size_t n)
 {
     (void)at;
     for (; n--; in++, out++) {
         out->status = UNSHOWN;
         if (!is_shown(in)) continue;
         play(in, &BREAK, 1);
-        swap(after, other.memory[RSP_DMEM], 4096);
+        swap(after, other.memory[BRSP_DMEM], 4096);
         out->changed = digest(before, after, 4096);
         play(in, saving, SAVE);
         get(&out->state);
-        out->status = RSP_OK;
+        out->status = BRSP_OK;
     }
     return 0;
 }

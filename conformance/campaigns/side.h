@@ -1,10 +1,10 @@
 /* The calls of cases.h over an emulator's own: a file defines these, and then includes this one. library.c is a pattern, in C++ too.
  *   typedef .. machine;
  *   static int make(machine *m, const char *what);      0 if it can't
- *   static int is_shown(const rsp_case *in);            0 of a case that it can't be given
- *   static int set(machine *m, const rsp_state *s);     all registers; 0 if they are such as no machine has
+ *   static int is_shown(const brsp_case *in);            0 of a case that it can't be given
+ *   static int set(machine *m, const brsp_state *s);     all registers; 0 if they are such as no machine has
  *   static uint32_t step(machine *m);                   one instruction, and its status
- *   static void get(machine *m, rsp_state *s);
+ *   static void get(machine *m, brsp_state *s);
  *   static void put(machine *m, uint32_t pc, uint32_t word);           a word of IMEM
  *   static void load(machine *m, const uint8_t *memories, size_t to);  the memories up to `to`, which is RDRAM or MEMORIES
  *   static void look(machine *m, uint8_t *memories, size_t to); */
@@ -23,7 +23,7 @@ void *cases_open(const char *what, const uint8_t *memories)
     return s;
 }
 
-static int one(side *s, const rsp_case *in, rsp_end *out)
+static int one(side *s, const brsp_case *in, brsp_end *out)
 {
     uint32_t pc = in->state.pc, word = __builtin_bswap32(in->word), kept;
     size_t reach = is_dma(in->word) ? MEMORIES : RDRAM;
@@ -41,7 +41,7 @@ static int one(side *s, const rsp_case *in, rsp_end *out)
     return 1;
 }
 
-int cases_run(void *at, const rsp_case *in, rsp_end *out, size_t n)
+int cases_run(void *at, const brsp_case *in, brsp_end *out, size_t n)
 {
     for (size_t i = 0; i < n; i++)
         if (!is_shown(in + i)) out[i].status = UNSHOWN;
@@ -49,11 +49,11 @@ int cases_run(void *at, const rsp_case *in, rsp_end *out, size_t n)
     return 0;
 }
 
-void cases_set(void *at, const rsp_state *state) { set(&((side *)at)->m, state); }
-void cases_get(void *at, rsp_state *state) { get(&((side *)at)->m, state); }
+void cases_set(void *at, const brsp_state *state) { set(&((side *)at)->m, state); }
+void cases_get(void *at, brsp_state *state) { get(&((side *)at)->m, state); }
 void cases_load(void *at, const uint8_t *memories) { load(&((side *)at)->m, memories, MEMORIES); }
 void cases_look(void *at, uint8_t *memories) { look(&((side *)at)->m, memories, MEMORIES); }
-void cases_step(void *at, uint32_t steps) { while (steps-- && step(&((side *)at)->m) == RSP_OK) {} }
+void cases_step(void *at, uint32_t steps) { while (steps-- && step(&((side *)at)->m) == BRSP_OK) {} }
 #ifdef __cplusplus
 }
 #endif

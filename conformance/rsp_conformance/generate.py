@@ -10,7 +10,7 @@ set has: 20 to 56), from the seed S (1), on the program rsp (./rsp):
                                                                    DMEM
   OUT/full/NAME.json                   with --full: the cases of steps/, whole states of numbers before and
                                        after
-  OUT/flat/NAME.bin                    with --flat: the cases of steps/, as rsp_state of rsp.h and bytes
+  OUT/flat/NAME.bin                    with --flat: the cases of steps/, as brsp_state of brsp.h and bytes
 README.md beside this command says how they are read. The same N and S give the same files.
 """
 

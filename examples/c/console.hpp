@@ -1,25 +1,25 @@
-// A console that owns RDRAM and the registers of the RDP, for the machine of rsp.hpp (C++17). See docs/EMBEDDING.md.
+// A console that owns RDRAM and the registers of the RDP, for the machine of brsp.hpp (C++17). See docs/EMBEDDING.md.
 // A Unit is uint8_t, or uint32_t for RDRAM as words of the host.
-#include "rsp.hpp"
+#include "brsp.hpp"
 #include <algorithm>
 
 template <class Unit> class Console {
 public:
     std::vector<Unit> rdram = std::vector<Unit>(SIZE / sizeof(Unit));
     uint32_t dpc[8] = {}; // SP registers 8 to 15
-    rsp::machine machine{ rsp::machine::bytes(64) }; // with an image that is never used
+    brsp::machine machine{ brsp::machine::bytes(64) }; // with an image that is never used
 
     // Makes at most `budget` steps, fewer if the machine halts or comes to a reserved word. Returns how many.
     uint32_t run(uint32_t budget)
     {
         uint32_t left = budget;
         while (left) {
-            rsp_reached event = machine.event(std::min(left, 1000000u), 0xff00, 0xff00);
+            brsp_reached event = machine.event(std::min(left, 1000000u), 0xff00, 0xff00);
             left -= event.at.stop.steps;
-            if (event.at.stop.reason == RSP_AT_LIMIT) continue;
-            if (event.at.stop.reason < RSP_AT_LIMIT) break;
+            if (event.at.stop.reason == BRSP_AT_LIMIT) continue;
+            if (event.at.stop.reason < BRSP_AT_LIMIT) break;
             left -= 1; // the step that goes past a move or a DMA, before which the machine stopped
-            if (event.at.stop.reason == RSP_AT_DMA) {
+            if (event.at.stop.reason == BRSP_AT_DMA) {
                 machine.pass_dma(); // first, because the bytes may overwrite the word at pc
                 transfer(event.dma);
             } else {
@@ -45,13 +45,13 @@ public:
 
 private:
     static constexpr uint32_t SIZE = 8 << 20, PAST_END = 1 << 24;
-    void put(uint32_t bank, uint32_t sp, const uint8_t *at, uint32_t n) { rsp_load(machine.handle(), bank, sp, at, n); }
-    void put(uint32_t bank, uint32_t sp, const uint32_t *at, uint32_t n) { rsp_load_words(machine.handle(), bank, sp, at, n / 4); }
-    void get(uint32_t bank, uint32_t sp, uint8_t *at, uint32_t n) { rsp_memory(machine.handle(), bank, sp, at, n); }
-    void get(uint32_t bank, uint32_t sp, uint32_t *at, uint32_t n) { rsp_memory_words(machine.handle(), bank, sp, at, n / 4); }
+    void put(uint32_t bank, uint32_t sp, const uint8_t *at, uint32_t n) { brsp_load(machine.handle(), bank, sp, at, n); }
+    void put(uint32_t bank, uint32_t sp, const uint32_t *at, uint32_t n) { brsp_load_words(machine.handle(), bank, sp, at, n / 4); }
+    void get(uint32_t bank, uint32_t sp, uint8_t *at, uint32_t n) { brsp_memory(machine.handle(), bank, sp, at, n); }
+    void get(uint32_t bank, uint32_t sp, uint32_t *at, uint32_t n) { brsp_memory_words(machine.handle(), bank, sp, at, n / 4); }
 
     // Moves the bytes of a DMA, in runs that wrap in neither memory. RDRAM reads 0 after its end, and drops writes.
-    void transfer(const rsp_dma &dma)
+    void transfer(const brsp_dma &dma)
     {
         uint32_t sp = dma.address, at = dma.rdram, n;
         for (uint32_t row = 0; row < dma.rows; row++, at += dma.skip)

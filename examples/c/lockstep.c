@@ -1,6 +1,6 @@
 /* Lock step: an emulator of a few scalar instructions beside the proved machine, from one state on. The first difference is reported with the text of its
  * instruction. The emulator has a fault that is planted: its SRA shifts zeros in. See docs/EMBEDDING.md. */
-#include "rsp.h"
+#include "brsp.h"
 #include <stdio.h>
 #include <string.h>
 
@@ -40,13 +40,13 @@ static void emulate(emulator *e)
     e->pc = place, e->npc = next;
 }
 
-static int is_equal(const emulator *e, const rsp_scalars *now)
+static int is_equal(const emulator *e, const brsp_scalars *now)
 {
     return memcmp(e->r, now->words, sizeof e->r) == 0 && e->pc == now->pc && e->npc == now->npc;
 }
 
 /* Tells the first part in which they differ, and answers whether there is one. */
-static int differs(const emulator *e, const rsp_scalars *now, const rsp_line *line, int steps)
+static int differs(const emulator *e, const brsp_scalars *now, const brsp_line *line, int steps)
 {
     int n;
     for (n = 0; n < 32; n++) {
@@ -62,27 +62,27 @@ static int differs(const emulator *e, const rsp_scalars *now, const rsp_line *li
 }
 
 /* Makes at most n steps, and ends before one that starts a DMA: an MTC0 of SP_RD_LEN or SP_WR_LEN. Returns how many it made. */
-static uint32_t run_before_dma(rsp *m, uint32_t n)
+static uint32_t run_before_dma(brsp_machine *m, uint32_t n)
 {
-    rsp_move end;
-    return rsp_run_until_move(m, n, 0, 1 << 2 | 1 << 3, &end) == RSP_OK ? end.stop.steps : 0;
+    brsp_move end;
+    return brsp_run_until_move(m, n, 0, 1 << 2 | 1 << 3, &end) == BRSP_OK ? end.stop.steps : 0;
 }
 
 /* Steps both, after `steps` steps, at most n times, up to a difference: returns 1 at one, 0 if there is none, -1 if the machine can't go on. */
-static int step_both(rsp *m, emulator *e, int steps, uint32_t n)
+static int step_both(brsp_machine *m, emulator *e, int steps, uint32_t n)
 {
-    rsp_scalars now;
-    rsp_line line;
+    brsp_scalars now;
+    brsp_line line;
     uint32_t status;
     while (n--) {
-        rsp_text(e->imem[e->pc / 4], e->pc, &line);
-        status = rsp_step(m);
-        if (status != RSP_OK) {
-            printf("no difference in %d steps, then %s\n", steps, rsp_status_name(status));
+        brsp_text(e->imem[e->pc / 4], e->pc, &line);
+        status = brsp_step(m);
+        if (status != BRSP_OK) {
+            printf("no difference in %d steps, then %s\n", steps, brsp_status_name(status));
             return -1;
         }
         emulate(e);
-        rsp_regs(m, &now);
+        brsp_regs(m, &now);
         if (differs(e, &now, &line, ++steps)) return 1;
     }
     return 0;
@@ -90,37 +90,37 @@ static int step_both(rsp *m, emulator *e, int steps, uint32_t n)
 
 /* Runs both from one state on, that of `start`, up to a difference or a halt: in stretches of EVERY steps that end before a DMA. If they differ
  * after one, both go back to its beginning, and are stepped. */
-static uint32_t lockstep(rsp *start, emulator *e, const rsp_state *state)
+static uint32_t lockstep(brsp_machine *start, emulator *e, const brsp_state *state)
 {
     enum { EVERY = 64 };
-    rsp copy = RSP_NONE, *m = &copy;
-    rsp_state before;
-    rsp_scalars now;
+    brsp_machine copy = BRSP_NONE, *m = &copy;
+    brsp_state before;
+    brsp_scalars now;
     emulator mine;
-    uint32_t made, k, status = rsp_copy(m, start);
+    uint32_t made, k, status = brsp_copy(m, start);
     int steps = 0, found = 0;
-    if (status != RSP_OK) return status;
+    if (status != BRSP_OK) return status;
     memcpy(e->r, state->words, sizeof e->r);
     e->pc = state->pc, e->npc = state->npc;
     while (!found) {
-        rsp_get(m, &before);
+        brsp_get(m, &before);
         mine = *e;
         made = run_before_dma(m, EVERY);
         for (k = 0; k < made; k++) emulate(e);
-        rsp_regs(m, &now);
+        brsp_regs(m, &now);
         if (made == 0) {
             found = step_both(m, e, steps++, 1);
         } else if (is_equal(e, &now)) {
             steps += (int)made;
         } else {
-            rsp_set(m, &before); /* and the memories by rsp_load, if the emulator has any */
+            brsp_set(m, &before); /* and the memories by brsp_load, if the emulator has any */
             *e = mine;
             found = step_both(m, e, steps, made);
             steps += (int)made;
         }
     }
-    rsp_free(m);
-    return RSP_OK;
+    brsp_free(m);
+    return BRSP_OK;
 }
 
 int main(void)
@@ -132,27 +132,27 @@ int main(void)
                                        "bne $2, $0, loop\n"
                                        "nop\n"
                                        "break\n";
-    static rsp_state state;
+    static brsp_state state;
     static uint32_t imem[1024];
-    rsp m = RSP_NONE;
-    rsp_assembled out;
+    brsp_machine m = BRSP_NONE;
+    brsp_assembled out;
     uint32_t field;
     emulator e = { { 0 }, 0, 0, imem, 1 };
 
-    if (rsp_new(&m, image, sizeof image, 0) != RSP_OK) return 1;
-    if (rsp_assemble(0, (const uint8_t *)program, strlen(program), imem, 1024, &out) != RSP_OK) return 1;
-    if (rsp_load_words(&m, RSP_IMEM, 0, imem, 1024) != RSP_OK) return 1;
-    if (rsp_get(&m, &state) != RSP_OK) return 1;
+    if (brsp_new(&m, image, sizeof image, 0) != BRSP_OK) return 1;
+    if (brsp_assemble(0, (const uint8_t *)program, strlen(program), imem, 1024, &out) != BRSP_OK) return 1;
+    if (brsp_load_words(&m, BRSP_IMEM, 0, imem, 1024) != BRSP_OK) return 1;
+    if (brsp_get(&m, &state) != BRSP_OK) return 1;
     state.words[1] = 0xffffffc0u; /* -64 */
     state.words[2] = 4;
-    if (rsp_set(&m, &state) != RSP_OK) {
-        rsp_state_fault(&state, &field);
+    if (brsp_set(&m, &state) != BRSP_OK) {
+        brsp_state_fault(&state, &field);
         fprintf(stderr, "no machine has this state: field %u\n", (unsigned)field);
         return 1;
     }
-    if (lockstep(&m, &e, &state) != RSP_OK) return 1;
+    if (lockstep(&m, &e, &state) != BRSP_OK) return 1;
     e.has_fault = 0;
-    if (lockstep(&m, &e, &state) != RSP_OK) return 1;
-    rsp_free(&m);
+    if (lockstep(&m, &e, &state) != BRSP_OK) return 1;
+    brsp_free(&m);
     return 0;
 }

@@ -1,18 +1,18 @@
 /* waits TEXT [IMAGE]: the missing waits for a DMA in a text of microcode, by the rules at the top of library/python/rsp/waits.py. The machine's DMA
  * is done at once; a copy of it gets the answer of a console where a transfer is under way, and is followed. */
-#include "rsp.h"
+#include "brsp.h"
 #include <stdio.h>
 #include <string.h>
 
 enum { AHEAD = 10000, LIMIT = 100000, READS = 1 << 4 | 1 << 5 | 1 << 6, WRITES = 15 };
 typedef struct transfer { uint32_t place, bank, address, length, to_rdram; } transfer; /* `place`: of the MTC0 that orders it */
 typedef struct early { const char *what; uint32_t place; } early; /* what an instruction does too early, and the `place` of the transfer */
-typedef struct seen { rsp_state state; uint8_t dmem[4096]; } seen;
+typedef struct seen { brsp_state state; uint8_t dmem[4096]; } seen;
 
 /* A machine on its way, with the last transfers that are under way. By instruction: what comes too early, and where a copy has read. A copy has the walk
  * `whose` it is, and has parted once its way is another one. */
 typedef struct walk {
-    rsp m;
+    brsp_machine m;
     transfer orders[2];
     struct walk *whose;
     uint32_t count, has_parted, asked[1024];
@@ -20,12 +20,12 @@ typedef struct walk {
 } walk;
 
 static const char loads[] = "loads";
-static rsp twin = RSP_NONE; /* makes a step once more, over other bytes */
+static brsp_machine twin = BRSP_NONE; /* makes a step once more, over other bytes */
 static int step(walk *w);
 
-static void look(rsp *m, seen *out)
+static void look(brsp_machine *m, seen *out)
 {
-    rsp_get(m, &out->state), rsp_memory(m, RSP_DMEM, 0, out->dmem, sizeof out->dmem);
+    brsp_get(m, &out->state), brsp_memory(m, BRSP_DMEM, 0, out->dmem, sizeof out->dmem);
 }
 
 /* Names what a step does to a transfer's bytes. In the twin they are inverted: one that is loaded shows in registers, one that is stored is the same. */
@@ -35,8 +35,8 @@ static void name_touch(walk *w, const transfer *t, const seen *before, const see
     uint32_t n, at, pc = before->state.pc;
     early *found = &w->found[pc / 4];
     for (n = 0; n < t->length; n++) other.dmem[(t->address + n) % 4096] ^= 0xff;
-    rsp_set(&twin, &other.state), rsp_load(&twin, RSP_DMEM, 0, other.dmem, sizeof other.dmem);
-    rsp_load_words(&twin, RSP_IMEM, pc, &word, 1), rsp_step(&twin), look(&twin, &other);
+    brsp_set(&twin, &other.state), brsp_load(&twin, BRSP_DMEM, 0, other.dmem, sizeof other.dmem);
+    brsp_load_words(&twin, BRSP_IMEM, pc, &word, 1), brsp_step(&twin), look(&twin, &other);
     if (!t->to_rdram && memcmp(&other.state, &after->state, sizeof other.state) != 0) *found = (early){ loads, t->place };
     for (n = 0, at = t->address; n < t->length; n++, at = (at + 1) % 4096) if (other.dmem[at] == after->dmem[at]) *found = (early){ "stores", t->place };
 }
@@ -53,51 +53,51 @@ static void take(walk *w, walk *copy)
 static void follow(walk *w, uint32_t last)
 {
     walk copy = { .orders = { w->orders[w->count - last], w->orders[1] }, .whose = w, .count = last };
-    rsp beside = RSP_NONE;
-    rsp_scalars mine, its;
-    uint32_t n, has_failed = rsp_copy(&copy.m, &w->m) != RSP_OK || rsp_copy(&beside, &w->m) != RSP_OK;
+    brsp_machine beside = BRSP_NONE;
+    brsp_scalars mine, its;
+    uint32_t n, has_failed = brsp_copy(&copy.m, &w->m) != BRSP_OK || brsp_copy(&beside, &w->m) != BRSP_OK;
     for (n = 0; !has_failed && n < AHEAD && step(&copy); n++) {
-        if (copy.has_parted || rsp_step(&beside) != RSP_OK) continue;
-        rsp_regs(&copy.m, &mine), rsp_regs(&beside, &its);
+        if (copy.has_parted || brsp_step(&beside) != BRSP_OK) continue;
+        brsp_regs(&copy.m, &mine), brsp_regs(&beside, &its);
         copy.has_parted = mine.pc != its.pc;
         for (early *it = copy.found; copy.has_parted && it < copy.found + 1024; it++) if (it->what == loads) it->what = NULL;
     }
-    take(w, &copy), rsp_free(&copy.m), rsp_free(&beside);
+    take(w, &copy), brsp_free(&copy.m), brsp_free(&beside);
 }
 
 /* A move of an SP register. A write of SP_RD_LEN or SP_WR_LEN orders a transfer; a read shows whether one is under way. Answers as `step`. */
-static int make_move(walk *w, const rsp_move *at)
+static int make_move(walk *w, const brsp_move *at)
 {
     uint32_t n, is_full = w->count > 1, bytes = ((at->value >> 12 & 255) + 1) * (((at->value & 0xfff) | 7) + 1);
     if (at->writes && is_full) w->found[at->stop.pc / 4] = (early){ "writes a DMA register", w->orders[1].place };
     if (at->writes && at->number > 1) {
-        rsp_peek(&w->m, 0, &n);
+        brsp_peek(&w->m, 0, &n);
         if (is_full) w->orders[0] = w->orders[w->count = 1];
         w->orders[w->count++] = (transfer){ at->stop.pc, n >> 12 & 1, n & 0xfff, bytes < 4096 ? bytes : 4096, at->number == 3 };
     }
     if (!at->writes && w->whose) {
-        take(w->whose, w), rsp_peek(&w->m, at->number, &n);
+        take(w->whose, w), brsp_peek(&w->m, at->number, &n);
         n |= at->number == 4 ? 4 | is_full << 3 : at->number == 5 ? is_full : 1;
-        return !(w->asked[at->stop.pc / 4]++ && w->has_parted) && rsp_pass(&w->m, n) == RSP_OK;
+        return !(w->asked[at->stop.pc / 4]++ && w->has_parted) && brsp_pass(&w->m, n) == BRSP_OK;
     }
     for (n = 1; !at->writes && n <= w->count; n++) follow(w, n);
     if (!at->writes) w->count = 0;
-    return rsp_step(&w->m) == RSP_OK;
+    return brsp_step(&w->m) == BRSP_OK;
 }
 
 /* Makes a step. Answers whether another one follows. */
 static int step(walk *w)
 {
     seen before, after;
-    rsp_move at;
+    brsp_move at;
     uint32_t n, word, pc;
-    look(&w->m, &before), pc = before.state.pc, rsp_memory_words(&w->m, RSP_IMEM, pc, &word, 1);
+    look(&w->m, &before), pc = before.state.pc, brsp_memory_words(&w->m, BRSP_IMEM, pc, &word, 1);
     for (const transfer *t = w->orders; t < w->orders + w->count; t++)
-        if (t->bank == RSP_IMEM && !t->to_rdram && (pc - t->address) % 4096 < t->length) w->found[pc / 4] = (early){ "is fetched", t->place };
-    rsp_run_until_move(&w->m, 1, READS, WRITES, &at);
-    if (at.stop.steps == 0) return at.stop.reason == RSP_AT_MOVE && make_move(w, &at);
+        if (t->bank == BRSP_IMEM && !t->to_rdram && (pc - t->address) % 4096 < t->length) w->found[pc / 4] = (early){ "is fetched", t->place };
+    brsp_run_until_move(&w->m, 1, READS, WRITES, &at);
+    if (at.stop.steps == 0) return at.stop.reason == BRSP_AT_MOVE && make_move(w, &at);
     look(&w->m, &after);
-    for (n = 0; n < w->count; n++) if (w->orders[n].bank == RSP_DMEM) name_touch(w, &w->orders[n], &before, &after, word);
+    for (n = 0; n < w->count; n++) if (w->orders[n].bank == BRSP_DMEM) name_touch(w, &w->orders[n], &before, &after, word);
     return 1;
 }
 
@@ -106,15 +106,15 @@ int main(int argc, char **argv)
     static uint8_t text[1 << 16], image[1 << 16];
     static uint32_t words[1024], n, is_missing;
     static walk w;
-    rsp_assembled out;
-    rsp_line line;
+    brsp_assembled out;
+    brsp_line line;
     FILE *file = argc > 1 ? fopen(argv[1], "rb") : NULL, *filled = argc > 2 ? fopen(argv[2], "rb") : NULL;
     if (!file || (argc > 2 && (!filled || !fread(image, 1, sizeof image, filled)))) return 2;
-    if (rsp_assemble(0, text, fread(text, 1, sizeof text, file), words, 1024, &out) != RSP_OK) return 2;
-    if (rsp_new(&w.m, image, sizeof image, 0) != RSP_OK || rsp_load_words(&w.m, RSP_IMEM, 0, words, out.count) != RSP_OK || rsp_new(&twin, image, 64, 0) != RSP_OK) return 2;
+    if (brsp_assemble(0, text, fread(text, 1, sizeof text, file), words, 1024, &out) != BRSP_OK) return 2;
+    if (brsp_new(&w.m, image, sizeof image, 0) != BRSP_OK || brsp_load_words(&w.m, BRSP_IMEM, 0, words, out.count) != BRSP_OK || brsp_new(&twin, image, 64, 0) != BRSP_OK) return 2;
     for (n = 0; n < LIMIT && step(&w); n++) continue;
     for (n = 0; n < 1024; n++)
-        if (w.found[n].what && rsp_listing(&w.m, 4 * n, &line, 1) == RSP_OK)
+        if (w.found[n].what && brsp_listing(&w.m, 4 * n, &line, 1) == BRSP_OK)
             is_missing = printf("%03x: %s: %s before the end of the transfer of %03x\n", (unsigned)(4 * n), line.text, w.found[n].what, (unsigned)w.found[n].place) > 0;
     return (int)is_missing;
 }

@@ -119,7 +119,7 @@ export class Difference extends Array<Part> {
 /** A struct of numbers over bytes of its own. An array in it is a typed array over these bytes, which cuts a number that
  * is too large; a field that you set as a whole is checked. */
 declare class Plain {
-  /** The bytes of the struct, as rsp.h lays it out. */
+  /** The bytes of the struct, as brsp.h lays it out. */
   readonly bytes: Uint8Array;
   /** Whether all numbers are equal. */
   equals(other: this): boolean;
@@ -403,15 +403,15 @@ export class Rsp {
  * given).
  *
  * A script of more than 1048576 bytes throws an RspError with TOO_LONG, as does any later `feed` or `end`. */
-export class Bench {
+export class Session {
   constructor(image?: ArrayBuffer | ArrayBufferView);
-  /** Frees the bench. Any later call is refused with NO_MACHINE. */
+  /** Frees the session. Any later call is refused with NO_MACHINE. */
   free(): void;
   [Symbol.dispose](): void;
   /** The replies to the lines that end in these bytes of the script. What follows the last LF waits for more. If this
    * throws, replies are lost that `iter_feed` would have yielded. */
   feed(script: string | ArrayBuffer | ArrayBufferView): Uint8Array;
-  /** Yields these replies one by one. The bench takes a line when its reply is asked for. */
+  /** Yields these replies one by one. The session takes a line when its reply is asked for. */
   iter_feed(script: string | ArrayBuffer | ArrayBufferView): Generator<Uint8Array, void, undefined>;
   /** Ends the script. Returns the reply to a last line without LF, and the fault of an open `asm` block. Any later
    * `feed` or `end` is refused with ENDED. */

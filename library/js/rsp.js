@@ -16,10 +16,10 @@ export { first_difference } from "./compare.js";
 export const { DMEM, IMEM, RDRAM } = Bank;
 export const VERSION = 1;
 
-/** The calls of rsp.h. */
+/** The calls of brsp.h. */
 const wasm = await instantiated(new URL("./rsp.wasm", import.meta.url));
-if (wasm.rsp_version() !== VERSION) {
-  throw new Error(`rsp.wasm has version ${wasm.rsp_version()} of the interface, and this module is for ${VERSION}`);
+if (wasm.brsp_version() !== VERSION) {
+  throw new Error(`rsp.wasm has version ${wasm.brsp_version()} of the interface, and this module is for ${VERSION}`);
 }
 
 /** Addresses are BigInts for the calls. What a call fills or is given, up to ROOM bytes, is at HERE. */
@@ -103,10 +103,10 @@ function line_at(at) {
   return { place, word, text: text_of(copied(at + text, len)) };
 }
 
-/** The fault of a text, which rsp_assemble has reported at HERE. */
+/** The fault of a text, which brsp_assemble has reported at HERE. */
 function assembly_error(origin, text, at, length) {
   const { line, fault } = struct("RspAssembled");
-  const status = wasm.rsp_explain(origin, at, length, HERE);
+  const status = wasm.brsp_explain(origin, at, length, HERE);
   const why = status === Status.OK ? allowed(struct("RspOperand"), fault) : "";
   return new AssemblyError(line, fault, text.split("\n")[line - 1]?.trim(), why);
 }
@@ -116,7 +116,7 @@ export function assemble(text, origin = 0) {
   if (typeof text !== "string") throw new TypeError(`assemble: text is of type ${typeof text}, not a string`);
   const raw = new TextEncoder().encode(text), length = BigInt(raw.length);
   return given_to("assemble", raw, (at) => lent("assemble", 4096, (words) => {
-    const status = wasm.rsp_assemble(origin, at, length, words, 1024n, HERE);
+    const status = wasm.brsp_assemble(origin, at, length, words, 1024n, HERE);
     if (status === Status.NO_MEANING) throw assembly_error(origin, text, at, length);
     ok(status, "assemble", [origin]);
     return new Uint32Array(copied(words, 4 * struct("RspAssembled").count).buffer);
@@ -127,7 +127,7 @@ export function labels(text, origin = 0) {
   assemble(text, origin);
   const raw = new TextEncoder().encode(text), most = text.split("\n").length, { size, fields } = layout("RspLabel");
   return given_to("labels", raw, (at) => lent("labels", most * size, (to) => {
-    ok(wasm.rsp_labels(origin, at, BigInt(raw.length), to, BigInt(most), HERE), "labels");
+    ok(wasm.brsp_labels(origin, at, BigInt(raw.length), to, BigInt(most), HERE), "labels");
     return Object.fromEntries(Array.from({ length: length_at(HERE) }, (_, n) => {
       const it = to + BigInt(n * size), { address, len } = struct("RspLabel", it);
       return [text_of(copied(it + BigInt(fields.at(-1).offset), len)), address];
@@ -137,7 +137,7 @@ export function labels(text, origin = 0) {
 
 export function text(word, place = 0) {
   numbers("text", [word, place]);
-  ok(wasm.rsp_text(word, place, HERE), "text", [word, place]);
+  ok(wasm.brsp_text(word, place, HERE), "text", [word, place]);
   return line_at(HERE).text;
 }
 
@@ -149,17 +149,17 @@ function put_here(call, name, kind, given) {
 export function state_fault(state) {
   put_here("state_fault", "state", State, state);
   const at = HERE + BigInt(State.size);
-  ok(wasm.rsp_state_fault(HERE, at), "state_fault");
+  ok(wasm.brsp_state_fault(HERE, at), "state_fault");
   return FIELDS[new DataView(wasm.memory.buffer).getUint32(Number(at), true)] ?? null;
 }
 
-/** A handle that holds a machine or a bench, the call that frees it, and its image's length. `Rsp.copy` hands one to
+/** A handle that holds a machine or a session, the call that frees it, and its image's length. `Rsp.copy` hands one to
  * the constructor. */
 class Held {
   constructor(at, free, length) { Object.assign(this, { at, free, length }); }
 }
 
-/** A handle with a new machine or bench of an image. */
+/** A handle with a new machine or session of an image. */
 function held(call, image, given, make, free) {
   const bytes = bytes_of(call, "image", image), { length } = bytes;
   numbers(call, given);
@@ -171,7 +171,7 @@ function held(call, image, given, make, free) {
 }
 
 /** A new handle in which `make` has put something. It is freed if that fails. */
-function filled(call, given, length, make, free = "rsp_free") {
+function filled(call, given, length, make, free = "brsp_free") {
   const made = new Held(cell(call), free, length);
   try {
     ok(make(made.at), call, given);
@@ -187,7 +187,7 @@ export class Rsp {
   #length;
 
   constructor(image = new Uint8Array(64), depth = 0) {
-    const own = image instanceof Held ? image : held("Rsp", image, [depth], wasm.rsp_new);
+    const own = image instanceof Held ? image : held("Rsp", image, [depth], wasm.brsp_new);
     this.#at = own.at;
     this.#length = own.length;
     dropped.register(this, own, this);
@@ -196,13 +196,13 @@ export class Rsp {
   get image_length() { return this.#length; }
 
   copy() {
-    return new Rsp(filled("copy", [], this.#length, (to) => wasm.rsp_copy(to, this.#at)));
+    return new Rsp(filled("copy", [], this.#length, (to) => wasm.brsp_copy(to, this.#at)));
   }
 
   free() {
     if (this.#at === NOTHING) return;
     dropped.unregister(this);
-    release({ at: this.#at, free: "rsp_free" });
+    release({ at: this.#at, free: "brsp_free" });
     this.#at = NOTHING;
   }
 
@@ -232,20 +232,20 @@ export class Rsp {
 
   set(state) {
     put_here("set", "state", State, state);
-    const status = wasm.rsp_set(this.#at, HERE);
+    const status = wasm.brsp_set(this.#at, HERE);
     if (status === Status.OUT_OF_RANGE) throw new RspError(status, `set: ${state_refusal(state_fault(state), state)}`);
     ok(status, "set");
   }
 
   load(bank, address, data) {
     const given = numbers("load", [bank, address]), bytes = bytes_of("load", "data", data);
-    given_to("load", bytes, (at) => ok(wasm.rsp_load(this.#at, ...given, at, BigInt(bytes.length)), "load", given));
+    given_to("load", bytes, (at) => ok(wasm.brsp_load(this.#at, ...given, at, BigInt(bytes.length)), "load", given));
   }
 
   load_words(bank, address, words) {
     const given = numbers("load_words", [bank, address]), items = words_of("load_words", words);
     given_to("load_words", bytes_of_words(items), (at) =>
-      ok(wasm.rsp_load_words(this.#at, ...given, at, BigInt(items.length)), "load_words", given));
+      ok(wasm.brsp_load_words(this.#at, ...given, at, BigInt(items.length)), "load_words", given));
   }
 
   /** So many items of a memory, each of `size` bytes, by a call of the library. */
@@ -268,13 +268,13 @@ export class Rsp {
   set_pc(pc) { this.#call("set_pc", [pc]); }
 
   step() {
-    const status = wasm.rsp_step(this.#at);
+    const status = wasm.brsp_step(this.#at);
     if (status !== Status.HALTED && status !== Status.RESERVED) ok(status, "step");
     return status;
   }
 
   step_changes() {
-    const status = wasm.rsp_step_changes(this.#at, HERE);
+    const status = wasm.brsp_step_changes(this.#at, HERE);
     if (status === Status.HALTED || status === Status.RESERVED) return null;
     ok(status, "step_changes");
     return Changes.over(copied(HERE, Changes.size));
@@ -300,7 +300,7 @@ export class Rsp {
   trace(steps) {
     numbers("trace", [steps], 1000000);
     return lent("trace", steps * Traced.size, (at) => {
-      ok(wasm.rsp_trace(this.#at, at, BigInt(steps), HERE), "trace", [steps]);
+      ok(wasm.brsp_trace(this.#at, at, BigInt(steps), HERE), "trace", [steps]);
       const stop = stop_of(struct("RspStop")), bytes = copied(at, stop.steps * Traced.size);
       const entry = (_, n) => Traced.over(bytes.subarray(n * Traced.size, (n + 1) * Traced.size));
       return [stop, Array.from({ length: stop.steps }, entry)];
@@ -319,19 +319,19 @@ export class Rsp {
   back(states) { this.#call("back", [states]); }
 
   pass_move(value = 0) {
-    const status = wasm.rsp_pass(this.#at, ...numbers("pass_move", [value]));
+    const status = wasm.brsp_pass(this.#at, ...numbers("pass_move", [value]));
     if (status !== Status.HALTED) ok(status, "pass_move", [value]);
     return status;
   }
 
   pass_dma() {
-    const status = wasm.rsp_pass_dma(this.#at);
+    const status = wasm.brsp_pass_dma(this.#at);
     if (status !== Status.HALTED) ok(status, "pass_dma");
     return status;
   }
 
   history() {
-    ok(wasm.rsp_history(this.#at, HERE), "history");
+    ok(wasm.brsp_history(this.#at, HERE), "history");
     return length_at(HERE);
   }
 
@@ -361,7 +361,7 @@ export class Rsp {
     const state = State.over(copied(HERE, State.size));
     change(state);
     put_here(call, "state", State, state);
-    ok(wasm.rsp_set(this.#at, HERE), call);
+    ok(wasm.brsp_set(this.#at, HERE), call);
   }
 
   set_reg(number, value) {
@@ -392,13 +392,13 @@ export class Rsp {
 
   set_sp(given) {
     put_here("set_sp", "given", SpWords, given);
-    ok(wasm.rsp_set_sp(this.#at, HERE), "set_sp", []);
+    ok(wasm.brsp_set_sp(this.#at, HERE), "set_sp", []);
   }
 
   listing(place, count) {
     const { size } = layout("RspLine"), given = numbers("listing", [place, count], 1024);
     return lent("listing", size * count, (at) => {
-      ok(wasm.rsp_listing(this.#at, place, at, BigInt(count)), "listing", given);
+      ok(wasm.brsp_listing(this.#at, place, at, BigInt(count)), "listing", given);
       return Array.from({ length: count }, (_, n) => line_at(at + BigInt(n * size)));
     });
   }
@@ -419,12 +419,12 @@ function joined(parts) {
   return made;
 }
 
-export class Bench {
+export class Session {
   #at;
   #length;
 
   constructor(image = new Uint8Array(1 << 22)) {
-    const own = held("Bench", image, [], wasm.rsp_bench_new, "rsp_bench_free");
+    const own = held("Session", image, [], wasm.brsp_session_new, "brsp_session_free");
     this.#at = own.at;
     this.#length = own.length;
     dropped.register(this, own, this);
@@ -433,7 +433,7 @@ export class Bench {
   free() {
     if (this.#at === NOTHING) return;
     dropped.unregister(this);
-    release({ at: this.#at, free: "rsp_bench_free" });
+    release({ at: this.#at, free: "brsp_session_free" });
     this.#at = NOTHING;
   }
 
@@ -458,29 +458,29 @@ export class Bench {
     do {
       const line = raw.subarray(at, raw.indexOf(lf, at) + 1 || raw.length);
       const reply = this.#answer("feed", line, (bytes, to, room) =>
-        wasm.rsp_bench_take(this.#at, bytes, BigInt(line.length), used, to, room, HERE));
+        wasm.brsp_session_take(this.#at, bytes, BigInt(line.length), used, to, room, HERE));
       at += length_at(used);
       if (raw[at - 1] === lf) yield reply;
     } while (at < raw.length);
   }
 
   end() {
-    return this.#answer("end", new Uint8Array(), (_, to, room) => wasm.rsp_bench_end(this.#at, to, room, HERE));
+    return this.#answer("end", new Uint8Array(), (_, to, room) => wasm.brsp_session_end(this.#at, to, room, HERE));
   }
 
   get rdram() {
     return lent("rdram", this.#length, (at) => {
-      ok(wasm.rsp_bench_memory(this.#at, RDRAM, 0, at, BigInt(this.#length)), "rdram");
+      ok(wasm.brsp_session_memory(this.#at, RDRAM, 0, at, BigInt(this.#length)), "rdram");
       return copied(at, this.#length);
     });
   }
 }
 
 export function run_script(script, image, strict = false) {
-  const bench = new Bench(image), raw = script_of("run_script", script);
+  const session = new Session(image), raw = script_of("run_script", script);
   try {
-    return [joined(strict ? strict_replies(bench, raw) : [bench.feed(raw), bench.end()]), bench.rdram];
+    return [joined(strict ? strict_replies(session, raw) : [session.feed(raw), session.end()]), session.rdram];
   } finally {
-    bench.free();
+    session.free();
   }
 }

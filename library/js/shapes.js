@@ -1,4 +1,4 @@
-/** The structs of rsp.h over copies of their bytes, and the numbers that have names. */
+/** The structs of brsp.h over copies of their bytes, and the numbers that have names. */
 
 import { acc_parts, changed, changed_parts, divider_parts, flag_parts, hex, line, regs, scalar_parts, sp_parts,
   state_parts, traced, traced_parts, vregs } from "./shown.js";
@@ -98,7 +98,7 @@ export class Part {
   toString() { return this.told("here", "in the other"); }
 }
 
-/** The parts that differ, in the bench's order. */
+/** The parts that differ, in the session's order. */
 export class Difference extends Array {
   static get [Symbol.species]() { return Array; }
 

@@ -1,4 +1,4 @@
-/** Registers as text: the lines of the bench's `regs`, `vregs`, `acc` and `flags`. A part is its name, its value,
+/** Registers as text: the lines of the session's `regs`, `vregs`, `acc` and `flags`. A part is its name, its value,
  * and how many hexadecimal digits it has. */
 
 export const SP_NAMES = ["SP_MEM_ADDR", "SP_DRAM_ADDR", "SP_RD_LEN", "SP_WR_LEN", "SP_STATUS", "SP_DMA_FULL",

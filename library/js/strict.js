@@ -14,8 +14,8 @@ function fault_of(lines, number, block, reply) {
   return new ScriptError(line, (lines[line - 1] ?? "").trim(), reply);
 }
 
-/** The replies of a bench to a whole script. A ScriptError at the first one that is a fault. */
-export function strict_replies(bench, raw) {
+/** The replies of a session to a whole script. A ScriptError at the first one that is a fault. */
+export function strict_replies(session, raw) {
   const lines = text_of(raw).split("\n"), told = [];
   let block = 0;
   const keep = (reply, number) => {
@@ -25,8 +25,8 @@ export function strict_replies(bench, raw) {
     else if (!block && opens(lines[number - 1])) block = number;
     told.push(reply);
   };
-  for (const reply of bench.iter_feed(raw)) keep(reply, told.length + 1);
+  for (const reply of session.iter_feed(raw)) keep(reply, told.length + 1);
   if (!block && opens(lines.at(-1))) block = lines.length;
-  keep(bench.end(), lines.length);
+  keep(session.end(), lines.length);
   return told;
 }

@@ -57,8 +57,8 @@ const TOGETHER = {
   add_watch: (address, length) => `${length} bytes from ${address} on pass the end of DMEM`,
 };
 
-/** The calls of a bench: all others are of a machine. */
-const OF_BENCH = ["feed", "end", "rdram"];
+/** The calls of a session: all others are of a machine. */
+const OF_SESSION = ["feed", "end", "rdram"];
 
 /** By status, of the first number that the call was given. */
 const SENTENCES = {
@@ -124,7 +124,7 @@ function out_of_range(call, given) {
 
 /** The error of a status, of a call with these numbers. */
 export function refusal(status, call, given = []) {
-  const gone = `the ${OF_BENCH.includes(call) ? "bench" : "machine"} is freed`;
+  const gone = `the ${OF_SESSION.includes(call) ? "session" : "machine"} is freed`;
   const why = status === Status.OUT_OF_RANGE ? out_of_range(call, given)
     : status === Status.NO_MACHINE ? gone : SENTENCES[status]?.(...given) ?? "refused";
   return new RspError(status, `${call}: ${why}`);
@@ -175,7 +175,7 @@ export function state_refusal(field, state) {
 }
 
 const NUMBER = "a number or a label,", VECTOR = "a vector register, $v0 to $v31";
-/** By the numbers of RSP_OPERAND_ in rsp.h. A range follows what ends with a comma. */
+/** By the numbers of BRSP_OPERAND_ in brsp.h. A range follows what ends with a comma. */
 const FORMS = ["nothing", NUMBER, "a scalar register, $0 to $31 or as $t0, but not $v0 and $v1", ...Array(6).fill(NUMBER),
   "an SP register, $c0 to $c15", "$vco, $vcc or $vce", VECTOR, `${VECTOR}, with a byte, [0] to [15], or none`,
   `${VECTOR}, with an element, [v], [0q], [1q], [0h] to [3h] or [0] to [7], or none`, `${VECTOR}, with a lane, [0] to [7]`];

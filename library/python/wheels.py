@@ -1,4 +1,4 @@
-"""What `pip install ./library/python` calls: it puts the module and library/c/librsp.so into a wheel.
+"""What `pip install ./library/python` calls: it puts the module and library/c/libbrsp.so into a wheel.
 
 It needs nothing but Python, so an install needs no network, no setuptools and no compiler. Two wheels of the
 same files and date have the same bytes. An editable install names this folder alone, so a change of the
@@ -18,7 +18,7 @@ from pathlib import Path
 from typing import Any, Dict, Sequence, Union
 
 HERE = Path(__file__).resolve().parent
-MADE = HERE.parent / "c/librsp.so"
+MADE = HERE.parent / "c/libbrsp.so"
 TEXT = (HERE / "pyproject.toml").read_text()
 PROJECT = dict(re.findall(r'(?m)^([a-z-]+) = (?:\{ text = )?"(.*)"(?: \})?$', TEXT))
 NAME = f"{PROJECT['name']}-{PROJECT['version']}"

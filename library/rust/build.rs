@@ -1,4 +1,4 @@
-//! Finds librsp.a, or for MSVC rsp_static.lib. The first of these that has it counts:
+//! Finds libbrsp.a, or for MSVC brsp_static.lib. The first of these that has it counts:
 //! - the folder that RSP_LIB_DIR names;
 //! - lib/TARGET/, where the release archives have the library, and for Linux on x86-64 also lib/;
 //! - for Linux on x86-64 ../c, where `library/c/build` puts it in the repository;
@@ -9,7 +9,7 @@ use std::path::{Path, PathBuf};
 use std::process::Command;
 
 const READ: [&str; 3] = ["RSP_LIB_DIR", "PKG_CONFIG", "PKG_CONFIG_PATH"];
-/// What the targets have in their names for which `library/c/build` makes librsp.a.
+/// What the targets have in their names for which `library/c/build` makes libbrsp.a.
 const BUILT: [&str; 2] = ["x86_64-", "-linux-"];
 
 /// The library folder of an installed rsp that is no older than this crate.
@@ -24,9 +24,9 @@ fn installed() -> Option<PathBuf> {
 /// The file of the library, and what rustc calls it.
 fn names(target: &str) -> (&'static str, &'static str) {
     if target.ends_with("-msvc") {
-        ("rsp_static.lib", "rsp_static")
+        ("brsp_static.lib", "brsp_static")
     } else {
-        ("librsp.a", "rsp")
+        ("libbrsp.a", "brsp")
     }
 }
 

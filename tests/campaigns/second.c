@@ -9,7 +9,7 @@
 #define BUG(n) (PLANTED == (n))
 
 typedef struct core {
-    rsp_state s;
+    brsp_state s;
     uint8_t memory[RDRAM];  /* DMEM, then IMEM */
     uint32_t rdram_length;
     uint32_t next;          /* what npc becomes */
@@ -34,11 +34,11 @@ static void set_byte(core *m, uint32_t v, uint32_t i, uint8_t value) {
 }
 static int32_t clamp(int64_t n) { return n < -32768 ? -32768 : n > 32767 ? 32767 : (int32_t)n; }
 static int64_t accumulator(const core *m, int i) {
-    const rsp_accumulators *a = &m->s.accumulators;
+    const brsp_accumulators *a = &m->s.accumulators;
     return (int64_t)(int16_t)a->high[i] * 4294967296 + ((int64_t)a->middle[i] << 16) + a->low[i];
 }
 static void set_accumulator(core *m, int i, int64_t n) {
-    rsp_accumulators *a = &m->s.accumulators;
+    brsp_accumulators *a = &m->s.accumulators;
     a->high[i] = (uint16_t)(n >> 32), a->middle[i] = (uint16_t)(n >> 16), a->low[i] = (uint16_t)n;
 }
 
@@ -138,7 +138,7 @@ static int move_sp(core *m, uint32_t w) {
 /* --- moves between the units, control registers */
 static int move_vector(core *m, uint32_t w) {
     uint32_t *t = m->s.words + (w >> 16 & 31), rd = w >> 11 & 31, e = w >> 7 & (BUG(84) && w >> 21 & 4 ? 14 : 15), control = rd & 3;
-    rsp_flag_bits *f = &m->s.flags;
+    brsp_flag_bits *f = &m->s.flags;
     int32_t vco = (int16_t)(f->differ << 8 | f->carry) & (BUG(20) ? 0xFFFF : -1), vcc = (int16_t)(f->clip << 8 | f->compare);
     if (BUG(21) && control == 3) control = 1;
     switch (w >> 21 & 31) {
@@ -203,7 +203,7 @@ static int clip(int f, int32_t a, int32_t b, lane_flags *k) {
     return result;
 }
 static uint16_t add_or_choose(core *m, int f, int i, int32_t a, int32_t b) {
-    rsp_flag_bits *g = &m->s.flags;
+    brsp_flag_bits *g = &m->s.flags;
     lane_flags k = {g->carry >> i & 1, g->differ >> i & 1, g->compare >> i & 1, g->clip >> i & 1, g->extra >> i & 1};
     int32_t r = 0, low, n, ua = a & 0xFFFF, ub = b & 0xFFFF, both = k.c && (k.d || (BUG(35) && f == 0x23));
     int is_comparison = f >= 0x20 && f < 0x24, kept_d = (BUG(36) && f == 0x10) || (BUG(37) && f == 0x14) ? k.d : 0;
@@ -249,7 +249,7 @@ static uint32_t answer(int64_t x, int is_root, int is_low) {
     return x < 0 ? ~found : found;
 }
 static void divide(core *m, int f, int e, int vt, int de, int vd) {
-    rsp_divide_state *div = &m->s.divider;
+    brsp_divide_state *div = &m->s.divider;
     uint16_t *t = m->s.vectors[vt], *d = m->s.vectors[vd], chosen[8], source = t[e & 7];
     int is_root = f >= 0x34, is_low = (f & 3) == 1, keeps = BUG(44) && f == 0x33 && e == de + 8;
     int loaded = div->loaded && !(BUG(86) && div->input == 0);
@@ -362,30 +362,30 @@ static int execute(core *m, uint32_t w) {
     }
 }
 uint32_t core_step(core *m) {
-    rsp_state *s = &m->s;
+    brsp_state *s = &m->s;
     uint32_t w = 0, single = s->sp[4] & 0x20;
-    if (s->sp[4] & 1) return RSP_HALTED;
+    if (s->sp[4] & 1) return BRSP_HALTED;
     for (int i = 0; i < 4; i++) w = w << 8 | m->memory[IMEM + s->pc + i];
     m->next = (s->npc + 4u) & 0xFFC;
-    if (!execute(m, w)) return RSP_RESERVED;
+    if (!execute(m, w)) return BRSP_RESERVED;
     s->pc = s->npc, s->npc = (uint16_t)m->next;
     s->words[0] = 0;
     if (s->sp[4] & 0x20 || (BUG(64) && single)) s->sp[4] |= 1;
-    return RSP_OK;
+    return BRSP_OK;
 }
 uint32_t core_until_halt(core *m, uint32_t steps) {
-    uint32_t status = RSP_OK;
-    while (steps-- && status == RSP_OK) status = core_step(m);
+    uint32_t status = BRSP_OK;
+    while (steps-- && status == BRSP_OK) status = core_step(m);
     return status;
 }
 
 /* --- what side.h asks for */
 typedef core machine;
 static int make(core *m, const char *what) { (void)what; m->rdram_length = RDRAM_LENGTH; return 1; }
-static int is_shown(const rsp_case *in) { (void)in; return 1; }
-static int set(core *m, const rsp_state *s) { m->s = *s; return 1; }
+static int is_shown(const brsp_case *in) { (void)in; return 1; }
+static int set(core *m, const brsp_state *s) { m->s = *s; return 1; }
 static uint32_t step(core *m) { return core_step(m); }
-static void get(core *m, rsp_state *s) { *s = m->s; }
+static void get(core *m, brsp_state *s) { *s = m->s; }
 static void put(core *m, uint32_t pc, uint32_t word) { for (uint32_t i = 0; i < 4; i++) m->memory[IMEM + pc + i] = (uint8_t)(word >> (24 - 8 * i)); }
 static void load(core *m, const uint8_t *memories, size_t to) {
     memcpy(m->memory, memories, RDRAM);

@@ -1,4 +1,4 @@
-"""Campaigns in C and C++: the headers, a wrapper in C++, rsp_compare.h, and the runner of flat vectors."""
+"""Campaigns in C and C++: the headers, a wrapper in C++, brsp_compare.h, and the runner of flat vectors."""
 
 import re
 from pathlib import Path
@@ -18,7 +18,7 @@ if is_here("python:numpy"):
 
 pytestmark = [pytest.mark.needs("cc"), pytest.mark.usefixtures("library")]
 
-LIBRARY = TOP / "library/c/librsp.a"
+LIBRARY = TOP / "library/c/libbrsp.a"
 STRICT = (
     "-O2",
     "-Wall",
@@ -62,7 +62,7 @@ def first_in_words(found: Any) -> List[str]:
 @pytest.mark.needs("python:numpy")
 @pytest.mark.parametrize("fault, every, limit", [(2, 64, 1000), (4, 100, 1000), (3, 16, 500)])
 def test_first_difference(fault: int, every: int, limit: int, folder: Path) -> None:
-    """rsp_compare.h finds in planted faults what rsp.first_difference finds."""
+    """brsp_compare.h finds in planted faults what rsp.first_difference finds."""
     flags = ("-std=c11", *STRICT, "-w", f"-DFAULT={fault}", SOURCES / "compare.c", SOURCES / "faulty.c")
     compare, sides = compiled(folder / "compare", *flags, LIBRARY), Sides(faulty(fault), bytes(MEMORIES))
     differ = 0

@@ -1,7 +1,7 @@
 """The fuzz targets without a fuzzer: each takes its seeds, and inputs that once crashed it (fuzz/crashes).
 
 It fails if what must hold of such an input doesn't, if the sanitizers of gcc find something, or if no target
-makes a call that rsp.h has. test_targets.py, which is no part of the gate, has the fuzzer.
+makes a call that brsp.h has. test_targets.py, which is no part of the gate, has the fuzzer.
 """
 
 import re
@@ -23,7 +23,7 @@ FUZZ = TOP / "fuzz"
 
 def replayed(name: str, library: Path, folder: Path, files: List[Path], *more: str) -> "Ended[str]":
     """A target that has taken these files."""
-    replay = (FUZZ / "replay.c", f"-I{library}", library / "librsp.a")
+    replay = (FUZZ / "replay.c", f"-I{library}", library / "libbrsp.a")
     link(name, folder / name, ["cc", "-O1", *sanitizers()], *more, *replay)
     return run(folder / name, *files, env=WITHOUT_LEAKS)
 
@@ -58,11 +58,11 @@ def test_words(words: str, status: int, folder: Path) -> None:
 
 
 def test_each_call_is_made() -> None:
-    header = (TOP / "library/c/rsp.h").read_text()
+    header = (TOP / "library/c/brsp.h").read_text()
     made = "".join((FUZZ / f"{name}.c").read_text() for name in ("calls", "scripts", "texts"))
-    macros = {f"rsp_{it}" for it in re.findall(r"^(?:LOOK|LOOK_AT|CHANGE)\((\w+)", made, re.M)}
-    named = {*re.findall(r"\brsp_\w+", made + (FUZZ / "fuzz.h").read_text()), *macros}
-    assert {*re.findall(r"^(?:uint32_t|void) (rsp_\w+)\(", header, re.M)} - named == set()
+    macros = {f"brsp_{it}" for it in re.findall(r"^(?:LOOK|LOOK_AT|CHANGE)\((\w+)", made, re.M)}
+    named = {*re.findall(r"\bbrsp_\w+", made + (FUZZ / "fuzz.h").read_text()), *macros}
+    assert {*re.findall(r"^(?:uint32_t|void) (brsp_\w+)\(", header, re.M)} - named == set()
 
 
 @pytest.mark.parametrize("name", EDITS)

@@ -196,13 +196,13 @@ def test_start_asks_the_processor(folder: Path) -> None:
 @pytest.mark.parametrize("way", ["static", "shared", "pkg-config"])
 def test_c(archive: Path, folder: Path, way: str) -> None:
     words = {
-        "static": ["-Iinclude", "lib/librsp.a"],
+        "static": ["-Iinclude", "lib/libbrsp.a"],
         "shared": ["-Iinclude", "-Llib", "-lrsp", f"-Wl,-rpath,{archive}/lib"],
     }.get(way)
     if words is None:
         need("pkg-config")
         where = {**BARE, "PKG_CONFIG_PATH": f"{archive}/lib/pkgconfig"}
-        words = succeeds("pkg-config", "--cflags", "--libs", "rsp", env=where).split()
+        words = succeeds("pkg-config", "--cflags", "--libs", "brsp", env=where).split()
     compiler = ("cc", "-O2", "-Wall", "-Werror", "-o", folder / "lockstep", "examples/c/lockstep.c")
     succeeds(*compiler, *words, cwd=archive, env=BARE)
     assert succeeds(folder / "lockstep", env=BARE) == LOCKSTEP
@@ -243,7 +243,7 @@ def test_wheel(archive: Path, folder: Path) -> None:
 
 
 @pytest.mark.needs("objdump")
-@pytest.mark.parametrize("name", ["bin/rsp", "lib/librsp.so", PLUGIN])
+@pytest.mark.parametrize("name", ["bin/rsp", "lib/libbrsp.so", PLUGIN])
 def test_needs_of_the_system(archive: Path, name: str) -> None:
     """By the rules of auditwheel for the tag manylinux_2_17. The wheel has the same library."""
     check_needs(archive / name)
@@ -253,7 +253,7 @@ def test_library_of_the_wheel(archive: Path, packed: Path) -> None:
     (wheel,) = (archive / "python").glob("*.whl")
     assert wheel.name.endswith("-py3-none-manylinux_2_17_x86_64.manylinux2014_x86_64.whl")
     with zipfile.ZipFile(wheel) as it:
-        is_same = it.read("rsp/librsp.so") == (archive / "lib/librsp.so").read_bytes()
+        is_same = it.read("rsp/libbrsp.so") == (archive / "lib/libbrsp.so").read_bytes()
     assert is_same
     check_date_of_wheel(packed, archive)
 

@@ -31,7 +31,7 @@ cc -o "$0"/lockstep examples/c/lockstep.c -lrsp
 find /usr/local ! -user root
 %s
 find /usr/local ! -type d
-! test -e /usr/local/lib/cmake/rsp
+! test -e /usr/local/lib/cmake/brsp
 """
 
 

@@ -42,9 +42,9 @@ from rsp_tools.targets import TARGETS
 
 # What an archive for C, Python and Rust has on each system.
 COMMON = """
-README.md CHANGELOG.md SHA256SUMS include/rsp.h include/rsp.hpp include/rsp_compare.h
-lib/cmake/rsp/rspConfig.cmake lib/cmake/rsp/rspConfigVersion.cmake library/python/rsp/__init__.py
-library/rust/Cargo.toml library/rust/build.rs library/rust/src/lib.rs library/c/rsp.h docs/README.md
+README.md CHANGELOG.md SHA256SUMS include/brsp.h include/brsp.hpp include/brsp_compare.h
+lib/cmake/brsp/brspConfig.cmake lib/cmake/brsp/brspConfigVersion.cmake library/python/rsp/__init__.py
+library/rust/Cargo.toml library/rust/build.rs library/rust/src/lib.rs library/c/brsp.h docs/README.md
 docs/SYSTEMS.md examples/first.rsp examples/c/lockstep.c microcode/README.md microcode/copy.s
 """
 # What one with the program has for shells and for `man`.
@@ -54,19 +54,19 @@ share/fish/vendor_completions.d/rsp.fish
 """
 # What more each archive has. The first are those that tools/systems makes.
 MADE = {
-    "linux-aarch64": "lib/librsp.a lib/librsp.so lib/librsp.so.1 lib/pkgconfig/rsp.pc bin/rsp",
-    "macos": "lib/librsp.a lib/librsp.dylib lib/pkgconfig/rsp.pc",
-    "windows-x86_64": "lib/librsp.a lib/librsp.dll.a lib/rsp.lib lib/rsp_static.lib bin/rsp.dll bin/rsp.exe "
-    "lib/pkgconfig/rsp.pc",
+    "linux-aarch64": "lib/libbrsp.a lib/libbrsp.so lib/libbrsp.so.1 lib/pkgconfig/brsp.pc bin/rsp",
+    "macos": "lib/libbrsp.a lib/libbrsp.dylib lib/pkgconfig/brsp.pc",
+    "windows-x86_64": "lib/libbrsp.a lib/libbrsp.dll.a lib/brsp.lib lib/brsp_static.lib bin/brsp.dll bin/rsp.exe "
+    "lib/pkgconfig/brsp.pc",
     "wasm64": "package.json rsp.js rsp.d.ts rsp.wasm",
     "page": "index.html",
 }
 MORE = {
-    "linux-aarch64": f"{COMMON} {SHELLS} rsp library/rust/lib/aarch64-unknown-linux-gnu/librsp.a",
-    "macos": f"{COMMON} library/rust/lib/aarch64-apple-darwin/librsp.a "
-    "library/rust/lib/x86_64-apple-darwin/librsp.a",
-    "windows-x86_64": f"{COMMON} {SHELLS} library/rust/lib/x86_64-pc-windows-gnu/librsp.a "
-    "library/rust/lib/x86_64-pc-windows-msvc/rsp_static.lib",
+    "linux-aarch64": f"{COMMON} {SHELLS} rsp library/rust/lib/aarch64-unknown-linux-gnu/libbrsp.a",
+    "macos": f"{COMMON} library/rust/lib/aarch64-apple-darwin/libbrsp.a "
+    "library/rust/lib/x86_64-apple-darwin/libbrsp.a",
+    "windows-x86_64": f"{COMMON} {SHELLS} library/rust/lib/x86_64-pc-windows-gnu/libbrsp.a "
+    "library/rust/lib/x86_64-pc-windows-msvc/brsp_static.lib",
     "wasm64": "README.md CHANGELOG.md SHA256SUMS docs/EMBEDDING.md examples/js/lockstep.js microcode/copy.s",
     "page": "README.md CHANGELOG.md SHA256SUMS",
 }
@@ -221,7 +221,7 @@ def test_wheel_installed(top: Path, runner: Runner, system: str) -> None:
 @of("linux-aarch64")
 def test_pkg_config(top: Path, runner: Runner, system: str) -> None:
     where = {**BARE, "PKG_CONFIG_PATH": f"{top}/lib/pkgconfig"}
-    found = succeeds("pkg-config", "--cflags", "--libs", "rsp", env=where).split()
+    found = succeeds("pkg-config", "--cflags", "--libs", "brsp", env=where).split()
     assert f"-I{top}/lib/pkgconfig/../../include" in found
     runner.check_lockstep(runner.compile(top / EXAMPLE, library=found), True)
 
@@ -287,7 +287,7 @@ def test_macos(top: Path, folder: Path) -> None:
     """The files are only read."""
     macos.check(top, folder)
     for target, processor in systems.THIN.items():
-        held = llvm("llvm-lipo", "-archs", top / "library/rust/lib" / target / "librsp.a").split()
+        held = llvm("llvm-lipo", "-archs", top / "library/rust/lib" / target / "libbrsp.a").split()
         assert held == [processor], target
 
 

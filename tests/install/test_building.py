@@ -154,7 +154,7 @@ def test_kit_of_another_logic(program_tree: Tiny) -> None:
 def test_builds_the_library(library_tree: Tiny) -> None:
     ran = library_tree.runs["first"]
     assert ran.status == 0 and ran.proved == {"rsp_decode", "rsp_c"}
-    assert (library_tree.at / "library/c/librsp.so").is_file()
+    assert (library_tree.at / "library/c/libbrsp.so").is_file()
 
 
 @pytest.mark.parametrize("what, command", BOTH)
@@ -304,14 +304,14 @@ def test_two_at_once(program_tree: Tiny, folder: Path) -> None:
 
 
 @of_library
-@pytest.mark.parametrize("name", ["rsp.h", "librsp.a"])
+@pytest.mark.parametrize("name", ["brsp.h", "libbrsp.a"])
 def test_links_again(library_tree: Tiny, name: str) -> None:
     """What the library is linked from is changed, or what is made of it."""
-    static, shared = (library_tree.at / f"library/c/librsp.{it}" for it in ("a", "so"))
+    static, shared = (library_tree.at / f"library/c/libbrsp.{it}" for it in ("a", "so"))
     was = shared.stat().st_mtime_ns
     library_tree.put(
         f"library/c/{name}",
-        b"" if name == "librsp.a" else (library_tree.at / "library/c/rsp.h").read_bytes() + b"/* more */\n",
+        b"" if name == "libbrsp.a" else (library_tree.at / "library/c/brsp.h").read_bytes() + b"/* more */\n",
     )
     assert library_tree.run(C) == NOTHING
     assert static.stat().st_size > 0 and shared.stat().st_mtime_ns > was

@@ -34,7 +34,7 @@ def plugin(library: Path, tmp_path_factory: pytest.TempPathFactory) -> Path:
 
 
 def test_library(library: Path) -> None:
-    check_elf(library / "librsp.so")
+    check_elf(library / "libbrsp.so")
 
 
 def test_plugin(plugin: Path) -> None:

@@ -22,20 +22,20 @@ from lib.symbols import check_needs
 pytestmark = [pytest.mark.needs("cc", "nm", "objdump", "objcopy"), pytest.mark.xdist_group("installed")]
 INSTALL, CRATE = TOP / "library/c/install", TOP / "library/rust"
 HERE = TESTS / "install/installation"
-HEADER = page("library/c/rsp.h")
-CALLS = sorted(re.findall(r"^(?:uint32_t|void) (rsp_\w+)\(", HEADER, re.M))
-SONAME = "librsp.so." + re.findall(r"^#define RSP_VERSION (\d+)$", HEADER, re.M)[0]
+HEADER = page("library/c/brsp.h")
+CALLS = sorted(re.findall(r"^(?:uint32_t|void) (brsp_\w+)\(", HEADER, re.M))
+SONAME = "libbrsp.so." + re.findall(r"^#define BRSP_VERSION (\d+)$", HEADER, re.M)[0]
 VERSION = re.findall(r'^version = "(.*)"$', page("library/rust/Cargo.toml"), re.M)[0]
 FILES = {
     *(
-        "lib/pkgconfig/rsp.pc",
+        "lib/pkgconfig/brsp.pc",
         "share/man/man1/rsp.1",
-        "include/rsp.h",
-        "include/rsp.hpp",
-        "include/rsp_compare.h",
+        "include/brsp.h",
+        "include/brsp.hpp",
+        "include/brsp_compare.h",
     ),
-    *("lib/cmake/rsp/rspConfig.cmake", "lib/cmake/rsp/rspConfigVersion.cmake"),
-    *("lib/librsp.a", "lib/librsp.so", f"lib/{SONAME}"),
+    *("lib/cmake/brsp/brspConfig.cmake", "lib/cmake/brsp/brspConfigVersion.cmake"),
+    *("lib/libbrsp.a", "lib/libbrsp.so", f"lib/{SONAME}"),
     *("share/bash-completion/completions/rsp", "share/zsh/site-functions/_rsp"),
     "share/fish/vendor_completions.d/rsp.fish",
 }
@@ -79,25 +79,25 @@ def refuses(why: str, *words: object) -> None:
 
 
 def test_static_library_shows_the_calls_alone(library: Path) -> None:
-    symbols = succeeds("nm", "--extern-only", "--defined-only", library / "librsp.a").splitlines()
+    symbols = succeeds("nm", "--extern-only", "--defined-only", library / "libbrsp.a").splitlines()
     assert sorted(it.split()[-1] for it in symbols if len(it.split()) == 3) == CALLS
     assert len(CALLS) > 20
 
 
 def test_shared_library(library: Path) -> None:
-    shared = library / "librsp.so"
+    shared = library / "libbrsp.so"
     assert re.findall(r"SONAME +(\S+)", succeeds("objdump", "-p", shared)) == [SONAME]
     check_needs(shared)
 
 
 def test_what_is_installed(prefix: Path) -> None:
     assert files_below(prefix) - {"bin/rsp"} == FILES
-    assert os.readlink(prefix / "lib/librsp.so") == SONAME
+    assert os.readlink(prefix / "lib/libbrsp.so") == SONAME
 
 
 def test_second_install(own: Path) -> None:
     """It replaces the files, adds none, and leaves a library in use as it is."""
-    found, header = files_below(own), own / "include/rsp.h"
+    found, header = files_below(own), own / "include/brsp.h"
     with (own / "lib" / SONAME).open("rb") as old:
         header.write_text("old\n")
         (own / "lib/mine").write_text("mine\n")
@@ -138,7 +138,7 @@ def test_full_disk(library: Path, folder: Path) -> None:
     got = run("unshare", "--mount", "--map-root-user", "sh", "-c", FULL_DISK, INSTALL, folder)
     if got.returncode == 9 or got.stdout.startswith("unshare:"):
         pytest.skip(f"no full disk can be mounted here ({got.stdout.strip()})")
-    why = f"library/c/install: cannot write {folder}/lib/librsp.a: No space left on device\n"
+    why = f"library/c/install: cannot write {folder}/lib/libbrsp.a: No space left on device\n"
     assert (got.returncode, got.stdout) == (1, why)
 
 
@@ -157,7 +157,7 @@ def test_pkg_config(prefix: Path, folder: Path, command: str, flags: str) -> Non
     """As a user types it, in a folder of his own: the words that pkg-config gives pass a shell."""
     need(command.split()[0])
     shutil.copy(EXAMPLE, folder / "my.c")
-    line = f"{command} $(pkg-config {flags} --cflags --libs rsp)"
+    line = f"{command} $(pkg-config {flags} --cflags --libs brsp)"
     line = f'eval "{line}"' if " " in str(prefix) else line
     succeeds("sh", "-c", line, cwd=folder, env=found_in(prefix))
     assert succeeds(folder / "a.out", cwd="/") == LOCKSTEP
@@ -167,7 +167,7 @@ def test_pkg_config(prefix: Path, folder: Path, command: str, flags: str) -> Non
 @pytest.mark.needs("pkg-config")
 @PREFIXES
 def test_version_of_pkg_config(prefix: Path) -> None:
-    assert succeeds("pkg-config", "--modversion", "rsp", env=found_in(prefix)) == f"{VERSION}\n"
+    assert succeeds("pkg-config", "--modversion", "brsp", env=found_in(prefix)) == f"{VERSION}\n"
 
 
 @pytest.mark.needs("cmake", "make")
@@ -177,16 +177,16 @@ def test_cmake(prefix: Path, folder: Path) -> None:
 
 
 def test_dlopen(prefix: Path, folder: Path) -> None:
-    succeeds(compiled(folder / "dlopen", HERE / "dlopen.c", "-ldl"), prefix / "lib/librsp.so")
+    succeeds(compiled(folder / "dlopen", HERE / "dlopen.c", "-ldl"), prefix / "lib/libbrsp.so")
 
 
 @pytest.mark.needs("rt")
 def test_two_libraries_in_one_program(library: Path, folder: Path) -> None:
-    """librsp.a beside its code as `rt lib` leaves it, like any library of the kit, with calls other_*."""
+    """libbrsp.a beside its code as `rt lib` leaves it, like any library of the kit, with calls other_*."""
     heap = Path(succeeds("rt", "doc").strip()).parent / "c/liblibc_c.a"
     names = [f"--redefine-sym={it}=other{it[3:]}" for it in CALLS]
     succeeds("objcopy", *names, TOP / "crates/rsp_c/out/librsp_c.a", folder / "other.a")
-    libraries = (library / "librsp.a", folder / "other.a", heap)
+    libraries = (library / "libbrsp.a", folder / "other.a", heap)
     whole = ("-Wl,--whole-archive", *libraries, "-Wl,--no-whole-archive")
     succeeds(compiled(folder / "two", f"-I{library}", HERE / "two.c", *whole))
 
@@ -261,7 +261,7 @@ def test_layout_of_the_crate() -> None:
 def test_crate_as_a_package(library: Path, folder: Path) -> None:
     pack = copied_crate(folder / "rust")
     (pack / "lib").mkdir()
-    shutil.copy(library / "librsp.a", pack / "lib")
+    shutil.copy(library / "libbrsp.a", pack / "lib")
     words = ("cargo", "package", "--offline", "--allow-dirty")
     succeeds(*words, cwd=pack, env=by_cargo(folder, PKG_CONFIG="false"))
     assert (folder / f"target/package/rsp-{VERSION}.crate").is_file()

@@ -33,7 +33,7 @@ def check_cmake(prefix: Path, folder: Path) -> None:
     for name in "shared", "static":
         program = made / name
         assert succeeds(program, cwd="/") == LOCKSTEP, name
-        assert ("librsp" in succeeds("objdump", "-p", program)) == (name == "shared")
+        assert ("libbrsp" in succeeds("objdump", "-p", program)) == (name == "shared")
     for asked in "2.0", "1.99", "0.9":
         (folder / PROJECT.name).write_text(PROJECT.read_text().replace("rsp 1.0", f"rsp {asked}"))
         assert configured(prefix, folder, f"out-{asked}").returncode, f"version {asked} isn't refused"

@@ -33,7 +33,7 @@ EDITS: Dict[str, List[Edit]] = {
         Edit(RUNNER, " || h.size > (size_t)(file->end - file->at)", ""),
     ],
     "program": [
-        Edit(f"{PROGRAM}/run.c", "rsp_bench_take(bench, piece + at,", "rsp_bench_take(bench, piece,"),
+        Edit(f"{PROGRAM}/run.c", "brsp_session_take(session, piece + at,", "brsp_session_take(session, piece,"),
         Edit(f"{PROGRAM}/disassemble.c", "if (len > 4096 - origin || len % 4)", "if (len > 4096 - origin)"),
         Edit(f"{PROGRAM}/arguments.c", "char missing[64]", "char missing[16]"),
     ],
@@ -42,7 +42,7 @@ EDITS: Dict[str, List[Edit]] = {
 
 def planted(fault: int) -> List[str]:
     """The words that link a fault of the library into a target."""
-    wrapped = dict.fromkeys(re.findall(r"__real_(rsp_\w+)", FAULTS.read_text()))
+    wrapped = dict.fromkeys(re.findall(r"__real_(brsp_\w+)", FAULTS.read_text()))
     return [f"-DFAULT={fault}", str(FAULTS), *(f"-Wl,--wrap={it}" for it in wrapped)]
 
 

@@ -16,7 +16,7 @@ from lib.processes import STRICT, compiled, run, succeeds
 
 HERE = TESTS / "plugin"
 ROM = HERE / "rom"
-LIBRARY = TOP / "library/c/librsp.a"
+LIBRARY = TOP / "library/c/libbrsp.a"
 HEADERS = Path("/usr/include/mupen64plus")
 CORE = Path("/usr/lib/x86_64-linux-gnu/libmupen64plus.so.2")
 FRONT_END = Path("/usr/games/mupen64plus")
@@ -74,7 +74,7 @@ class Bench:
     def faulty(self, fault: int) -> Path:
         """A plugin with a planted fault."""
         made = self.folder / f"faulty-{fault}.so"
-        calls = ("rsp_step", "rsp_run_until_move", "rows_out", "malloc", "calloc", "realloc", "free")
+        calls = ("brsp_step", "brsp_run_until_move", "rows_out", "malloc", "calloc", "realloc", "free")
         wraps = "-Wl" + "".join(f",--wrap={it}" for it in calls)
         flags = (*FLAGS, f"-DFAULT={fault}", "-fPIC", "-fvisibility=hidden", "-shared", wraps)
         parts = (HERE / "faulty.c", *sorted((TOP / "plugin").glob("*.c")), LIBRARY, "-ldl")

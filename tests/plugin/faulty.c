@@ -1,4 +1,4 @@
-/* The plugin with a planted fault, linked with -Wl,--wrap=rsp_step,--wrap=rsp_run_until_move,--wrap=rows_out.
+/* The plugin with a planted fault, linked with -Wl,--wrap=brsp_step,--wrap=brsp_run_until_move,--wrap=rows_out.
  * FAULT 1: VMUDM sets the lowest bit of lane 5. FAULT 2: a DMA to RDRAM writes eight bytes more. FAULT 3: it
  * writes nothing.
  * With any of them, 0 too, a process that the plugin has forked ends as soon as the plugin or the library in it
@@ -7,10 +7,10 @@
 #include <stdlib.h>
 #include <unistd.h>
 
-uint32_t __real_rsp_step(rsp *m);
-uint32_t __real_rsp_run_until_move(rsp *m, uint32_t n, uint32_t reads, uint32_t writes, rsp_move *out);
-uint32_t __wrap_rsp_step(rsp *m);
-uint32_t __wrap_rsp_run_until_move(rsp *m, uint32_t n, uint32_t reads, uint32_t writes, rsp_move *out);
+uint32_t __real_brsp_step(brsp_machine *m);
+uint32_t __real_brsp_run_until_move(brsp_machine *m, uint32_t n, uint32_t reads, uint32_t writes, brsp_move *out);
+uint32_t __wrap_brsp_step(brsp_machine *m);
+uint32_t __wrap_brsp_run_until_move(brsp_machine *m, uint32_t n, uint32_t reads, uint32_t writes, brsp_move *out);
 
 void *__real_malloc(size_t len), *__real_calloc(size_t n, size_t len), *__real_realloc(void *at, size_t len);
 void *__wrap_malloc(size_t len), *__wrap_calloc(size_t n, size_t len), *__wrap_realloc(void *at, size_t len);
@@ -25,22 +25,22 @@ void *__wrap_calloc(size_t n, size_t len) { return see_process(), __real_calloc(
 void *__wrap_realloc(void *at, size_t len) { return see_process(), __real_realloc(at, len); }
 void __wrap_free(void *at) { see_process(), __real_free(at); }
 
-static uint32_t next_word(rsp *m)
+static uint32_t next_word(brsp_machine *m)
 {
-    rsp_scalars now;
+    brsp_scalars now;
     uint32_t word = 0;
-    if (rsp_regs(m, &now) == RSP_OK) rsp_memory_words(m, RSP_IMEM, now.pc, &word, 1);
+    if (brsp_regs(m, &now) == BRSP_OK) brsp_memory_words(m, BRSP_IMEM, now.pc, &word, 1);
     return word;
 }
 
 /* What is wrong after a word. It is the same if it is done twice. */
-static void spoil(rsp *m, uint32_t word)
+static void spoil(brsp_machine *m, uint32_t word)
 {
-    rsp_state s;
+    brsp_state s;
     if (FAULT != 1 || (word & 0xfe00003f) != 0x4a000005) return;
-    rsp_get(m, &s);
+    brsp_get(m, &s);
     s.vectors[word >> 6 & 31][5] |= 1;
-    rsp_set(m, &s);
+    brsp_set(m, &s);
 }
 
 /* For a plugin with another DMA. */
@@ -50,22 +50,22 @@ void __wrap_rows_out(rsp_unit *unit, uint32_t address, uint32_t length_word)
     if (FAULT != 3) __real_rows_out(unit, address, length_word + (FAULT == 2 ? 8 : 0));
 }
 
-uint32_t __wrap_rsp_step(rsp *m)
+uint32_t __wrap_brsp_step(brsp_machine *m)
 {
-    uint32_t word = next_word(m), status = __real_rsp_step(m);
-    if (status == RSP_OK) spoil(m, word);
+    uint32_t word = next_word(m), status = __real_brsp_step(m);
+    if (status == BRSP_OK) spoil(m, word);
     return status;
 }
 
-uint32_t __wrap_rsp_run_until_move(rsp *m, uint32_t n, uint32_t reads, uint32_t writes, rsp_move *out)
+uint32_t __wrap_brsp_run_until_move(brsp_machine *m, uint32_t n, uint32_t reads, uint32_t writes, brsp_move *out)
 {
     uint32_t steps = 0, status;
     do {
         uint32_t word = next_word(m);
-        status = __real_rsp_run_until_move(m, 1, reads, writes, out);
+        status = __real_brsp_run_until_move(m, 1, reads, writes, out);
         if (out->stop.steps) spoil(m, word);
         steps += out->stop.steps;
-    } while (out->stop.reason == RSP_AT_LIMIT && steps < n);
+    } while (out->stop.reason == BRSP_AT_LIMIT && steps < n);
     out->stop.steps = steps;
     return status;
 }

@@ -41,13 +41,13 @@ def test_no_fault(bench: Bench, folder: Path) -> None:
     "name, said",
     [
         ("none.so", "none.so: cannot open shared object file"),
-        ("librsp.so", "librsp.so isn't an RSP plugin"),
+        ("libbrsp.so", "libbrsp.so isn't an RSP plugin"),
     ],
 )
 def test_no_plugin(name: str, said: str, bench: Bench, folder: Path) -> None:
     """The words of the checked program end at whitespace, which the repository's path may have."""
-    shutil.copy(TOP / "library/c/librsp.so", folder)
-    other = folder / name if name == "librsp.so" else name
+    shutil.copy(TOP / "library/c/libbrsp.so", folder)
+    other = folder / name if name == "libbrsp.so" else name
     (told,) = checked(bench, folder, other, tasks_of_rom(bench)[:1])
     assert said in told
 

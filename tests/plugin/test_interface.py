@@ -92,7 +92,7 @@ def test_under_sanitizers(bench: Bench, folder: Path) -> None:
 @pytest.mark.parametrize(
     "words, status, said",
     [
-        ("", 1, "plugin/build: library/c/librsp.a isn't there: run library/c/build first\n"),
+        ("", 1, "plugin/build: library/c/libbrsp.a isn't there: run library/c/build first\n"),
         ("--what", 2, "plugin/build [OUT]: makes"),
         ("--help", 0, "plugin/build [OUT]: makes"),
     ],

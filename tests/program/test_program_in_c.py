@@ -16,7 +16,7 @@ pytestmark = pytest.mark.needs("cc")
 
 @pytest.fixture
 def in_c(library: Path, folder: Path) -> Path:
-    link("cc", "posix.c", folder / "bin/rsp", library / "librsp.a")
+    link("cc", "posix.c", folder / "bin/rsp", library / "libbrsp.a")
     return folder / "bin/rsp"
 
 
@@ -36,7 +36,7 @@ def test_under_sanitizers(
     """
     if not sanitizers():
         pytest.skip("the sanitizers of gcc don't run here")
-    link("cc", "posix.c", folder / "bin/rsp", *sanitizers(), library / "librsp.a")
+    link("cc", "posix.c", folder / "bin/rsp", *sanitizers(), library / "libbrsp.a")
     monkeypatch.setenv("ASAN_OPTIONS", WITHOUT_LEAKS["ASAN_OPTIONS"])
     (folder / "lines").mkdir()
     see_lines(folder / "bin/rsp", program, folder / "lines")

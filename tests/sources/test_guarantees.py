@@ -155,7 +155,7 @@ def test_assumed() -> None:
 
 def test_system() -> None:
     """Where a page names the system, it names the kind of processor too: the program needs x86-64-v2."""
-    more = TOP / "tools/packaging/readme/linux-x86_64.md", TOP / "library/c/rsp.h"
+    more = TOP / "tools/packaging/readme/linux-x86_64.md", TOP / "library/c/brsp.h"
     pages = [*TOP.glob("*.md"), *TOP.glob("docs/*.md"), *more]
     assert not [it for it in pages if re.search(r"\b(?:on|for)\s+x86-64\b(?!-v2)", it.read_text())]
 
@@ -169,7 +169,7 @@ def is_a_test(name: str) -> bool:
 def test_allocations() -> None:
     """The table names each public call that may need memory, and no other.
 
-    A line of `rsp_*` names each call that no other line names.
+    A line of `brsp_*` names each call that no other line names.
     """
     named = {*listed("allocations", "Crate", "Call")}
     lost, used = [], set()
@@ -220,18 +220,18 @@ def promises() -> Set[Tuple[str, str, str]]:
 
 
 def test_contracts() -> None:
-    """Each clause of the table is one of its call, and of `rsp_*` one of some call of the library for C."""
+    """Each clause of the table is one of its call, and of `brsp_*` one of some call of the library for C."""
     there = promises()
-    there |= {(name, "rsp_*", clause) for name, call, clause in there if call.startswith("rsp_")}
+    there |= {(name, "brsp_*", clause) for name, call, clause in there if call.startswith("brsp_")}
     said = listed("contracts", "Crate", "Call", "Clauses")
     assert said and not [it for it in said if it not in there]
 
 
 def test_contracts_for_c() -> None:
-    """The table has each clause of each call of the library for C; a line of `rsp_*` has it of all calls."""
+    """The table has each clause of each call of the library for C; a line of `brsp_*` has it of all calls."""
     said = {*listed("contracts", "Crate", "Call", "Clauses")}
-    calls = [it for it in promises() if it[1].startswith("rsp_")]
-    assert calls and not [it for it in calls if not {it, (it[0], "rsp_*", it[2])} & said]
+    calls = [it for it in promises() if it[1].startswith("brsp_")]
+    assert calls and not [it for it in calls if not {it, (it[0], "brsp_*", it[2])} & said]
 
 
 def test_streams() -> None:

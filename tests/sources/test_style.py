@@ -103,7 +103,7 @@ def test_rustfmt(manifest: str) -> None:
 @pytest.mark.parametrize("manifest", CRATES)
 def test_clippy(manifest: str, folder: Path) -> None:
     """A crate. Clippy links nothing, so an empty library will do."""
-    (folder / "librsp.a").write_bytes(b"")
+    (folder / "libbrsp.a").write_bytes(b"")
     where = {**os.environ, "RSP_LIB_DIR": str(folder), "CARGO_TARGET_DIR": str(folder / "target")}
     words = ("--offline", "--quiet", "--all-targets", "--manifest-path", manifest, "--", "-D", "warnings")
     succeeds("cargo", "clippy", *words, env=where)

@@ -3,16 +3,16 @@
  * Every 1000 steps it prints how many were made and a digest of all that the calls gave so far, with the whole state and the memories. Runs,
  * single steps, traces, undo, watches, breakpoints, DMA, moves of SP registers, copies, states and texts follow one another by chance. The same
  * words give the same lines on every system. The last line has the instructions that were executed, as far as traces showed them. */
-#include "rsp.h"
+#include "brsp.h"
 #include <stdio.h>
 #include <stdlib.h>
 #include <string.h>
 
 enum { EVERY = 1000, IMAGE = 16384, WORDS = 1024, DEPTH = 64, NAMES = 512 };
 
-static rsp m = RSP_NONE;
+static brsp_machine m = BRSP_NONE;
 static uint64_t chance, digest = 0xcbf29ce484222325u;
-static rsp_traced entries[EVERY];
+static brsp_traced entries[EVERY];
 static char names[NAMES][16];
 
 static uint64_t next(void)
@@ -44,7 +44,7 @@ static void take_bytes(const void *from, size_t len)
     while (len--) take(*at++);
 }
 
-static void take_stop(const rsp_stop *stop)
+static void take_stop(const brsp_stop *stop)
 {
     take(stop->reason);
     take(stop->steps);
@@ -84,20 +84,20 @@ static uint32_t encoding(void)
 /* A word that is an instruction. */
 static uint32_t instruction(void)
 {
-    rsp_line line;
+    brsp_line line;
     uint32_t it;
     do it = encoding();
-    while (rsp_text(it, 0, &line) != RSP_OK || line.text[0] == '.');
+    while (brsp_text(it, 0, &line) != BRSP_OK || line.text[0] == '.');
     return it;
 }
 
 static void keep_name(uint32_t executed)
 {
-    rsp_line line;
+    brsp_line line;
     char name[16] = { 0 };
     size_t n;
     uint32_t at = 0;
-    rsp_text(executed, 0, &line);
+    brsp_text(executed, 0, &line);
     if (line.text[0] == '.') return;
     for (n = 0; n < 15 && line.text[n] && line.text[n] != ' '; n++) {
         name[n] = line.text[n];
@@ -112,61 +112,61 @@ static void renew(void)
 {
     static uint32_t words[128];
     static uint16_t data[256];
-    rsp_state state;
+    brsp_state state;
     uint32_t n, i;
     for (n = 0; n < 128; n++) words[n] = below(300) ? instruction() : word();
-    take(rsp_load_words(&m, RSP_IMEM, 512 * below(8), words, 128));
+    take(brsp_load_words(&m, BRSP_IMEM, 512 * below(8), words, 128));
     for (n = 0; n < 256; n++) data[n] = lane();
-    take(rsp_load(&m, RSP_DMEM, 512 * below(8), (const uint8_t *)data, 512));
-    take(rsp_get(&m, &state));
+    take(brsp_load(&m, BRSP_DMEM, 512 * below(8), (const uint8_t *)data, 512));
+    take(brsp_get(&m, &state));
     for (n = 0; n < 32; n++)
         for (i = 0; i < 8; i++) state.vectors[n][i] = lane();
     for (n = 1; n < 32; n++) state.words[n] = below(2) ? word() : below(4096);
     for (i = 0; i < 8; i++) state.accumulators.high[i] = lane(), state.accumulators.middle[i] = lane(), state.accumulators.low[i] = lane();
     state.flags.carry = (uint8_t)word(), state.flags.clip = (uint8_t)word();
-    take(rsp_set(&m, &state));
+    take(brsp_set(&m, &state));
 }
 
 static void go_on(void)
 {
-    take(rsp_write(&m, 4, 0x2a8d)); /* clears halted, broke, the interrupt, single step and three signals */
-    take(rsp_set_pc(&m, 4 * below(WORDS)));
+    take(brsp_write(&m, 4, 0x2a8d)); /* clears halted, broke, the interrupt, single step and three signals */
+    take(brsp_set_pc(&m, 4 * below(WORDS)));
 }
 
 static void transfer(void)
 {
     uint32_t len, count, skip, number;
-    take(rsp_write(&m, 0, word() & 0x1ff8));
-    take(rsp_write(&m, 1, word() & 0x7ff8));
+    take(brsp_write(&m, 0, word() & 0x1ff8));
+    take(brsp_write(&m, 1, word() & 0x7ff8));
     /* One number after the other: C doesn't say in which order operands and arguments are evaluated. */
     len = below(512), count = below(4), skip = below(64), number = 2 + below(2);
-    take(rsp_write(&m, number, len | count << 12 | skip << 20));
+    take(brsp_write(&m, number, len | count << 12 | skip << 20));
 }
 
 static void texts(void)
 {
-    static rsp_line lines[64];
+    static brsp_line lines[64];
     static char text[64 * 72];
     uint32_t words[64];
-    rsp_assembled out = { 0, 0, 0 };
+    brsp_assembled out = { 0, 0, 0 };
     size_t len = 0, n;
-    take(rsp_listing(&m, 4 * below(WORDS - 64), lines, 64));
+    take(brsp_listing(&m, 4 * below(WORDS - 64), lines, 64));
     for (n = 0; n < 64; n++) {
         memcpy(text + len, lines[n].text, lines[n].len);
         len += lines[n].len;
         text[len++] = '\n';
     }
     take_bytes(lines, sizeof lines);
-    take(rsp_assemble(lines[0].place, (const uint8_t *)text, len, words, 64, &out));
+    take(brsp_assemble(lines[0].place, (const uint8_t *)text, len, words, 64, &out));
     take(out.count), take(out.line), take(out.fault);
     take_bytes(words, 4 * out.count);
 }
 
 static void copied(void)
 {
-    rsp copy = RSP_NONE;
-    take(rsp_copy(&copy, &m));
-    rsp_free(&m);
+    brsp_machine copy = BRSP_NONE;
+    take(brsp_copy(&copy, &m));
+    brsp_free(&m);
     m = copy;
 }
 
@@ -176,15 +176,15 @@ static void between(void)
     uint32_t value = 0, first = below(4096), second = word();
     size_t number = 0;
     switch (below(64)) {
-    case 0: case 1: case 2: case 3: take(rsp_back(&m, 1 + below(20))); break;
-    case 4: take(rsp_add_watch(&m, first, 1 + second % 64, &number)), take(number); break;
-    case 5: take(rsp_drop_watch(&m, below(8))); break;
-    case 6: take(rsp_add_break(&m, 4 * below(WORDS))); break;
-    case 7: take(rsp_drop_break(&m, 4 * below(WORDS))); break;
+    case 0: case 1: case 2: case 3: take(brsp_back(&m, 1 + below(20))); break;
+    case 4: take(brsp_add_watch(&m, first, 1 + second % 64, &number)), take(number); break;
+    case 5: take(brsp_drop_watch(&m, below(8))); break;
+    case 6: take(brsp_add_break(&m, 4 * below(WORDS))); break;
+    case 7: take(brsp_drop_break(&m, 4 * below(WORDS))); break;
     case 8: case 9: transfer(); break;
-    case 10: take(rsp_read(&m, below(16), &value)), take(value); break;
-    case 11: take(rsp_write(&m, 4 + first % 12, second)); break;
-    case 12: case 13: case 14: case 15: case 16: case 17: take(rsp_set_pc(&m, 4 * below(WORDS))); break;
+    case 10: take(brsp_read(&m, below(16), &value)), take(value); break;
+    case 11: take(brsp_write(&m, 4 + first % 12, second)); break;
+    case 12: case 13: case 14: case 15: case 16: case 17: take(brsp_set_pc(&m, 4 * below(WORDS))); break;
     case 18: if (!below(20)) texts(); break;
     case 19: if (!below(20)) copied(); break;
     default: break;
@@ -194,40 +194,40 @@ static void between(void)
 /* At most `n` steps by one of the calls that make them. How many were made. */
 static uint32_t steps(uint32_t n)
 {
-    rsp_stop stop = { 0, 0, 0, 0, 0 };
-    rsp_move move;
-    uint32_t k, status = RSP_OK, reads = word() >> 16, writes = word() >> 16;
+    brsp_stop stop = { 0, 0, 0, 0, 0 };
+    brsp_move move;
+    uint32_t k, status = BRSP_OK, reads = word() >> 16, writes = word() >> 16;
     switch (below(4)) {
-    case 0: take(rsp_run(&m, n, &stop)); break;
+    case 0: take(brsp_run(&m, n, &stop)); break;
     case 1:
-        take(rsp_trace(&m, entries, n, &stop));
+        take(brsp_trace(&m, entries, n, &stop));
         take_bytes(entries, stop.steps * sizeof *entries);
         for (k = 0; k < stop.steps && k < 8; k++) keep_name(entries[k].word);
         break;
     case 2:
-        for (k = 0; k < n && (status = rsp_step(&m)) == RSP_OK; k++) { }
-        stop.steps = k, stop.reason = status == RSP_HALTED ? RSP_AT_HALT : status == RSP_RESERVED ? RSP_AT_RESERVED : RSP_AT_LIMIT;
+        for (k = 0; k < n && (status = brsp_step(&m)) == BRSP_OK; k++) { }
+        stop.steps = k, stop.reason = status == BRSP_HALTED ? BRSP_AT_HALT : status == BRSP_RESERVED ? BRSP_AT_RESERVED : BRSP_AT_LIMIT;
         break;
     default:
-        take(rsp_run_until_move(&m, n, reads, writes, &move));
+        take(brsp_run_until_move(&m, n, reads, writes, &move));
         stop = move.stop;
         take(move.word), take(move.number), take(move.writes), take(move.value);
-        if (stop.reason == RSP_AT_MOVE) take(rsp_pass(&m, word()));
+        if (stop.reason == BRSP_AT_MOVE) take(brsp_pass(&m, word()));
     }
     take_stop(&stop);
-    if (stop.reason == RSP_AT_HALT || stop.reason == RSP_AT_RESERVED) go_on();
+    if (stop.reason == BRSP_AT_HALT || stop.reason == BRSP_AT_RESERVED) go_on();
     return stop.steps;
 }
 
 static void look(unsigned long made)
 {
     static uint8_t bytes[IMAGE];
-    rsp_state state;
-    take(rsp_get(&m, &state));
+    brsp_state state;
+    take(brsp_get(&m, &state));
     take_bytes(&state, sizeof state);
-    take(rsp_memory(&m, RSP_DMEM, 0, bytes, 4096)), take_bytes(bytes, 4096);
-    take(rsp_memory(&m, RSP_IMEM, 0, bytes, 4096)), take_bytes(bytes, 4096);
-    take(rsp_memory(&m, RSP_RDRAM, 0, bytes, IMAGE)), take_bytes(bytes, IMAGE);
+    take(brsp_memory(&m, BRSP_DMEM, 0, bytes, 4096)), take_bytes(bytes, 4096);
+    take(brsp_memory(&m, BRSP_IMEM, 0, bytes, 4096)), take_bytes(bytes, 4096);
+    take(brsp_memory(&m, BRSP_RDRAM, 0, bytes, IMAGE)), take_bytes(bytes, IMAGE);
     printf("%lu %08x%08x\n", made, (unsigned)(digest >> 32), (unsigned)digest);
 }
 
@@ -242,7 +242,7 @@ int main(int argc, char **argv)
     chance = (strtoul(argv[1], NULL, 10) + 1) * 0x9e3779b97f4a7c15u;
     limit = strtoul(argv[2], NULL, 10);
     for (n = 0; n < IMAGE; n++) image[n] = (uint8_t)word();
-    if (rsp_new(&m, image, IMAGE, DEPTH) != RSP_OK) return 1;
+    if (brsp_new(&m, image, IMAGE, DEPTH) != BRSP_OK) return 1;
     for (n = 0; n < 8; n++) renew();
     while (made < limit) {
         uint32_t left = EVERY;
@@ -256,6 +256,6 @@ int main(int argc, char **argv)
     qsort(names, NAMES, sizeof *names, by_name);
     for (n = 0; n < NAMES; n++) if (names[n][0]) printf("%s ", names[n]);
     printf("\n");
-    rsp_free(&m);
+    brsp_free(&m);
     return 0;
 }

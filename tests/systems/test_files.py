@@ -46,15 +46,15 @@ def test_macos(made: Path, folder: Path) -> None:
 
 @of("linux-aarch64")
 def test_linux(made: Path) -> None:
-    """The libraries show the calls of rsp.h alone."""
-    calls, library = {*header.calls()}, made / f"lib/librsp.so.{header.interface()}"
+    """The libraries show the calls of brsp.h alone."""
+    calls, library = {*header.calls()}, made / f"lib/libbrsp.so.{header.interface()}"
     assert shown("-D", "--defined-only", library) == calls
-    assert shown("-g", "--defined-only", made / "lib/librsp.a") == calls
+    assert shown("-g", "--defined-only", made / "lib/libbrsp.a") == calls
     assert f"[{library.name}]" in llvm("llvm-readobj", "--dynamic-table", library)
 
 
 @of("linux-aarch64")
-@pytest.mark.parametrize("name", (f"lib/librsp.so.{header.interface()}", "bin/rsp"))
+@pytest.mark.parametrize("name", (f"lib/libbrsp.so.{header.interface()}", "bin/rsp"))
 def test_linux_needs(made: Path, name: str) -> None:
     """A library or a program needs glibc alone, and no newer one than 2.17."""
     wants = "\n".join(shown("-D", "--undefined-only", made / name))

@@ -26,9 +26,9 @@ CALLS = {*header.calls()}
 WINDOWS = "x86_64-w64-mingw32-gcc"
 # What the library takes of the C library, and for each compiler how it grows the stack.
 TAKEN = {"free", "malloc", "memcpy", "memmove", "memset", "realloc"}
-STATIC = {"librsp.a": TAKEN | {"___chkstk_ms"}, "rsp_static.lib": TAKEN | {"__chkstk"}}
+STATIC = {"libbrsp.a": TAKEN | {"___chkstk_ms"}, "brsp_static.lib": TAKEN | {"__chkstk"}}
 NEEDED = {
-    "rsp.dll": ["KERNEL32.dll", "msvcrt.dll"],
+    "brsp.dll": ["KERNEL32.dll", "msvcrt.dll"],
     "rsp.exe": [
         "ADVAPI32.dll",
         "KERNEL32.dll",
@@ -36,11 +36,11 @@ NEEDED = {
     ],  # the first gives the stack protector its number
 }
 # These call nothing, and take no room on the stack.
-FRAMELESS = {"rsp_state_fault", "rsp_version"}
+FRAMELESS = {"brsp_state_fault", "brsp_version"}
 
 
 def uses_library(program: Path) -> bool:
-    return "rsp.dll" in llvm("llvm-readobj", "--needed-libs", program)
+    return "brsp.dll" in llvm("llvm-readobj", "--needed-libs", program)
 
 
 def framed(library: Path) -> Set[str]:
@@ -104,7 +104,7 @@ def test_manifest(made: Path) -> None:
 def test_pkg_config(runner: Any) -> None:
     """As in a shell of MSYS2: shared, and static by the word of the linker."""
     where = {**os.environ, "PKG_CONFIG_PATH": f"{runner.folder}/lib/pkgconfig"}
-    found = succeeds("pkg-config", "--cflags", "--libs", "rsp", env=where).split()
+    found = succeeds("pkg-config", "--cflags", "--libs", "brsp", env=where).split()
     shutil.copy(runner.folder / runner.dll, runner.at)
     for words, is_shared in ((), True), (("-static",), False):
         made = runner.compile(EXAMPLE, *words, name=f"pkg-config {is_shared}", library=found)
@@ -113,9 +113,9 @@ def test_pkg_config(runner: Any) -> None:
 
 @of("windows-x86_64")
 def test_shared(made: Path) -> None:
-    read = llvm("llvm-readobj", "--coff-exports", made / "bin/rsp.dll")
+    read = llvm("llvm-readobj", "--coff-exports", made / "bin/brsp.dll")
     assert sorted(re.findall(r"(?m)^ *Name:? (.*)$", read[read.index("Export {") :])) == sorted(CALLS)
-    for name in ("librsp.dll.a", "rsp.lib"):
+    for name in ("libbrsp.dll.a", "brsp.lib"):
         found = llvm("llvm-nm", "--defined-only", made / "lib" / name)
         assert {*re.findall(r"(?m)^rsp\.dll:\n\d+ T __imp_(\w+)\n\d+ T \1$", found)} == CALLS, name
 
@@ -141,12 +141,12 @@ def test_unchanged_module(made: Path, folder: Path) -> None:
 
 
 @on("windows-x86_64")
-@pytest.mark.parametrize("library", ("rsp.lib", "rsp_static.lib"))
+@pytest.mark.parametrize("library", ("brsp.lib", "brsp_static.lib"))
 def test_msvc(runner: Any, library: str) -> None:
     program = runner.at / f"{Path(library).stem}.exe"
     link_for_msvc(program, TESTS / "library/c/calls.c", runner.folder, library, runner.compiler)
-    assert uses_library(program) == (library == "rsp.lib")
-    shutil.copy(runner.folder / "bin/rsp.dll", runner.at)
+    assert uses_library(program) == (library == "brsp.lib")
+    shutil.copy(runner.folder / "bin/brsp.dll", runner.at)
     runner.passes(program)
 
 

@@ -2,12 +2,12 @@
 
 library/c/build builds it first, if it isn't built. It fails at the first file that can't be written.
 
-  PREFIX/include/rsp.h             and rsp.hpp, a class for C++17
-  PREFIX/include/rsp_compare.h     the first difference from another emulator
-  PREFIX/lib/librsp.so.1           and librsp.so, a link to it
-  PREFIX/lib/librsp.a
-  PREFIX/lib/pkgconfig/rsp.pc      for cc my.c $(pkg-config --cflags --libs rsp)
-  PREFIX/lib/cmake/rsp/            for find_package(rsp): the targets rsp::rsp and rsp::rsp_static
+  PREFIX/include/brsp.h             and brsp.hpp, a class for C++17
+  PREFIX/include/brsp_compare.h     the first difference from another emulator
+  PREFIX/lib/libbrsp.so.1           and libbrsp.so, a link to it
+  PREFIX/lib/libbrsp.a
+  PREFIX/lib/pkgconfig/brsp.pc      for cc my.c $(pkg-config --cflags --libs brsp)
+  PREFIX/lib/cmake/brsp/            for find_package(brsp): the targets brsp::brsp and brsp::brsp_static
   PREFIX/share/man/man1/rsp.1
   PREFIX/share/bash-completion/completions/rsp, zsh/site-functions/_rsp, fish/vendor_completions.d/rsp.fish
   PREFIX/bin/rsp                   if ./rsp has built the program

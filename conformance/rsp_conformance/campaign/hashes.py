@@ -14,9 +14,9 @@ from rsp_conformance import HERE, TOP
 from . import CampaignFault, words_of
 
 SOURCES = HERE / "campaigns"
-HEADER = TOP / "library/c/rsp.h"
+HEADER = TOP / "library/c/brsp.h"
 # The library of a release archive, else that of the repository.
-LIBRARY = next((it for it in [TOP / "lib/librsp.a"] if it.is_file()), TOP / "library/c/librsp.a")
+LIBRARY = next((it for it in [TOP / "lib/libbrsp.a"] if it.is_file()), TOP / "library/c/libbrsp.a")
 
 
 def find_module(name: str) -> Optional[ModuleSpec]:

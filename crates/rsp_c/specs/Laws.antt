@@ -6,7 +6,7 @@ use Rattle.rsp_c.specs.declared.c_structs.RspState.{RspState}
 use Rattle.rsp_c.specs.States.{c_state, registers_from_c}
 use Rattle.rsp_c.specs.Faults.{state_fault}
 
--- The registers of a machine, as rsp_get gives them, have no fault, and set again in it they leave it.
+-- The registers of a machine, as brsp_get gives them, have no fault, and set again in it they leave it.
 abbrev pub SetAsGot : Type 0
 SetAsGot = (s : State) → IsState s
     → (state_fault (c_state (registers_of s) s.sp) ≡ 0)
@@ -28,7 +28,7 @@ pub record IsRspState (g : RspState) : Type 0 where
   pub extra : g.flags.extra < 256
   pub sp : length g.sp ≡ 16
 
--- A state without a fault, set in a machine, is what rsp_get then gives, with 0 for `zero`.
+-- A state without a fault, set in a machine, is what brsp_get then gives, with 0 for `zero`.
 abbrev pub GotAsSet : Type 0
 GotAsSet = (g : RspState) (s : State) → IsRspState g → state_fault g ≡ 0
     → c_state (registers_of (with_registers (registers_from_c g) s)) (with_registers (registers_from_c g) s).sp ≡ record g { zero = 0 }

@@ -1,4 +1,4 @@
--- The numbers of rsp.h: those of the statuses, and how many bytes a buffer for replies needs. Definitions and clauses name them as the code does.
+-- The numbers of brsp.h: those of the statuses, and how many bytes a buffer for replies needs. Definitions and clauses name them as the code does.
 use Rattle.std.specs.Prelude.{◌≡◌}
 use Rattle.rsp_c.specs.declared.status.TheConstants.{OK, NO_MACHINE, NO_MEMORY, OUT_OF_RANGE, HALTED, RESERVED, NO_MEANING, TASK_PLACE, TASK_SIZE, BREAK_FULL, BREAK_TWICE, NO_BREAK, WATCH_FULL, NO_WATCH, SHORT_HISTORY, NO_ROOM, ENDED, TOO_LONG}
 use Rattle.rsp_c.specs.declared.script.TheConstants.{REPLIES}

@@ -1,4 +1,4 @@
-// The structs of `library/c/rsp.h`.
+// The structs of `library/c/brsp.h`.
 
 /// Where a run stopped.
 #[repr(C)]

@@ -77,9 +77,9 @@ fn changes_by(pc: u16, word: u32, writes: Writes, debugger: &Debugger<PlaneAcc>)
     }
 }
 
-/// Makes one step, as `rsp_step` does, and reports what it changed. Nothing is reported if the machine can't.
+/// Makes one step, as `brsp_step` does, and reports what it changed. Nothing is reported if the machine can't.
 #[unsafe(no_mangle)]
-pub extern "C" fn rsp_step_changes(handle: &mut Handle, alloc: Global, out: &mut RspChanges) -> u32
+pub extern "C" fn brsp_step_changes(handle: &mut Handle, alloc: Global, out: &mut RspChanges) -> u32
     ensures answer { result ≡ status_of (λ d. step_status (step_of d.state).0) handle.old.debugger }
     ensures next { handle.new.debugger ≡ option_map after_debugger_step handle.old.debugger }
     ensures changes { IsFilled result (λ d. c_changes d.state (step_of d.state).1) handle.old.debugger out.old out.new }

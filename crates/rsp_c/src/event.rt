@@ -69,10 +69,10 @@ fn c_reached<A: Acc>(end: MoveEnd, machine: &Machine<A>) -> RspReached
     }
 }
 
-/// Runs as `rsp_run_until_move` does, also up to each DMA, and reports what is next. A move or a DMA is reported only if fewer than `n`
+/// Runs as `brsp_run_until_move` does, also up to each DMA, and reports what is next. A move or a DMA is reported only if fewer than `n`
 /// steps are made: if all are, the end is at the limit. So passing over it is one of the `n` steps too.
 #[unsafe(no_mangle)]
-pub extern "C" fn rsp_event(
+pub extern "C" fn brsp_event(
     handle: &mut Handle,
     alloc: Global,
     n: u32,
@@ -100,7 +100,7 @@ pub extern "C" fn rsp_event(
 /// Passes over the DMA at pc, whose bytes the host then moves, and empties the history. All is as after a step, the SP registers too, but
 /// the memories stay. HALTED if the machine is halted, OUT_OF_RANGE if the word at pc starts no DMA.
 #[unsafe(no_mangle)]
-pub extern "C" fn rsp_pass_dma(handle: &mut Handle, alloc: Global) -> u32
+pub extern "C" fn brsp_pass_dma(handle: &mut Handle, alloc: Global) -> u32
     ensures answer { result ≡ status_of (λ d. pass_status (pass_dma_of d.state)) handle.old.debugger }
     ensures next { IfSome handle.old.debugger (λ d. IfOk (pass_dma_of d.state) (λ s. handle.new.debugger ≡ Some (set_by_host s d))) }
     ensures same { (result ≡ OK → ⊥) → handle.new.debugger ≡ handle.old.debugger }

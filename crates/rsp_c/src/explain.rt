@@ -23,7 +23,7 @@ pub struct RspOperand {
     pub high: i64,
     /// Its number in its line, from 1; 0 if the text isn't refused for an operand.
     pub number: usize,
-    /// What the statement takes there: an `RSP_OPERAND_` of `rsp.h`.
+    /// What the statement takes there: an `BRSP_OPERAND_` of `brsp.h`.
     pub kind: u32,
     /// If it has a range, each number is a multiple of this; else 0.
     pub step: u32,
@@ -86,10 +86,10 @@ fn operand_of(found: Option<FaultyOperand>) -> RspOperand
     }
 }
 
-/// The operand for which `rsp_assemble` refuses a text, and what it may be. NO_MEANING if the text isn't UTF-8, NO_MEMORY if an
+/// The operand for which `brsp_assemble` refuses a text, and what it may be. NO_MEANING if the text isn't UTF-8, NO_MEMORY if an
 /// allocation failed: no line up to one with a label has a fault that is found without the other lines' labels.
 #[unsafe(no_mangle)]
-pub extern "C" fn rsp_explain(alloc: Global, origin: u32, text: &[u8], out: &mut RspOperand) -> u32
+pub extern "C" fn brsp_explain(alloc: Global, origin: u32, text: &[u8], out: &mut RspOperand) -> u32
     ensures range { (result ≡ OUT_OF_RANGE) ↔ ((4096 < origin) ⊎ ¬ (origin % 4 ≡ 0)) }
     ensures value { result ≡ OK → out.new ≡ c_operand (explanation origin (lines text.now)) }
     ensures no_text { ¬ (IsUtf8 text.now) → (result ≡ OUT_OF_RANGE) ⊎ (result ≡ NO_MEANING) }

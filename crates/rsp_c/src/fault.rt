@@ -83,9 +83,9 @@ pub fn state_fault(state: &RspState) -> u32
     }
 }
 
-/// Which field of a state no machine can have: `out` gets the number of the first one, and 0 if `rsp_set` takes the state. Always OK.
+/// Which field of a state no machine can have: `out` gets the number of the first one, and 0 if `brsp_set` takes the state. Always OK.
 #[unsafe(no_mangle)]
-pub extern "C" fn rsp_state_fault(state: &RspState, out: &mut u32) -> u32
+pub extern "C" fn brsp_state_fault(state: &RspState, out: &mut u32) -> u32
     ensures ok { result ≡ OK }
     ensures value { out.new ≡ state_fault state.now }
 {

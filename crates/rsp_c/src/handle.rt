@@ -121,7 +121,7 @@ impl Drop for Handle {
     }
 }
 
-/// Owns a bench, or nothing. In C it is `rsp_bench`, a struct of one pointer. An export of a generic struct is refused, so this says again
+/// Owns a bench, or nothing. In C it is `brsp_session`, a struct of one pointer. An export of a generic struct is refused, so this says again
 /// what [`Handle`] says of a debugger.
 #[repr(C)]
 pub struct BenchHandle {

@@ -14,10 +14,10 @@ use std::str;
 
 /// The labels of a text in UTF-8 with their addresses, in the order of their lines; the first word is for the address `origin`, a multiple of
 /// 4 up to 4096. `count` gets how many they are, also with NO_ROOM, if they are more than the buffer has. NO_MEANING if the text isn't UTF-8
-/// or has a fault, which `rsp_assemble` reports. NO_MEMORY if an allocation failed: the text has no fault,
+/// or has a fault, which `brsp_assemble` reports. NO_MEMORY if an allocation failed: the text has no fault,
 /// or no line up to one with a label has a fault that is found without the other lines' labels.
 #[unsafe(no_mangle)]
-pub extern "C" fn rsp_labels(
+pub extern "C" fn brsp_labels(
     alloc: Global,
     origin: u32,
     text: &[u8],

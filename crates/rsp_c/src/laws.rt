@@ -4,22 +4,22 @@ ghost use Rattle.rsp_c.specs.Statuses.{AreNumbers};
 ghost use Rattle.rsp_c.specs.Changes.{ChangesShowStores};
 ghost use Rattle.rsp_c.specs.Laws.{SetAsGot, GotAsSet};
 
-/// What `rsp_get` gives, `rsp_set` takes, and the machine stays as it is.
+/// What `brsp_get` gives, `brsp_set` takes, and the machine stays as it is.
 pub fn set_as_got()
     ensures { SetAsGot }
 {}
 
-/// What `rsp_set` takes, `rsp_get` then gives, with 0 for `zero`.
+/// What `brsp_set` takes, `brsp_get` then gives, with 0 for `zero`.
 pub fn got_as_set()
     ensures { GotAsSet }
 {}
 
-/// The statuses and the length of a buffer for replies have the numbers of `rsp.h`.
+/// The statuses and the length of a buffer for replies have the numbers of `brsp.h`.
 pub fn numbers()
     ensures { AreNumbers }
 {}
 
-/// What `rsp_step_changes` reports of a store has all that the store wrote: two quadwords of DMEM after the step, and the step
+/// What `brsp_step_changes` reports of a store has all that the store wrote: two quadwords of DMEM after the step, and the step
 /// leaves all other bytes.
 #[tactic(auto, using(crate::proofs::Stores::stores_shown))]
 pub fn changes_show_stores()

@@ -1,6 +1,6 @@
 //! The library for C: a handle that C keeps, and calls that return a status for any arguments.
 //!
-//! `library/c/rsp.h` is the header, and states the preconditions. The modules are by topic: a machine's life, its steps and its stops, whole states
+//! `library/c/brsp.h` is the header, and states the preconditions. The modules are by topic: a machine's life, its steps and its stops, whole states
 //! and parts of them, memories, SP registers, texts, and scripts.
 #![tactic(auto)]
 

@@ -45,7 +45,7 @@ pub fn bytes_of<A: Acc>(machine: &Machine<A>, bank: Bank, a: u32, n: usize) -> O
 
 /// Writes bytes to a bank from an address on, and empties the history.
 #[unsafe(no_mangle)]
-pub extern "C" fn rsp_load(
+pub extern "C" fn brsp_load(
     handle: &mut Handle,
     alloc: Global,
     number: u32,
@@ -80,7 +80,7 @@ fn copy(from: &[u8], to: &mut [u8])
 
 /// Reads bytes of a bank from an address on, as many as the buffer has.
 #[unsafe(no_mangle)]
-pub extern "C" fn rsp_memory(
+pub extern "C" fn brsp_memory(
     handle: &mut Handle,
     alloc: Global,
     number: u32,
@@ -127,7 +127,7 @@ fn read_words(machine: &Machine<PlaneAcc>, bank: Bank, address: u32, words: &mut
 
 /// Writes words to a bank from an address on, and empties the history.
 #[unsafe(no_mangle)]
-pub extern "C" fn rsp_load_words(
+pub extern "C" fn brsp_load_words(
     handle: &mut Handle,
     alloc: Global,
     number: u32,
@@ -151,7 +151,7 @@ pub extern "C" fn rsp_load_words(
 
 /// Reads words of a bank from an address on, as many as the buffer has.
 #[unsafe(no_mangle)]
-pub extern "C" fn rsp_memory_words(
+pub extern "C" fn brsp_memory_words(
     handle: &mut Handle,
     alloc: Global,
     number: u32,

@@ -44,7 +44,7 @@ fn new_bench(alloc: Global, image: &[u8]) -> Result<Box<HeldBench, Global>, Allo
 /// Makes a bench whose machine has a copy of an image of the RDRAM, 64 to 8388608 bytes and a multiple of 8. What the handle held is
 /// freed. OUT_OF_RANGE for another length, before anything is copied.
 #[unsafe(no_mangle)]
-pub extern "C" fn rsp_bench_new(handle: &mut BenchHandle, alloc: Global, image: &[u8]) -> u32
+pub extern "C" fn brsp_session_new(handle: &mut BenchHandle, alloc: Global, image: &[u8]) -> u32
     ensures ok { result ≡ OK → handle.new.bench ≡ Some (first_bench image.now) }
     ensures range { (result ≡ OUT_OF_RANGE) ↔ (¬ (IsImageLength (length image.now))) }
     ensures answer { (result ≡ OK) ⊎ (result ≡ NO_MEMORY) ⊎ (result ≡ OUT_OF_RANGE) }
@@ -68,7 +68,7 @@ pub extern "C" fn rsp_bench_new(handle: &mut BenchHandle, alloc: Global, image: 
 /// ENDED after the end of input, NO_MEMORY if an allocation failed. TOO_LONG if 1048576 bytes were taken and these are more: then the
 /// bench takes nothing more.
 #[unsafe(no_mangle)]
-pub extern "C" fn rsp_bench_take(
+pub extern "C" fn brsp_session_take(
     handle: &mut BenchHandle,
     alloc: Global,
     bytes: &[u8],
@@ -126,9 +126,9 @@ fn put_both(first: &[u8], second: &[u8], out: &mut [u8]) -> usize
 }
 
 /// Meets the end of input: `reply` gets the reply to the line that no LF ended, if it has any bytes, and the fault of a block that is
-/// still open, and `written` the length of both. It refuses as rsp_bench_take does.
+/// still open, and `written` the length of both. It refuses as brsp_session_take does.
 #[unsafe(no_mangle)]
-pub extern "C" fn rsp_bench_end(
+pub extern "C" fn brsp_session_end(
     handle: &mut BenchHandle,
     alloc: Global,
     reply: &mut [u8],
@@ -165,7 +165,7 @@ pub extern "C" fn rsp_bench_end(
 
 /// Reads bytes of a bank of the bench's machine from an address on, as many as the buffer has.
 #[unsafe(no_mangle)]
-pub extern "C" fn rsp_bench_memory(
+pub extern "C" fn brsp_session_memory(
     handle: &mut BenchHandle,
     alloc: Global,
     number: u32,
@@ -191,7 +191,7 @@ pub extern "C" fn rsp_bench_memory(
 
 /// Frees the bench, if the handle holds one. It holds none afterwards.
 #[unsafe(no_mangle)]
-pub extern "C" fn rsp_bench_free(handle: &mut BenchHandle, alloc: Global)
+pub extern "C" fn brsp_session_free(handle: &mut BenchHandle, alloc: Global)
     ensures { handle.new.bench ≡ None }
 {
     drop(handle.take(alloc));

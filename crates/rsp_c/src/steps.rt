@@ -18,7 +18,7 @@ use std::alloc::Global;
 
 /// Makes one step. HALTED or RESERVED if the machine can't, and then nothing changes.
 #[unsafe(no_mangle)]
-pub extern "C" fn rsp_step(handle: &mut Handle, alloc: Global) -> u32
+pub extern "C" fn brsp_step(handle: &mut Handle, alloc: Global) -> u32
     ensures answer { result ≡ status_of (λ d. step_status (step_of d.state).0) handle.old.debugger }
     ensures next { handle.new.debugger ≡ option_map after_debugger_step handle.old.debugger }
 {
@@ -29,7 +29,7 @@ pub extern "C" fn rsp_step(handle: &mut Handle, alloc: Global) -> u32
 
 /// Makes steps up to a breakpoint, a watch, a halt, a reserved word, or `n` of them, 1 to 1000000, and reports where it stopped.
 #[unsafe(no_mangle)]
-pub extern "C" fn rsp_run(handle: &mut Handle, alloc: Global, n: u32, out: &mut RspStop) -> u32
+pub extern "C" fn brsp_run(handle: &mut Handle, alloc: Global, n: u32, out: &mut RspStop) -> u32
     ensures range { IsDoneIf (λ d. (1 ≤ n) × (n ≤ 1000000)) handle.old.debugger result }
     ensures stop { IsFilled result (λ d. c_stop (stop_in n d) (after_run n d).state.imem) handle.old.debugger out.old out.new }
     ensures next { IsNext result (after_run n) handle.old.debugger handle.new.debugger }
@@ -43,11 +43,11 @@ pub extern "C" fn rsp_run(handle: &mut Handle, alloc: Global, n: u32, out: &mut 
     })
 }
 
-/// Runs as `rsp_run` does, and also ends before an MFC0 whose SP register has its bit in `reads`, or an MTC0 whose register has it in
+/// Runs as `brsp_run` does, and also ends before an MFC0 whose SP register has its bit in `reads`, or an MTC0 whose register has it in
 /// `writes`, also before the first step. Such a move comes before the limit, and after the other reasons. OUT_OF_RANGE unless `n` is 1 to
 /// 1000000 and both masks are below 65536.
 #[unsafe(no_mangle)]
-pub extern "C" fn rsp_run_until_move(
+pub extern "C" fn brsp_run_until_move(
     handle: &mut Handle,
     alloc: Global,
     n: u32,
@@ -71,10 +71,10 @@ pub extern "C" fn rsp_run_until_move(
     })
 }
 
-/// Runs as `rsp_run` does, for as many steps as `out` has entries, and writes the entry of each step; the other entries stay.
+/// Runs as `brsp_run` does, for as many steps as `out` has entries, and writes the entry of each step; the other entries stay.
 /// OUT_OF_RANGE unless there are 1 to 1000000.
 #[unsafe(no_mangle)]
-pub extern "C" fn rsp_trace(
+pub extern "C" fn brsp_trace(
     handle: &mut Handle,
     alloc: Global,
     out: &mut [RspTraced],
@@ -99,7 +99,7 @@ pub extern "C" fn rsp_trace(
 /// Skips the MFC0 or MTC0 at pc, and empties the history: pc and npc advance, and the register of an MFC0 becomes the value. SP registers
 /// stay, but single step halts as after any instruction. HALTED if the machine is halted, OUT_OF_RANGE if another word is at pc.
 #[unsafe(no_mangle)]
-pub extern "C" fn rsp_pass(handle: &mut Handle, alloc: Global, value: u32) -> u32
+pub extern "C" fn brsp_pass(handle: &mut Handle, alloc: Global, value: u32) -> u32
     ensures answer { result ≡ status_of (λ d. pass_status (pass_of value d.state)) handle.old.debugger }
     ensures next { IfSome handle.old.debugger (λ d. IfOk (pass_of value d.state) (λ s. handle.new.debugger ≡ Some (set_by_host s d))) }
     ensures same { (result ≡ OK → ⊥) → handle.new.debugger ≡ handle.old.debugger }
@@ -112,7 +112,7 @@ pub extern "C" fn rsp_pass(handle: &mut Handle, alloc: Global, value: u32) -> u3
 
 /// Undoes `n` steps, 1 to 1000000. SHORT_HISTORY if the history holds fewer.
 #[unsafe(no_mangle)]
-pub extern "C" fn rsp_back(handle: &mut Handle, alloc: Global, n: u32) -> u32
+pub extern "C" fn brsp_back(handle: &mut Handle, alloc: Global, n: u32) -> u32
     ensures none { IfNone handle.old.debugger (result ≡ NO_MACHINE) }
     ensures count { IfSome handle.old.debugger (λ d. (result ≡ OUT_OF_RANGE) ↔ ((n ≡ 0) ⊎ (1000000 < n))) }
     ensures short { IfSome handle.old.debugger (λ d. (result ≡ SHORT_HISTORY) ↔ ((0 < n) × (n ≤ 1000000) × (length d.past < n))) }
@@ -128,7 +128,7 @@ pub extern "C" fn rsp_back(handle: &mut Handle, alloc: Global, n: u32) -> u32
 
 /// How many states the history has: so many steps can be undone.
 #[unsafe(no_mangle)]
-pub extern "C" fn rsp_history(handle: &mut Handle, alloc: Global, out: &mut usize) -> u32
+pub extern "C" fn brsp_history(handle: &mut Handle, alloc: Global, out: &mut usize) -> u32
     ensures answer { result ≡ status_of (λ _. OK) handle.old.debugger }
     ensures value { IsFilled result (λ d. length d.past) handle.old.debugger out.old out.new }
     ensures same { handle.new.debugger ≡ handle.old.debugger }

@@ -15,7 +15,7 @@ use std::alloc::Global;
 /// Sets a breakpoint at an address of IMEM, a multiple of 4 below 4096. BREAK_TWICE if it has one, else BREAK_FULL if sixteen addresses have
 /// one.
 #[unsafe(no_mangle)]
-pub extern "C" fn rsp_add_break(handle: &mut Handle, alloc: Global, address: u32) -> u32
+pub extern "C" fn brsp_add_break(handle: &mut Handle, alloc: Global, address: u32) -> u32
     ensures answer { result ≡ status_of (λ d. add_break_status address d.breaks) handle.old.debugger }
     ensures next { IsNext result (with_breakpoint address) handle.old.debugger handle.new.debugger }
 {
@@ -29,7 +29,7 @@ pub extern "C" fn rsp_add_break(handle: &mut Handle, alloc: Global, address: u32
 
 /// Removes the breakpoint of an address of IMEM. NO_BREAK if it has none.
 #[unsafe(no_mangle)]
-pub extern "C" fn rsp_drop_break(handle: &mut Handle, alloc: Global, address: u32) -> u32
+pub extern "C" fn brsp_drop_break(handle: &mut Handle, alloc: Global, address: u32) -> u32
     ensures answer { result ≡ status_of (λ d. drop_break_status address d.breaks) handle.old.debugger }
     ensures next { IsNext result (without_breakpoint address) handle.old.debugger handle.new.debugger }
 {
@@ -44,7 +44,7 @@ pub extern "C" fn rsp_drop_break(handle: &mut Handle, alloc: Global, address: u3
 /// Watches `len` bytes of DMEM from an address on, 1 to 64 of them, and gives the watch's number, the lowest that is free. WATCH_FULL if
 /// there are eight watches.
 #[unsafe(no_mangle)]
-pub extern "C" fn rsp_add_watch(
+pub extern "C" fn brsp_add_watch(
     handle: &mut Handle,
     alloc: Global,
     address: u32,
@@ -69,7 +69,7 @@ pub extern "C" fn rsp_add_watch(
 
 /// Removes the watch of a number. NO_WATCH if there is none.
 #[unsafe(no_mangle)]
-pub extern "C" fn rsp_drop_watch(handle: &mut Handle, alloc: Global, number: u32) -> u32
+pub extern "C" fn brsp_drop_watch(handle: &mut Handle, alloc: Global, number: u32) -> u32
     ensures answer { result ≡ status_of (λ d. drop_watch_status number d.watches) handle.old.debugger }
     ensures next { IsNext result (with_watch_dropped number) handle.old.debugger handle.new.debugger }
 {

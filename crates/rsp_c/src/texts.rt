@@ -28,7 +28,7 @@ const NOT_TEXT: u32 = 33;
 /// allocation failed: `out` then has fault 17 and the line of the label that had no memory, and no line up to that one has a fault that is
 /// found without the other lines' labels.
 #[unsafe(no_mangle)]
-pub extern "C" fn rsp_assemble(
+pub extern "C" fn brsp_assemble(
     alloc: Global,
     origin: u32,
     text: &[u8],
@@ -118,7 +118,7 @@ fn line_of(word: u32, address: u16) -> RspLine
 
 /// Disassembles a word for an address of IMEM, a multiple of 4 below 4096. The text has at most 64 bytes, and a zero after it.
 #[unsafe(no_mangle)]
-pub extern "C" fn rsp_text(word: u32, address: u32, out: &mut RspLine) -> u32
+pub extern "C" fn brsp_text(word: u32, address: u32, out: &mut RspLine) -> u32
     ensures answer { result ≡ address_status address }
     ensures value { result ≡ OK → out.new ≡ c_line word address }
     ensures ended { result ≡ OK → IsEnded out.new }
@@ -147,7 +147,7 @@ fn fill_lines(imem: &SpMem, address: u16, lines: &mut [RspLine])
 /// Disassembles the words of IMEM from an address on, a multiple of 4 below 4096, as many as there are lines for them. Each text has at most
 /// 64 bytes, and a zero after it. OUT_OF_RANGE if the words pass the end of IMEM.
 #[unsafe(no_mangle)]
-pub extern "C" fn rsp_listing(
+pub extern "C" fn brsp_listing(
     handle: &mut Handle,
     alloc: Global,
     address: u32,

@@ -99,20 +99,20 @@ static const char *of_accumulator(const char *text)
     return !strcmp(text, "COP2_ACC_LO") ? "$v0, $v0[2]" : "";
 }
 
-const char *advice_of_operand(const rsp_operand *found, const char *text)
+const char *advice_of_operand(const brsp_operand *found, const char *text)
 {
     if (has_comment(text)) return COMMENT;
     switch (found->kind) {
-    case RSP_OPERAND_SCALAR: return REGISTERS;
-    case RSP_OPERAND_VECTOR:
-    case RSP_OPERAND_VECTOR_ELEMENT: return of_accumulator(text);
-    case RSP_OPERAND_WORD:
-    case RSP_OPERAND_SHIFT:
-    case RSP_OPERAND_IMMEDIATE: return SUM;
-    case RSP_OPERAND_JUMP:
-    case RSP_OPERAND_BRANCH: return of_target(text);
-    case RSP_OPERAND_SCALAR_MEMORY:
-    case RSP_OPERAND_VECTOR_MEMORY: return MEMORY;
+    case BRSP_OPERAND_SCALAR: return REGISTERS;
+    case BRSP_OPERAND_VECTOR:
+    case BRSP_OPERAND_VECTOR_ELEMENT: return of_accumulator(text);
+    case BRSP_OPERAND_WORD:
+    case BRSP_OPERAND_SHIFT:
+    case BRSP_OPERAND_IMMEDIATE: return SUM;
+    case BRSP_OPERAND_JUMP:
+    case BRSP_OPERAND_BRANCH: return of_target(text);
+    case BRSP_OPERAND_SCALAR_MEMORY:
+    case BRSP_OPERAND_VECTOR_MEMORY: return MEMORY;
     default: return "";
     }
 }

@@ -10,11 +10,11 @@ enum { LONGEST_TEXT = 1048576, LONGEST_LINE = TEXT_ROOM - 4, BAD_LINE = 10, UNKN
 /* What may be in the place of an operand that can't be read; where nothing is said, a number. */
 #define VECTOR "a vector register, $v0 to $v31"
 static const char *const forms[] = {
-    [RSP_OPERAND_NOTHING] = "nothing", [RSP_OPERAND_SCALAR] = "a scalar register, $0 to $31 or as $t0, but not $v0 and $v1",
-    [RSP_OPERAND_SP] = "an SP register, $c0 to $c15", [RSP_OPERAND_CONTROL] = "$vco, $vcc or $vce", [RSP_OPERAND_VECTOR] = VECTOR,
-    [RSP_OPERAND_VECTOR_BYTE] = VECTOR ", with a byte, [0] to [15], or none",
-    [RSP_OPERAND_VECTOR_ELEMENT] = VECTOR ", with an element, [v], [0q], [1q], [0h] to [3h] or [0] to [7], or none",
-    [RSP_OPERAND_VECTOR_LANE] = VECTOR ", with a lane, [0] to [7]"
+    [BRSP_OPERAND_NOTHING] = "nothing", [BRSP_OPERAND_SCALAR] = "a scalar register, $0 to $31 or as $t0, but not $v0 and $v1",
+    [BRSP_OPERAND_SP] = "an SP register, $c0 to $c15", [BRSP_OPERAND_CONTROL] = "$vco, $vcc or $vce", [BRSP_OPERAND_VECTOR] = VECTOR,
+    [BRSP_OPERAND_VECTOR_BYTE] = VECTOR ", with a byte, [0] to [15], or none",
+    [BRSP_OPERAND_VECTOR_ELEMENT] = VECTOR ", with an element, [v], [0q], [1q], [0h] to [3h] or [0] to [7], or none",
+    [BRSP_OPERAND_VECTOR_LANE] = VECTOR ", with a lane, [0] to [7]"
 };
 
 /* A source line as the assembler cuts it. */
@@ -120,14 +120,14 @@ static bool get_operand(const statement *it, size_t number, char to[TEXT_ROOM])
 }
 
 /* What may be in the place of an operand: the form of one that can't be read, the range of one that can. */
-static void put_allowed(char *to, size_t room, const rsp_operand *found, uint32_t kind, bool has_halves)
+static void put_allowed(char *to, size_t room, const brsp_operand *found, uint32_t kind, bool has_halves)
 {
     char range[96] = "";
     int n = found->step ? snprintf(range, sizeof range, "%" PRId64 " to %" PRId64, found->low, found->high) : 0;
     if (found->step > 1) snprintf(range + n, sizeof range - (size_t)n, ", a multiple of %u", (unsigned)found->step);
-    bool is_memory = found->kind == RSP_OPERAND_SCALAR_MEMORY || found->kind == RSP_OPERAND_VECTOR_MEMORY;
+    bool is_memory = found->kind == BRSP_OPERAND_SCALAR_MEMORY || found->kind == BRSP_OPERAND_VECTOR_MEMORY;
     const char *form = forms[found->kind] ? forms[found->kind] : "a number or a label, ";
-    if (found->kind == RSP_OPERAND_VECTOR_BYTE && has_halves) form = VECTOR ", with byte [0] or [8] or none";
+    if (found->kind == BRSP_OPERAND_VECTOR_BYTE && has_halves) form = VECTOR ", with byte [0] or [8] or none";
     const char *first = kind == BAD_OPERAND ? form : kind == LABEL_MISSING ? "the label of a line, or " : "";
     snprintf(to, room, "%s%s%s", first, range, kind == BAD_OPERAND && is_memory ? ", and a scalar register in parentheses" : "");
 }
@@ -144,13 +144,13 @@ static void put_without(const statement *it, size_t number, char to[TEXT_ROOM])
 }
 
 /* What to write in place of an operand; "" if there is nothing to say. */
-static void put_written(const statement *it, const rsp_operand *found, uint32_t kind, bool has_halves, char to[TEXT_ROOM])
+static void put_written(const statement *it, const brsp_operand *found, uint32_t kind, bool has_halves, char to[TEXT_ROOM])
 {
     char text[TEXT_ROOM], next[TEXT_ROOM], last[TEXT_ROOM];
     get_operand(it, found->number, text);
     get_operand(it, found->number + 1, next);
     get_operand(it, found->number + 2, last);
-    if (kind == BAD_OPERAND && found->kind == RSP_OPERAND_NOTHING && !has_comment(text)) {
+    if (kind == BAD_OPERAND && found->kind == BRSP_OPERAND_NOTHING && !has_comment(text)) {
         put_without(it, found->number, to);
         return;
     }
@@ -172,13 +172,13 @@ static void refuse_statement(const char *head, span line, uint32_t kind)
 }
 
 /* Ends with the fault of a text and, if it is asked for and there is memory, with what is wrong in its line. */
-static void refuse_text(span text, uint32_t origin, const rsp_assembled *made, bool is_explained)
+static void refuse_text(span text, uint32_t origin, const brsp_assembled *made, bool is_explained)
 {
     unsigned number = (unsigned)made->fault, at = (unsigned)made->line;
-    const char *name = rsp_fault_name(number);
-    rsp_operand found;
+    const char *name = brsp_fault_name(number);
+    brsp_operand found;
     if (!at || number == OUT_OF_MEMORY) fault("fault %u %s", number, name);
-    if (!is_explained || rsp_explain(origin, text.at, text.len, &found) == RSP_NO_MEMORY) fault("fault %u %s line %u", number, name, at);
+    if (!is_explained || brsp_explain(origin, text.at, text.len, &found) == BRSP_NO_MEMORY) fault("fault %u %s line %u", number, name, at);
     span line = { 0 };
     for (size_t i = 0; i < made->line; i++) next_line(&text, &line);
     char shown[TEXT_ROOM], head[TEXT_ROOM + 64], part[TEXT_ROOM], allowed[256], written[TEXT_ROOM];
@@ -207,11 +207,11 @@ void assemble(const request *asked)
     static uint8_t bytes[sizeof words];
     uint32_t origin = origin_of(asked);
     uint8_t *source;
-    rsp_assembled made;
+    brsp_assembled made;
     span text = { .len = read_file(asked->given[SOURCE], LONGEST_TEXT + 1, &source) };
     text.at = source;
     if (text.len > LONGEST_TEXT) refuse_length(asked->given[EXPLAIN]);
-    if (rsp_assemble(origin, source, text.len, words, 1024, &made) != RSP_OK) refuse_text(text, origin, &made, asked->given[EXPLAIN]);
+    if (brsp_assemble(origin, source, text.len, words, 1024, &made) != BRSP_OK) refuse_text(text, origin, &made, asked->given[EXPLAIN]);
     for (size_t i = 0; i < 4 * made.count; i++) bytes[i] = (uint8_t)(words[i / 4] >> (24 - i % 4 * 8));
     save_file(asked->given[OUT], (span){ bytes, 4 * made.count });
     print("ok %u words\n", (unsigned)made.count);

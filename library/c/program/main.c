@@ -15,12 +15,12 @@ static char **escaped_words(char **words)
 
 int work(char **words)
 {
-    rsp_operand found;
+    brsp_operand found;
     if (!__builtin_cpu_supports("sse4.2") || !__builtin_cpu_supports("popcnt"))
         say("this machine lacks a feature of x86-64-v2, which this program was built for: run it on another machine", "\n", ""), exit(LACKING);
     /* A call that reads texts says whether a word is UTF-8. */
     for (char **it = words; *it; it++)
-        if (rsp_explain(0, (const uint8_t *)*it, strlen(*it), &found) == RSP_NO_MEANING) say("error: an argument isn't UTF-8", "\n", ""), exit(REFUSED);
+        if (brsp_explain(0, (const uint8_t *)*it, strlen(*it), &found) == BRSP_NO_MEANING) say("error: an argument isn't UTF-8", "\n", ""), exit(REFUSED);
     words += *words != NULL;
     read_arguments(escaped_words(words)); /* what is refused is named so */
     request asked = read_arguments(words);

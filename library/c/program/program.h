@@ -5,7 +5,7 @@
 #ifndef RSP_PROGRAM_H
 #define RSP_PROGRAM_H
 
-#include "rsp.h"
+#include "brsp.h"
 #include <stdbool.h>
 #include <stdlib.h>
 
@@ -50,14 +50,14 @@ void disassemble(const request *asked);
 /* spelling.c: how an operand that can't be read, or is out of its range, is written here, if its text is one of another assembler's. `after` has the next
  * two operands, "" if the line has fewer; `has_halves` is whether only the bytes 0 and 8 may be there. */
 enum { TEXT_ROOM = 260 };
-bool spell_operand(const rsp_operand *found, const char *text, const char *const after[2], bool has_halves, char to[TEXT_ROOM]);
-bool spell_in_range(const rsp_operand *found, const char *text, char to[TEXT_ROOM]);
+bool spell_operand(const brsp_operand *found, const char *text, const char *const after[2], bool has_halves, char to[TEXT_ROOM]);
+bool spell_in_range(const brsp_operand *found, const char *text, char to[TEXT_ROOM]);
 
 /* advice.c: what to write in place of a statement whose name is unknown, a line that is none, an operand that can't be read; "" if there is nothing to
  * say. */
 const char *advice_of_statement(const char *name, const char *operand);
 const char *advice_of_line(span line);
-const char *advice_of_operand(const rsp_operand *found, const char *text);
+const char *advice_of_operand(const brsp_operand *found, const char *text);
 bool has_comment(const char *text); /* of another assembler */
 
 /* files.c. A path in UTF-8 with its 0 has at most PATH_ROOM bytes on each system. */

@@ -8,8 +8,8 @@ enum { DEFAULT_IMAGE = 4194304, LONGEST_IMAGE = 8388608, LONGEST_SCRIPT = 104857
 /* Ends a run unless the library could answer. */
 static void check(uint32_t status)
 {
-    if (status == RSP_TOO_LONG) fault("fault 42 ScriptTooLong");
-    if (status != RSP_OK) fault("fault 43 OutOfMemory");
+    if (status == BRSP_TOO_LONG) fault("fault 42 ScriptTooLong");
+    if (status != BRSP_OK) fault("fault 43 OutOfMemory");
 }
 
 /* How many replies were faults, and the first of them. */
@@ -28,36 +28,36 @@ static void write_reply(const uint8_t *reply, size_t len, faults *noted)
 }
 
 /* Answers the script piece by piece, each line before the next read. No byte is read after the one that makes it too long. */
-static void answer(rsp_bench *bench, faults *noted)
+static void answer(brsp_session *session, faults *noted)
 {
-    static uint8_t piece[4096], reply[RSP_REPLIES];
+    static uint8_t piece[4096], reply[BRSP_REPLIES];
     size_t left = LONGEST_SCRIPT + 1, used, written;
     for (ptrdiff_t n; (n = read_some(STANDARD_INPUT, piece, left < sizeof piece ? left : sizeof piece)) != 0; left -= (size_t)n) {
         if (n < 0) fault("fault 40 ReadFault");
         for (size_t at = 0; at < (size_t)n; at += used) {
-            check(rsp_bench_take(bench, piece + at, (size_t)n - at, &used, reply, sizeof reply, &written));
+            check(brsp_session_take(session, piece + at, (size_t)n - at, &used, reply, sizeof reply, &written));
             write_reply(reply, written, noted);
         }
     }
-    check(rsp_bench_end(bench, reply, sizeof reply, &written));
+    check(brsp_session_end(session, reply, sizeof reply, &written));
     write_reply(reply, written, noted);
 }
 
 void run(const request *asked)
 {
-    rsp_bench bench = RSP_NONE;
+    brsp_session session = BRSP_NONE;
     uint8_t *image = NULL;
     faults noted = { 0 };
     /* Of a file that is too long one byte more is read. */
     size_t len = asked->given[RDRAM] ? read_file(asked->given[RDRAM], LONGEST_IMAGE + 1, &image) : DEFAULT_IMAGE;
     if (!image) image = calloc(DEFAULT_IMAGE, 1);
     if (!image) fault("fault 17 OutOfMemory");
-    uint32_t made = rsp_bench_new(&bench, image, len);
-    if (made == RSP_OUT_OF_RANGE) fault("fault 7 SizeFault");
+    uint32_t made = brsp_session_new(&session, image, len);
+    if (made == BRSP_OUT_OF_RANGE) fault("fault 7 SizeFault");
     check(made);
-    answer(&bench, &noted);
+    answer(&session, &noted);
     if (asked->given[SAVE]) {
-        rsp_bench_memory(&bench, RSP_RDRAM, 0, image, len);
+        brsp_session_memory(&session, BRSP_RDRAM, 0, image, len);
         save_file(asked->given[SAVE], (span){ image, len });
     }
     if (asked->given[STRICT] && noted.count) fault("faults in replies: %u, the first: %s", noted.count, noted.first);

@@ -179,38 +179,38 @@ static int byte_of(element it, bool has_halves)
     return has_halves && byte % 8 ? -1 : byte;
 }
 
-static bool is_vector(const rsp_operand *found, const char *text, bool has_halves, char to[TEXT_ROOM])
+static bool is_vector(const brsp_operand *found, const char *text, bool has_halves, char to[TEXT_ROOM])
 {
     const char *digits = or_whole("$", text), *rest;
     if (tolower((unsigned char)*digits) != 'v') return false;
     int number = leading_number(digits + 1, &rest), code;
     element it = element_of(rest);
     if (number < 0 || number > 31 || it.how == NO_ELEMENT) return false;
-    if (found->kind == RSP_OPERAND_VECTOR_ELEMENT) {
+    if (found->kind == BRSP_OPERAND_VECTOR_ELEMENT) {
         if ((code = code_of(it)) >= 0) snprintf(to, TEXT_ROOM, "$v%d%s", number, elements[code]);
         return code >= 0;
     }
-    if (found->kind == RSP_OPERAND_VECTOR) {
+    if (found->kind == BRSP_OPERAND_VECTOR) {
         snprintf(to, TEXT_ROOM, "$v%d", number);
         return it.how == WHOLE;
     }
-    code = found->kind == RSP_OPERAND_VECTOR_LANE ? lane_of(it) : byte_of(it, has_halves);
+    code = found->kind == BRSP_OPERAND_VECTOR_LANE ? lane_of(it) : byte_of(it, has_halves);
     if (code >= 0) snprintf(to, TEXT_ROOM, "$v%d[%d]", number, code);
     return code >= 0;
 }
 
-bool spell_operand(const rsp_operand *found, const char *text, const char *const after[2], bool has_halves, char to[TEXT_ROOM])
+bool spell_operand(const brsp_operand *found, const char *text, const char *const after[2], bool has_halves, char to[TEXT_ROOM])
 {
     switch (found->kind) {
-    case RSP_OPERAND_SCALAR: return is_scalar(text, to);
-    case RSP_OPERAND_SCALAR_MEMORY:
-    case RSP_OPERAND_VECTOR_MEMORY: return is_memory(text, after, to);
-    case RSP_OPERAND_SP: return is_sp_register(text, to);
-    case RSP_OPERAND_CONTROL: return is_control(text, to);
-    case RSP_OPERAND_VECTOR:
-    case RSP_OPERAND_VECTOR_BYTE:
-    case RSP_OPERAND_VECTOR_ELEMENT:
-    case RSP_OPERAND_VECTOR_LANE: return is_vector(found, text, has_halves, to);
+    case BRSP_OPERAND_SCALAR: return is_scalar(text, to);
+    case BRSP_OPERAND_SCALAR_MEMORY:
+    case BRSP_OPERAND_VECTOR_MEMORY: return is_memory(text, after, to);
+    case BRSP_OPERAND_SP: return is_sp_register(text, to);
+    case BRSP_OPERAND_CONTROL: return is_control(text, to);
+    case BRSP_OPERAND_VECTOR:
+    case BRSP_OPERAND_VECTOR_BYTE:
+    case BRSP_OPERAND_VECTOR_ELEMENT:
+    case BRSP_OPERAND_VECTOR_LANE: return is_vector(found, text, has_halves, to);
     default: return false;
     }
 }
@@ -225,7 +225,7 @@ static bool is_in_imem(const char *text, char to[TEXT_ROOM])
 }
 
 /* The offset of a vector load or store in bytes, if it is in range as a number of steps. */
-static bool is_in_bytes(const rsp_operand *found, const char *text, char to[TEXT_ROOM])
+static bool is_in_bytes(const brsp_operand *found, const char *text, char to[TEXT_ROOM])
 {
     const char *bracket = strchr(text, '(');
     char *end;
@@ -239,8 +239,8 @@ static bool is_in_bytes(const rsp_operand *found, const char *text, char to[TEXT
     return true;
 }
 
-bool spell_in_range(const rsp_operand *found, const char *text, char to[TEXT_ROOM])
+bool spell_in_range(const brsp_operand *found, const char *text, char to[TEXT_ROOM])
 {
-    bool is_target = found->kind == RSP_OPERAND_JUMP || found->kind == RSP_OPERAND_BRANCH;
-    return is_target ? is_in_imem(text, to) : found->kind == RSP_OPERAND_VECTOR_MEMORY && is_in_bytes(found, text, to);
+    bool is_target = found->kind == BRSP_OPERAND_JUMP || found->kind == BRSP_OPERAND_BRANCH;
+    return is_target ? is_in_imem(text, to) : found->kind == BRSP_OPERAND_VECTOR_MEMORY && is_in_bytes(found, text, to);
 }

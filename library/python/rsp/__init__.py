@@ -1,6 +1,6 @@
 """The Nintendo 64's Reality Signal Processor (RSP): emulator, debugger, assembler and disassembler.
 
-The library that this package calls, librsp, is proved to follow the instruction table. The package is only
+The library that this package calls, libbrsp, is proved to follow the instruction table. The package is only
 tested.
 
     import rsp
@@ -51,7 +51,7 @@ from .errors import FAULTS
 
 __version__ = "1.0.0"
 __all__ = [
-    "DMEM", "FAULTS", "IMEM", "RDRAM", "VERSION", "Accumulators", "AssemblyError", "Bank", "Bench", "Changes",
+    "DMEM", "FAULTS", "IMEM", "RDRAM", "VERSION", "Accumulators", "AssemblyError", "Bank", "Session", "Changes",
     "Difference", "Divider", "Dma", "Emulator", "FirstDifference", "Flags", "Found", "Line", "Move", "Part",
     "Ran", "Reason", "Rsp", "RspError", "Scalars", "ScriptError", "SpWords", "State", "Status", "Stop",
     "Timeline", "Traced", "Words", "assemble", "first_difference", "run_script", "state_fault", "text",
@@ -217,7 +217,7 @@ class Line(NamedTuple):
 
 
 class _Handle(Structure):
-    """The handle of a machine, or of a bench."""
+    """The handle of a machine, or of a session."""
 
     _fields_ = [("at", c_void_p)]
 
@@ -259,7 +259,7 @@ class _Lanes(Structure):
     _fields_ = [("lanes", c_uint16 * 8)]
 
 
-_NAME = {"win32": "rsp.dll", "darwin": "librsp.dylib"}.get(sys.platform, "librsp.so")
+_NAME = {"win32": "brsp.dll", "darwin": "libbrsp.dylib"}.get(sys.platform, "libbrsp.so")
 
 
 def _library() -> str:
@@ -270,7 +270,7 @@ def _library() -> str:
         place = os.path.join(here, folder, _NAME)
         if os.path.exists(place):
             return place
-    text = "the library isn't built: in a clone of rsp, library/c/build makes it, as library/c/librsp.so"
+    text = "the library isn't built: in a clone of rsp, library/c/build makes it, as library/c/libbrsp.so"
     raise ImportError(text)
 
 
@@ -282,40 +282,40 @@ if not getattr(sys, "_is_gil_enabled", lambda: True)():
 # A handle is passed by its address: an integer costs a call less than a pointer does.
 _M, _U, _Z, _B, _W = c_void_p, c_uint32, c_size_t, c_char_p, POINTER(c_uint32)
 _CALLS = {
-    "rsp_version": [], "rsp_new": [_M, _B, _Z, _U], "rsp_copy": [_M, _M],
-    "rsp_get": [_M, POINTER(State)], "rsp_set": [_M, POINTER(State)],
-    "rsp_state_fault": [POINTER(State), _W], "rsp_load": [_M, _U, _U, _B, _Z],
-    "rsp_load_words": [_M, _U, _U, _W, _Z], "rsp_memory": [_M, _U, _U, c_void_p, _Z],
-    "rsp_memory_words": [_M, _U, _U, _W, _Z], "rsp_task": [_M, _U], "rsp_set_pc": [_M, _U],
-    "rsp_step": [_M], "rsp_step_changes": [_M, POINTER(Changes)], "rsp_run": [_M, _U, POINTER(_Stop)],
-    "rsp_back": [_M, _U], "rsp_history": [_M, POINTER(_Z)], "rsp_pass": [_M, _U], "rsp_pass_dma": [_M],
-    "rsp_run_until_move": [_M, _U, _U, _U, POINTER(_Move)],
-    "rsp_event": [_M, _U, _U, _U, POINTER(_Reached)],
-    "rsp_trace": [_M, POINTER(Traced), _Z, POINTER(_Stop)], "rsp_add_break": [_M, _U],
-    "rsp_drop_break": [_M, _U], "rsp_add_watch": [_M, _U, _U, POINTER(_Z)], "rsp_drop_watch": [_M, _U],
-    "rsp_reg": [_M, _U, _W], "rsp_regs": [_M, POINTER(Scalars)], "rsp_vreg": [_M, _U, POINTER(_Lanes)],
-    "rsp_acc": [_M, POINTER(Accumulators)], "rsp_flags": [_M, POINTER(Flags)],
-    "rsp_divider": [_M, POINTER(Divider)], "rsp_read": [_M, _U, _W], "rsp_peek": [_M, _U, _W],
-    "rsp_write": [_M, _U, _U], "rsp_sp": [_M, POINTER(SpWords)], "rsp_set_sp": [_M, POINTER(SpWords)],
-    "rsp_assemble": [_U, _B, _Z, _W, _Z, POINTER(_Assembled)], "rsp_text": [_U, _U, POINTER(_Line)],
-    "rsp_labels": [_U, _B, _Z, POINTER(_Label), _Z, POINTER(_Z)],
-    "rsp_listing": [_M, _U, POINTER(_Line), _Z], "rsp_explain": [_U, _B, _Z, POINTER(_explain.Operand)],
-    "rsp_bench_new": [_M, _B, _Z],
-    "rsp_bench_take": [_M, c_void_p, _Z, c_void_p, c_void_p, _Z, c_void_p],
-    "rsp_bench_end": [_M, c_void_p, _Z, c_void_p],
-    "rsp_bench_memory": [_M, _U, _U, c_void_p, _Z],
+    "brsp_version": [], "brsp_new": [_M, _B, _Z, _U], "brsp_copy": [_M, _M],
+    "brsp_get": [_M, POINTER(State)], "brsp_set": [_M, POINTER(State)],
+    "brsp_state_fault": [POINTER(State), _W], "brsp_load": [_M, _U, _U, _B, _Z],
+    "brsp_load_words": [_M, _U, _U, _W, _Z], "brsp_memory": [_M, _U, _U, c_void_p, _Z],
+    "brsp_memory_words": [_M, _U, _U, _W, _Z], "brsp_task": [_M, _U], "brsp_set_pc": [_M, _U],
+    "brsp_step": [_M], "brsp_step_changes": [_M, POINTER(Changes)], "brsp_run": [_M, _U, POINTER(_Stop)],
+    "brsp_back": [_M, _U], "brsp_history": [_M, POINTER(_Z)], "brsp_pass": [_M, _U], "brsp_pass_dma": [_M],
+    "brsp_run_until_move": [_M, _U, _U, _U, POINTER(_Move)],
+    "brsp_event": [_M, _U, _U, _U, POINTER(_Reached)],
+    "brsp_trace": [_M, POINTER(Traced), _Z, POINTER(_Stop)], "brsp_add_break": [_M, _U],
+    "brsp_drop_break": [_M, _U], "brsp_add_watch": [_M, _U, _U, POINTER(_Z)], "brsp_drop_watch": [_M, _U],
+    "brsp_reg": [_M, _U, _W], "brsp_regs": [_M, POINTER(Scalars)], "brsp_vreg": [_M, _U, POINTER(_Lanes)],
+    "brsp_acc": [_M, POINTER(Accumulators)], "brsp_flags": [_M, POINTER(Flags)],
+    "brsp_divider": [_M, POINTER(Divider)], "brsp_read": [_M, _U, _W], "brsp_peek": [_M, _U, _W],
+    "brsp_write": [_M, _U, _U], "brsp_sp": [_M, POINTER(SpWords)], "brsp_set_sp": [_M, POINTER(SpWords)],
+    "brsp_assemble": [_U, _B, _Z, _W, _Z, POINTER(_Assembled)], "brsp_text": [_U, _U, POINTER(_Line)],
+    "brsp_labels": [_U, _B, _Z, POINTER(_Label), _Z, POINTER(_Z)],
+    "brsp_listing": [_M, _U, POINTER(_Line), _Z], "brsp_explain": [_U, _B, _Z, POINTER(_explain.Operand)],
+    "brsp_session_new": [_M, _B, _Z],
+    "brsp_session_take": [_M, c_void_p, _Z, c_void_p, c_void_p, _Z, c_void_p],
+    "brsp_session_end": [_M, c_void_p, _Z, c_void_p],
+    "brsp_session_memory": [_M, _U, _U, c_void_p, _Z],
 }  # fmt: skip
 for _dll in _lib, _quick:
     for _name, _types in _CALLS.items():
         getattr(_dll, _name).argtypes, getattr(_dll, _name).restype = _types, _U
-    for _name in "rsp_free", "rsp_bench_free":
+    for _name in "brsp_free", "brsp_session_free":
         getattr(_dll, _name).argtypes, getattr(_dll, _name).restype = [_M], None
 
-_ZEROS = bytes(1 << 22)  # a bench's image if none is given; no page of it is written
-_REPLIES, _ROOM = 16384, 65536  # what the library asks for, and what a bench has
+_ZEROS = bytes(1 << 22)  # a session's image if none is given; no page of it is written
+_REPLIES, _ROOM = 16384, 65536  # what the library asks for, and what a session has
 
 VERSION = 1
-_found = _lib.rsp_version()
+_found = _lib.brsp_version()
 if _found != VERSION:
     raise ImportError(f"{_NAME} has version {_found} of the interface, and this module is for {VERSION}")
 
@@ -374,7 +374,7 @@ class Words(List[int]):
         """The address of each label by its name, in the order of the lines."""
         found, count = (_Label * (self._source.count(b"\n") + 1))(), c_size_t()
         raw = self._source
-        status = _lib.rsp_labels(self._origin, raw, len(raw), found, len(found), byref(count))
+        status = _lib.brsp_labels(self._origin, raw, len(raw), found, len(found), byref(count))
         _ok(status, "assemble", [self._origin])
         return {it.name.decode(): it.address for it in found[: count.value]}
 
@@ -388,10 +388,10 @@ def assemble(text: str, origin: int = 0) -> Words:
     if not isinstance(text, str):
         raise TypeError(f"assemble: text is of type {type(text).__name__}, not str")
     raw, words, out = text.encode(), (c_uint32 * 1024)(), _Assembled()
-    status = _lib.rsp_assemble(origin, raw, len(raw), words, 1024, byref(out))
+    status = _lib.brsp_assemble(origin, raw, len(raw), words, 1024, byref(out))
     if status == Status.NO_MEANING:
         found = _explain.Operand()
-        _lib.rsp_explain(origin, raw, len(raw), byref(found))  # without memory for it `found` stays zeros
+        _lib.brsp_explain(origin, raw, len(raw), byref(found))  # without memory for it `found` stays zeros
         raise AssemblyError(
             out.line, out.fault, text.split("\n")[out.line - 1].strip(), _explain.allowed(found, out.fault)
         )
@@ -403,7 +403,7 @@ def text(word: int, place: int = 0) -> str:
     """The disassembly of a word below 2**32 for the address `place`, a multiple of 4 below 4096."""
     word, place = _numbers("text", word, place)
     out = _Line()
-    _ok(_lib.rsp_text(word, place, byref(out)), "text", [word, place])
+    _ok(_lib.brsp_text(word, place, byref(out)), "text", [word, place])
     found: bytes = out.text
     return found.decode()
 
@@ -413,7 +413,7 @@ def state_fault(state: State) -> Optional[str]:
     if not isinstance(state, State):
         raise TypeError(f"state_fault: state is of type {type(state).__name__}, not rsp.State")
     out = c_uint32()
-    _ok(_lib.rsp_state_fault(byref(state), byref(out)))
+    _ok(_lib.brsp_state_fault(byref(state), byref(out)))
     return _FIELDS[out.value] if out.value else None
 
 
@@ -493,15 +493,15 @@ class Rsp(_Owner):
     def __init__(self, image: bytes = bytes(64), depth: int = 0) -> None:
         (depth,) = _numbers("Rsp", depth)
         self._hold()
-        self.image_length = _made("Rsp", _lib.rsp_new, self._handle, image, depth)
+        self.image_length = _made("Rsp", _lib.brsp_new, self._handle, image, depth)
 
     def copy(self) -> "Rsp":
         """A second machine with the same registers and memories. Its history has room for as many states, but
         is empty, and it has no breakpoints and no watches."""
         made = Rsp.__new__(Rsp)
         made._hold()
-        self._see_free("rsp_copy")
-        self._see_done(_quick.rsp_copy(made._at, self._at), "copy")
+        self._see_free("brsp_copy")
+        self._see_done(_quick.brsp_copy(made._at, self._at), "copy")
         made.image_length = self.image_length
         return made
 
@@ -513,7 +513,7 @@ class Rsp(_Owner):
 
     def close(self) -> None:
         """Frees the machine. Any later call is refused with NO_MACHINE."""
-        self._alone("close", _lib.rsp_free)
+        self._alone("close", _lib.brsp_free)
 
     def _call(self, name: str, *given: int) -> None:
         numbers = _numbers(name, *given)
@@ -544,15 +544,15 @@ class Rsp(_Owner):
 
     def get(self) -> State:
         """All registers."""
-        return self._look("rsp_get", unset(State))
+        return self._look("brsp_get", unset(State))
 
     def set(self, state: State) -> None:
         """Sets all registers, and empties the history. The memories stay unchanged. OUT_OF_RANGE for a state
         that no machine can have."""
         if not isinstance(state, State):
             raise TypeError(f"set: state is of type {type(state).__name__}, not rsp.State")
-        self._see_free("rsp_set")
-        status = _quick.rsp_set(self._at, byref(state))
+        self._see_free("brsp_set")
+        status = _quick.brsp_set(self._at, byref(state))
         if status == Status.OUT_OF_RANGE:
             raise RspError(Status(status), f"set: {_in_words.state_fault(state_fault(state) or '', state)}")
         self._see_done(status, "set")
@@ -562,24 +562,24 @@ class Rsp(_Owner):
         are written in this computer's order; `load_words` writes the high byte first."""
         bank, address = _numbers("load", bank, address)
         raw = _in_words.bytes_of("load", "data", data)
-        self._see_free("rsp_load")
-        status = _quick.rsp_load(self._at, bank, address, raw, len(raw))
+        self._see_free("brsp_load")
+        status = _quick.brsp_load(self._at, bank, address, raw, len(raw))
         self._see_done(status, "load", [bank, address])
 
     def load_words(self, bank: int, address: int, words: Iterable[int]) -> None:
         """Writes words below 2**32, the high byte of each first, and empties the history."""
         bank, address = _numbers("load_words", bank, address)
         held = _words("load_words", words)
-        self._see_free("rsp_load_words")
-        status = _quick.rsp_load_words(self._at, bank, address, held, len(held))
+        self._see_free("brsp_load_words")
+        status = _quick.brsp_load_words(self._at, bank, address, held, len(held))
         self._see_done(status, "load_words", [bank, address])
 
     def memory(self, bank: int, address: int, length: int) -> bytes:
         """A copy of `length` bytes of a memory: DMEM and IMEM have 4096, RDRAM as many as the image."""
         numbers = bank, address, length = _numbers("memory", bank, address, length, most=1 << 23)
         out = (ctypes.c_uint8 * length)()
-        self._see_free("rsp_memory")
-        status = _quick.rsp_memory(self._at, bank, address, out, length)
+        self._see_free("brsp_memory")
+        status = _quick.brsp_memory(self._at, bank, address, out, length)
         self._see_done(status, "memory", numbers)
         return bytes(out)
 
@@ -597,25 +597,25 @@ class Rsp(_Owner):
         numbers = bank, address, count = _numbers("memory_words", bank, address, count, most=1 << 21)
         held = array("I", bytes(4 * count))
         out = (c_uint32 * count).from_buffer(held)
-        self._see_free("rsp_memory_words")
-        status = _quick.rsp_memory_words(self._at, bank, address, out, count)
+        self._see_free("brsp_memory_words")
+        status = _quick.brsp_memory_words(self._at, bank, address, out, count)
         self._see_done(status, "memory_words", numbers)
         return held.tolist()
 
     def start_task(self, address: int) -> None:
         """Starts the task whose structure of 64 bytes is at an address of RDRAM, a multiple of 8, and empties
         the history."""
-        self._call("rsp_task", address)
+        self._call("brsp_task", address)
 
     def set_pc(self, pc: int) -> None:
         """Sets pc to an address of IMEM, a multiple of 4 below 4096, and empties the history."""
-        self._call("rsp_set_pc", pc)
+        self._call("brsp_set_pc", pc)
 
     def step(self) -> Status:
         """Executes one instruction. Returns OK, or HALTED or RESERVED if the machine can't."""
         if self._lock.locked():
             self._see_free("step")
-        status = _quick.rsp_step(self._at)
+        status = _quick.brsp_step(self._at)
         if status not in _STEP_ENDS:
             self._see_done(status, "step")
         return _STEP_ENDS[status]
@@ -623,8 +623,8 @@ class Rsp(_Owner):
     def step_changes(self) -> Optional[Changes]:
         """As `step`, but returns what the step changed, or None if the machine can't make the step."""
         out = unset(Changes)
-        self._see_free("rsp_step_changes")
-        status = _quick.rsp_step_changes(self._at, byref(out))
+        self._see_free("brsp_step_changes")
+        status = _quick.brsp_step_changes(self._at, byref(out))
         if status in (Status.HALTED, Status.RESERVED):
             return None
         self._see_done(status, "step_changes")
@@ -632,7 +632,7 @@ class Rsp(_Owner):
 
     def run(self, steps: int) -> Stop:
         """Makes 1 to 1000000 steps, up to the first reason to stop."""
-        return _stop(self._work("rsp_run", _Stop(), steps))
+        return _stop(self._work("brsp_run", _Stop(), steps))
 
     def run_until_move(self, steps: int, reads: int, writes: int) -> Stop:
         """As `run`, but also stops before an MFC0 from an SP register whose bit is set in `reads`, and before
@@ -641,7 +641,7 @@ class Rsp(_Owner):
         The reason is then Reason.MOVE. It may stop there before the first step. `pass_move` steps over the
         move, and `step` executes it.
         """
-        return _move_stop(self._work("rsp_run_until_move", _Move(), steps, reads, writes))
+        return _move_stop(self._work("brsp_run_until_move", _Move(), steps, reads, writes))
 
     def event(self, steps: int, reads: int = 0, writes: int = 0) -> Stop:
         """Runs to the next event, for a caller that owns RDRAM. As `run_until_move`, but also stops before
@@ -650,7 +650,7 @@ class Rsp(_Owner):
         A move or a DMA is an event only if a step is left. Stepping over it, by `pass_move`, `pass_dma` or
         `step`, takes that step.
         """
-        out = self._work("rsp_event", _Reached(), steps, reads, writes)
+        out = self._work("brsp_event", _Reached(), steps, reads, writes)
         stop, dma = _move_stop(out.at), out.dma
         if stop.reason == Reason.DMA:
             places = dma.address, dma.rdram, dma.length, dma.rows, dma.skip
@@ -662,7 +662,7 @@ class Rsp(_Owner):
         """As `run`, with an entry for each step that it made."""
         (steps,) = _numbers("trace", steps, most=1000000)
         out, stop = (Traced * steps)(), _Stop()
-        status = self._alone("trace", _lib.rsp_trace, out, steps, byref(stop))
+        status = self._alone("trace", _lib.brsp_trace, out, steps, byref(stop))
         self._see_done(status, "trace", [steps])
         return _stop(stop), out[: stop.steps]
 
@@ -677,7 +677,7 @@ class Rsp(_Owner):
 
     def back(self, states: int) -> None:
         """Undoes 1 to 1000000 steps. SHORT_HISTORY if the history holds fewer."""
-        self._call("rsp_back", states)
+        self._call("brsp_back", states)
 
     def pass_move(self, value: int = 0) -> Status:
         """Steps over the MFC0 or MTC0 at pc without executing it; register rt of an MFC0 becomes the value.
@@ -687,7 +687,7 @@ class Rsp(_Owner):
         """
         (value,) = _numbers("pass_move", value)
         self._see_free("pass_move")
-        status = Status(_quick.rsp_pass(self._at, value))
+        status = Status(_quick.brsp_pass(self._at, value))
         if status != Status.HALTED:
             self._see_done(status, "pass_move", [value])
         return status
@@ -699,7 +699,7 @@ class Rsp(_Owner):
         Returns OK, or HALTED if the machine is halted. Refused if the word at pc starts no DMA.
         """
         self._see_free("pass_dma")
-        status = Status(_quick.rsp_pass_dma(self._at))
+        status = Status(_quick.brsp_pass_dma(self._at))
         if status != Status.HALTED:
             self._see_done(status, "pass_dma")
         return status
@@ -708,41 +708,41 @@ class Rsp(_Owner):
         """The number of steps that can be undone."""
         out = c_size_t()
         self._see_free("history")
-        self._see_done(_quick.rsp_history(self._at, byref(out)), "history")
+        self._see_done(_quick.brsp_history(self._at, byref(out)), "history")
         return out.value
 
     def add_break(self, place: int) -> None:
         """Sets a breakpoint at an address of IMEM, a multiple of 4 below 4096; at most sixteen."""
-        self._call("rsp_add_break", place)
+        self._call("brsp_add_break", place)
 
     def drop_break(self, place: int) -> None:
         """Removes the breakpoint at an address."""
-        self._call("rsp_drop_break", place)
+        self._call("brsp_drop_break", place)
 
     def add_watch(self, address: int, length: int) -> int:
         """Watches 1 to 64 bytes of DMEM, and returns the watch's number, 0 to 7."""
         numbers = address, length = _numbers("add_watch", address, length)
         out = c_size_t()
-        self._see_free("rsp_add_watch")
-        status = _quick.rsp_add_watch(self._at, address, length, byref(out))
+        self._see_free("brsp_add_watch")
+        status = _quick.brsp_add_watch(self._at, address, length, byref(out))
         self._see_done(status, "add_watch", numbers)
         return out.value
 
     def drop_watch(self, number: int) -> None:
         """Removes a watch."""
-        self._call("rsp_drop_watch", number)
+        self._call("brsp_drop_watch", number)
 
     def reg(self, number: int) -> int:
         """Scalar register `number`, 0 to 31."""
-        return self._word("rsp_reg", number)
+        return self._word("brsp_reg", number)
 
     def regs(self) -> Scalars:
         """pc, npc and the scalar registers."""
-        return self._look("rsp_regs", unset(Scalars))
+        return self._look("brsp_regs", unset(Scalars))
 
     def vreg(self, number: int) -> List[int]:
         """The eight lanes of vector register `number`, 0 to 31."""
-        return list(self._look("rsp_vreg", _Lanes(), number).lanes)
+        return list(self._look("brsp_vreg", _Lanes(), number).lanes)
 
     def set_reg(self, number: int, value: int) -> None:
         """Sets scalar register `number`, 0 to 31, to a value below 2**32, and empties the history. Register 0
@@ -766,47 +766,47 @@ class Rsp(_Owner):
         state = unset(State)
 
         def _both(at: Any) -> int:
-            status: int = _lib.rsp_get(at, byref(state))
+            status: int = _lib.brsp_get(at, byref(state))
             change(state)
-            return status or int(_lib.rsp_set(at, byref(state)))
+            return status or int(_lib.brsp_set(at, byref(state)))
 
         self._see_done(self._alone(name, _both), name)
 
     def acc(self) -> Accumulators:
         """The accumulators."""
-        return self._look("rsp_acc", unset(Accumulators))
+        return self._look("brsp_acc", unset(Accumulators))
 
     def flags(self) -> Flags:
         """The flags."""
-        return self._look("rsp_flags", unset(Flags))
+        return self._look("brsp_flags", unset(Flags))
 
     def divider(self) -> Divider:
         """DIV_IN, DIV_OUT, and whether DIV_IN is loaded."""
-        return self._look("rsp_divider", unset(Divider))
+        return self._look("brsp_divider", unset(Divider))
 
     def read(self, number: int) -> int:
         """Reads SP register `number`, modulo 16, as the CPU does. A read of the semaphore, 7, takes it and
         empties the history."""
-        return self._word("rsp_read", number)
+        return self._word("brsp_read", number)
 
     def peek(self, number: int) -> int:
         """The word that a read of SP register `number`, modulo 16, would give."""
-        return self._word("rsp_peek", number)
+        return self._word("brsp_peek", number)
 
     def write(self, number: int, value: int) -> None:
         """Writes SP register `number`, modulo 16, as the CPU does, with its DMA, and empties the history."""
-        self._call("rsp_write", number, value)
+        self._call("brsp_write", number, value)
 
     def sp(self) -> SpWords:
         """All SP registers, with the interrupt flag."""
-        return self._look("rsp_sp", unset(SpWords))
+        return self._look("brsp_sp", unset(SpWords))
 
     def set_sp(self, given: SpWords) -> None:
         """Sets all SP registers and the interrupt flag, without a DMA, and empties the history."""
         if not isinstance(given, SpWords):
             raise TypeError(f"set_sp: given is of type {type(given).__name__}, not rsp.SpWords")
-        self._see_free("rsp_set_sp")
-        status = _quick.rsp_set_sp(self._at, byref(given))
+        self._see_free("brsp_set_sp")
+        status = _quick.brsp_set_sp(self._at, byref(given))
         self._see_done(status, "set_sp")
 
     def listing(self, place: int, count: int) -> List[Line]:
@@ -817,8 +817,8 @@ class Rsp(_Owner):
         """
         numbers = place, count = _numbers("listing", place, count, most=1024)
         lines = (_Line * count)()
-        self._see_free("rsp_listing")
-        status = _quick.rsp_listing(self._at, place, lines, count)
+        self._see_free("brsp_listing")
+        status = _quick.brsp_listing(self._at, place, lines, count)
         self._see_done(status, "listing", numbers)
         return [Line(it.place, it.word, it.text.decode()) for it in lines]
 
@@ -828,23 +828,25 @@ def _address(data: bytes) -> int:
     return ctypes.cast(c_char_p(data), c_void_p).value or 0
 
 
-class Bench(_Owner):
+class Session(_Owner):
     """Answers a script as `rsp run` does, on a machine of its own with a copy of the image (4 MiB of zeros if
     none is given).
 
     A script of more than 1048576 bytes raises RspError with TOO_LONG, as does any later `feed` or `end`.
     """
 
-    _owner, _refuses = "bench", "copied or pickled"
+    _owner, _refuses = "session", "copied or pickled"
 
     def __init__(self, image: Optional[bytes] = None) -> None:
         self._hold()
-        self._length = _made("Bench", _lib.rsp_bench_new, self._handle, _ZEROS if image is None else image)
+        self._length = _made(
+            "Session", _lib.brsp_session_new, self._handle, _ZEROS if image is None else image
+        )
         self._replies = (ctypes.c_char * _ROOM)()
 
     def close(self) -> None:
-        """Frees the bench. Any later call is refused with NO_MACHINE."""
-        self._alone("close", _lib.rsp_bench_free)
+        """Frees the session. Any later call is refused with NO_MACHINE."""
+        self._alone("close", _lib.brsp_session_free)
 
     def _answer(self, name: str, call: Any, *given: Any) -> bytes:
         def _told(at: Any) -> Tuple[int, bytes]:
@@ -858,7 +860,7 @@ class Bench(_Owner):
 
     def _take(self, at: int, script: bytes, parts: List[bytes]) -> int:
         """Takes all lines of a script, and appends their replies in parts that fit into the buffer."""
-        take, used, written, told = _lib.rsp_bench_take, c_size_t(), c_size_t(), 0
+        take, used, written, told = _lib.brsp_session_take, c_size_t(), c_size_t(), 0
         used_at, written_at, room = addressof(used), addressof(written), addressof(self._replies)
         line = _address(script)
         end = line + len(script)
@@ -882,12 +884,12 @@ class Bench(_Owner):
         return b"".join(parts)
 
     def iter_feed(self, script: Union[str, bytes]) -> Iterator[bytes]:
-        """Yields these replies one by one. The bench takes a line when its reply is asked for."""
+        """Yields these replies one by one. The session takes a line when its reply is asked for."""
         raw, at, used = _in_words.script_of("feed", script), 0, c_size_t()
         begin = _address(raw)
         while True:
             rest = begin + at, len(raw) - at
-            reply = self._answer("feed", _lib.rsp_bench_take, *rest, byref(used))
+            reply = self._answer("feed", _lib.brsp_session_take, *rest, byref(used))
             at += used.value
             if raw.endswith(b"\n", 0, at):
                 yield reply
@@ -897,14 +899,14 @@ class Bench(_Owner):
     def end(self) -> bytes:
         """Ends the script. Returns the reply to a last line without LF, and the fault of an open `asm` block.
         Any later `feed` or `end` is refused with ENDED."""
-        return self._answer("end", _lib.rsp_bench_end)
+        return self._answer("end", _lib.brsp_session_end)
 
     @property
     def rdram(self) -> bytes:
         """A copy of the image in its present state."""
         out = ctypes.create_string_buffer(self._length)
         self._see_free("rdram")
-        status = _quick.rsp_bench_memory(self._at, Bank.RDRAM, 0, out, self._length)
+        status = _quick.brsp_session_memory(self._at, Bank.RDRAM, 0, out, self._length)
         self._see_done(status, "rdram")
         return out.raw
 
@@ -915,9 +917,9 @@ def run_script(script: Union[str, bytes], image: Optional[bytes] = None, strict:
 
     With `strict` the first reply that is a fault raises ScriptError, and the lines after it aren't run.
     """
-    bench = Bench(image)
-    replies = _strict_replies(bench, script) if strict else bench.feed(script) + bench.end()
-    return Ran(replies, bench)
+    session = Session(image)
+    replies = _strict_replies(session, script) if strict else session.feed(script) + session.end()
+    return Ran(replies, session)
 
 
 from .timeline import Found, Timeline  # noqa: E402  (these need the names above)

@@ -6,12 +6,12 @@ from .state import alike
 
 
 class Operand(Structure):
-    """`rsp_operand` of rsp.h."""
+    """`brsp_operand` of brsp.h."""
 
     _fields_ = [*alike(c_int64, "low", "high"), ("number", c_size_t), *alike(c_uint32, "kind", "step")]
 
 
-# By the numbers of RSP_OPERAND_ in rsp.h. A range follows what ends with a comma.
+# By the numbers of BRSP_OPERAND_ in brsp.h. A range follows what ends with a comma.
 _NUMBER = "a number or a label,"
 _VECTOR = "a vector register, $v0 to $v31"
 _FORMS = (

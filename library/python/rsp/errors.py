@@ -100,8 +100,8 @@ SENTENCES = {
 
 def call_name(name: str) -> str:
     """The name in Python of a call of the library."""
-    return {"rsp_new": "Rsp", "rsp_task": "start_task"}.get(name) or (
-        name[4:] if name.startswith("rsp_") else name
+    return {"brsp_new": "Rsp", "brsp_task": "start_task"}.get(name) or (
+        name[5:] if name.startswith("brsp_") else name
     )
 
 

@@ -29,7 +29,7 @@ class Part(NamedTuple):
 
 
 class Difference(Tuple[Part, ...]):
-    """The parts that differ between two states, in the bench's order. It is false if there is none."""
+    """The parts that differ between two states, in the session's order. It is false if there is none."""
 
     def __str__(self) -> str:
         return self.told("here", "in the other")
@@ -142,7 +142,7 @@ def changed_parts(changes: Any) -> Named:
 
 
 def divider_parts(divider: Any) -> Named:
-    """Those of what the divide instructions keep, by the names of the bench's `flags`."""
+    """Those of what the divide instructions keep, by the names of the session's `flags`."""
     yield "in", divider.input, 4
     yield "out", divider.output, 4
     yield "loaded", divider.loaded, 1

@@ -5,7 +5,7 @@ from typing import TYPE_CHECKING, Any, Iterator, List, Union
 from . import errors as _in_words
 
 if TYPE_CHECKING:
-    from . import Bench
+    from . import Session
 
 _FAULT = b"fault "
 _SHOWN = 80  # how much of a line a message shows
@@ -35,7 +35,7 @@ class Ran:
     It unpacks and compares like the pair of both.
     """
 
-    def __init__(self, replies: bytes, image: Union[bytes, "Bench"]) -> None:
+    def __init__(self, replies: bytes, image: Union[bytes, "Session"]) -> None:
         self.replies, self._image = replies, image
 
     @property
@@ -67,17 +67,17 @@ class Ran:
         return f"<rsp.Ran: {len(self.replies)} bytes of replies>"
 
 
-def strict_replies(bench: "Bench", script: Union[str, bytes]) -> bytes:
+def strict_replies(session: "Session", script: Union[str, bytes]) -> bytes:
     """The replies to a whole script. Raises ScriptError at the first one that is a fault."""
     raw = _in_words.script_of("run_script", script)
     lines, told = raw.split(b"\n"), []
     block = 0  # the number of the line `asm` of the block that is open
-    for number, reply in enumerate(bench.iter_feed(raw), 1):
+    for number, reply in enumerate(session.iter_feed(raw), 1):
         if reply.startswith(_FAULT):
             raise _fault(lines, number, block, reply)
         block = 0 if reply else block or _opened(lines, number)
         told.append(reply)
-    last = bench.end()
+    last = session.end()
     if last.startswith(_FAULT):
         raise _fault(lines, len(lines), block or _opened(lines, len(lines)), last)
     return b"".join([*told, last])

@@ -1,5 +1,5 @@
 """Registers as plain structures. A field is checked as it is set, `==` compares bytes, and `print` shows what
-the bench shows."""
+the session shows."""
 
 from ctypes import Structure, c_uint8, c_uint16, c_uint32
 from typing import TYPE_CHECKING, Any, ClassVar, Dict, List, Tuple, Type, TypeVar

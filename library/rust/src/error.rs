@@ -7,7 +7,7 @@ use std::fmt;
 /// The version of the interface for which this crate is.
 pub const VERSION: u32 = 1;
 
-/// Why a call was refused. The call has changed nothing, except that `TooLong` ends a bench.
+/// Why a call was refused. The call has changed nothing, except that `TooLong` ends a session.
 ///
 /// `Debug` writes the same sentence as `Display`, because a `main` that returns an error prints it by `Debug`.
 #[derive(Clone, Copy, PartialEq, Eq)]
@@ -102,7 +102,7 @@ impl Error for Refused {
 /// Refuses a library of another version, before it is used.
 pub(crate) fn right_version() -> Result<(), Refused> {
     // SAFETY: it takes nothing.
-    match unsafe { raw::rsp_version() } {
+    match unsafe { raw::brsp_version() } {
         VERSION => Ok(()),
         other => Err(Refused::Version(other)),
     }

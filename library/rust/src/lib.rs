@@ -1,6 +1,6 @@
 //! The Nintendo 64's Reality Signal Processor (RSP): emulator, debugger, assembler and disassembler.
 //!
-//! The library that this crate calls, librsp, is proved to follow the instruction table. The crate is only tested.
+//! The library that this crate calls, libbrsp, is proved to follow the instruction table. The crate is only tested.
 //!
 //! A [`Machine`] may go to another thread. A refused call returns the reason, and has changed nothing.
 //!
@@ -16,7 +16,7 @@
 
 #![warn(missing_docs)]
 
-mod bench;
+mod session;
 #[doc(hidden)]
 pub mod cases;
 mod compare;
@@ -32,7 +32,7 @@ mod shapes;
 mod shown;
 mod texts;
 
-pub use bench::{run_script, Bench};
+pub use session::{run_script, Session};
 pub use compare::{first_difference, Emulator, FirstDifference, Quadword};
 pub use difference::{Part, Place};
 pub use error::{Refused, VERSION};

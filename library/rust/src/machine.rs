@@ -13,7 +13,7 @@ use std::ptr;
 /// A machine with a copy of an image of RDRAM, breakpoints, watches and a history.
 ///
 /// It is `Send`, but not `Sync`: only one thread at a time uses it.
-// SAFETY of all calls below: the handle is RSP_NONE or as the last call left it, since nothing else writes it; it isn't copied; as it isn't
+// SAFETY of all calls below: the handle is BRSP_NONE or as the last call left it, since nothing else writes it; it isn't copied; as it isn't
 // `Sync`, one call at a time has it; and each pointer is of a borrow with its own length.
 pub struct Machine {
     handle: UnsafeCell<raw::Handle>,
@@ -28,7 +28,7 @@ impl Machine {
     pub fn new(image: &[u8], depth: u32) -> Result<Machine, Refused> {
         right_version()?;
         let machine = Machine::none(image.len());
-        done(unsafe { raw::rsp_new(machine.at(), image.as_ptr(), image.len(), depth) })?;
+        done(unsafe { raw::brsp_new(machine.at(), image.as_ptr(), image.len(), depth) })?;
         Ok(machine)
     }
 
@@ -36,7 +36,7 @@ impl Machine {
     /// no watches.
     pub fn copy(&self) -> Result<Machine, Refused> {
         let machine = Machine::none(self.image_length);
-        done(unsafe { raw::rsp_copy(machine.at(), self.at()) })?;
+        done(unsafe { raw::brsp_copy(machine.at(), self.at()) })?;
         Ok(machine)
     }
 
@@ -63,58 +63,58 @@ impl Machine {
 
     /// All registers, written into an existing state.
     pub fn get_into(&self, out: &mut State) -> Result<(), Refused> {
-        done(unsafe { raw::rsp_get(self.at(), out) })
+        done(unsafe { raw::brsp_get(self.at(), out) })
     }
 
     /// Sets all registers, and empties the history. The memories stay unchanged.
     pub fn set(&mut self, state: &State) -> Result<(), Refused> {
-        done(unsafe { raw::rsp_set(self.at(), state) })
+        done(unsafe { raw::brsp_set(self.at(), state) })
     }
 
     /// Writes bytes to a memory from an address on, and empties the history.
     pub fn load(&mut self, bank: Bank, address: u32, bytes: &[u8]) -> Result<(), Refused> {
-        done(unsafe { raw::rsp_load(self.at(), bank as u32, address, bytes.as_ptr(), bytes.len()) })
+        done(unsafe { raw::brsp_load(self.at(), bank as u32, address, bytes.as_ptr(), bytes.len()) })
     }
 
     /// Writes words to a memory from an address on, the high byte of each first, and empties the history.
     pub fn load_words(&mut self, bank: Bank, address: u32, words: &[u32]) -> Result<(), Refused> {
-        done(unsafe { raw::rsp_load_words(self.at(), bank as u32, address, words.as_ptr(), words.len()) })
+        done(unsafe { raw::brsp_load_words(self.at(), bank as u32, address, words.as_ptr(), words.len()) })
     }
 
     /// Fills a buffer with the bytes of a memory from an address on.
     pub fn memory(&self, bank: Bank, address: u32, bytes: &mut [u8]) -> Result<(), Refused> {
-        done(unsafe { raw::rsp_memory(self.at(), bank as u32, address, bytes.as_mut_ptr(), bytes.len()) })
+        done(unsafe { raw::brsp_memory(self.at(), bank as u32, address, bytes.as_mut_ptr(), bytes.len()) })
     }
 
     /// Fills a buffer with the words of a memory from an address on, the high byte of each first.
     pub fn memory_words(&self, bank: Bank, address: u32, words: &mut [u32]) -> Result<(), Refused> {
-        done(unsafe { raw::rsp_memory_words(self.at(), bank as u32, address, words.as_mut_ptr(), words.len()) })
+        done(unsafe { raw::brsp_memory_words(self.at(), bank as u32, address, words.as_mut_ptr(), words.len()) })
     }
 
     /// Starts the task whose structure of 64 bytes is at an address of RDRAM, and empties the history.
     pub fn start_task(&mut self, address: u32) -> Result<(), Refused> {
-        done(unsafe { raw::rsp_task(self.at(), address) })
+        done(unsafe { raw::brsp_task(self.at(), address) })
     }
 
     /// Sets pc to an address of IMEM, a multiple of 4 below 4096, and empties the history.
     pub fn set_pc(&mut self, pc: u32) -> Result<(), Refused> {
-        done(unsafe { raw::rsp_set_pc(self.at(), pc) })
+        done(unsafe { raw::brsp_set_pc(self.at(), pc) })
     }
 
     /// Executes one instruction.
     pub fn step(&mut self) -> Result<StepEnd, Refused> {
-        step_end(unsafe { raw::rsp_step(self.at()) })
+        step_end(unsafe { raw::brsp_step(self.at()) })
     }
 
     /// As [`step`](Machine::step), but also writes what the step changed, if it was made.
     pub fn step_changes(&mut self, out: &mut Changes) -> Result<StepEnd, Refused> {
-        step_end(unsafe { raw::rsp_step_changes(self.at(), out) })
+        step_end(unsafe { raw::brsp_step_changes(self.at(), out) })
     }
 
     /// Makes 1 to 1000000 steps, up to the first reason to stop.
     pub fn run(&mut self, steps: u32) -> Result<Stop, Refused> {
         let mut out = raw::Stop::default();
-        done(unsafe { raw::rsp_run(self.at(), steps, &mut out) })?;
+        done(unsafe { raw::brsp_run(self.at(), steps, &mut out) })?;
         Ok(seen_stop(&out))
     }
 
@@ -123,7 +123,7 @@ impl Machine {
     /// [`step`](Machine::step) executes it.
     pub fn run_until_move(&mut self, steps: u32, reads: u16, writes: u16) -> Result<MoveEnd, Refused> {
         let mut out = raw::Move::default();
-        done(unsafe { raw::rsp_run_until_move(self.at(), steps, reads.into(), writes.into(), &mut out) })?;
+        done(unsafe { raw::brsp_run_until_move(self.at(), steps, reads.into(), writes.into(), &mut out) })?;
         Ok(seen_move(&out))
     }
 
@@ -132,7 +132,7 @@ impl Machine {
     /// [`step`](Machine::step), takes that step.
     pub fn event(&mut self, steps: u32, reads: u16, writes: u16) -> Result<Event, Refused> {
         let mut out = raw::Reached::default();
-        done(unsafe { raw::rsp_event(self.at(), steps, reads.into(), writes.into(), &mut out) })?;
+        done(unsafe { raw::brsp_event(self.at(), steps, reads.into(), writes.into(), &mut out) })?;
         let dma = (out.at.stop.reason == AT_DMA).then_some(out.dma);
         Ok(Event { at: seen_move(&out.at), dma, status: out.status, interrupt: out.interrupt == 1 })
     }
@@ -140,7 +140,7 @@ impl Machine {
     /// As [`run`](Machine::run) of as many steps as there are entries, 1 to 1000000, and writes an entry for each step. The other entries stay.
     pub fn trace(&mut self, entries: &mut [Traced]) -> Result<Stop, Refused> {
         let mut out = raw::Stop::default();
-        done(unsafe { raw::rsp_trace(self.at(), entries.as_mut_ptr(), entries.len(), &mut out) })?;
+        done(unsafe { raw::brsp_trace(self.at(), entries.as_mut_ptr(), entries.len(), &mut out) })?;
         Ok(seen_stop(&out))
     }
 
@@ -159,68 +159,68 @@ impl Machine {
 
     /// Undoes 1 to 1000000 steps.
     pub fn back(&mut self, states: u32) -> Result<(), Refused> {
-        done(unsafe { raw::rsp_back(self.at(), states) })
+        done(unsafe { raw::brsp_back(self.at(), states) })
     }
 
     /// Steps over the MFC0 or MTC0 at pc without executing it; register rt of an MFC0 becomes the value. Empties the history. Refused if another
     /// word is at pc, so the end is never Reserved.
     pub fn pass(&mut self, value: u32) -> Result<StepEnd, Refused> {
-        passed(unsafe { raw::rsp_pass(self.at(), value) })
+        passed(unsafe { raw::brsp_pass(self.at(), value) })
     }
 
     /// Steps over the DMA at pc, whose bytes the caller then moves. Everything is as after a step, SP registers included, except that the memories
     /// stay unchanged. Empties the history. Refused if the word at pc starts no DMA.
     pub fn pass_dma(&mut self) -> Result<StepEnd, Refused> {
-        passed(unsafe { raw::rsp_pass_dma(self.at()) })
+        passed(unsafe { raw::brsp_pass_dma(self.at()) })
     }
 
     /// The number of steps that can be undone.
     pub fn history(&self) -> Result<usize, Refused> {
         let mut out = 0;
-        done(unsafe { raw::rsp_history(self.at(), &mut out) })?;
+        done(unsafe { raw::brsp_history(self.at(), &mut out) })?;
         Ok(out)
     }
 
     /// Sets a breakpoint at an address of IMEM; at most sixteen.
     pub fn add_break(&mut self, place: u32) -> Result<(), Refused> {
-        done(unsafe { raw::rsp_add_break(self.at(), place) })
+        done(unsafe { raw::brsp_add_break(self.at(), place) })
     }
 
     /// Removes the breakpoint at an address.
     pub fn drop_break(&mut self, place: u32) -> Result<(), Refused> {
-        done(unsafe { raw::rsp_drop_break(self.at(), place) })
+        done(unsafe { raw::brsp_drop_break(self.at(), place) })
     }
 
     /// Watches 1 to 64 bytes of DMEM, and returns the watch's number. At most eight watches.
     pub fn add_watch(&mut self, address: u32, len: u32) -> Result<usize, Refused> {
         let mut number = 0;
-        done(unsafe { raw::rsp_add_watch(self.at(), address, len, &mut number) })?;
+        done(unsafe { raw::brsp_add_watch(self.at(), address, len, &mut number) })?;
         Ok(number)
     }
 
     /// Removes a watch.
     pub fn drop_watch(&mut self, number: u32) -> Result<(), Refused> {
-        done(unsafe { raw::rsp_drop_watch(self.at(), number) })
+        done(unsafe { raw::brsp_drop_watch(self.at(), number) })
     }
 
     /// Scalar register `n`, below 32.
     pub fn reg(&self, n: u32) -> Result<u32, Refused> {
         let mut out = 0;
-        done(unsafe { raw::rsp_reg(self.at(), n, &mut out) })?;
+        done(unsafe { raw::brsp_reg(self.at(), n, &mut out) })?;
         Ok(out)
     }
 
     /// The scalar registers, pc and npc.
     pub fn regs(&self) -> Result<Scalars, Refused> {
         let mut out = Scalars::default();
-        done(unsafe { raw::rsp_regs(self.at(), &mut out) })?;
+        done(unsafe { raw::brsp_regs(self.at(), &mut out) })?;
         Ok(out)
     }
 
     /// The lanes of vector register `n`, below 32.
     pub fn vreg(&self, n: u32) -> Result<[u16; 8], Refused> {
         let mut out = raw::Lanes::default();
-        done(unsafe { raw::rsp_vreg(self.at(), n, &mut out) })?;
+        done(unsafe { raw::brsp_vreg(self.at(), n, &mut out) })?;
         Ok(out.lanes)
     }
 
@@ -241,53 +241,53 @@ impl Machine {
     /// The accumulators.
     pub fn acc(&self) -> Result<Accumulators, Refused> {
         let mut out = Accumulators::default();
-        done(unsafe { raw::rsp_acc(self.at(), &mut out) })?;
+        done(unsafe { raw::brsp_acc(self.at(), &mut out) })?;
         Ok(out)
     }
 
     /// The flags.
     pub fn flags(&self) -> Result<FlagBits, Refused> {
         let mut out = FlagBits::default();
-        done(unsafe { raw::rsp_flags(self.at(), &mut out) })?;
+        done(unsafe { raw::brsp_flags(self.at(), &mut out) })?;
         Ok(out)
     }
 
     /// What divide instructions leave for the next one.
     pub fn divider(&self) -> Result<DivideState, Refused> {
         let mut out = DivideState::default();
-        done(unsafe { raw::rsp_divider(self.at(), &mut out) })?;
+        done(unsafe { raw::brsp_divider(self.at(), &mut out) })?;
         Ok(out)
     }
 
     /// Reads SP register `n`, modulo 16, as the CPU does. A read of the semaphore, 7, takes it and empties the history.
     pub fn read(&mut self, n: u32) -> Result<u32, Refused> {
         let mut out = 0;
-        done(unsafe { raw::rsp_read(self.at(), n, &mut out) })?;
+        done(unsafe { raw::brsp_read(self.at(), n, &mut out) })?;
         Ok(out)
     }
 
     /// The word that a read of SP register `n`, modulo 16, would give.
     pub fn peek(&self, n: u32) -> Result<u32, Refused> {
         let mut out = 0;
-        done(unsafe { raw::rsp_peek(self.at(), n, &mut out) })?;
+        done(unsafe { raw::brsp_peek(self.at(), n, &mut out) })?;
         Ok(out)
     }
 
     /// Writes SP register `n`, modulo 16, as the CPU does, with its DMA, and empties the history.
     pub fn write(&mut self, n: u32, value: u32) -> Result<(), Refused> {
-        done(unsafe { raw::rsp_write(self.at(), n, value) })
+        done(unsafe { raw::brsp_write(self.at(), n, value) })
     }
 
     /// All SP registers, with the interrupt flag.
     pub fn sp(&self) -> Result<SpWords, Refused> {
         let mut out = SpWords::default();
-        done(unsafe { raw::rsp_sp(self.at(), &mut out) })?;
+        done(unsafe { raw::brsp_sp(self.at(), &mut out) })?;
         Ok(out)
     }
 
     /// Sets all SP registers and the interrupt flag, without a DMA, and empties the history.
     pub fn set_sp(&mut self, given: &SpWords) -> Result<(), Refused> {
-        done(unsafe { raw::rsp_set_sp(self.at(), given) })
+        done(unsafe { raw::brsp_set_sp(self.at(), given) })
     }
 
     /// The words of IMEM from the address `place` on, each with its disassembly.
@@ -296,7 +296,7 @@ impl Machine {
             return Err(Refused::OutOfRange);
         }
         let mut lines = vec![NO_LINE; count];
-        done(unsafe { raw::rsp_listing(self.at(), place, lines.as_mut_ptr(), lines.len()) })?;
+        done(unsafe { raw::brsp_listing(self.at(), place, lines.as_mut_ptr(), lines.len()) })?;
         Ok(lines.iter().map(seen).collect())
     }
 }
@@ -346,6 +346,6 @@ fn seen_stop(out: &raw::Stop) -> Stop {
 
 impl Drop for Machine {
     fn drop(&mut self) {
-        unsafe { raw::rsp_free(self.at()) }
+        unsafe { raw::brsp_free(self.at()) }
     }
 }

@@ -8,13 +8,13 @@ use std::fmt;
 pub struct Operand {
     /// Which operand of the line it is, from 1. It may be missing.
     pub number: usize,
-    /// What the statement takes there: an `RSP_OPERAND_` of `rsp.h`.
+    /// What the statement takes there: an `BRSP_OPERAND_` of `brsp.h`.
     pub kind: u32,
     /// The lowest and the highest number that it may be, and the step of which each is a multiple; None if it has no range.
     pub range: Option<(i64, i64, u32)>,
 }
 
-/// By the numbers of `RSP_OPERAND_`. A range follows what ends with a comma.
+/// By the numbers of `BRSP_OPERAND_`. A range follows what ends with a comma.
 const FORMS: [&str; 15] = [
     "nothing",
     "a number or a label,",
@@ -41,7 +41,7 @@ impl Operand {
     pub(crate) fn of(text: &str, origin: u32) -> Option<Self> {
         let mut out = raw::Operand::default();
         // SAFETY: each pointer is of a borrow, with its own length.
-        let status = unsafe { raw::rsp_explain(origin, text.as_ptr(), text.len(), &mut out) };
+        let status = unsafe { raw::brsp_explain(origin, text.as_ptr(), text.len(), &mut out) };
         if status != 0 || out.number == 0 {
             return None;
         }

@@ -1,4 +1,4 @@
-//! What library/c/rsp.h declares.
+//! What library/c/brsp.h declares.
 
 use crate::shapes::{Accumulators, Changes, DivideState, Dma, FlagBits, Scalars, SpWords, State, Traced};
 
@@ -8,7 +8,7 @@ pub struct Handle {
 }
 
 #[repr(C)]
-pub struct BenchHandle {
+pub struct SessionHandle {
     pub at: *mut u8,
 }
 
@@ -83,52 +83,52 @@ pub struct Line {
 }
 
 extern "C" {
-    pub fn rsp_version() -> u32;
-    pub fn rsp_new(m: *mut Handle, image: *const u8, len: usize, depth: u32) -> u32;
-    pub fn rsp_copy(to: *mut Handle, from: *mut Handle) -> u32;
-    pub fn rsp_free(m: *mut Handle);
-    pub fn rsp_get(m: *mut Handle, out: *mut State) -> u32;
-    pub fn rsp_set(m: *mut Handle, state: *const State) -> u32;
-    pub fn rsp_state_fault(state: *const State, out: *mut u32) -> u32;
-    pub fn rsp_load(m: *mut Handle, bank: u32, address: u32, bytes: *const u8, len: usize) -> u32;
-    pub fn rsp_load_words(m: *mut Handle, bank: u32, address: u32, words: *const u32, len: usize) -> u32;
-    pub fn rsp_memory(m: *mut Handle, bank: u32, address: u32, bytes: *mut u8, len: usize) -> u32;
-    pub fn rsp_memory_words(m: *mut Handle, bank: u32, address: u32, words: *mut u32, len: usize) -> u32;
-    pub fn rsp_task(m: *mut Handle, address: u32) -> u32;
-    pub fn rsp_set_pc(m: *mut Handle, pc: u32) -> u32;
-    pub fn rsp_step(m: *mut Handle) -> u32;
-    pub fn rsp_step_changes(m: *mut Handle, out: *mut Changes) -> u32;
-    pub fn rsp_run(m: *mut Handle, n: u32, out: *mut Stop) -> u32;
-    pub fn rsp_run_until_move(m: *mut Handle, n: u32, reads: u32, writes: u32, out: *mut Move) -> u32;
-    pub fn rsp_event(m: *mut Handle, n: u32, reads: u32, writes: u32, out: *mut Reached) -> u32;
-    pub fn rsp_trace(m: *mut Handle, out: *mut Traced, n: usize, stop: *mut Stop) -> u32;
-    pub fn rsp_back(m: *mut Handle, n: u32) -> u32;
-    pub fn rsp_history(m: *mut Handle, out: *mut usize) -> u32;
-    pub fn rsp_pass(m: *mut Handle, value: u32) -> u32;
-    pub fn rsp_pass_dma(m: *mut Handle) -> u32;
-    pub fn rsp_add_break(m: *mut Handle, place: u32) -> u32;
-    pub fn rsp_drop_break(m: *mut Handle, place: u32) -> u32;
-    pub fn rsp_add_watch(m: *mut Handle, address: u32, len: u32, number: *mut usize) -> u32;
-    pub fn rsp_drop_watch(m: *mut Handle, number: u32) -> u32;
-    pub fn rsp_reg(m: *mut Handle, n: u32, out: *mut u32) -> u32;
-    pub fn rsp_regs(m: *mut Handle, out: *mut Scalars) -> u32;
-    pub fn rsp_vreg(m: *mut Handle, n: u32, out: *mut Lanes) -> u32;
-    pub fn rsp_acc(m: *mut Handle, out: *mut Accumulators) -> u32;
-    pub fn rsp_flags(m: *mut Handle, out: *mut FlagBits) -> u32;
-    pub fn rsp_divider(m: *mut Handle, out: *mut DivideState) -> u32;
-    pub fn rsp_read(m: *mut Handle, n: u32, out: *mut u32) -> u32;
-    pub fn rsp_peek(m: *mut Handle, n: u32, out: *mut u32) -> u32;
-    pub fn rsp_write(m: *mut Handle, n: u32, value: u32) -> u32;
-    pub fn rsp_sp(m: *mut Handle, out: *mut SpWords) -> u32;
-    pub fn rsp_set_sp(m: *mut Handle, given: *const SpWords) -> u32;
-    pub fn rsp_assemble(origin: u32, text: *const u8, len: usize, words: *mut u32, capacity: usize, out: *mut Assembled) -> u32;
-    pub fn rsp_labels(origin: u32, text: *const u8, len: usize, labels: *mut Label, capacity: usize, count: *mut usize) -> u32;
-    pub fn rsp_text(word: u32, place: u32, out: *mut Line) -> u32;
-    pub fn rsp_listing(m: *mut Handle, place: u32, lines: *mut Line, len: usize) -> u32;
-    pub fn rsp_explain(origin: u32, text: *const u8, len: usize, out: *mut Operand) -> u32;
-    pub fn rsp_bench_new(b: *mut BenchHandle, image: *const u8, len: usize) -> u32;
-    pub fn rsp_bench_take(
-        b: *mut BenchHandle,
+    pub fn brsp_version() -> u32;
+    pub fn brsp_new(m: *mut Handle, image: *const u8, len: usize, depth: u32) -> u32;
+    pub fn brsp_copy(to: *mut Handle, from: *mut Handle) -> u32;
+    pub fn brsp_free(m: *mut Handle);
+    pub fn brsp_get(m: *mut Handle, out: *mut State) -> u32;
+    pub fn brsp_set(m: *mut Handle, state: *const State) -> u32;
+    pub fn brsp_state_fault(state: *const State, out: *mut u32) -> u32;
+    pub fn brsp_load(m: *mut Handle, bank: u32, address: u32, bytes: *const u8, len: usize) -> u32;
+    pub fn brsp_load_words(m: *mut Handle, bank: u32, address: u32, words: *const u32, len: usize) -> u32;
+    pub fn brsp_memory(m: *mut Handle, bank: u32, address: u32, bytes: *mut u8, len: usize) -> u32;
+    pub fn brsp_memory_words(m: *mut Handle, bank: u32, address: u32, words: *mut u32, len: usize) -> u32;
+    pub fn brsp_task(m: *mut Handle, address: u32) -> u32;
+    pub fn brsp_set_pc(m: *mut Handle, pc: u32) -> u32;
+    pub fn brsp_step(m: *mut Handle) -> u32;
+    pub fn brsp_step_changes(m: *mut Handle, out: *mut Changes) -> u32;
+    pub fn brsp_run(m: *mut Handle, n: u32, out: *mut Stop) -> u32;
+    pub fn brsp_run_until_move(m: *mut Handle, n: u32, reads: u32, writes: u32, out: *mut Move) -> u32;
+    pub fn brsp_event(m: *mut Handle, n: u32, reads: u32, writes: u32, out: *mut Reached) -> u32;
+    pub fn brsp_trace(m: *mut Handle, out: *mut Traced, n: usize, stop: *mut Stop) -> u32;
+    pub fn brsp_back(m: *mut Handle, n: u32) -> u32;
+    pub fn brsp_history(m: *mut Handle, out: *mut usize) -> u32;
+    pub fn brsp_pass(m: *mut Handle, value: u32) -> u32;
+    pub fn brsp_pass_dma(m: *mut Handle) -> u32;
+    pub fn brsp_add_break(m: *mut Handle, place: u32) -> u32;
+    pub fn brsp_drop_break(m: *mut Handle, place: u32) -> u32;
+    pub fn brsp_add_watch(m: *mut Handle, address: u32, len: u32, number: *mut usize) -> u32;
+    pub fn brsp_drop_watch(m: *mut Handle, number: u32) -> u32;
+    pub fn brsp_reg(m: *mut Handle, n: u32, out: *mut u32) -> u32;
+    pub fn brsp_regs(m: *mut Handle, out: *mut Scalars) -> u32;
+    pub fn brsp_vreg(m: *mut Handle, n: u32, out: *mut Lanes) -> u32;
+    pub fn brsp_acc(m: *mut Handle, out: *mut Accumulators) -> u32;
+    pub fn brsp_flags(m: *mut Handle, out: *mut FlagBits) -> u32;
+    pub fn brsp_divider(m: *mut Handle, out: *mut DivideState) -> u32;
+    pub fn brsp_read(m: *mut Handle, n: u32, out: *mut u32) -> u32;
+    pub fn brsp_peek(m: *mut Handle, n: u32, out: *mut u32) -> u32;
+    pub fn brsp_write(m: *mut Handle, n: u32, value: u32) -> u32;
+    pub fn brsp_sp(m: *mut Handle, out: *mut SpWords) -> u32;
+    pub fn brsp_set_sp(m: *mut Handle, given: *const SpWords) -> u32;
+    pub fn brsp_assemble(origin: u32, text: *const u8, len: usize, words: *mut u32, capacity: usize, out: *mut Assembled) -> u32;
+    pub fn brsp_labels(origin: u32, text: *const u8, len: usize, labels: *mut Label, capacity: usize, count: *mut usize) -> u32;
+    pub fn brsp_text(word: u32, place: u32, out: *mut Line) -> u32;
+    pub fn brsp_listing(m: *mut Handle, place: u32, lines: *mut Line, len: usize) -> u32;
+    pub fn brsp_explain(origin: u32, text: *const u8, len: usize, out: *mut Operand) -> u32;
+    pub fn brsp_session_new(b: *mut SessionHandle, image: *const u8, len: usize) -> u32;
+    pub fn brsp_session_take(
+        b: *mut SessionHandle,
         bytes: *const u8,
         len: usize,
         used: *mut usize,
@@ -136,7 +136,7 @@ extern "C" {
         capacity: usize,
         written: *mut usize,
     ) -> u32;
-    pub fn rsp_bench_end(b: *mut BenchHandle, reply: *mut u8, capacity: usize, written: *mut usize) -> u32;
-    pub fn rsp_bench_memory(b: *mut BenchHandle, bank: u32, address: u32, bytes: *mut u8, len: usize) -> u32;
-    pub fn rsp_bench_free(b: *mut BenchHandle);
+    pub fn brsp_session_end(b: *mut SessionHandle, reply: *mut u8, capacity: usize, written: *mut usize) -> u32;
+    pub fn brsp_session_memory(b: *mut SessionHandle, bank: u32, address: u32, bytes: *mut u8, len: usize) -> u32;
+    pub fn brsp_session_free(b: *mut SessionHandle);
 }

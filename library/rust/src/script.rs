@@ -1,6 +1,6 @@
 //! Scripts in which no reply may be a fault.
 
-use crate::{Bench, Refused};
+use crate::{Session, Refused};
 use std::error::Error;
 use std::fmt;
 
@@ -81,18 +81,18 @@ fn checked(lines: &[&[u8]], number: usize, block: usize, reply: &[u8]) -> Result
 /// assert_eq!(error.to_string(), "line 2: fault 30 BadCommand: brek 0");
 /// ```
 pub fn run_script_strict(script: impl AsRef<[u8]>, image: Option<&[u8]>) -> Result<(Vec<u8>, Vec<u8>), ScriptError> {
-    let mut bench = Bench::new(image.unwrap_or(&vec![0; 1 << 22]))?;
+    let mut session = Session::new(image.unwrap_or(&vec![0; 1 << 22]))?;
     let lines: Vec<_> = script.as_ref().split(|byte| *byte == b'\n').collect();
     let (mut replies, mut block) = (Vec::new(), 0);
     let opened = |block, number: usize| if block == 0 && opens(lines[number - 1]) { number } else { block };
-    for (number, reply) in (1..).zip(bench.feed_iter(script.as_ref())) {
+    for (number, reply) in (1..).zip(session.feed_iter(script.as_ref())) {
         let mut reply = reply?;
         checked(&lines, number, block, &reply)?;
         block = if reply.is_empty() { opened(block, number) } else { 0 };
         replies.append(&mut reply);
     }
-    let mut last = bench.end()?;
+    let mut last = session.end()?;
     checked(&lines, lines.len(), opened(block, lines.len()), &last)?;
     replies.append(&mut last);
-    Ok((replies, bench.rdram()?))
+    Ok((replies, session.rdram()?))
 }

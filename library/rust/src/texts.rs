@@ -19,7 +19,7 @@ pub fn assemble(text: &str, origin: u32) -> Result<Vec<u32>, Refused> {
     let mut words = vec![0; 1024];
     let mut out = raw::Assembled::default();
     // SAFETY: each pointer is of a borrow, with its own length.
-    let status = unsafe { raw::rsp_assemble(origin, text.as_ptr(), text.len(), words.as_mut_ptr(), words.len(), &mut out) };
+    let status = unsafe { raw::brsp_assemble(origin, text.as_ptr(), text.len(), words.as_mut_ptr(), words.len(), &mut out) };
     if status == NO_MEANING {
         return Err(Refused::NoMeaning { line: out.line, fault: out.fault, operand: Operand::of(text, origin) });
     }
@@ -34,7 +34,7 @@ pub fn labels(text: &str, origin: u32) -> Result<Vec<(String, u16)>, Refused> {
     let mut found = vec![raw::Label { address: 0, len: 0, name: [0; 36] }; text.lines().count()];
     let mut count = 0;
     // SAFETY: each pointer is of a borrow, with its own length.
-    done(unsafe { raw::rsp_labels(origin, text.as_ptr(), text.len(), found.as_mut_ptr(), found.len(), &mut count) })?;
+    done(unsafe { raw::brsp_labels(origin, text.as_ptr(), text.len(), found.as_mut_ptr(), found.len(), &mut count) })?;
     let name = |it: &raw::Label| String::from_utf8_lossy(&it.name[..usize::from(it.len)]).into_owned();
     Ok(found[..count].iter().map(|it| (name(it), it.address)).collect())
 }
@@ -44,12 +44,12 @@ pub fn text(word: u32, place: u32) -> Result<String, Refused> {
     right_version()?;
     let mut line = NO_LINE;
     // SAFETY: the pointer is of a borrow.
-    done(unsafe { raw::rsp_text(word, place, &mut line) })?;
+    done(unsafe { raw::brsp_text(word, place, &mut line) })?;
     Ok(seen(&line).text)
 }
 
 /// The version of the library's interface. A library with another version than [`VERSION`](crate::VERSION) is refused.
 pub fn version() -> u32 {
     // SAFETY: it takes nothing.
-    unsafe { raw::rsp_version() }
+    unsafe { raw::brsp_version() }
 }

@@ -1,6 +1,6 @@
 //! The calls in their ranges and out of them.
 
-use rsp::{assemble, text, version, Bank, Bench, Changes, Field, Machine, MoveEnd, Reason, Refused, State, StepEnd, Stop, Traced};
+use rsp::{assemble, text, version, Bank, Session, Changes, Field, Machine, MoveEnd, Reason, Refused, State, StepEnd, Stop, Traced};
 use std::thread;
 
 fn loaded(source: &str, depth: u32) -> Machine {
@@ -67,9 +67,9 @@ impl<T: Sync> IsNotSync<u8> for T {}
 fn one_thread_at_a_time() {
     fn is_send<T: Send>() {}
     is_send::<Machine>();
-    is_send::<Bench>();
+    is_send::<Session>();
     <Machine as IsNotSync<_>>::is_not_sync();
-    <Bench as IsNotSync<_>>::is_not_sync();
+    <Session as IsNotSync<_>>::is_not_sync();
 }
 
 #[test]

@@ -5,6 +5,6 @@ int main(int count, char **words)
 {
     void *library = dlopen(words[count - 1], RTLD_NOW);
     if (!library) return puts(dlerror()), 1;
-    unsigned (*version)(void) = (unsigned (*)(void))dlsym(library, "rsp_version");
+    unsigned (*version)(void) = (unsigned (*)(void))dlsym(library, "brsp_version");
     return !version || version() != 1 || dlsym(library, "rattle_alloc");
 }

@@ -13,7 +13,7 @@ from lib.processes import succeeds
 BUILT = {
     "crates/rsp_main/out": "rsp_main rsp_main.o built rsp_main.by-rattle",
     "crates/rsp_c/out": "librsp_c.a built linked",
-    "library/c": "librsp.*",
+    "library/c": "libbrsp.*",
 }
 
 

@@ -49,8 +49,8 @@ pub extern "C" fn rsp_answer() -> u32 {
 }
 """,
 }
-HEADER = "#define RSP_VERSION 1\nuint32_t rsp_answer(void);\n"
-COPIED = "rsp library/c/build library/c/rsp.map library/python/pyproject.toml"
+HEADER = "#define BRSP_VERSION 1\nuint32_t rsp_answer(void);\n"
+COPIED = "rsp library/c/build library/c/brsp.map library/python/pyproject.toml"
 TOOLS = "sh env cat dirname readlink grep sed find head tr sort sha256sum"
 # Programs in place of `rt`, without the rest of its kit: of another logic; of this one; silent; failing.
 RT = {
@@ -96,7 +96,7 @@ class Tiny:
     def __init__(self, folder: Path) -> None:
         self.at, self.runs = folder / "repository", dict[str, Ran]()
         shutil.copytree(TOP / "tools", self.at / "tools")
-        texts = {"crates.txt": CRATES, "library/c/rsp.h": HEADER}
+        texts = {"crates.txt": CRATES, "library/c/brsp.h": HEADER}
         texts.update({f"crates/{it}": text for it, text in SOURCES.items()})
         for name in (*COPIED.split(), *texts):
             (self.at / name).parent.mkdir(parents=True, exist_ok=True)

@@ -73,7 +73,7 @@ LOOP_TEXT, LOOP_CODE = (
 )
 LOOP_WORDS = "addiu $1, $1, -1\nbne $1, $0, 0x000\nnop\nbreak\n"
 LOOP = file_of("loop.s", LOOP_TEXT)
-MY_C = file_of("my.c", block_with(EMBEDDING, '#include "rsp.h"'))
+MY_C = file_of("my.c", block_with(EMBEDDING, '#include "brsp.h"'))
 # Makes a prefix: in an archive, whose top folder is one, and in a clone.
 PREFIX = "if [ -d include ]; then cp -dR bin include lib share ~/prefix; else library/c/install ~/prefix; fi"
 INSTALLED = f"\n[ -d ~/prefix ] || {{ mkdir ~/prefix; {PREFIX}; }}\n"
@@ -81,20 +81,20 @@ MY_C_PRINTS = "..\n2 steps, $2 is 1234"
 CMAKE = """
 cmake_minimum_required(VERSION 3.10)
 project(mine C)
-find_package(rsp 1.0 REQUIRED)
+find_package(brsp 1.0 REQUIRED)
 add_executable(mine my.c)
-target_link_libraries(mine rsp::rsp)
+target_link_libraries(mine brsp::brsp)
 """
 # The functions that the runner of flat vectors calls, of an emulator that does nothing.
 MINE_CPP = """
-#include "rsp.h"
-uint32_t rsp_new(rsp *, const uint8_t *, size_t, uint32_t) { return RSP_OK; }
-void rsp_free(rsp *) {}
-uint32_t rsp_load(rsp *, uint32_t, uint32_t, const uint8_t *, size_t) { return RSP_OK; }
-uint32_t rsp_memory(rsp *, uint32_t, uint32_t, uint8_t *, size_t) { return RSP_OK; }
-uint32_t rsp_set(rsp *, const rsp_state *) { return RSP_OK; }
-uint32_t rsp_get(rsp *, rsp_state *) { return RSP_OK; }
-uint32_t rsp_step(rsp *) { return RSP_OK; }
+#include "brsp.h"
+uint32_t brsp_new(brsp_machine *, const uint8_t *, size_t, uint32_t) { return BRSP_OK; }
+void brsp_free(brsp_machine *) {}
+uint32_t brsp_load(brsp_machine *, uint32_t, uint32_t, const uint8_t *, size_t) { return BRSP_OK; }
+uint32_t brsp_memory(brsp_machine *, uint32_t, uint32_t, uint8_t *, size_t) { return BRSP_OK; }
+uint32_t brsp_set(brsp_machine *, const brsp_state *) { return BRSP_OK; }
+uint32_t brsp_get(brsp_machine *, brsp_state *) { return BRSP_OK; }
+uint32_t brsp_step(brsp_machine *) { return BRSP_OK; }
 """
 FLAT_SW = "conformance/generate --flat --of conformance/vectors ~/flat SW"
 FAULTY = "start: ori $1, $0, 1\nfoo $2\nj start\nori $1, $99, 1\nbreak\n"
@@ -217,7 +217,7 @@ WAYS = (
             ("library/c/build ", "[ -d include ] || library/c/build "),
             ("library/c/install PREFIX", PREFIX),
         ),
-        then="test -s ~/prefix/lib/librsp.so",
+        then="test -s ~/prefix/lib/libbrsp.so",
     ),
     Way(
         EMBEDDING,

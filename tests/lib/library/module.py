@@ -37,5 +37,5 @@ def copy_of_package(folder: Path) -> Path:
     package, ignored = folder / "tree/python", shutil.ignore_patterns("__pycache__")
     shutil.copytree(TOP / "library/python", package, ignore=ignored)
     (folder / "tree/c").mkdir()
-    shutil.copy(TOP / "library/c/librsp.so", folder / "tree/c")
+    shutil.copy(TOP / "library/c/libbrsp.so", folder / "tree/c")
     return package

@@ -21,7 +21,7 @@ COUNTED = "-Wl,--wrap=malloc,--wrap=realloc,--wrap=free"
 
 def built(folder: Path, source: Path, *more: object, compiler: str = "cc") -> Path:
     """A program over the library."""
-    words = (*STRICT, *LANGUAGES[compiler], source, "-x", "none", *more, TOP / "library/c/librsp.a")
+    words = (*STRICT, *LANGUAGES[compiler], source, "-x", "none", *more, TOP / "library/c/libbrsp.a")
     return compiled(folder / source.stem, *words, compiler=compiler)
 
 
@@ -34,7 +34,7 @@ def said_by(folder: Path, text: str, compiler: str = "cc") -> str:
 
 def main_of(lines: str) -> str:
     """The text of a program with these lines in its main."""
-    return f'#include "rsp.h"\n#include <stdio.h>\nint main(void)\n{{\n{lines}\nreturn 0;\n}}\n'
+    return f'#include "brsp.h"\n#include <stdio.h>\nint main(void)\n{{\n{lines}\nreturn 0;\n}}\n'
 
 
 def passes(program: Path) -> None:
@@ -47,9 +47,9 @@ def passes(program: Path) -> None:
 def other_version(folder: Path) -> Path:
     """A folder with libraries whose calls do nothing, of version 2."""
     names = [name for name, *_ in shapes.exported()]
-    calls = (f"unsigned {it}(void) {{ return {2 if it == 'rsp_version' else 0}; }}\n" for it in names)
+    calls = (f"unsigned {it}(void) {{ return {2 if it == 'brsp_version' else 0}; }}\n" for it in names)
     (folder / "calls.c").write_text("".join(calls))
     succeeds("cc", "-fPIC", "-c", "calls.c", cwd=folder)
-    succeeds("ar", "rc", "librsp.a", "calls.o", cwd=folder)
-    succeeds("cc", "-shared", "-o", "librsp.so", "calls.o", cwd=folder)
+    succeeds("ar", "rc", "libbrsp.a", "calls.o", cwd=folder)
+    succeeds("cc", "-shared", "-o", "libbrsp.so", "calls.o", cwd=folder)
     return folder

@@ -16,7 +16,7 @@ NUMBERS = {
 }
 C_NUMBERS = {"u8": "uint8_t", "u32": "uint32_t", "usize": "size_t"}
 # The structs of one pointer, by their names in C.
-HANDLES = {"Handle": "rsp", "BenchHandle": "rsp_bench"}
+HANDLES = {"Handle": "brsp_machine", "BenchHandle": "rsp_bench"}
 AS_C = {"u32": "uint32_t", "usize": "size_t", "Global": "", "": "void"}
 AS_C.update({f"&mut {name}": f"{in_c} *" for name, in_c in HANDLES.items()})
 # The structs that are classes in Python and JavaScript, by their names there.
@@ -50,7 +50,7 @@ def groups(form: str, text: str) -> Tuple[Any, ...]:
 
 
 def c_name(rust: str) -> str:
-    """RspFlagBits is rsp_flag_bits."""
+    """RspFlagBits is brsp_flag_bits."""
     return re.sub(r"(?<!^)(?=[A-Z])", "_", rust).lower()
 
 
@@ -76,7 +76,7 @@ def exported() -> Iterator[Call]:
 def declared(header: str) -> Iterator[Call]:
     """The same of a header."""
     text = re.sub(r"/\*.*?\*/", "", header, flags=re.S)
-    for result, name, given in re.findall(r"^(\w+) (rsp_\w+)\((.*?)\);", text, re.M | re.S):
+    for result, name, given in re.findall(r"^(\w+) (brsp_\w+)\((.*?)\);", text, re.M | re.S):
         types = [re.sub(r"(?<=[ *])\w+$", "", it.strip()).strip() for it in given.split(",")]
         yield name, result, "|".join(types)
 
@@ -89,7 +89,7 @@ def declared_in_rust(text: str) -> Iterator[Call]:
         name = {**C_NUMBERS, **HANDLES}.get(kind) or c_name(f"Rsp{kind}")
         return {None: name, "*const ": f"const {name} *", "*mut ": f"{name} *"}[pointer]
 
-    for name, given, result in re.findall(r"(?s)pub fn (rsp_\w+)\((.*?)\)(?: -> (\w+))?;", text):
+    for name, given, result in re.findall(r"(?s)pub fn (brsp_\w+)\((.*?)\)(?: -> (\w+))?;", text):
         types = [as_c(it.split(":", 1)[1].strip()) for it in given.split(",") if it.strip()]
         yield name, AS_C[result], "|".join(types) or "void"
 

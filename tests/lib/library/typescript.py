@@ -4,7 +4,7 @@ from lib import TOP
 
 USE = """
 import { Bank, DMEM, FAULTS, IMEM, Reason, Rsp, RspError, State, Status } from "rsp";
-import { Bench, assemble, first_difference, run_script } from "rsp";
+import { Session, assemble, first_difference, run_script } from "rsp";
 const machine: Rsp = new Rsp(new Uint8Array(64).buffer, 100), other: Rsp = machine.copy();
 machine.load_words(IMEM, 0, assemble("nop"));
 const state: State = new State({ pc: 4, words: new Uint32Array(32) });
@@ -18,8 +18,8 @@ try {
   if (fault instanceof RspError && fault.status === Status.SHORT_HISTORY) machine.free();
 }
 for (const entry of machine.iter_trace(9)) console.log(entry.lanes[0]);
-const [replies, image]: [Uint8Array, Uint8Array] = run_script("step\\n"), bench = new Bench(image);
-for (const reply of bench.iter_feed(replies)) console.log(reply.length, bench.end(), bench.rdram[3]);
+const [replies, image]: [Uint8Array, Uint8Array] = run_script("step\\n"), session = new Session(image);
+for (const reply of session.iter_feed(replies)) console.log(reply.length, session.end(), session.rdram[3]);
 const changes = machine.step_changes();
 console.log(changes?.stored_bytes[31], changes?.traced.pc);
 other[Symbol.dispose]();

@@ -14,15 +14,15 @@ WANTED = {"x86_64": TAKEN - {"_bzero"} | {"___bzero"}, "arm64": TAKEN}
 
 def check_processor(folder: Path, at: Path, processor: str) -> None:
     """One processor's part of each library."""
-    parts = [at / f"{processor}-{it}" for it in ("librsp.dylib", "librsp.a")]
-    for part, name in zip(parts, ("librsp.dylib", "librsp.a")):
+    parts = [at / f"{processor}-{it}" for it in ("libbrsp.dylib", "libbrsp.a")]
+    for part, name in zip(parts, ("libbrsp.dylib", "libbrsp.a")):
         llvm("llvm-lipo", folder / "lib" / name, "-thin", processor, "-output", part)
         assert shown("-g", "--defined-only", part) == {f"_{it}" for it in header.calls()}, part
         wants = shown("-u", part) - {"dyld_stub_binder"}
         assert wants and wants <= WANTED[processor], part
     read = llvm("llvm-objdump", "--macho", "--private-headers", parts[0])
     named = re.findall(r"cmd LC_(?:ID|LOAD)_DYLIB\n.*\n +name (\S+) ", read)
-    assert named == ["@rpath/librsp.dylib", "/usr/lib/libSystem.B.dylib"], processor
+    assert named == ["@rpath/libbrsp.dylib", "/usr/lib/libSystem.B.dylib"], processor
     versions = re.findall(r"\n +current version (\S+)\ncompatibility version (\S+)", read)[:1]
     assert versions == [(header.version(), f"{header.interface()}.0.0")], processor
     oldest = re.findall(r"cmd LC_BUILD_VERSION\n.*\n +platform (\S+)\n.*\n +minos (\S+)", read)
@@ -33,7 +33,7 @@ def check_processor(folder: Path, at: Path, processor: str) -> None:
 
 def check(folder: Path, at: Path) -> None:
     """Both processors are in each file, and nothing else."""
-    for name in ("librsp.dylib", "librsp.a"):
+    for name in ("libbrsp.dylib", "libbrsp.a"):
         found = llvm("llvm-lipo", "-archs", folder / "lib" / name).split()
         assert sorted(found) == sorted(WANTED), name
     for processor in WANTED:

@@ -42,7 +42,7 @@ class Runner:
 
     def static(self) -> List[str]:
         """The words that link the static library."""
-        return [str(self.folder / "lib/librsp.a")]
+        return [str(self.folder / "lib/libbrsp.a")]
 
     def shared(self) -> List[str]:
         """The words that link the shared library."""
@@ -62,7 +62,7 @@ class Runner:
         for name in ("shared", "static"):
             self.check_lockstep(made / f"{name}{self.ending}", name == "shared")
         other = cmake.configured(self.folder, folder, "other")
-        assert other.returncode and "rspConfig" in other.stdout
+        assert other.returncode and "brspConfig" in other.stdout
 
     def check_lockstep(self, program: Path, is_shared: bool) -> None:
         """A program over the library says what the example says."""
@@ -97,7 +97,7 @@ class Native(Runner):
         super().__init__(places.HEADER.parent, at)
 
     def static(self) -> List[str]:
-        return [str(self.folder / "librsp.a")]
+        return [str(self.folder / "libbrsp.a")]
 
 
 class Arm(Runner):
@@ -106,7 +106,7 @@ class Arm(Runner):
     target = TARGETS["linux-aarch64"]
     system, compiler, start = target.name, target.compiler, target.emulator
     cmake = "Linux", target.processor
-    dll = "lib/librsp.so.1"
+    dll = "lib/libbrsp.so.1"
     programs = (compiler, start[0])
 
 
@@ -138,7 +138,7 @@ class Windows(Runner):
 
 
 class MacIntel(Runner):
-    """The code for Intel of librsp.dylib, on Linux. Nothing here runs programs of macOS."""
+    """The code for Intel of libbrsp.dylib, on Linux. Nothing here runs programs of macOS."""
 
     system = "macos"
     programs: Tuple[str, ...] = ("rt", "cc")
@@ -146,7 +146,7 @@ class MacIntel(Runner):
 
     def __init__(self, folder: Path, at: Path) -> None:
         super().__init__(folder, at)
-        self.code = macho.taken_out(folder / "lib/librsp.dylib", self.processor, at)
+        self.code = macho.taken_out(folder / "lib/libbrsp.dylib", self.processor, at)
 
     def static(self) -> List[str]:
         return self.code
@@ -156,7 +156,7 @@ class MacIntel(Runner):
 
 
 class MacArm(MacIntel):
-    """The code for ARM of librsp.dylib, on Linux under qemu."""
+    """The code for ARM of libbrsp.dylib, on Linux under qemu."""
 
     compiler, start = Arm.compiler, Arm.start
     programs = ("rt", *Arm.programs)

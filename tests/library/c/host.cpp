@@ -58,64 +58,64 @@ static size_t put(uint32_t *words, size_t i)
     return i;
 }
 
-template <class Unit> static void compare(int program, Console<Unit> &console, rsp *inside)
+template <class Unit> static void compare(int program, Console<Unit> &console, brsp_machine *inside)
 {
     static uint8_t mine[4096], other[4096];
-    static rsp_state here, there;
-    rsp_get(console.machine.handle(), &here);
-    rsp_get(inside, &there);
+    static brsp_state here, there;
+    brsp_get(console.machine.handle(), &here);
+    brsp_get(inside, &there);
     std::memcpy(here.sp + 8, console.dpc, sizeof console.dpc);
     see("registers", program, !std::memcmp(&here, &there, sizeof here));
-    for (uint32_t bank = RSP_DMEM; bank <= RSP_IMEM; bank++) {
-        rsp_memory(console.machine.handle(), bank, 0, mine, 4096);
-        rsp_memory(inside, bank, 0, other, 4096);
+    for (uint32_t bank = BRSP_DMEM; bank <= BRSP_IMEM; bank++) {
+        brsp_memory(console.machine.handle(), bank, 0, mine, 4096);
+        brsp_memory(inside, bank, 0, other, 4096);
         see("a bank", program, !std::memcmp(mine, other, 4096));
     }
 }
 
-static bool same_rdram(const std::vector<uint8_t> &mine, rsp *inside)
+static bool same_rdram(const std::vector<uint8_t> &mine, brsp_machine *inside)
 {
     static std::vector<uint8_t> theirs(mine.size());
-    return rsp_memory(inside, RSP_RDRAM, 0, theirs.data(), theirs.size()) == RSP_OK && mine == theirs;
+    return brsp_memory(inside, BRSP_RDRAM, 0, theirs.data(), theirs.size()) == BRSP_OK && mine == theirs;
 }
 
-static bool same_rdram(const std::vector<uint32_t> &mine, rsp *inside)
+static bool same_rdram(const std::vector<uint32_t> &mine, brsp_machine *inside)
 {
     static std::vector<uint32_t> theirs(mine.size());
-    return rsp_memory_words(inside, RSP_RDRAM, 0, theirs.data(), theirs.size()) == RSP_OK && mine == theirs;
+    return brsp_memory_words(inside, BRSP_RDRAM, 0, theirs.data(), theirs.size()) == BRSP_OK && mine == theirs;
 }
 
 /* What the CPU writes to SP registers, DMAs among them, and what it reads. The RDP's are words that only the console has. */
-template <class Unit> static void by_the_cpu(int program, Console<Unit> &console, rsp *inside)
+template <class Unit> static void by_the_cpu(int program, Console<Unit> &console, brsp_machine *inside)
 {
     for (uint32_t count = random_below(6); count; count--) {
         uint32_t number = random_below(4) ? random_below(4) : random_below(16), value = value_for(number), theirs;
         console.write(number, value);
-        rsp_write(inside, number, value);
+        brsp_write(inside, number, value);
         number = random_below(16);
-        rsp_read(inside, number, &theirs);
+        brsp_read(inside, number, &theirs);
         see("a read", program, console.read(number) == theirs);
     }
     compare(program, console, inside);
 }
 
 /* Runs both in turns, with the CPU's accesses between them, and its write of SP_STATUS where they are halted. */
-template <class Unit> static uint64_t run_both(int program, Console<Unit> &console, rsp *inside)
+template <class Unit> static uint64_t run_both(int program, Console<Unit> &console, brsp_machine *inside)
 {
     uint64_t made = 0;
     for (int turn = 0; turn < 12; turn++) {
         uint32_t budget = random_below(3) ? 1 + random_below(12) : 1 + random_below(500);
         uint32_t steps = console.run(budget);
-        rsp_stop stop;
-        rsp_run(inside, budget, &stop);
+        brsp_stop stop;
+        brsp_run(inside, budget, &stop);
         see("steps", program, steps == stop.steps);
         compare(program, console, inside);
-        if (stop.reason == RSP_AT_RESERVED) break;
+        if (stop.reason == BRSP_AT_RESERVED) break;
         if (random_below(4) == 0) by_the_cpu(program, console, inside);
-        if (stop.reason == RSP_AT_HALT) { /* it goes on, at times without single step */
+        if (stop.reason == BRSP_AT_HALT) { /* it goes on, at times without single step */
             uint32_t goes_on = random_below(2) ? 1 : 0x21;
             console.write(4, goes_on);
-            rsp_write(inside, 4, goes_on);
+            brsp_write(inside, 4, goes_on);
         }
         made += steps;
     }
@@ -126,22 +126,22 @@ template <class Unit> static void programs(int count)
 {
     static uint32_t words[1027];
     Console<Unit> console;
-    rsp inside = RSP_NONE;
+    brsp_machine inside = BRSP_NONE;
     std::vector<uint8_t> image(8 << 20);
     uint64_t made = 0;
-    see("a machine", 0, rsp_new(&inside, image.data(), image.size(), 0) == RSP_OK);
+    see("a machine", 0, brsp_new(&inside, image.data(), image.size(), 0) == BRSP_OK);
     for (int program = 1; program <= count; program++) {
         for (size_t i = 0; i < 1024;) i = put(words, i);
-        for (rsp *m : { console.machine.handle(), &inside }) {
-            rsp_load_words(m, RSP_IMEM, 0, words, 1024);
-            rsp_set_pc(m, random_below(1) * 4);
-            rsp_write(m, 4, 0x25); /* clear halted, broke and single step */
+        for (brsp_machine *m : { console.machine.handle(), &inside }) {
+            brsp_load_words(m, BRSP_IMEM, 0, words, 1024);
+            brsp_set_pc(m, random_below(1) * 4);
+            brsp_write(m, 4, 0x25); /* clear halted, broke and single step */
         }
         made += run_both(program, console, &inside);
         if (program % 50 == 0) see("RDRAM", program, same_rdram(console.rdram, &inside));
     }
     see("steps are made", 0, made > 100u * (uint64_t)count);
-    rsp_free(&inside);
+    brsp_free(&inside);
 }
 
 int main(int argc, char **argv)

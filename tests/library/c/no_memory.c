@@ -1,10 +1,10 @@
-/* What the calls of rsp.h take of memory: linked with -Wl,--wrap=malloc,--wrap=realloc,--wrap=free.
- *   - rsp_new, rsp_copy, rsp_assemble, rsp_explain and rsp_labels while the K-th call of malloc or realloc fails, for each K. A handle keeps what it held.
- *   - rsp_bench_new the same, and a script with blocks: each refused call is made again, and the replies are those to the whole script.
- *   - What a handle held is freed when rsp_new or rsp_copy puts another machine into it.
+/* What the calls of brsp.h take of memory: linked with -Wl,--wrap=malloc,--wrap=realloc,--wrap=free.
+ *   - brsp_new, brsp_copy, brsp_assemble, brsp_explain and brsp_labels while the K-th call of malloc or realloc fails, for each K. A handle keeps what it held.
+ *   - brsp_session_new the same, and a script with blocks: each refused call is made again, and the replies are those to the whole script.
+ *   - What a handle held is freed when brsp_new or brsp_copy puts another machine into it.
  *   - No other call takes memory or frees any: accepted, refused, and of a handle that holds no machine.
  *   - All that was taken is freed: also by calls.c, whose main is all_calls here. */
-#include "rsp.h"
+#include "brsp.h"
 #include "counted.h"
 #include <stdio.h>
 #include <stdlib.h>
@@ -24,144 +24,144 @@ static void see(const char *what, long k, int is_right)
 
 /* A whole machine: all but its breakpoints and watches. */
 struct whole {
-    rsp_state state;
+    brsp_state state;
     uint8_t banks[3][4096];
 };
 
-static void read_whole(rsp *m, struct whole *w)
+static void read_whole(brsp_machine *m, struct whole *w)
 {
     uint32_t k;
     memset(w, 0, sizeof *w);
-    see("rsp_get", -1, rsp_get(m, &w->state) == RSP_OK);
-    for (k = 0; k < 3; k++) see("rsp_memory", -1, rsp_memory(m, k, 0, w->banks[k], k == RSP_RDRAM ? 64 : 4096) == RSP_OK);
+    see("brsp_get", -1, brsp_get(m, &w->state) == BRSP_OK);
+    for (k = 0; k < 3; k++) see("brsp_memory", -1, brsp_memory(m, k, 0, w->banks[k], k == BRSP_RDRAM ? 64 : 4096) == BRSP_OK);
 }
 
-static int is_still(rsp *m, const struct whole *before)
+static int is_still(brsp_machine *m, const struct whole *before)
 {
     static struct whole after;
     read_whole(m, &after);
     return memcmp(&after, before, sizeof after) == 0;
 }
 
-static void failing_new(rsp *m)
+static void failing_new(brsp_machine *m)
 {
     static struct whole before;
-    uint32_t word, status = RSP_NO_MEMORY;
+    uint32_t word, status = BRSP_NO_MEMORY;
     long k, refused = 0, blocks = held;
     read_whole(m, &before);
     for (k = 0; k < 100; k++) {
         left = k;
-        status = rsp_new(m, image, 64, 100);
+        status = brsp_new(m, image, 64, 100);
         left = -1;
-        if (status == RSP_OK) break;
+        if (status == BRSP_OK) break;
         refused++;
-        see("rsp_new", k, status == RSP_NO_MEMORY && is_still(m, &before));
-        see("rsp_new frees what it took", k, held == blocks);
+        see("brsp_new", k, status == BRSP_NO_MEMORY && is_still(m, &before));
+        see("brsp_new frees what it took", k, held == blocks);
     }
-    see("rsp_new takes memory", k, refused >= 3 && status == RSP_OK && rsp_peek(m, 8, &word) == RSP_OK && word == 0);
-    see("rsp_new frees what the handle held", k, held == blocks);
+    see("brsp_new takes memory", k, refused >= 3 && status == BRSP_OK && brsp_peek(m, 8, &word) == BRSP_OK && word == 0);
+    see("brsp_new frees what the handle held", k, held == blocks);
 }
 
-static void failing_copy(rsp *m, rsp *from)
+static void failing_copy(brsp_machine *m, brsp_machine *from)
 {
     static struct whole before, first;
-    uint32_t status = RSP_NO_MEMORY;
+    uint32_t status = BRSP_NO_MEMORY;
     long k, refused = 0, blocks = held;
     read_whole(m, &before);
     read_whole(from, &first);
     for (k = 0; k < 100; k++) {
         left = k;
-        status = rsp_copy(m, from);
+        status = brsp_copy(m, from);
         left = -1;
-        if (status == RSP_OK) break;
+        if (status == BRSP_OK) break;
         refused++;
-        see("rsp_copy", k, status == RSP_NO_MEMORY && is_still(m, &before));
-        see("rsp_copy leaves the first", k, is_still(from, &first) && rsp_back(from, 1) == RSP_OK && rsp_step(from) == RSP_OK);
-        see("rsp_copy frees what it took", k, held == blocks);
+        see("brsp_copy", k, status == BRSP_NO_MEMORY && is_still(m, &before));
+        see("brsp_copy leaves the first", k, is_still(from, &first) && brsp_back(from, 1) == BRSP_OK && brsp_step(from) == BRSP_OK);
+        see("brsp_copy frees what it took", k, held == blocks);
     }
-    see("rsp_copy takes memory", k, refused >= 3 && status == RSP_OK && is_still(m, &first) && is_still(from, &first));
-    see("rsp_copy frees what the handle held", k, held == blocks);
+    see("brsp_copy takes memory", k, refused >= 3 && status == BRSP_OK && is_still(m, &first) && is_still(from, &first));
+    see("brsp_copy frees what the handle held", k, held == blocks);
 }
 
 /* An assembly without memory for a label reports the label's line, and no fault that stands before it is hidden by that. */
 static void failing_assemble(void)
 {
     static const char labels[] = "a: nop\nb: nop\nc: j a\nnop\n", fault[] = "foo\na: nop\n";
-    rsp_assembled out;
-    uint32_t words[8], status = RSP_NO_MEMORY;
+    brsp_assembled out;
+    uint32_t words[8], status = BRSP_NO_MEMORY;
     long k;
     for (k = 0; k < 100; k++) {
         left = k;
-        status = rsp_assemble(0, (const uint8_t *)labels, strlen(labels), words, 8, &out);
+        status = brsp_assemble(0, (const uint8_t *)labels, strlen(labels), words, 8, &out);
         left = -1;
-        if (status == RSP_OK) break;
-        see("rsp_assemble", k, status == RSP_NO_MEMORY && out.count == 0 && out.fault == 17 && out.line >= 1 && out.line <= 3);
+        if (status == BRSP_OK) break;
+        see("brsp_assemble", k, status == BRSP_NO_MEMORY && out.count == 0 && out.fault == 17 && out.line >= 1 && out.line <= 3);
         if (k == 0) see("the first label", k, out.line == 1);
     }
-    see("rsp_assemble takes memory", k, k > 0 && status == RSP_OK && out.count == 4);
+    see("brsp_assemble takes memory", k, k > 0 && status == BRSP_OK && out.count == 4);
     left = 0;
-    status = rsp_assemble(0, (const uint8_t *)fault, strlen(fault), words, 8, &out);
+    status = brsp_assemble(0, (const uint8_t *)fault, strlen(fault), words, 8, &out);
     left = -1;
-    see("an earlier fault", 0, status == RSP_NO_MEANING && out.line == 1 && out.fault == 11);
+    see("an earlier fault", 0, status == BRSP_NO_MEANING && out.line == 1 && out.fault == 11);
 }
 
 /* An explanation without memory for a label changes nothing. */
 static void failing_explain(void)
 {
     static const char labels[] = "a: nop\nb: nop\nc: j d\n";
-    rsp_operand out;
-    uint32_t status = RSP_NO_MEMORY;
+    brsp_operand out;
+    uint32_t status = BRSP_NO_MEMORY;
     long k;
     for (k = 0; k < 100; k++) {
         left = k;
         out.number = 99;
-        status = rsp_explain(0, (const uint8_t *)labels, strlen(labels), &out);
+        status = brsp_explain(0, (const uint8_t *)labels, strlen(labels), &out);
         left = -1;
-        if (status == RSP_OK) break;
-        see("rsp_explain", k, status == RSP_NO_MEMORY && out.number == 99);
+        if (status == BRSP_OK) break;
+        see("brsp_explain", k, status == BRSP_NO_MEMORY && out.number == 99);
     }
-    see("rsp_explain takes memory", k, k > 0 && status == RSP_OK && out.number == 1 && out.kind == RSP_OPERAND_JUMP);
+    see("brsp_explain takes memory", k, k > 0 && status == BRSP_OK && out.number == 1 && out.kind == BRSP_OPERAND_JUMP);
 }
 
 /* Labels without memory for one of them, or for the list, change nothing. */
 static void failing_labels(void)
 {
     static const char text[] = "a: nop\nb: nop\nc: j b\n";
-    rsp_label found[4];
+    brsp_label found[4];
     size_t count = 0;
-    uint32_t status = RSP_NO_MEMORY;
+    uint32_t status = BRSP_NO_MEMORY;
     long k, blocks = held;
     for (k = 0; k < 100; k++) {
         left = k;
         count = 99;
         found[0].len = 77;
-        status = rsp_labels(0, (const uint8_t *)text, strlen(text), found, 4, &count);
+        status = brsp_labels(0, (const uint8_t *)text, strlen(text), found, 4, &count);
         left = -1;
-        if (status == RSP_OK) break;
-        see("rsp_labels", k, status == RSP_NO_MEMORY && count == 99 && found[0].len == 77 && held == blocks);
+        if (status == BRSP_OK) break;
+        see("brsp_labels", k, status == BRSP_NO_MEMORY && count == 99 && found[0].len == 77 && held == blocks);
     }
-    see("rsp_labels takes memory", k, k > 1 && status == RSP_OK && count == 3 && found[2].address == 8 && held == blocks);
+    see("brsp_labels takes memory", k, k > 1 && status == BRSP_OK && count == 3 && found[2].address == 8 && held == blocks);
 }
 
-static rsp_bench b = RSP_NONE;
-static uint8_t reply[RSP_REPLIES];
+static brsp_session b = BRSP_NONE;
+static uint8_t reply[BRSP_REPLIES];
 static size_t used, written;
 
-static void failing_bench_new(void)
+static void failing_session_new(void)
 {
-    uint32_t status = RSP_NO_MEMORY;
+    uint32_t status = BRSP_NO_MEMORY;
     long k, refused_calls = 0, blocks = held;
     for (k = 0; k < 100; k++) {
         left = k;
-        status = rsp_bench_new(&b, image, 64);
+        status = brsp_session_new(&b, image, 64);
         left = -1;
-        if (status == RSP_OK) break;
+        if (status == BRSP_OK) break;
         refused_calls++;
-        see("rsp_bench_new", k, status == RSP_NO_MEMORY && held == blocks && b.at == NULL);
+        see("brsp_session_new", k, status == BRSP_NO_MEMORY && held == blocks && b.at == NULL);
     }
-    see("rsp_bench_new takes memory", k, refused_calls >= 3 && status == RSP_OK && held > blocks);
+    see("brsp_session_new takes memory", k, refused_calls >= 3 && status == BRSP_OK && held > blocks);
     blocks = held;
-    see("rsp_bench_new frees what the handle held", k, rsp_bench_new(&b, image, 64) == RSP_OK && held == blocks);
+    see("brsp_session_new frees what the handle held", k, brsp_session_new(&b, image, 64) == BRSP_OK && held == blocks);
 }
 
 /* Makes a call until it isn't refused; while its allocation number k fails, it is, with nothing filled. */
@@ -171,9 +171,9 @@ static uint32_t made(long k, const char *bytes, size_t len, int is_end)
     left = k;
     used = written = 77;
     reply[0] = 0x55;
-    status = is_end ? rsp_bench_end(&b, reply, sizeof reply, &written)
-                    : rsp_bench_take(&b, (const uint8_t *)bytes, len, &used, reply, sizeof reply, &written);
-    if (status == RSP_NO_MEMORY) see("a refused call fills nothing", k, used == 77 && written == 77 && reply[0] == 0x55);
+    status = is_end ? brsp_session_end(&b, reply, sizeof reply, &written)
+                    : brsp_session_take(&b, (const uint8_t *)bytes, len, &used, reply, sizeof reply, &written);
+    if (status == BRSP_NO_MEMORY) see("a refused call fills nothing", k, used == 77 && written == 77 && reply[0] == 0x55);
     left = -1;
     return status;
 }
@@ -185,20 +185,20 @@ static long answered(const char *script, size_t n, long k, const char *wanted)
     size_t at = 0, len = strlen(script), count = 0, before = 0;
     long failures = 0;
     int is_end = 0;
-    see("the bench", k, rsp_bench_new(&b, image, 64) == RSP_OK);
+    see("the session", k, brsp_session_new(&b, image, 64) == BRSP_OK);
     while (!is_end) {
         size_t piece = len - at < n ? len - at : n;
         uint32_t status;
         long blocks = held;
         is_end = at == len;
         status = made(k, script + at, piece, is_end);
-        if (status == RSP_NO_MEMORY) {
+        if (status == BRSP_NO_MEMORY) {
             failures++;
             see("a refused call holds no more", k, held == blocks);
             status = made(-1, script + at, piece, is_end);
         }
-        see("the call again", k, status == RSP_OK && count + written <= sizeof out);
-        if (status != RSP_OK) return -1;
+        see("the call again", k, status == BRSP_OK && count + written <= sizeof out);
+        if (status != BRSP_OK) return -1;
         memcpy(out + count, reply, written);
         count += written;
         before = at;
@@ -219,7 +219,7 @@ static void failing_script(void)
     for (n = 1; n <= sizeof script; n = n * 4)
         for (k = 0, failures = 1; k < 100 && failures > 0; k++) all += failures = answered(script, n, k, wanted);
     see("a script with blocks takes memory", all, all > 20 && failures == 0);
-    rsp_bench_free(&b);
+    brsp_session_free(&b);
 }
 
 /* That a call takes no memory and frees none. */
@@ -230,128 +230,128 @@ static void failing_script(void)
 } while (0)
 
 /* The same of a call that is refused. */
-#define REFUSED(call) NONE(see(#call " is refused", -1, (call) != RSP_OK))
+#define REFUSED(call) NONE(see(#call " is refused", -1, (call) != BRSP_OK))
 
-static void refused_calls(rsp *m)
+static void refused_calls(brsp_machine *m)
 {
-    static rsp_line lines[1025];
+    static brsp_line lines[1025];
     static uint32_t words[1025];
-    static rsp_traced entry;
-    static rsp_changes changes;
-    static rsp_state wrong;
-    rsp_stop stop;
-    rsp_move move;
-    rsp_reached reached;
-    rsp_lanes lanes;
-    rsp_sp_words sp;
+    static brsp_traced entry;
+    static brsp_changes changes;
+    static brsp_state wrong;
+    brsp_stop stop;
+    brsp_move move;
+    brsp_reached reached;
+    brsp_lanes lanes;
+    brsp_sp_words sp;
     uint8_t byte = 0;
     size_t number;
     wrong.words[0] = 1;
     memset(&sp, 0, sizeof sp);
-    REFUSED(rsp_set(m, &wrong));
-    REFUSED(rsp_set_sp(m, &sp));
-    REFUSED(rsp_load(m, 3, 0, &byte, 1));
-    REFUSED(rsp_load(m, RSP_RDRAM, 64, &byte, 1));
-    REFUSED(rsp_load_words(m, RSP_RDRAM, 64, words, 1));
-    REFUSED(rsp_load_words(m, RSP_DMEM, 0, words, 1025));
-    REFUSED(rsp_memory(m, RSP_RDRAM, 64, &byte, 1));
-    REFUSED(rsp_memory_words(m, RSP_DMEM, 0, words, 1025));
-    REFUSED(rsp_task(m, 1));
-    REFUSED(rsp_set_pc(m, 2));
-    REFUSED(rsp_run(m, 0, &stop));
-    REFUSED(rsp_run_until_move(m, 1, 65536, 0, &move));
-    REFUSED(rsp_trace(m, &entry, 0, &stop));
-    REFUSED(rsp_back(m, 0));
-    REFUSED(rsp_back(m, 1000000));
-    REFUSED(rsp_event(m, 1, 65536, 0, &reached));
-    REFUSED(rsp_pass(m, 1));
-    REFUSED(rsp_pass_dma(m));
-    REFUSED(rsp_add_break(m, 4096));
-    REFUSED(rsp_drop_break(m, 4));
-    REFUSED(rsp_add_watch(m, 0, 65, &number));
-    REFUSED(rsp_drop_watch(m, 7));
-    NONE(rsp_write(m, 4, 2));
-    REFUSED(rsp_step_changes(m, &changes));
-    NONE(rsp_write(m, 4, 1));
-    REFUSED(rsp_reg(m, 32, words));
-    REFUSED(rsp_vreg(m, 32, &lanes));
-    REFUSED(rsp_text(0, 4096, lines));
-    REFUSED(rsp_listing(m, 0, lines, 1025));
+    REFUSED(brsp_set(m, &wrong));
+    REFUSED(brsp_set_sp(m, &sp));
+    REFUSED(brsp_load(m, 3, 0, &byte, 1));
+    REFUSED(brsp_load(m, BRSP_RDRAM, 64, &byte, 1));
+    REFUSED(brsp_load_words(m, BRSP_RDRAM, 64, words, 1));
+    REFUSED(brsp_load_words(m, BRSP_DMEM, 0, words, 1025));
+    REFUSED(brsp_memory(m, BRSP_RDRAM, 64, &byte, 1));
+    REFUSED(brsp_memory_words(m, BRSP_DMEM, 0, words, 1025));
+    REFUSED(brsp_task(m, 1));
+    REFUSED(brsp_set_pc(m, 2));
+    REFUSED(brsp_run(m, 0, &stop));
+    REFUSED(brsp_run_until_move(m, 1, 65536, 0, &move));
+    REFUSED(brsp_trace(m, &entry, 0, &stop));
+    REFUSED(brsp_back(m, 0));
+    REFUSED(brsp_back(m, 1000000));
+    REFUSED(brsp_event(m, 1, 65536, 0, &reached));
+    REFUSED(brsp_pass(m, 1));
+    REFUSED(brsp_pass_dma(m));
+    REFUSED(brsp_add_break(m, 4096));
+    REFUSED(brsp_drop_break(m, 4));
+    REFUSED(brsp_add_watch(m, 0, 65, &number));
+    REFUSED(brsp_drop_watch(m, 7));
+    NONE(brsp_write(m, 4, 2));
+    REFUSED(brsp_step_changes(m, &changes));
+    NONE(brsp_write(m, 4, 1));
+    REFUSED(brsp_reg(m, 32, words));
+    REFUSED(brsp_vreg(m, 32, &lanes));
+    REFUSED(brsp_text(0, 4096, lines));
+    REFUSED(brsp_listing(m, 0, lines, 1025));
 }
 
-static void other_calls(rsp *m)
+static void other_calls(brsp_machine *m)
 {
-    static rsp_line lines[1024];
+    static brsp_line lines[1024];
     static uint8_t bytes[4096];
     static uint32_t words[1024];
-    static rsp_state state;
-    static rsp_traced entries[64];
-    static rsp_changes changes;
-    rsp_move move;
-    rsp_reached reached;
-    rsp_stop stop;
-    rsp_scalars scalars;
-    rsp_lanes lanes;
-    rsp_accumulators accumulators;
-    rsp_flag_bits flags;
-    rsp_divide_state divider;
-    rsp_sp_words sp;
+    static brsp_state state;
+    static brsp_traced entries[64];
+    static brsp_changes changes;
+    brsp_move move;
+    brsp_reached reached;
+    brsp_stop stop;
+    brsp_scalars scalars;
+    brsp_lanes lanes;
+    brsp_accumulators accumulators;
+    brsp_flag_bits flags;
+    brsp_divide_state divider;
+    brsp_sp_words sp;
     size_t number;
     uint32_t word, k;
-    NONE(rsp_version());
-    NONE(rsp_get(m, &state));
-    NONE(rsp_set(m, &state));
-    NONE(rsp_state_fault(&state, &word));
+    NONE(brsp_version());
+    NONE(brsp_get(m, &state));
+    NONE(brsp_set(m, &state));
+    NONE(brsp_state_fault(&state, &word));
     for (k = 0; k < 4; k++) {
-        NONE(rsp_load(m, k, 0, bytes, 64));
-        NONE(rsp_load_words(m, k, 0, words, 16));
-        NONE(rsp_load_words(m, k, 0, words, 1024));
-        NONE(rsp_memory(m, k, 0, bytes, 4096));
-        NONE(rsp_memory_words(m, k, 0, words, 1024));
+        NONE(brsp_load(m, k, 0, bytes, 64));
+        NONE(brsp_load_words(m, k, 0, words, 16));
+        NONE(brsp_load_words(m, k, 0, words, 1024));
+        NONE(brsp_memory(m, k, 0, bytes, 4096));
+        NONE(brsp_memory_words(m, k, 0, words, 1024));
     }
-    NONE(rsp_task(m, 0));
-    NONE(rsp_set_pc(m, 0));
-    NONE(rsp_step(m));
-    NONE(rsp_step_changes(m, &changes));
-    NONE(rsp_run(m, 1000000, &stop));
-    NONE(rsp_run(m, 0, &stop));
-    NONE(rsp_run_until_move(m, 1000, 0xffff, 0xffff, &move));
-    NONE(rsp_trace(m, entries, 64, &stop));
-    NONE(rsp_back(m, 50));
-    NONE(rsp_event(m, 1000, 0xffff, 0xffff, &reached));
-    NONE(rsp_pass(m, 1));
-    NONE(rsp_pass_dma(m));
-    NONE(rsp_history(m, &number));
-    for (k = 0; k < 17; k++) NONE(rsp_add_break(m, 4 * k));
-    for (k = 0; k < 9; k++) NONE(rsp_add_watch(m, k, 64, &number));
-    NONE(rsp_run(m, 1000, &stop));
-    NONE(rsp_drop_break(m, 0));
-    NONE(rsp_drop_watch(m, 0));
-    NONE(rsp_reg(m, 1, &word));
-    NONE(rsp_regs(m, &scalars));
-    NONE(rsp_vreg(m, 1, &lanes));
-    NONE(rsp_acc(m, &accumulators));
-    NONE(rsp_flags(m, &flags));
-    NONE(rsp_divider(m, &divider));
+    NONE(brsp_task(m, 0));
+    NONE(brsp_set_pc(m, 0));
+    NONE(brsp_step(m));
+    NONE(brsp_step_changes(m, &changes));
+    NONE(brsp_run(m, 1000000, &stop));
+    NONE(brsp_run(m, 0, &stop));
+    NONE(brsp_run_until_move(m, 1000, 0xffff, 0xffff, &move));
+    NONE(brsp_trace(m, entries, 64, &stop));
+    NONE(brsp_back(m, 50));
+    NONE(brsp_event(m, 1000, 0xffff, 0xffff, &reached));
+    NONE(brsp_pass(m, 1));
+    NONE(brsp_pass_dma(m));
+    NONE(brsp_history(m, &number));
+    for (k = 0; k < 17; k++) NONE(brsp_add_break(m, 4 * k));
+    for (k = 0; k < 9; k++) NONE(brsp_add_watch(m, k, 64, &number));
+    NONE(brsp_run(m, 1000, &stop));
+    NONE(brsp_drop_break(m, 0));
+    NONE(brsp_drop_watch(m, 0));
+    NONE(brsp_reg(m, 1, &word));
+    NONE(brsp_regs(m, &scalars));
+    NONE(brsp_vreg(m, 1, &lanes));
+    NONE(brsp_acc(m, &accumulators));
+    NONE(brsp_flags(m, &flags));
+    NONE(brsp_divider(m, &divider));
     for (k = 0; k < 16; k++) {
-        NONE(rsp_read(m, k, &word));
-        NONE(rsp_peek(m, k, &word));
-        NONE(rsp_write(m, k, k == 4 ? 1 : 8));
+        NONE(brsp_read(m, k, &word));
+        NONE(brsp_peek(m, k, &word));
+        NONE(brsp_write(m, k, k == 4 ? 1 : 8));
     }
-    NONE(rsp_sp(m, &sp));
-    NONE(rsp_set_sp(m, &sp));
-    NONE(rsp_text(0x4a631050u, 0, lines));
-    NONE(rsp_listing(m, 0, lines, 1024));
+    NONE(brsp_sp(m, &sp));
+    NONE(brsp_set_sp(m, &sp));
+    NONE(brsp_text(0x4a631050u, 0, lines));
+    NONE(brsp_listing(m, 0, lines, 1024));
 }
 
-/* What a bench is given in one call. */
-#define TAKE(text) rsp_bench_take(&b, (const uint8_t *)text, sizeof text - 1, &used, reply, sizeof reply, &written)
+/* What a session is given in one call. */
+#define TAKE(text) brsp_session_take(&b, (const uint8_t *)text, sizeof text - 1, &used, reply, sizeof reply, &written)
 
 /* Lines outside a block take no memory, nor do those that are refused, the end, and the memories. */
-static void bench_calls(void)
+static void session_calls(void)
 {
     uint8_t bytes[64];
-    see("the bench", -1, rsp_bench_new(&b, image, 64) == RSP_OK);
+    see("the session", -1, brsp_session_new(&b, image, 64) == BRSP_OK);
     NONE(TAKE("st"));
     NONE(TAKE("ep\n"));
     NONE(TAKE("run 1000\n"));
@@ -361,39 +361,39 @@ static void bench_calls(void)
     NONE(TAKE("load dmem 0 0102\n"));
     NONE(TAKE("regs\n"));
     NONE(TAKE("back 2\n"));
-    REFUSED(rsp_bench_take(&b, bytes, 0, &used, reply, RSP_REPLIES - 1, &written));
-    REFUSED(rsp_bench_end(&b, reply, 0, &written));
-    NONE(rsp_bench_memory(&b, RSP_RDRAM, 0, bytes, 64));
-    REFUSED(rsp_bench_memory(&b, RSP_RDRAM, 1, bytes, 64));
+    REFUSED(brsp_session_take(&b, bytes, 0, &used, reply, BRSP_REPLIES - 1, &written));
+    REFUSED(brsp_session_end(&b, reply, 0, &written));
+    NONE(brsp_session_memory(&b, BRSP_RDRAM, 0, bytes, 64));
+    REFUSED(brsp_session_memory(&b, BRSP_RDRAM, 1, bytes, 64));
     NONE(TAKE("vregs"));
-    NONE(rsp_bench_end(&b, reply, sizeof reply, &written));
+    NONE(brsp_session_end(&b, reply, sizeof reply, &written));
     REFUSED(TAKE("regs\n"));
-    REFUSED(rsp_bench_end(&b, reply, sizeof reply, &written));
-    rsp_bench_free(&b);
-    NONE(rsp_bench_free(&b));
+    REFUSED(brsp_session_end(&b, reply, sizeof reply, &written));
+    brsp_session_free(&b);
+    NONE(brsp_session_free(&b));
     REFUSED(TAKE("regs\n"));
-    REFUSED(rsp_bench_end(&b, reply, sizeof reply, &written));
-    REFUSED(rsp_bench_memory(&b, RSP_RDRAM, 0, bytes, 64));
+    REFUSED(brsp_session_end(&b, reply, sizeof reply, &written));
+    REFUSED(brsp_session_memory(&b, BRSP_RDRAM, 0, bytes, 64));
 }
 
 /* Handles that hold none stay so. */
 static void without_machine(void)
 {
-    rsp none = RSP_NONE, to = RSP_NONE;
+    brsp_machine none = BRSP_NONE, to = BRSP_NONE;
     refused_calls(&none);
     other_calls(&none);
-    REFUSED(rsp_copy(&to, &none));
-    NONE(rsp_free(&none));
+    REFUSED(brsp_copy(&to, &none));
+    NONE(brsp_free(&none));
     see("they hold none", -1, none.at == NULL && to.at == NULL);
 }
 
 int main(void)
 {
-    rsp m = RSP_NONE, from = RSP_NONE;
+    brsp_machine m = BRSP_NONE, from = BRSP_NONE;
     taken = held = 0; /* what the C library took before main */
-    see("the first machine", -1, rsp_new(&m, image, 64, 100) == RSP_OK && rsp_write(&m, 8, 77) == RSP_OK);
+    see("the first machine", -1, brsp_new(&m, image, 64, 100) == BRSP_OK && brsp_write(&m, 8, 77) == BRSP_OK);
     failing_new(&m);
-    see("the machine to copy", -1, rsp_new(&from, image, 64, 100) == RSP_OK && rsp_write(&from, 8, 88) == RSP_OK && rsp_step(&from) == RSP_OK);
+    see("the machine to copy", -1, brsp_new(&from, image, 64, 100) == BRSP_OK && brsp_write(&from, 8, 88) == BRSP_OK && brsp_step(&from) == BRSP_OK);
     failing_copy(&m, &from);
     failing_assemble();
     refused_calls(&m);
@@ -401,12 +401,12 @@ int main(void)
     failing_labels();
     other_calls(&m);
     without_machine();
-    failing_bench_new();
+    failing_session_new();
     failing_script();
-    bench_calls();
+    session_calls();
     see("two machines are held", -1, held > 0);
-    rsp_free(&m);
-    rsp_free(&from);
+    brsp_free(&m);
+    brsp_free(&from);
     see("all that was taken is freed", -1, held == 0);
     see("calls.c", -1, all_calls() == 0 && taken > 0);
     see("all that calls.c took is freed", -1, held == 0);

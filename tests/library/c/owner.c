@@ -1,8 +1,8 @@
 /* A program that owns the RDRAM and the SP registers, except SP_STATUS, runs a task on a machine whose image nobody reads: it answers each
- * transfer by rsp_run_until_move and rsp_pass, and moves the bytes of each DMA itself. It ends with the memories and the scalar registers of a
+ * transfer by brsp_run_until_move and brsp_pass, and moves the bytes of each DMA itself. It ends with the memories and the scalar registers of a
  * machine that has the RDRAM inside and runs alone. SP_STATUS is the machine's, because BREAK and single step change it too.
  * The last line is `N passed, M failed`. */
-#include "rsp.h"
+#include "brsp.h"
 #include <stdio.h>
 #include <string.h>
 
@@ -24,7 +24,7 @@ static const char halting[] =
     "break\n";                                           /* next is 034 */
 enum { SP_STATUS = 4, CLEAR_HALTED = 1 };
 
-static rsp m = RSP_NONE, alone = RSP_NONE;
+static brsp_machine m = BRSP_NONE, alone = BRSP_NONE;
 static uint8_t rdram[4096], kept[4096];
 static uint32_t registers[16];
 static int passed, failed;
@@ -43,8 +43,8 @@ static void move_bytes(uint32_t value, int into_rdram)
     uint32_t length = (value & 0xff8) + 8, rows = (value >> 12 & 0xff) + 1, skip = value >> 20 & 0xff8;
     for (row = 0; row < rows; row++, dram += row < rows ? skip : 0) {
         for (i = 0; i < length; i += 8, sp = (sp + 8) & 0xff8, dram += 8) {
-            if (into_rdram) rsp_memory(&m, bank, sp, rdram + dram, 8);
-            else rsp_load(&m, bank, sp, rdram + dram, 8);
+            if (into_rdram) brsp_memory(&m, bank, sp, rdram + dram, 8);
+            else brsp_load(&m, bank, sp, rdram + dram, 8);
         }
     }
     registers[0] = bank << 12 | sp;
@@ -71,16 +71,16 @@ static uint32_t read_register(uint32_t number)
 /* Runs up to a halt, and returns how many transfers there were. The machine makes those of SP_STATUS itself. */
 static int run_to_halt(void)
 {
-    rsp_move at;
+    brsp_move at;
     int transfers = 0;
-    while (rsp_run_until_move(&m, 1000000, 0xffff, 0xffff, &at) == RSP_OK && at.stop.reason == RSP_AT_MOVE) {
+    while (brsp_run_until_move(&m, 1000000, 0xffff, 0xffff, &at) == BRSP_OK && at.stop.reason == BRSP_AT_MOVE) {
         uint32_t value = at.writes ? 0 : read_register(at.number);
         if (at.number != SP_STATUS && at.writes) write_register(at.number, at.value);
-        if (at.number == SP_STATUS) rsp_step(&m);
-        else rsp_pass(&m, value);
+        if (at.number == SP_STATUS) brsp_step(&m);
+        else brsp_pass(&m, value);
         transfers++;
     }
-    see("the task halts", at.stop.reason == RSP_AT_HALT);
+    see("the task halts", at.stop.reason == BRSP_AT_HALT);
     return transfers;
 }
 
@@ -88,29 +88,29 @@ static int run_to_halt(void)
 static void load_text(const char *text)
 {
     uint32_t words[256];
-    rsp_assembled out;
-    see("the text", rsp_assemble(0, (const uint8_t *)text, strlen(text), words, 256, &out) == RSP_OK);
-    see("the words", rsp_load_words(&m, RSP_IMEM, 0, words, out.count) == RSP_OK && rsp_load_words(&alone, RSP_IMEM, 0, words, out.count) == RSP_OK);
+    brsp_assembled out;
+    see("the text", brsp_assemble(0, (const uint8_t *)text, strlen(text), words, 256, &out) == BRSP_OK);
+    see("the words", brsp_load_words(&m, BRSP_IMEM, 0, words, out.count) == BRSP_OK && brsp_load_words(&alone, BRSP_IMEM, 0, words, out.count) == BRSP_OK);
 }
 
 static void see_same_registers(void)
 {
-    rsp_scalars here, there;
-    see("registers", rsp_regs(&m, &here) == RSP_OK && rsp_regs(&alone, &there) == RSP_OK && !memcmp(&here, &there, sizeof here));
+    brsp_scalars here, there;
+    see("registers", brsp_regs(&m, &here) == BRSP_OK && brsp_regs(&alone, &there) == BRSP_OK && !memcmp(&here, &there, sizeof here));
 }
 
 static void test_task(void)
 {
     static uint8_t one[4096], other[4096];
-    rsp_stop stop;
+    brsp_stop stop;
     load_text(task);
     see("18 transfers", run_to_halt() == 18);
-    see("the machine alone", rsp_run(&alone, 1000000, &stop) == RSP_OK && stop.reason == RSP_AT_HALT);
-    for (uint32_t bank = RSP_DMEM; bank <= RSP_IMEM; bank++) {
-        see("a memory", rsp_memory(&m, bank, 0, one, 4096) == RSP_OK && rsp_memory(&alone, bank, 0, other, 4096) == RSP_OK);
-        see(bank == RSP_DMEM ? "DMEM" : "IMEM", !memcmp(one, other, 4096));
+    see("the machine alone", brsp_run(&alone, 1000000, &stop) == BRSP_OK && stop.reason == BRSP_AT_HALT);
+    for (uint32_t bank = BRSP_DMEM; bank <= BRSP_IMEM; bank++) {
+        see("a memory", brsp_memory(&m, bank, 0, one, 4096) == BRSP_OK && brsp_memory(&alone, bank, 0, other, 4096) == BRSP_OK);
+        see(bank == BRSP_DMEM ? "DMEM" : "IMEM", !memcmp(one, other, 4096));
     }
-    see("RDRAM", rsp_memory(&alone, RSP_RDRAM, 0, other, 4096) == RSP_OK && !memcmp(rdram, other, 4096) && memcmp(rdram, kept, 4096));
+    see("RDRAM", brsp_memory(&alone, BRSP_RDRAM, 0, other, 4096) == BRSP_OK && !memcmp(rdram, other, 4096) && memcmp(rdram, kept, 4096));
     see_same_registers();
 }
 
@@ -121,37 +121,37 @@ static void test_halts(void)
         { 0x14, 0xc1, 0 }, { 0x20, 0xe1, 0 }, { 0x24, 0xe1, 0 }, { 0x28, 0xe1, 0 }, { 0x34, 0x43, 1 }
     };
     static const uint32_t read[] = { 0x80, 0xc0, 0xe0, 0x40 }; /* $2 to $5 */
-    rsp_scalars now;
-    rsp_stop stop;
+    brsp_scalars now;
+    brsp_stop stop;
     load_text(halting);
-    see("the beginning", rsp_set_pc(&m, 0) == RSP_OK && rsp_set_pc(&alone, 0) == RSP_OK);
+    see("the beginning", brsp_set_pc(&m, 0) == BRSP_OK && brsp_set_pc(&alone, 0) == BRSP_OK);
     for (size_t i = 0; i < sizeof halts / sizeof *halts; i++) {
-        rsp_sp_words here, there;
-        see("halted is cleared", rsp_write(&m, SP_STATUS, CLEAR_HALTED | 4) == RSP_OK && rsp_write(&alone, SP_STATUS, CLEAR_HALTED | 4) == RSP_OK);
+        brsp_sp_words here, there;
+        see("halted is cleared", brsp_write(&m, SP_STATUS, CLEAR_HALTED | 4) == BRSP_OK && brsp_write(&alone, SP_STATUS, CLEAR_HALTED | 4) == BRSP_OK);
         run_to_halt();
-        see("the machine alone", rsp_run(&alone, 1000000, &stop) == RSP_OK && stop.reason == RSP_AT_HALT);
-        rsp_sp(&m, &here);
-        rsp_sp(&alone, &there);
+        see("the machine alone", brsp_run(&alone, 1000000, &stop) == BRSP_OK && stop.reason == BRSP_AT_HALT);
+        brsp_sp(&m, &here);
+        brsp_sp(&alone, &there);
         see("a halt", stop.pc == halts[i].pc && here.words[SP_STATUS] == halts[i].status && here.interrupt == halts[i].interrupt);
         see("the same halt", here.words[SP_STATUS] == there.words[SP_STATUS] && here.interrupt == there.interrupt);
         see_same_registers();
     }
-    rsp_regs(&m, &now);
+    brsp_regs(&m, &now);
     see("what the microcode read", !memcmp(now.words + 2, read, sizeof read));
 }
 
-/* A program that sets SP registers after a transfer: the halt of single step stays if rsp_sp comes after rsp_pass, and is lost otherwise. */
+/* A program that sets SP registers after a transfer: the halt of single step stays if brsp_sp comes after brsp_pass, and is lost otherwise. */
 static void test_order(void)
 {
-    rsp_sp_words words;
+    brsp_sp_words words;
     load_text("mtc0 $0, $c8\nmtc0 $0, $c8\n");
     for (int is_right = 0; is_right < 2; is_right++) {
-        see("single step", rsp_set_pc(&m, 0) == RSP_OK && rsp_write(&m, SP_STATUS, CLEAR_HALTED | 0x40) == RSP_OK);
-        if (!is_right) rsp_sp(&m, &words);
-        see("the transfer", rsp_pass(&m, 0) == RSP_OK);
-        if (is_right) rsp_sp(&m, &words);
+        see("single step", brsp_set_pc(&m, 0) == BRSP_OK && brsp_write(&m, SP_STATUS, CLEAR_HALTED | 0x40) == BRSP_OK);
+        if (!is_right) brsp_sp(&m, &words);
+        see("the transfer", brsp_pass(&m, 0) == BRSP_OK);
+        if (is_right) brsp_sp(&m, &words);
         words.words[8] = 0x1000;
-        see("the registers", rsp_set_sp(&m, &words) == RSP_OK && rsp_sp(&m, &words) == RSP_OK && words.words[8] == 0x1000);
+        see("the registers", brsp_set_sp(&m, &words) == BRSP_OK && brsp_sp(&m, &words) == BRSP_OK && words.words[8] == 0x1000);
         see("the halt", (words.words[SP_STATUS] & 1) == (uint32_t)is_right);
     }
 }
@@ -161,12 +161,12 @@ int main(void)
     static const uint8_t none[64] = { 0 };
     for (int i = 0; i < 4096; i++) rdram[i] = (uint8_t)(i * 11 + i / 256);
     memcpy(kept, rdram, sizeof rdram);
-    see("the machines", rsp_new(&m, none, sizeof none, 0) == RSP_OK && rsp_new(&alone, rdram, sizeof rdram, 0) == RSP_OK);
+    see("the machines", brsp_new(&m, none, sizeof none, 0) == BRSP_OK && brsp_new(&alone, rdram, sizeof rdram, 0) == BRSP_OK);
     test_task();
     test_halts();
     test_order();
-    rsp_free(&m);
-    rsp_free(&alone);
+    brsp_free(&m);
+    brsp_free(&alone);
     printf("%d passed, %d failed\n", passed, failed);
     return failed != 0;
 }

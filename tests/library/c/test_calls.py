@@ -1,7 +1,7 @@
-"""Each call of the library from C and C++, and what docs/EMBEDDING.md and rsp.h say of memory and threads.
+"""Each call of the library from C and C++, and what docs/EMBEDDING.md and brsp.h say of memory and threads.
 
 They fail if a call in its range or out of it does something else, also under valgrind and with each
-allocation failing; if a call uses more stack than rsp.h says (stack.c), or another takes memory than those
+allocation failing; if a call uses more stack than brsp.h says (stack.c), or another takes memory than those
 that may (no_memory.c), or keeps some (balance.c); if a machine can't go from thread to thread (threads.c), or
 SP registers and RDRAM of a program's own differ (owner.c, host.cpp).
 """
@@ -40,11 +40,11 @@ def test_page(compiler: str, folder: Path) -> None:
     """The program at the top of EMBEDDING.md, and its section for emulators, print what the page says."""
     text = page("docs/EMBEDDING.md")
     wanted = re.findall(r"It prints `(.*)`", text)[0]
-    assert said_by(folder, block_with("docs/EMBEDDING.md", '#include "rsp.h"'), compiler) == f"{wanted}\n"
+    assert said_by(folder, block_with("docs/EMBEDDING.md", '#include "brsp.h"'), compiler) == f"{wanted}\n"
     section = re.findall(r"(?ms)^## The calls for an emulator\n(.*?)^## ", text)[0]
     lines = re.findall(r"[Tt]his\sprints\s`([^`]*)`", section)
-    begin = "static const uint8_t image[64] = { 0 };\nrsp m = RSP_NONE;\n"
-    begin += "if (rsp_new(&m, image, 64, 100) != RSP_OK) return 1;\n"
+    begin = "static const uint8_t image[64] = { 0 };\nrsp m = BRSP_NONE;\n"
+    begin += "if (brsp_new(&m, image, 64, 100) != BRSP_OK) return 1;\n"
     program = main_of(begin + "\n".join(blocks_of(section)))
     assert said_by(folder, program, compiler).splitlines() == lines and len(lines) == 8
 
@@ -104,10 +104,10 @@ def test_threads_under_a_sanitizer(folder: Path) -> None:
 @pytest.mark.needs("nm")
 @pytest.mark.parametrize("source", (EXAMPLE, HERE / "script.c"), ids=lambda it: it.stem)
 def test_a_program_pays_for_its_calls_alone(source: Path, folder: Path) -> None:
-    """One that makes no bench doesn't hold the bench's code."""
+    """One that makes no session doesn't hold the session's code."""
     names, is_held = succeeds("nm", built(folder, source, "-Wl,--gc-sections")), source != EXAMPLE
-    assert [it in names for it in ("rsp_bench_take", "rsp_commands")] == [is_held, is_held]
+    assert [it in names for it in ("brsp_session_take", "rsp_commands")] == [is_held, is_held]
 
 
 def test_size_of_the_shared_library(library: Path) -> None:
-    assert (library / "librsp.so").stat().st_size <= 430080
+    assert (library / "libbrsp.so").stat().st_size <= 430080

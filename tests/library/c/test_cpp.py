@@ -1,4 +1,4 @@
-"""rsp.hpp, the class of C++17 over rsp.h (machine.cpp), and rsp.h in C++ under strict warnings.
+"""brsp.hpp, the class of C++17 over brsp.h (machine.cpp), and brsp.h in C++ under strict warnings.
 
 They fail if a method does something else than its call, a machine is lost or freed twice by a move, or a
 compiler warns.
@@ -15,7 +15,7 @@ from lib.packages import need
 from lib.processes import STRICT, compiled, succeeds
 
 pytestmark = pytest.mark.usefixtures("library")
-LIBRARY = TOP / "library/c/librsp.a"
+LIBRARY = TOP / "library/c/libbrsp.a"
 WARNINGS = ("-Wpedantic", "-Wconversion", "-Wshadow", "-Wold-style-cast", "-Wzero-as-null-pointer-constant")
 COMPILERS = ("c++", "clang++")
 
@@ -45,19 +45,19 @@ def test_header(standard: str, compiler: str, folder: Path) -> None:
     """Empty handles don't make a compiler warn; C++98 has no stdint.h of its own, but the compilers have."""
     need(compiler)
     source, strict = folder / "handles.cpp", [it for it in WARNINGS if it != "-Wpedantic"]
-    source.write_text('#include "rsp.h"\nrsp m = RSP_NONE, n = RSP_NONE;\nrsp_bench b = RSP_NONE;\n')
+    source.write_text('#include "brsp.h"\nrsp m = BRSP_NONE, n = BRSP_NONE;\nrsp_session b = BRSP_NONE;\n')
     compiled(folder / "handles.o", f"-std={standard}", *STRICT, *strict, "-c", source, compiler=compiler)
 
 
 def test_page(folder: Path) -> None:
     """The program in C++ of EMBEDDING.md prints what the page says."""
     source = folder / "page.cpp"
-    source.write_text(block_with("docs/EMBEDDING.md", '#include "rsp.hpp"'))
-    wanted = page("docs/EMBEDDING.md").partition('#include "rsp.hpp"')[2].partition("It prints `")[2]
+    source.write_text(block_with("docs/EMBEDDING.md", '#include "brsp.hpp"'))
+    wanted = page("docs/EMBEDDING.md").partition('#include "brsp.hpp"')[2].partition("It prints `")[2]
     assert succeeds(program(folder, source)) == f"{wanted.partition('`')[0]}\n"
 
 
 def test_length() -> None:
     """The class has at most 60 lines."""
-    text = (TOP / "library/c/rsp.hpp").read_text()
+    text = (TOP / "library/c/brsp.hpp").read_text()
     assert text[text.index("class rsp::machine") :].partition("\n};\n")[0].count("\n") < 60

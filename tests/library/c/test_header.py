@@ -1,6 +1,6 @@
-"""rsp.h has the calls, numbers, layouts and names of crates/rsp_c, and librsp.so exports its calls.
+"""brsp.h has the calls, numbers, layouts and names of crates/rsp_c, and libbrsp.so exports its calls.
 
-They fail if one differs, or a call of rsp.h has no comment.
+They fail if one differs, or a call of brsp.h has no comment.
 """
 
 import re
@@ -14,33 +14,33 @@ from lib.library.programs import main_of, said_by
 from lib.pages import page
 from lib.processes import succeeds
 
-HEADER = page("library/c/rsp.h")
+HEADER = page("library/c/brsp.h")
 
 
 def test_calls() -> None:
     """They are those of rsp_c, and each has a comment above it, in lines of fewer than 110 columns."""
     calls = sorted(shapes.exported())
     assert sorted(shapes.declared(HEADER)) == calls and len(calls) > 20
-    assert re.findall(r"(?m)^(?!.*\*/$).*\n\w+ (rsp_\w+)\(", HEADER) == []
+    assert re.findall(r"(?m)^(?!.*\*/$).*\n\w+ (brsp_\w+)\(", HEADER) == []
     assert [line for line in HEADER.splitlines() if len(line) >= 110] == []
 
 
 @pytest.mark.needs("nm")
 def test_exports(library: Path) -> None:
-    shown = succeeds("nm", "-D", "--defined-only", library / "librsp.so").splitlines()
+    shown = succeeds("nm", "-D", "--defined-only", library / "libbrsp.so").splitlines()
     assert {it.split()[-1] for it in shown} == {name for name, *_ in shapes.exported()}
 
 
 def named(prefix: str, text: str = HEADER) -> Dict[str, int]:
     """The numbers whose names begin so, by the rest of their names."""
-    return {name: int(value) for name, value in re.findall(rf"RSP_{prefix}(\w+) = (\d+)", text)}
+    return {name: int(value) for name, value in re.findall(rf"BRSP_{prefix}(\w+) = (\d+)", text)}
 
 
 def test_numbers() -> None:
-    statuses, banks = re.findall(r"(?s)enum rsp_(?:status|bank) \{.*?\}", HEADER)
+    statuses, banks = re.findall(r"(?s)enum brsp_(?:status|bank) \{.*?\}", HEADER)
     assert (named("", statuses), named("", banks)) == (shapes.STATUSES, shapes.BANKS)
     assert named("AT_") == shapes.REASONS
-    assert re.findall(r"#define RSP_REPLIES (\d+)", HEADER) == [str(shapes.REPLIES)]
+    assert re.findall(r"#define BRSP_REPLIES (\d+)", HEADER) == [str(shapes.REPLIES)]
     assert named("FIELD_") == {"NONE": 0, **shapes.FIELDS}
 
 
@@ -62,11 +62,11 @@ def test_layouts(library: Path, folder: Path) -> None:
 
 @pytest.mark.needs("cc")
 def test_names(library: Path, folder: Path) -> None:
-    """The tables of names in rsp.h beside the library's numbers, for the numbers 0 to 99."""
+    """The tables of names in brsp.h beside the library's numbers, for the numbers 0 to 99."""
     lines, wanted = ["unsigned n;"], []
     tables = {"status": shapes.STATUSES, "fault": shapes.FAULTS, "reason": shapes.REASONS}
     for kind, known in tables.items():
-        lines.append(f'for (n = 0; n < 100; n++) printf("{kind} %u %s\\n", n, rsp_{kind}_name(n));')
+        lines.append(f'for (n = 0; n < 100; n++) printf("{kind} %u %s\\n", n, brsp_{kind}_name(n));')
         names = {value: name for name, value in known.items()}
         wanted += [f"{kind} {n} {names.get(n, 'unknown')}" for n in range(100)]
     assert said_by(folder, main_of("\n".join(lines))).splitlines() == wanted

@@ -29,7 +29,7 @@ def runner(library: Path, tmp_path_factory: pytest.TempPathFactory) -> Path:
     """The runner under the sanitizers, if they run here."""
     at = tmp_path_factory.mktemp("runner")
     source, words = TOP / "conformance/runner.c", ("-std=c99", "-Wall", "-Wextra", "-Werror", f"-I{library}")
-    return compiled(at / "runner", *words, *sanitizers(), source, library / "librsp.a")
+    return compiled(at / "runner", *words, *sanitizers(), source, library / "libbrsp.a")
 
 
 @pytest.fixture(scope="module")
@@ -155,12 +155,12 @@ def test_emulator_of_page(folder: Path, vectors: bytes, library: Path) -> None:
     it executes nothing."""
     text = " ".join(page("conformance/README.md").split())
     (said,) = re.findall(r"`mine\.c` defines (.*?), with", text)
-    names = re.findall(r"`(rsp_\w+)`", said)
-    header = (library / "rsp.h").read_text()
+    names = re.findall(r"`(brsp_\w+)`", said)
+    header = (library / "brsp.h").read_text()
     calls = [re.search(rf"(?m)^\w+ {name}\(.*\);$", header) for name in names]
     assert len(calls) == 7 and all(calls)
     bodies = [f"{it[0][:-1]} {{ {'' if it[0].startswith('void') else 'return 0; '}}}\n" for it in calls if it]
-    (folder / "mine.c").write_text("".join(['#include "rsp.h"\n', *bodies]))
+    (folder / "mine.c").write_text("".join(['#include "brsp.h"\n', *bodies]))
     made = compiled(folder / "mine", f"-I{library}", TOP / "conformance/runner.c", folder / "mine.c")
     (folder / "SW.bin").write_bytes(vectors)
     ran = run(made, folder / "SW.bin")

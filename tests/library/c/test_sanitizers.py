@@ -42,16 +42,16 @@ def test_lockstep(words: Tuple[str, ...], folder: Path) -> None:
 def test_page(words: Tuple[str, ...], folder: Path) -> None:
     """The program at the top of EMBEDDING.md."""
     source = folder / "text.c"
-    source.write_text(block_with("docs/EMBEDDING.md", '#include "rsp.h"'))
+    source.write_text(block_with("docs/EMBEDDING.md", '#include "brsp.h"'))
     assert succeeds(built(folder, source, *words)) == "2 steps, $2 is 1234\n"
 
 
 def test_scripts(words: Tuple[str, ...], folder: Path) -> None:
     """All stored scripts, seven bytes a call."""
-    bench, image = built(folder, HERE / "script.c", *words), folder / "image"
+    session, image = built(folder, HERE / "script.c", *words), folder / "image"
     for script in stored():
         image.write_bytes(script.image() or bytes(4194304))
-        assert ran(bench, [7, image, "/dev/null"], script.script) == script.wanted, script
+        assert ran(session, [7, image, "/dev/null"], script.script) == script.wanted, script
 
 
 def test_allocator(words: Tuple[str, ...], folder: Path) -> None:

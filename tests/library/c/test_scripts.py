@@ -1,4 +1,4 @@
-"""The scripts of the repository, answered by a bench in C (script.c), however their bytes are cut.
+"""The scripts of the repository, answered by a session in C (script.c), however their bytes are cut.
 
 They fail if a reply, a status or the image differs from what is stored, or if a call out of its range changes
 something.
@@ -19,18 +19,18 @@ NO_IMAGE = bytes(4194304)
 
 
 @pytest.fixture(scope="session")
-def bench(library: Path, tmp_path_factory: pytest.TempPathFactory) -> Path:
+def session(library: Path, tmp_path_factory: pytest.TempPathFactory) -> Path:
     need("cc")
-    return built(tmp_path_factory.mktemp("bench"), HERE / "script.c")
+    return built(tmp_path_factory.mktemp("session"), HERE / "script.c")
 
 
 @pytest.mark.xdist_group("script.c")
 @pytest.mark.parametrize("script", stored(), ids=str)
-def test_script(script: Stored, bench: Path, folder: Path) -> None:
+def test_script(script: Stored, session: Path, folder: Path) -> None:
     image, read, saved = script.image(), folder / "image", folder / "saved"
     read.write_bytes(NO_IMAGE if image is None else image)
     for piece in PIECES:
-        got = ran(bench, [piece, read, saved if script.is_saved else "/dev/null"], script.script)
+        got = ran(session, [piece, read, saved if script.is_saved else "/dev/null"], script.script)
         assert got == script.wanted, f"{piece} bytes a call"
         is_kept = not script.is_saved or content(saved) == content(read)
         assert is_kept, f"{piece} bytes a call: the image isn't the one that was read"

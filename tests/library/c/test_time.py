@@ -48,7 +48,7 @@ def least(call: Callable[[], object]) -> float:
 
 @pytest.mark.parametrize("word", (DMA_IN, DMA_OUT), ids=("from RDRAM", "to RDRAM"))
 def test_run(word: int) -> None:
-    steps, most = re.findall(r"a `rsp_run` of at most ([\d,]+) steps takes less than (\d+) ms", TEXT)[0]
+    steps, most = re.findall(r"a `brsp_run` of at most ([\d,]+) steps takes less than (\d+) ms", TEXT)[0]
     one, count = machine(word), int(steps.replace(",", ""))
     stops = []
     assert least(lambda: stops.append(one.run(count))) < int(most)
@@ -57,7 +57,7 @@ def test_run(word: int) -> None:
 
 def test_run_until_move() -> None:
     steps, most = re.findall(
-        r"a `rsp_run_until_move` of at most ([\d,]+) steps, .*? takes less than (\d+) ms", TEXT
+        r"a `brsp_run_until_move` of at most ([\d,]+) steps, .*? takes less than (\d+) ms", TEXT
     )[0]
     one, count = machine(STORE), int(steps.replace(",", ""))
     stops = []

@@ -1,6 +1,6 @@
 /* One machine made, stepped, copied and freed in three threads, one after the other; and eight machines in eight threads at once. Build it with
  * -fsanitize=thread. The last line is `N passed, M failed`. */
-#include "rsp.h"
+#include "brsp.h"
 #include <pthread.h>
 #include <stdio.h>
 #include <string.h>
@@ -8,7 +8,7 @@
 enum { THREADS = 8 };
 
 typedef struct job {
-    rsp m, copy;
+    brsp_machine m, copy;
     uint32_t value, copied;
     int is_right;
 } job;
@@ -19,26 +19,26 @@ static void *make(void *given)
     job *j = (job *)given;
     uint8_t image[64] = { 0 };
     uint32_t words[16];
-    rsp_assembled out;
-    j->is_right = rsp_assemble(0, (const uint8_t *)text, strlen(text), words, 16, &out) == RSP_OK && rsp_new(&j->m, image, 64, 100) == RSP_OK
-        && rsp_load_words(&j->m, RSP_IMEM, 0, words, out.count) == RSP_OK;
+    brsp_assembled out;
+    j->is_right = brsp_assemble(0, (const uint8_t *)text, strlen(text), words, 16, &out) == BRSP_OK && brsp_new(&j->m, image, 64, 100) == BRSP_OK
+        && brsp_load_words(&j->m, BRSP_IMEM, 0, words, out.count) == BRSP_OK;
     return NULL;
 }
 
 static void *step(void *given)
 {
     job *j = (job *)given;
-    rsp_stop stop;
-    j->is_right &= rsp_step(&j->m) == RSP_OK && rsp_run(&j->m, 299, &stop) == RSP_OK && rsp_copy(&j->copy, &j->m) == RSP_OK;
+    brsp_stop stop;
+    j->is_right &= brsp_step(&j->m) == BRSP_OK && brsp_run(&j->m, 299, &stop) == BRSP_OK && brsp_copy(&j->copy, &j->m) == BRSP_OK;
     return NULL;
 }
 
 static void *end(void *given)
 {
     job *j = (job *)given;
-    j->is_right &= rsp_reg(&j->m, 1, &j->value) == RSP_OK && rsp_reg(&j->copy, 1, &j->copied) == RSP_OK;
-    rsp_free(&j->m);
-    rsp_free(&j->copy);
+    j->is_right &= brsp_reg(&j->m, 1, &j->value) == BRSP_OK && brsp_reg(&j->copy, 1, &j->copied) == BRSP_OK;
+    brsp_free(&j->m);
+    brsp_free(&j->copy);
     return NULL;
 }
 

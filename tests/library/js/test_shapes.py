@@ -115,7 +115,7 @@ def test_declared_numbers() -> None:
     assert enum_of("Reason") == shapes.REASONS
 
 
-@pytest.mark.parametrize("name", ("Rsp", "Bench"))
+@pytest.mark.parametrize("name", ("Rsp", "Session"))
 def test_declared_methods(name: str) -> None:
     """They are those of Python."""
     assert methods_of(name) - JAVASCRIPT_ALONE == python_names(name) - PYTHON_ALONE

@@ -17,7 +17,7 @@ REFUSED = (
     "machine.load(Bank.DMEM, 0, [1]);",
     "const lane: string = state.vectors[0][0];",
     "machine.trace(3).steps;",
-    "bench.feed(3);",
+    "session.feed(3);",
 )
 
 

@@ -16,7 +16,7 @@ try:
     import rsp
 except (AttributeError, ImportError, OSError) as fault:
     FAULT = str(fault)
-    CALLS = mock.Mock(**{"rsp_version.return_value": 1})
+    CALLS = mock.Mock(**{"brsp_version.return_value": 1})
     with mock.patch("ctypes.CDLL", return_value=CALLS), mock.patch("os.path.exists", return_value=True):
         import rsp  # noqa: F401
 

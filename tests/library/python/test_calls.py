@@ -75,7 +75,7 @@ def test_machine_in_four_threads() -> None:
     refused(Status.NO_MACHINE, held[0].reg, 1)
 
 
-# Each call of a machine and of a bench, with what it is given.
+# Each call of a machine and of a session, with what it is given.
 CALLS: Dict[str, Tuple[Any, ...]] = {
     "copy": (), "get": (), "set": (rsp.State(),), "load": (0, 0, b"abcd"), "load_words": (0, 0, [1]),
     "memory": (0, 0, 4), "memory_words": (0, 0, 1), "start_task": (0,), "set_pc": (8,), "step": (),
@@ -97,20 +97,20 @@ def names_of(kind: type) -> Set[str]:
 def test_calls_at_work() -> None:
     """While another call is at work, each one is refused, and the library isn't reached."""
     assert names_of(rsp.Rsp) == {*CALLS} | NO_CALL - {"iter_feed"}
-    assert names_of(rsp.Bench) == {*OF_A_BENCH, "iter_feed"}
-    machine, bench = loaded("nop\nbreak\n", 4), rsp.Bench(bytes(64))
+    assert names_of(rsp.Session) == {*OF_A_BENCH, "iter_feed"}
+    machine, session = loaded("nop\nbreak\n", 4), rsp.Session(bytes(64))
     before, dmem = machine.get(), machine.memory(rsp.DMEM, 0, 4096)
-    with machine._lock, bench._lock, mock.patch.multiple(rsp, _lib=mock.DEFAULT, _quick=mock.DEFAULT):
+    with machine._lock, session._lock, mock.patch.multiple(rsp, _lib=mock.DEFAULT, _quick=mock.DEFAULT):
         for name, given in CALLS.items():
             told = f"{name}: another call is using the machine"
             raised(rsp.RspError, told, getattr(machine, name), *given)
         for name, given in OF_A_BENCH.items():
-            raised(rsp.RspError, f"{name}: another call is using the bench", getattr(bench, name), *given)
-        raised(rsp.RspError, "feed: another call is using the bench", list, bench.iter_feed("step\n"))
-        raised(rsp.RspError, "rdram: another call is using the bench", lambda: bench.rdram)
+            raised(rsp.RspError, f"{name}: another call is using the session", getattr(session, name), *given)
+        raised(rsp.RspError, "feed: another call is using the session", list, session.iter_feed("step\n"))
+        raised(rsp.RspError, "rdram: another call is using the session", lambda: session.rdram)
         refused(Status.NO_MACHINE, machine.step)
     assert machine.get() == before and machine.memory(rsp.DMEM, 0, 4096) == dmem
-    assert machine.step() is Status.OK and bench.feed("step\n") == b"step Done pc 004\n"
+    assert machine.step() is Status.OK and session.feed("step\n") == b"step Done pc 004\n"
 
 
 class Closes:
@@ -146,8 +146,8 @@ def test_closed_by_an_item(name: str, number: int) -> None:
 def test_handle_is_empty_meanwhile() -> None:
     """A short call that has passed the test just before a long one began finds no machine."""
     machine = loaded("nop\nbreak\n")
-    assert machine._alone("run", lambda at: rsp._quick.rsp_step(machine._at)) == Status.NO_MACHINE
-    assert machine._alone("run", lambda at: rsp._lib.rsp_step(at)) == Status.OK
+    assert machine._alone("run", lambda at: rsp._quick.brsp_step(machine._at)) == Status.NO_MACHINE
+    assert machine._alone("run", lambda at: rsp._lib.brsp_step(at)) == Status.OK
     raised(ZeroDivisionError, "", machine._alone, "run", lambda at: 1 // 0)
     assert machine.regs().pc == 4, "the machine is back"
 
@@ -155,19 +155,19 @@ def test_handle_is_empty_meanwhile() -> None:
 RACE = """
 import faulthandler, threading, time
 import rsp
-machine, bench, stop = rsp.Rsp(bytes(4096), 64), rsp.Bench(bytes(64)), time.time() + 0.5
+machine, session, stop = rsp.Rsp(bytes(4096), 64), rsp.Session(bytes(64)), time.time() + 0.5
 told = []
 def steps():
     while time.time() < stop:
         try:
-            machine.step(), machine.run(100), bench.feed("run 100\\n")
+            machine.step(), machine.run(100), session.feed("run 100\\n")
         except rsp.RspError as fault:
             if str(fault) not in told:
                 told.append(str(fault))
 threads = [threading.Thread(target=steps) for _ in range(3)]
 [it.start() for it in threads]
 [it.join() for it in threads]
-machine.step(), bench.feed("step\\n")
+machine.step(), session.feed("step\\n")
 kinds = {it.split(": ")[1].rpartition(" ")[0] for it in told}
 assert kinds <= {"another call is using the", "the script has more than 1048576"}, told
 print("done")
@@ -176,7 +176,7 @@ print("done")
 
 @pytest.mark.parametrize("turn", range(5))
 def test_three_threads(turn: int) -> None:
-    """Three threads that call one machine and one bench at once: no signal ends the process, and no machine
+    """Three threads that call one machine and one session at once: no signal ends the process, and no machine
     is lost."""
     where = {**os.environ, "PYTHONPATH": str(TOP / "library/python")}
     assert succeeds(sys.executable, "-c", RACE, env=where) == "done\n"
@@ -184,20 +184,20 @@ def test_three_threads(turn: int) -> None:
 
 FORK = """
 import os, rsp
-machine, bench = rsp.Rsp(bytes(64), 9), rsp.Bench(bytes(64))
-machine.run(3), bench.feed("step\\nst")
+machine, session = rsp.Rsp(bytes(64), 9), rsp.Session(bytes(64))
+machine.run(3), session.feed("step\\nst")
 child = os.fork()
-assert machine.run(4).pc == 28 and bench.feed("ep\\n") == b"step Done pc 008\\n"
+assert machine.run(4).pc == 28 and session.feed("ep\\n") == b"step Done pc 008\\n"
 machine.back(7)
-assert machine.get() == rsp.State() and bench.rdram == bytes(64)
-machine.close(), bench.close()
+assert machine.get() == rsp.State() and session.rdram == bytes(64)
+machine.close(), session.close()
 if child:
     print("done" if os.waitpid(child, 0)[1] == 0 else "the child failed")
 """
 
 
 def test_child_process() -> None:
-    """A process and its child go on, each with a machine and a bench of its own."""
+    """A process and its child go on, each with a machine and a session of its own."""
     where = {**os.environ, "PYTHONPATH": str(TOP / "library/python")}
     assert succeeds(sys.executable, "-c", FORK, env=where) == "done\n"
 

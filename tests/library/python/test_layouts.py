@@ -31,4 +31,4 @@ def test_numbers() -> None:
 
 
 def test_calls() -> None:
-    assert {*rsp._CALLS, "rsp_free", "rsp_bench_free"} == {name for name, *_ in shapes.exported()}
+    assert {*rsp._CALLS, "brsp_free", "brsp_session_free"} == {name for name, *_ in shapes.exported()}

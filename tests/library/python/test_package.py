@@ -54,7 +54,7 @@ def files_in(folder: Path) -> Dict[str, bytes]:
 def test_installed_files(site: Path, library: Path) -> None:
     """They are the tree's, byte by byte, with the library, and the module runs there."""
     got, wanted = files_in(site / "rsp"), files_in(OURS / "rsp")
-    wanted["librsp.so"] = (library / "librsp.so").read_bytes()
+    wanted["libbrsp.so"] = (library / "libbrsp.so").read_bytes()
     assert sorted(got) == sorted(wanted)
     assert [name for name in got if got[name] != wanted[name]] == []
     assert by_python("-c", ASKED, path=site) == f"{site}/rsp/__init__.py 3 0\n"
@@ -124,14 +124,14 @@ def test_suite(by: str, passes: str, site: Path, folder: Path) -> None:
 @pytest.mark.needs("cc", "ar")
 def test_library_of_another_version(folder: Path) -> None:
     shutil.copytree(OURS / "rsp", folder / "rsp")
-    shutil.copy(other_version(folder) / "librsp.so", folder / "rsp")
-    wanted = "ImportError: librsp.so has version 2 of the interface, and this module is for 1\n"
+    shutil.copy(other_version(folder) / "libbrsp.so", folder / "rsp")
+    wanted = "ImportError: libbrsp.so has version 2 of the interface, and this module is for 1\n"
     assert by_python("-c", "import rsp", path=folder).endswith(wanted)
 
 
 def test_no_library(folder: Path) -> None:
     """What `import rsp` says in a clone in which no library is built."""
-    ignored = shutil.ignore_patterns("librsp.so", "__pycache__")
+    ignored = shutil.ignore_patterns("libbrsp.so", "__pycache__")
     shutil.copytree(OURS / "rsp", folder / "library/python/rsp", ignore=ignored)
     said = by_python("-c", "import rsp", path=folder / "library/python").splitlines()[-1]
     wanted = "ImportError: the library isn't built: in a clone of rsp, library/c/build makes it"
@@ -171,7 +171,7 @@ def test_names_and_version() -> None:
     called = [(name, it) for name, it in named if callable(it) or isinstance(it, property)]
     assert [name for name, it in called if not name.startswith("_") and not it.__doc__] == []
     assert f'\nversion = "{rsp.__version__}"\n' in page("library/python/pyproject.toml")
-    assert f"#define RSP_VERSION {rsp.VERSION}\n" in page("library/c/rsp.h")
+    assert f"#define BRSP_VERSION {rsp.VERSION}\n" in page("library/c/brsp.h")
 
 
 TYPED = """import rsp

@@ -199,27 +199,27 @@ function changes() {
   same("none of a halted machine", machine.step_changes(), null);
 }
 
-function benches() {
-  const { Bench, run_script } = rsp, decoded = (it) => new TextDecoder().decode(it);
-  for (const length of [0, 63, 65, (1 << 23) + 8]) refused(OUT, () => new Bench(new Uint8Array(length)), "Bench: image");
-  refused(TypeError, () => new Bench("image"), "Bench: image is of type string");
-  const bench = new Bench(new Uint8Array(64));
-  const pieces = [bench.feed("st"), bench.feed(bytes("ep\nstep # 2")), bench.feed(""), bench.end()].map(decoded);
+function sessions() {
+  const { Session, run_script } = rsp, decoded = (it) => new TextDecoder().decode(it);
+  for (const length of [0, 63, 65, (1 << 23) + 8]) refused(OUT, () => new Session(new Uint8Array(length)), "Session: image");
+  refused(TypeError, () => new Session("image"), "Session: image is of type string");
+  const session = new Session(new Uint8Array(64));
+  const pieces = [session.feed("st"), session.feed(bytes("ep\nstep # 2")), session.feed(""), session.end()].map(decoded);
   same("a line in pieces", pieces, ["", "step Done pc 004\n", "", "step Done pc 008\n"]);
-  for (const call of [() => bench.end(), () => bench.feed("")]) refused(Status.ENDED, call, "the script has ended");
-  refused(TypeError, () => bench.feed(3), "feed: script is of type number");
-  same("its image", bench.rdram, new Uint8Array(64));
-  bench.free();
-  bench.free();
-  for (const call of [() => bench.end(), () => bench.feed(""), () => bench.rdram]) {
-    refused(Status.NO_MACHINE, call, "the bench is freed");
+  for (const call of [() => session.end(), () => session.feed("")]) refused(Status.ENDED, call, "the script has ended");
+  refused(TypeError, () => session.feed(3), "feed: script is of type number");
+  same("its image", session.rdram, new Uint8Array(64));
+  session.free();
+  session.free();
+  for (const call of [() => session.end(), () => session.feed(""), () => session.rdram]) {
+    refused(Status.NO_MACHINE, call, "the session is freed");
   }
-  const replies = [...new Bench(new Uint8Array(64)).iter_feed("step\n#\nasm 0\nnop\nend\nste")].map(decoded);
+  const replies = [...new Session(new Uint8Array(64)).iter_feed("step\n#\nasm 0\nnop\nend\nste")].map(decoded);
   same("replies one by one", replies, ["step Done pc 004\n", "", "", "", "ok 1 words\n"]);
   const [said, image] = run_script("load rdram 1 0102", new Uint8Array(64).buffer);
   same("a script", [decoded(said), image], ["ok\n", [0, 1, 2, ...Array(61).fill(0)]]);
   same("the image that is given if none is", run_script("")[1].length, 1 << 22);
-  const longest = `step\n${"#".repeat(1048571)}`, long = new Bench(new Uint8Array(64));
+  const longest = `step\n${"#".repeat(1048571)}`, long = new Session(new Uint8Array(64));
   same("the longest script", decoded(run_script(longest)[0]), "step Done pc 004\nfault 32 LineTooLong\n");
   refused(Status.TOO_LONG, () => long.feed(`${longest}#`), "the script has more than 1048576 bytes");
   for (const call of [() => long.end(), () => long.feed("")]) refused(Status.TOO_LONG, call);
@@ -451,7 +451,7 @@ export async function run(library) {
   see = report.see.bind(report);
   same = report.same.bind(report);
   refused = report.refused.bind(report);
-  const parts = [lives, copies, runs, stops, passes, moves, events, traces, changes, benches, strict_scripts,
+  const parts = [lives, copies, runs, stops, passes, moves, events, traces, changes, sessions, strict_scripts,
     single_registers, sp_registers, states, memories,
     texts, differences];
   parts.forEach((part) => part());

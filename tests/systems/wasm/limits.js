@@ -43,7 +43,7 @@ async function stack(library, wasm, report, bytes) {
   const said = await run_calls(library);
   const used = bytes - new Uint8Array(wasm.memory.buffer, 0, bytes).findIndex((it) => it !== PAINT);
   report.see("the calls", said.endsWith(" 0 failed"), said);
-  report.see(`${used} bytes of stack`, used > 1000 && used <= bytes / 2, "more than half of RSP_STACK, or none");
+  report.see(`${used} bytes of stack`, used > 1000 && used <= bytes / 2, "more than half of BRSP_STACK, or none");
   return used;
 }
 

@@ -26,9 +26,9 @@ SHARE = TOOLS / "packaging/share"
 RPATH = " -Wl,-rpath,${libdir}"
 # What pkg-config and CMake read, and the templates in tools/packaging.
 TEMPLATES = {
-    "lib/pkgconfig/rsp.pc": "rsp.pc.in",
-    "lib/cmake/rsp/rspConfig.cmake": "rspConfig-unix.cmake.in",
-    "lib/cmake/rsp/rspConfigVersion.cmake": "rspConfigVersion.cmake.in",
+    "lib/pkgconfig/brsp.pc": "bbrsp.pc.in",
+    "lib/cmake/brsp/brspConfig.cmake": "brspConfig-unix.cmake.in",
+    "lib/cmake/brsp/brspConfigVersion.cmake": "brspConfigVersion.cmake.in",
 }
 
 
@@ -77,17 +77,17 @@ def version() -> Tuple[str, str]:
 
 def soname() -> str:
     """The name of the shared library, with the version of its interface."""
-    return f"librsp.so.{header.interface()}"
+    return f"libbrsp.so.{header.interface()}"
 
 
 def contents(prefix: str, program: Optional[bytes]) -> Iterator[File]:
-    """Each file. `prefix` is what rsp.pc says, and `program` the bytes of the program, if there is one."""
+    """Each file. `prefix` is what brsp.pc says, and `program` the bytes of the program, if there is one."""
     library = TOP / "library/c"
-    for name in "rsp.h", "rsp.hpp", "rsp_compare.h":
+    for name in "brsp.h", "brsp.hpp", "brsp_compare.h":
         yield File(f"include/{name}", (library / name).read_bytes())
-    yield File("lib/librsp.a", (library / "librsp.a").read_bytes())
+    yield File("lib/libbrsp.a", (library / "libbrsp.a").read_bytes())
     yield File(f"lib/{soname()}", (library / soname()).read_bytes(), True)
-    yield File("lib/librsp.so", soname())
+    yield File("lib/libbrsp.so", soname())
     system, processors = NATIVE.cmake
     words = {"LIBRARY": soname(), "SONAME": soname(), "SYSTEM": system, "PROCESSORS": processors}
     for name, template in TEMPLATES.items():

@@ -1,7 +1,7 @@
 """Links what is shipped, by cc and binutils: the same input gives the same bytes. It fails as they do.
 
-  library ARCHIVE..   makes librsp.a, librsp.so.1 and the same as librsp.so in library/c, of the crate's and
-                      the kit's archives. Both show the calls of rsp.h alone. All else in them is local, as
+  library ARCHIVE..   makes libbrsp.a, libbrsp.so.1 and the same as libbrsp.so in library/c, of the crate's and
+                      the kit's archives. Both show the calls of brsp.h alone. All else in them is local, as
                       another library of the kit may be in the same program.
   program OBJECT OUT  links the program again, of the object file that rt leaves and the kit's archives: it
                       needs no newer glibc than tools/packaging/start.c says.
@@ -60,11 +60,11 @@ def link_library(archives: List[str]) -> None:
         at = Path(folder)
         call("ld", "-r", "-o", at / "all.o", "--whole-archive", *archives)
         call("objcopy", *keep, at / "all.o", at / "rsp.o")
-        call("ar", "rcsD", at / "librsp.a", at / "rsp.o")
-        words = [f"-Wl,-soname,{name}", f"-Wl,--version-script={C}/rsp.map", "-Wl,-z,defs", SMALL]
+        call("ar", "rcsD", at / "libbrsp.a", at / "rsp.o")
+        words = [f"-Wl,-soname,{name}", f"-Wl,--version-script={C}/brsp.map", "-Wl,-z,defs", SMALL]
         call("cc", "-shared", *hardening.words(SYSTEM, "link"), "-o", at / name, *words, at / "rsp.o")
-        shutil.copy(at / name, at / "librsp.so")  # a link would do, but `rt ci` refuses links
-        for made in "librsp.a", name, "librsp.so":
+        shutil.copy(at / name, at / "libbrsp.so")  # a link would do, but `rt ci` refuses links
+        for made in "libbrsp.a", name, "libbrsp.so":
             put(at, made)
 
 

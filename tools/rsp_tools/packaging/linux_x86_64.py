@@ -13,7 +13,7 @@ from rsp_tools.packaging.install_tree import File
 from rsp_tools.targets import NATIVE
 
 PARTS = """
-library/c/rsp.h library/c/rsp.hpp library/c/rsp_compare.h library/python/rsp library/python/README.md
+library/c/brsp.h library/c/brsp.hpp library/c/brsp_compare.h library/python/rsp library/python/README.md
 library/rust docs examples microcode plugin tools/hardening CHANGELOG.md
 """.split()
 

@@ -13,7 +13,7 @@ from rsp_tools.systems.toolchain import llvm
 
 # What those for C, Python and Rust hold of the repository; and what was run on Linux on x86-64 alone.
 PARTS = """
-library/c/rsp.h library/c/rsp.hpp library/c/rsp_compare.h library/python/rsp library/python/README.md
+library/c/brsp.h library/c/brsp.hpp library/c/brsp_compare.h library/python/rsp library/python/README.md
 library/rust docs examples microcode CHANGELOG.md
 """.split()
 NOT_THERE = "docs/PLUGIN.md"
@@ -24,10 +24,10 @@ Thin = Callable[[Path, str], bytes]
 
 
 def of_folder(folder: Path) -> Iterator[File]:
-    """What tools/systems has made. `librsp.so`, which there is a copy, is a link."""
+    """What tools/systems has made. `libbrsp.so`, which there is a copy, is a link."""
     for path in sorted(it for it in folder.rglob("*") if it.is_file()):
         name = str(path.relative_to(folder))
-        yield File(name, install_tree.soname()) if name == "lib/librsp.so" else install_tree.file(name, path)
+        yield File(name, install_tree.soname()) if name == "lib/libbrsp.so" else install_tree.file(name, path)
 
 
 def thinned(library: Path, processor: str) -> bytes:

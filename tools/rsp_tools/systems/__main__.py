@@ -1,11 +1,11 @@
 """tools/systems [SYSTEM..]: makes the library, and the program for two, for other systems than Linux on
 x86-64, or for those that are named.
 
-  linux-aarch64    library/systems/linux-aarch64: rsp, which is the proved program, librsp.a, librsp.so.1,
+  linux-aarch64    library/systems/linux-aarch64: rsp, which is the proved program, libbrsp.a, libbrsp.so.1,
                    pkg-config, CMake, and the Python wheel; glibc 2.17
-  windows-x86_64   library/systems/windows-x86_64: rsp.exe, a program in C over the library, rsp.dll, an
+  windows-x86_64   library/systems/windows-x86_64: rsp.exe, a program in C over the library, brsp.dll, an
                    import library and a static one for mingw and for MSVC, CMake, and the Python wheel
-  macos            library/systems/macos: librsp.dylib and librsp.a for Intel and ARM, pkg-config, CMake, and
+  macos            library/systems/macos: libbrsp.dylib and libbrsp.a for Intel and ARM, pkg-config, CMake, and
                    the Python wheel; macOS 11. Never run on a Mac
   wasm64           library/systems/wasm64: rsp.wasm for browsers, Node 24 and Deno, with an ES module and its
                    types, as a package of npm; and of it library/systems/page, static files that answer

@@ -1,4 +1,4 @@
-"""What library/c/rsp.h declares, the version that is packed, and templates that have both."""
+"""What library/c/brsp.h declares, the version that is packed, and templates that have both."""
 
 import re
 from pathlib import Path
@@ -17,17 +17,17 @@ def found(form: str, path: Path) -> Tuple[str, ...]:
 
 def calls() -> List[str]:
     """The names of the calls that the header declares."""
-    return re.findall(r"^(?:uint32_t|void) (rsp_\w+)\(", places.HEADER.read_text(), re.M)
+    return re.findall(r"^(?:uint32_t|void) (brsp_\w+)\(", places.HEADER.read_text(), re.M)
 
 
 def interface() -> str:
     """The version of the interface, which the name of a shared library has."""
-    return found(r"^#define RSP_VERSION (\d+)$", places.HEADER)[0]
+    return found(r"^#define BRSP_VERSION (\d+)$", places.HEADER)[0]
 
 
 def stack() -> int:
     """How many bytes of stack a call needs at most."""
-    return int(found(r"^#define RSP_STACK (\d+)$", places.HEADER)[0])
+    return int(found(r"^#define BRSP_STACK (\d+)$", places.HEADER)[0])
 
 
 def dated_version() -> str:

@@ -1,5 +1,5 @@
 """The library for Linux on another processor: the archive that the kit itself makes, with a heap, and with
-the calls of rsp.h alone to be seen; and the proved program."""
+the calls of brsp.h alone to be seen; and the proved program."""
 
 import shutil
 from pathlib import Path
@@ -17,7 +17,7 @@ LINKED = "-Wl,-z,defs,--gc-sections"
 def make(target: Target, out: Path, at: Path, source: Source = module) -> None:
     """Writes the folder of a target, from the modules of a source. `at` is for files on the way."""
     shown = [f"--keep-global-symbol={it}" for it in header.calls()]
-    soname = f"librsp.so.{header.interface()}"
+    soname = f"libbrsp.so.{header.interface()}"
     words = [f"--target={target.triple}", "-O2", "-fPIC", "-ffreestanding"]
     words += hardening.words(target.name, "compile")
     llvm("clang", *words, "-c", "-o", at / "heap.o", places.PARTS / "heap.c")
@@ -26,16 +26,18 @@ def make(target: Target, out: Path, at: Path, source: Source = module) -> None:
     llvm("ld.lld", *words, archive, at / "heap.o")
     llvm("llvm-objcopy", *shown, at / "all.o", at / "rsp.o")
     (out / "lib").mkdir(parents=True)
-    llvm("llvm-ar", "rcsD", out / "lib" / "librsp.a", at / "rsp.o")
+    llvm("llvm-ar", "rcsD", out / "lib" / "libbrsp.a", at / "rsp.o")
     words = ["-shared", f"-Wl,-soname,{soname}", *hardening.words(target.name, "link"), LINKED]
     call(target.compiler, *words, "-o", out / "lib" / soname, at / "rsp.o")
-    shutil.copy(out / "lib" / soname, out / "lib" / "librsp.so")  # a link would do, but `rt ci` refuses links
+    shutil.copy(
+        out / "lib" / soname, out / "lib" / "libbrsp.so"
+    )  # a link would do, but `rt ci` refuses links
     packages.header(out)
     packages.pkg_config(out)
     packages.cmake(out, target, LIBRARY=soname, SONAME=soname)
     program = out / target.program
     link_program(target, program, at / "heap.o", modules.program(target.processor))
-    packages.wheel(out, out / "lib" / soname, "librsp.so", target.wheel, program)
+    packages.wheel(out, out / "lib" / soname, "libbrsp.so", target.wheel, program)
 
 
 def link_program(target: Target, to: Path, *objects: Path) -> None:

@@ -21,7 +21,7 @@ def link(architecture: str, made: Path, at: Path) -> Path:
     exports, to = at / "exports", at / f"{architecture}.dylib"
     exports.write_text("".join(f"_{it}\n" for it in header.calls()))
     words: List[Word] = ["-dylib", "-arch", architecture, "-platform_version", "macos", OLDEST, OLDEST]
-    words += ["-install_name", "@rpath/librsp.dylib", "-current_version", header.version()]
+    words += ["-install_name", "@rpath/libbrsp.dylib", "-current_version", header.version()]
     words += ["-compatibility_version", header.interface(), "-exported_symbols_list", exports]
     llvm("ld64.lld", *words, "-dead_strip", "-o", to, made, places.PARTS / "libSystem.tbd")
     return to
@@ -37,9 +37,9 @@ def make(out: Path, at: Path, source: Source = module) -> None:
         static.append(at / f"{architecture}.a")
         llvm("llvm-ar", "rcsD", "--format=darwin", static[-1], made)
     (out / "lib").mkdir(parents=True)
-    llvm("llvm-lipo", "-create", *shared, "-output", out / "lib" / "librsp.dylib")
-    llvm("llvm-lipo", "-create", *static, "-output", out / "lib" / "librsp.a")
+    llvm("llvm-lipo", "-create", *shared, "-output", out / "lib" / "libbrsp.dylib")
+    llvm("llvm-lipo", "-create", *static, "-output", out / "lib" / "libbrsp.a")
     packages.header(out)
     packages.pkg_config(out)
-    packages.cmake(out, TARGETS["macos"], LIBRARY="librsp.dylib", SONAME="@rpath/librsp.dylib")
-    packages.wheel(out, out / "lib" / "librsp.dylib", "librsp.dylib", TARGETS["macos"].wheel)
+    packages.cmake(out, TARGETS["macos"], LIBRARY="libbrsp.dylib", SONAME="@rpath/libbrsp.dylib")
+    packages.wheel(out, out / "lib" / "libbrsp.dylib", "libbrsp.dylib", TARGETS["macos"].wheel)

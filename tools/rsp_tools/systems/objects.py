@@ -24,7 +24,7 @@ def heap(processor: str, to: Path) -> None:
 
 
 def compiled(module: Module, processor: str, target: str, at: Path, changes: Iterable[Change] = ()) -> Path:
-    """An object for a target of clang, in which only the calls of rsp.h are to be seen. `at` is for files on
+    """An object for a target of clang, in which only the calls of brsp.h are to be seen. `at` is for files on
     the way."""
     text, made = at / f"{target}.ll", at / f"{target}.o"
     text.write_text(rewritten(module.text.read_text(), INTRINSICS[processor], changes))

@@ -17,25 +17,25 @@ TEMPLATES = TOOLS / "packaging"
 
 
 def header(out: Path) -> None:
-    """Puts rsp.h beside a library, its class for C++, and what compares a machine with an emulator."""
+    """Puts brsp.h beside a library, its class for C++, and what compares a machine with an emulator."""
     (out / "include").mkdir(parents=True)
-    for it in (places.HEADER, *map(places.HEADER.with_name, ("rsp.hpp", "rsp_compare.h"))):
+    for it in (places.HEADER, *map(places.HEADER.with_name, ("brsp.hpp", "brsp_compare.h"))):
         shutil.copyfile(it, out / "include" / it.name)
 
 
 def pkg_config(out: Path, rpath: str = " -Wl,-rpath,${libdir}") -> None:
-    """Writes rsp.pc, which finds the folder that it lies in. By `rpath` a program finds the library there."""
+    """Writes brsp.pc, which finds the folder that it lies in. By `rpath` a program finds the library there."""
     (out / "lib" / "pkgconfig").mkdir(parents=True)
-    text = filled(TEMPLATES / "rsp.pc.in", PREFIX="${pcfiledir}/../..", RPATH=rpath)
-    (out / "lib" / "pkgconfig" / "rsp.pc").write_text(text)
+    text = filled(TEMPLATES / "bbrsp.pc.in", PREFIX="${pcfiledir}/../..", RPATH=rpath)
+    (out / "lib" / "pkgconfig" / "brsp.pc").write_text(text)
 
 
 def cmake(out: Path, target: Target, **words: str) -> None:
-    """Writes what find_package(rsp) reads. `words` are LIBRARY, its file in lib/, and its SONAME."""
-    folder, kind = out / "lib/cmake/rsp", "unix" if words else "windows"
+    """Writes what find_package(brsp) reads. `words` are LIBRARY, its file in lib/, and its SONAME."""
+    folder, kind = out / "lib/cmake/brsp", "unix" if words else "windows"
     system, processors = target.cmake
     folder.mkdir(parents=True)
-    for made, template in ("rspConfig", f"rspConfig-{kind}"), ("rspConfigVersion", "rspConfigVersion"):
+    for made, template in ("brspConfig", f"brspConfig-{kind}"), ("brspConfigVersion", "brspConfigVersion"):
         text = filled(TEMPLATES / f"{template}.cmake.in", SYSTEM=system, PROCESSORS=processors, **words)
         (folder / f"{made}.cmake").write_text(text)
 

@@ -40,7 +40,7 @@ def objects(at: Path, source: Source = module) -> List[Path]:
 
 
 def link(out: Path, files: List[Path], *words: str) -> None:
-    """Links files to a module that exports the calls of rsp.h, malloc and free. Its stack is at 0, so that a
+    """Links files to a module that exports the calls of brsp.h, malloc and free. Its stack is at 0, so that a
     call that needs more is stopped."""
     shown = [f"--export={it}" for it in [*header.calls(), "malloc", "free"]]
     stack = ["--stack-first", "-z", f"stack-size={header.stack()}"]

@@ -1,5 +1,5 @@
 """The library for Windows on x86-64: the module of Linux on the same processor, compiled for mingw and for
-MSVC. One rsp.dll is for both, and each has an import library and a static one. Then the program over it."""
+MSVC. One brsp.dll is for both, and each has an import library and a static one. Then the program over it."""
 
 from pathlib import Path
 
@@ -36,7 +36,7 @@ def resources(at: Path, file: str, kind: str) -> Path:
 
 
 def link_dll(to: Path, at: Path, made: Path, exports: Path) -> None:
-    """Links rsp.dll of an object of the library."""
+    """Links brsp.dll of an object of the library."""
     words = ["-shared", "-static-libgcc", "-s", SAME, BASE, SMALL, *hardening.words(SYSTEM, "link")]
     properties = resources(at, to.name, "VFT_DLL")
     call("x86_64-w64-mingw32-gcc", *words, "-o", to, made, properties, exports)
@@ -57,15 +57,15 @@ def make(out: Path, at: Path, source: Source = module) -> None:
     for folder in ("bin", "lib"):
         (out / folder).mkdir(parents=True)
     exports = at / "rsp.def"
-    exports.write_text("".join(f"{it}\n" for it in ("LIBRARY rsp.dll", "EXPORTS", *header.calls())))
-    link_dll(out / "bin" / "rsp.dll", at, gnu, exports)
-    words = ["-m", "i386:x86-64", "-D", "rsp.dll"]
-    llvm("llvm-dlltool", *words, "-d", exports, "-l", out / "lib" / "librsp.dll.a")
-    llvm("llvm-lib", "/machine:x64", f"/def:{exports}", f"/out:{out}/lib/rsp.lib")
-    llvm("llvm-ar", "rcsD", out / "lib" / "librsp.a", gnu)
-    llvm("llvm-ar", "rcsD", "--format=coff", out / "lib" / "rsp_static.lib", msvc)
-    link_program(out / "bin" / "rsp.exe", at, out / "lib" / "librsp.a")
+    exports.write_text("".join(f"{it}\n" for it in ("LIBRARY brsp.dll", "EXPORTS", *header.calls())))
+    link_dll(out / "bin" / "brsp.dll", at, gnu, exports)
+    words = ["-m", "i386:x86-64", "-D", "brsp.dll"]
+    llvm("llvm-dlltool", *words, "-d", exports, "-l", out / "lib" / "libbrsp.dll.a")
+    llvm("llvm-lib", "/machine:x64", f"/def:{exports}", f"/out:{out}/lib/brsp.lib")
+    llvm("llvm-ar", "rcsD", out / "lib" / "libbrsp.a", gnu)
+    llvm("llvm-ar", "rcsD", "--format=coff", out / "lib" / "brsp_static.lib", msvc)
+    link_program(out / "bin" / "rsp.exe", at, out / "lib" / "libbrsp.a")
     packages.header(out)
     packages.pkg_config(out, rpath="")
     packages.cmake(out, TARGETS[SYSTEM])
-    packages.wheel(out, out / "bin" / "rsp.dll", "rsp.dll", TARGETS[SYSTEM].wheel, out / "bin" / "rsp.exe")
+    packages.wheel(out, out / "bin" / "brsp.dll", "brsp.dll", TARGETS[SYSTEM].wheel, out / "bin" / "rsp.exe")

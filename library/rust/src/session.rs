@@ -1,4 +1,4 @@
-//! A bench, which answers scripts.
+//! A session, which answers scripts.
 
 use crate::error::{done, right_version};
 use crate::raw;
@@ -12,31 +12,31 @@ const ROOM: usize = 16384;
 
 /// Answers a script as `rsp run` does, on a machine of its own.
 ///
-/// A script of more than 1048576 bytes is refused with [`Refused::TooLong`], and so is any later `feed` or `end`. A bench is `Send`, but not `Sync`.
+/// A script of more than 1048576 bytes is refused with [`Refused::TooLong`], and so is any later `feed` or `end`. A session is `Send`, but not `Sync`.
 // SAFETY of all calls below: as in `Machine`.
-pub struct Bench {
-    handle: UnsafeCell<raw::BenchHandle>,
+pub struct Session {
+    handle: UnsafeCell<raw::SessionHandle>,
     image_length: usize,
 }
 
 // SAFETY: as `Machine`.
-unsafe impl Send for Bench {}
+unsafe impl Send for Session {}
 
-impl Bench {
-    /// A bench whose machine has this image: 64 to 8388608 bytes, a multiple of 8.
-    pub fn new(image: &[u8]) -> Result<Bench, Refused> {
+impl Session {
+    /// A session whose machine has this image: 64 to 8388608 bytes, a multiple of 8.
+    pub fn new(image: &[u8]) -> Result<Session, Refused> {
         right_version()?;
-        let bench = Bench { handle: UnsafeCell::new(raw::BenchHandle { at: ptr::null_mut() }), image_length: image.len() };
-        done(unsafe { raw::rsp_bench_new(bench.at(), image.as_ptr(), image.len()) })?;
-        Ok(bench)
+        let session = Session { handle: UnsafeCell::new(raw::SessionHandle { at: ptr::null_mut() }), image_length: image.len() };
+        done(unsafe { raw::brsp_session_new(session.at(), image.as_ptr(), image.len()) })?;
+        Ok(session)
     }
 
-    fn at(&self) -> *mut raw::BenchHandle {
+    fn at(&self) -> *mut raw::SessionHandle {
         self.handle.get()
     }
 
     /// The replies to the lines that end in these bytes of the script. What follows the last LF waits for more. If this is refused, replies are
-    /// lost that [`feed_iter`](Bench::feed_iter) would have yielded.
+    /// lost that [`feed_iter`](Session::feed_iter) would have yielded.
     pub fn feed(&mut self, script: impl AsRef<[u8]>) -> Result<Vec<u8>, Refused> {
         let mut replies = Vec::new();
         for reply in self.feed_iter(script.as_ref()) {
@@ -45,7 +45,7 @@ impl Bench {
         Ok(replies)
     }
 
-    /// Yields these replies one by one, up to a refusal. The bench takes a line when its reply is asked for.
+    /// Yields these replies one by one, up to a refusal. The session takes a line when its reply is asked for.
     pub fn feed_iter<'a>(&'a mut self, script: &'a [u8]) -> impl Iterator<Item = Result<Vec<u8>, Refused>> + 'a {
         let (mut at, mut is_over, mut room) = (0, false, vec![0; ROOM]);
         std::iter::from_fn(move || {
@@ -65,7 +65,7 @@ impl Bench {
     fn take(&mut self, bytes: &[u8], room: &mut [u8]) -> Result<(usize, Vec<u8>), Refused> {
         let (mut used, mut written) = (0, 0);
         done(unsafe {
-            raw::rsp_bench_take(self.at(), bytes.as_ptr(), bytes.len(), &mut used, room.as_mut_ptr(), room.len(), &mut written)
+            raw::brsp_session_take(self.at(), bytes.as_ptr(), bytes.len(), &mut used, room.as_mut_ptr(), room.len(), &mut written)
         })?;
         Ok((used, room[..written].to_vec()))
     }
@@ -74,7 +74,7 @@ impl Bench {
     /// with [`Refused::Ended`].
     pub fn end(&mut self) -> Result<Vec<u8>, Refused> {
         let (mut written, mut reply) = (0, vec![0; ROOM]);
-        done(unsafe { raw::rsp_bench_end(self.at(), reply.as_mut_ptr(), ROOM, &mut written) })?;
+        done(unsafe { raw::brsp_session_end(self.at(), reply.as_mut_ptr(), ROOM, &mut written) })?;
         reply.truncate(written);
         Ok(reply)
     }
@@ -82,14 +82,14 @@ impl Bench {
     /// A copy of the image in its present state.
     pub fn rdram(&self) -> Result<Vec<u8>, Refused> {
         let mut bytes = vec![0; self.image_length];
-        done(unsafe { raw::rsp_bench_memory(self.at(), Bank::Rdram as u32, 0, bytes.as_mut_ptr(), bytes.len()) })?;
+        done(unsafe { raw::brsp_session_memory(self.at(), Bank::Rdram as u32, 0, bytes.as_mut_ptr(), bytes.len()) })?;
         Ok(bytes)
     }
 }
 
-impl Drop for Bench {
+impl Drop for Session {
     fn drop(&mut self) {
-        unsafe { raw::rsp_bench_free(self.at()) }
+        unsafe { raw::brsp_session_free(self.at()) }
     }
 }
 
@@ -101,8 +101,8 @@ impl Drop for Bench {
 /// # Ok::<(), rsp::Refused>(())
 /// ```
 pub fn run_script(script: impl AsRef<[u8]>, image: Option<&[u8]>) -> Result<(Vec<u8>, Vec<u8>), Refused> {
-    let mut bench = Bench::new(image.unwrap_or(&vec![0; 1 << 22]))?;
-    let mut replies = bench.feed(script)?;
-    replies.append(&mut bench.end()?);
-    Ok((replies, bench.rdram()?))
+    let mut session = Session::new(image.unwrap_or(&vec![0; 1 << 22]))?;
+    let mut replies = session.feed(script)?;
+    replies.append(&mut session.end()?);
+    Ok((replies, session.rdram()?))
 }

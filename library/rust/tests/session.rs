@@ -1,6 +1,6 @@
-//! Benches: scripts in pieces, replies one by one, refusals; and the scripts of the repository, if they are there.
+//! Sessions: scripts in pieces, replies one by one, refusals; and the scripts of the repository, if they are there.
 
-use rsp::{run_script, run_script_strict, Bench, Refused, ScriptError};
+use rsp::{run_script, run_script_strict, Session, Refused, ScriptError};
 use std::fs;
 use std::path::Path;
 
@@ -8,34 +8,34 @@ const LONGEST: usize = 1048576;
 
 #[test]
 fn pieces() {
-    let mut bench = Bench::new(&[0; 64]).unwrap();
-    assert_eq!(bench.feed("st"), Ok(vec![]));
-    assert_eq!(bench.feed(b"ep\nstep # 2"), Ok(b"step Done pc 004\n".to_vec()));
-    assert_eq!(bench.feed(""), Ok(vec![]));
-    assert_eq!(bench.end(), Ok(b"step Done pc 008\n".to_vec()));
-    assert_eq!(bench.end(), Err(Refused::Ended));
-    assert_eq!(bench.feed(""), Err(Refused::Ended));
-    assert_eq!(bench.rdram(), Ok(vec![0; 64]));
+    let mut session = Session::new(&[0; 64]).unwrap();
+    assert_eq!(session.feed("st"), Ok(vec![]));
+    assert_eq!(session.feed(b"ep\nstep # 2"), Ok(b"step Done pc 004\n".to_vec()));
+    assert_eq!(session.feed(""), Ok(vec![]));
+    assert_eq!(session.end(), Ok(b"step Done pc 008\n".to_vec()));
+    assert_eq!(session.end(), Err(Refused::Ended));
+    assert_eq!(session.feed(""), Err(Refused::Ended));
+    assert_eq!(session.rdram(), Ok(vec![0; 64]));
     assert_eq!(run_script("", None), Ok((vec![], vec![0; 1 << 22])));
 }
 
 #[test]
 fn one_by_one() {
-    let mut bench = Bench::new(&[0; 64]).unwrap();
-    let replies: Vec<_> = bench.feed_iter(b"step\n#\nasm 0\nnop\nend\nste").map(Result::unwrap).collect();
+    let mut session = Session::new(&[0; 64]).unwrap();
+    let replies: Vec<_> = session.feed_iter(b"step\n#\nasm 0\nnop\nend\nste").map(Result::unwrap).collect();
     assert_eq!(replies, [&b"step Done pc 004\n"[..], b"", b"", b"", b"ok 1 words\n"]);
     let text = "#".repeat(LONGEST);
-    let mut told = bench.feed_iter(text.as_bytes());
+    let mut told = session.feed_iter(text.as_bytes());
     assert_eq!((told.next(), told.next()), (Some(Err(Refused::TooLong)), None));
 }
 
 /// As many lines as a script may have take no more than their replies need.
 #[test]
 fn many_lines() {
-    let mut bench = Bench::new(&[0; 64]).unwrap();
-    let taken: usize = bench.feed_iter("\n".repeat(1000).as_bytes()).map(|it| it.unwrap().capacity()).sum();
+    let mut session = Session::new(&[0; 64]).unwrap();
+    let taken: usize = session.feed_iter("\n".repeat(1000).as_bytes()).map(|it| it.unwrap().capacity()).sum();
     assert_eq!(taken, 0);
-    let replies: Vec<_> = bench.feed_iter("step\n".repeat(100).as_bytes()).map(Result::unwrap).collect();
+    let replies: Vec<_> = session.feed_iter("step\n".repeat(100).as_bytes()).map(Result::unwrap).collect();
     assert_eq!(replies.len(), 100);
     assert!(replies.iter().all(|it| it.capacity() < 2 * it.len()));
     assert_eq!(run_script("\n".repeat(LONGEST), Some(&[0; 64])), Ok((vec![], vec![0; 64])));
@@ -44,14 +44,14 @@ fn many_lines() {
 #[test]
 fn refusals() {
     for length in [0, 63, 65, 68, (1 << 23) + 8] {
-        assert_eq!(Bench::new(&vec![0; length]).err(), Some(Refused::OutOfRange));
+        assert_eq!(Session::new(&vec![0; length]).err(), Some(Refused::OutOfRange));
     }
     let script = format!("step\n{}", "#".repeat(LONGEST - 5));
     let wanted = b"step Done pc 004\nfault 32 LineTooLong\n".to_vec();
     assert_eq!(run_script(&script, Some(&[0; 64])), Ok((wanted, vec![0; 64])));
-    let mut bench = Bench::new(&[1; 64]).unwrap();
-    assert_eq!(bench.feed(script + "#"), Err(Refused::TooLong));
-    assert_eq!((bench.feed(""), bench.end(), bench.rdram()), (Err(Refused::TooLong), Err(Refused::TooLong), Ok(vec![1; 64])));
+    let mut session = Session::new(&[1; 64]).unwrap();
+    assert_eq!(session.feed(script + "#"), Err(Refused::TooLong));
+    assert_eq!((session.feed(""), session.end(), session.rdram()), (Err(Refused::TooLong), Err(Refused::TooLong), Ok(vec![1; 64])));
     assert_eq!(Refused::TooLong.to_string(), "the script has more than 1048576 bytes");
 }
 

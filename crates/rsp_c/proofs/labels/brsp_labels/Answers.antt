@@ -1,7 +1,7 @@
 use Rattle.std.proofs.Common.{subst, inr, ℕ, List}
 use Rattle.rsp_asm.specs.AssembleFaults.{IsFault}
 use Rattle.rsp_asm.proofs.Faults.{short_hides}
-use Rattle.rsp_c.proofs.labels.rsp_labels.Goals as goal
+use Rattle.rsp_c.proofs.labels.brsp_labels.Goals as goal
 
 pub returns-in-OutOfMemory-clause-hides : goal.returns-in-OutOfMemory-clause-hides
 returns-in-OutOfMemory-clause-hides c _ =

@@ -1,4 +1,4 @@
-"""Benches of the Python module beside the program, on the scripts of the repository and on random ones.
+"""Sessions of the Python module beside the program, on the scripts of the repository and on random ones.
 
 They fail if the replies differ from those that are stored, or from what `rsp run` writes, if the image does,
 or if a call is refused otherwise than its text says. A script comes whole by run_script, and cut at random
@@ -85,10 +85,10 @@ def cut(script: bytes, chance: Chance) -> Iterator[bytes]:
 
 
 def in_pieces(script: bytes, image: bytes, chance: Chance) -> Tuple[bytes, bytes]:
-    """The replies and the image of a bench whose script comes in pieces."""
-    with rsp.Bench(image) as bench:
-        replies = b"".join(bench.feed(it) for it in cut(script, chance))
-        return replies + bench.end(), bench.rdram
+    """The replies and the image of a session whose script comes in pieces."""
+    with rsp.Session(image) as session:
+        replies = b"".join(session.feed(it) for it in cut(script, chance))
+        return replies + session.end(), session.rdram
 
 
 def by_program(program: Path, script: bytes, image: bytes, folder: Path) -> Tuple[bytes, bytes]:
@@ -137,19 +137,19 @@ def test_random(part: int, program: Path, folder: Path) -> None:
 
 
 def test_feed() -> None:
-    bench = rsp.Bench(bytes(64))
-    assert (bench.rdram, len(rsp.Bench().rdram)) == (bytes(64), 1 << 22)
-    pieces = [bench.feed("st"), bench.feed(b"ep\nstep # 2"), bench.feed(bytearray(b"")), bench.end()]
+    session = rsp.Session(bytes(64))
+    assert (session.rdram, len(rsp.Session().rdram)) == (bytes(64), 1 << 22)
+    pieces = [session.feed("st"), session.feed(b"ep\nstep # 2"), session.feed(bytearray(b"")), session.end()]
     assert pieces == [b"", b"step Done pc 004\n", b"", b"step Done pc 008\n"]
-    for call in (bench.end, lambda: bench.feed(b"step\n")):
+    for call in (session.end, lambda: session.feed(b"step\n")):
         raised(RspError, "the script has ended", call)
     assert rsp.run_script("", bytes(8) * 9) == (b"", bytes(72)), "a script without bytes"
-    replies = rsp.Bench(bytes(64)).iter_feed("step\n#\nasm 0\nnop\nend\nste")
+    replies = rsp.Session(bytes(64)).iter_feed("step\n#\nasm 0\nnop\nend\nste")
     assert [*replies] == [b"step Done pc 004\n", b"", b"", b"", b"ok 1 words\n"], "one by one"
 
 
 def test_image_is_copied_when_it_is_asked_for() -> None:
-    with mock.patch.object(rsp.Bench, "rdram", property(lambda it: pytest.fail("it is copied"))):
+    with mock.patch.object(rsp.Session, "rdram", property(lambda it: pytest.fail("it is copied"))):
         ran = rsp.run_script("load rdram 0 0102\n", bytes(64))
         assert (ran.replies, ran[0], ran[-2], len(ran)) == (b"ok\n", b"ok\n", b"ok\n", 2)
         assert repr(ran) == "<rsp.Ran: 3 bytes of replies>"
@@ -161,7 +161,7 @@ def test_image_is_copied_when_it_is_asked_for() -> None:
 
 
 def test_long_replies() -> None:
-    """More replies than a bench has room for, in one call."""
+    """More replies than a session has room for, in one call."""
     script = b"mem rdram 0 256\n" * 300
     replies, line = rsp.run_script(script, bytes(256)).replies, b"".join(
         f"{at:06x}: {bytes(16).hex()}\n".encode() for at in range(0, 256, 16)
@@ -223,16 +223,16 @@ def test_strict_without_a_fault() -> None:
 
 def test_refused_calls() -> None:
     for length in (0, 63, 65, (1 << 23) + 8):
-        refused(Status.OUT_OF_RANGE, rsp.Bench, bytes(length))
-    bench = rsp.Bench(bytes(64))
-    raised(TypeError, "Bench: image is of type str", rsp.Bench, "image")
-    raised(TypeError, "feed: script is of type int", bench.feed, 3)
-    bench.close()
-    for gone in (bench.end, lambda: bench.feed("step\n"), lambda: bench.rdram):
-        raised(RspError, "the bench is closed", gone)
+        refused(Status.OUT_OF_RANGE, rsp.Session, bytes(length))
+    session = rsp.Session(bytes(64))
+    raised(TypeError, "Session: image is of type str", rsp.Session, "image")
+    raised(TypeError, "feed: script is of type int", session.feed, 3)
+    session.close()
+    for gone in (session.end, lambda: session.feed("step\n"), lambda: session.rdram):
+        raised(RspError, "the session is closed", gone)
     copies: Tuple[Callable[..., object], ...] = (copy.copy, copy.deepcopy, pickle.dumps)
     for copied in copies:
-        raised(TypeError, "a bench can't be copied or pickled", copied, rsp.Bench(bytes(64)))
+        raised(TypeError, "a session can't be copied or pickled", copied, rsp.Session(bytes(64)))
 
 
 def test_longest_script() -> None:
@@ -241,11 +241,11 @@ def test_longest_script() -> None:
     replies, _ = rsp.run_script(script, bytes(64))
     assert replies == b"step Done pc 004\nfault 32 LineTooLong\n"
     refused(Status.TOO_LONG, rsp.run_script, script + b"#", bytes(64))
-    bench, told = rsp.Bench(bytes(64)), [b""]
+    session, told = rsp.Session(bytes(64)), [b""]
     with pytest.raises(RspError) as caught:
-        told += bench.iter_feed(script + b"#")
+        told += session.iter_feed(script + b"#")
     assert caught.value.status is Status.TOO_LONG
     assert told == [b"", b"step Done pc 004\n"], "the replies before it"
-    for call in (bench.end, lambda: bench.feed("")):
+    for call in (session.end, lambda: session.feed("")):
         raised(RspError, "the script has more than 1048576 bytes", call)
-    assert bench.rdram == bytes(64)
+    assert session.rdram == bytes(64)
