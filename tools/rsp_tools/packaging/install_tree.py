@@ -26,7 +26,7 @@ SHARE = TOOLS / "packaging/share"
 RPATH = " -Wl,-rpath,${libdir}"
 # What pkg-config and CMake read, and the templates in tools/packaging.
 TEMPLATES = {
-    "lib/pkgconfig/brsp.pc": "bbrsp.pc.in",
+    "lib/pkgconfig/brsp.pc": "brsp.pc.in",
     "lib/cmake/brsp/brspConfig.cmake": "brspConfig-unix.cmake.in",
     "lib/cmake/brsp/brspConfigVersion.cmake": "brspConfigVersion.cmake.in",
 }
