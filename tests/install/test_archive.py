@@ -197,7 +197,7 @@ def test_start_asks_the_processor(folder: Path) -> None:
 def test_c(archive: Path, folder: Path, way: str) -> None:
     words = {
         "static": ["-Iinclude", "lib/libbrsp.a"],
-        "shared": ["-Iinclude", "-Llib", "-lrsp", f"-Wl,-rpath,{archive}/lib"],
+        "shared": ["-Iinclude", "-Llib", "-lbrsp", f"-Wl,-rpath,{archive}/lib"],
     }.get(way)
     if words is None:
         need("pkg-config")

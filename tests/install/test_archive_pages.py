@@ -25,7 +25,7 @@ mount --bind "$0"/etc /etc
 mount -t tmpfs -o mode=755 none /usr/local
 set -e
 %s
-cc -o "$0"/lockstep examples/c/lockstep.c -lrsp
+cc -o "$0"/lockstep examples/c/lockstep.c -lbrsp
 "$0"/lockstep
 /usr/local/bin/rsp dis /dev/null
 find /usr/local ! -user root

@@ -46,7 +46,7 @@ class Runner:
 
     def shared(self) -> List[str]:
         """The words that link the shared library."""
-        return [f"-L{self.folder}/lib", "-lrsp", f"-Wl,-rpath,{self.folder}/lib"]
+        return [f"-L{self.folder}/lib", "-lbrsp", f"-Wl,-rpath,{self.folder}/lib"]
 
     def libraries(self) -> Dict[str, List[str]]:
         """The words that link each kind of library."""
@@ -131,7 +131,7 @@ class Windows(Runner):
     def shared(self) -> List[str]:
         # Windows looks for a library beside the program.
         shutil.copy(self.folder / self.dll, self.at)
-        return [f"-L{self.folder}/lib", "-lrsp"]
+        return [f"-L{self.folder}/lib", "-lbrsp"]
 
     def stop(self) -> None:
         run("wineserver", "-k", env=self.env)
