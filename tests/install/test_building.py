@@ -64,7 +64,7 @@ def program_tree() -> Iterator[Tiny]:
         for name, phase in PHASES.items():
             sent, send = phase.sent, os.killpg if phase.sent == CTRL_C else os.kill
             if sent:
-                run = tree.during(f"{phase.crate} begins", lambda it: send(it, sent))
+                run = tree.during(f"{phase.crate} begins", lambda it: send(it, sent), held=phase.crate)
             else:
                 root = "main" if phase.crate == "rsp_main" else "lib"
                 with tree.changed(f"crates/{phase.crate}/src/{root}.rt", faulty):
@@ -248,8 +248,9 @@ def test_edits_while_it_proves(program_tree: Tiny, folder: Path) -> None:
         tree.put(MAIN, edited((tree.at / MAIN).read_bytes()))
         with tree.changed(SIDE, edited):
             pass
+        tree.go.touch()
 
-    ran = tree.during("rsp_middle begins", edit)
+    ran = tree.during("rsp_middle begins", edit, held="rsp_middle")
     is_told = "rsp_side, rsp_main: edited in the meantime" in ran.said
     assert ran.status in (0, 1) and is_told == (ran.status == 0)
     has_something_to_do(tree, RSP)
@@ -260,10 +261,10 @@ def test_edits_while_it_proves(program_tree: Tiny, folder: Path) -> None:
 @of_library
 def test_says_how_far_it_is(library_tree: Tiny) -> None:
     often = ("tools/rsp_tools/proof.py", lambda it: it.replace(b"SILENCE = 30 ", b"SILENCE = 1 "))
+    line = rf"^{C}: proving rsp_c, \d+ s, 2 functions; about \d+ minutes to go$"
     with library_tree.changed(*often), library_tree.changed(OF_C, edited):
-        ran = library_tree.run(C, "silent")
-    assert ran.status == 1
-    assert re.search(rf"(?m)^{C}: proving rsp_c, \d+ s, 2 functions; about \d+ minutes to go$", ran.said)
+        ran = library_tree.during(line, lambda _: library_tree.go.touch(), C, "silent")
+    assert ran.status == 1 and re.search(line, ran.said, re.M)
     assert library_tree.run(C, "broken") == NOTHING
 
 

@@ -95,8 +95,8 @@ class Build:
     def fail(self, text: str, status: int = 1) -> NoReturn:
         """Ends at once, with all that the kit has going."""
         self.say(text)
-        if self.proof and self.proof.ran:
-            self.proof.ran.kill()
+        if self.proof:
+            self.proof.end()
         os._exit(status)
 
     def made_of(self) -> str:

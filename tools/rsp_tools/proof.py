@@ -14,11 +14,12 @@ import os
 import re
 import subprocess
 import tempfile
+import threading
 import time
 from concurrent.futures import FIRST_COMPLETED, Future, ThreadPoolExecutor, wait
 from functools import partial
 from pathlib import Path
-from typing import Any, Callable, Dict, List, Optional, Tuple
+from typing import Any, Callable, Dict, List, Optional, Set, Tuple
 
 from rsp_tools import TOP
 from rsp_tools.crates import CRATES, jobs_of, path_to, proved_with, seconds, with_below
@@ -26,6 +27,7 @@ from rsp_tools.crates import CRATES, jobs_of, path_to, proved_with, seconds, wit
 PROCESSORS, MEMORY = len(os.sched_getaffinity(0)), Path("/proc/meminfo")
 EACH = 2_000_000_000  # A crate that is being proved has been seen to take so many bytes.
 SILENCE = 30  # After so many seconds without a line it says how far it is.
+TURN = 0.5  # A signal that comes just as Python begins to wait is heeded when that wait ends.
 
 
 def time_of(path: Path) -> float:
@@ -66,6 +68,7 @@ class Proof:
         self.idle = self.slots = at_once()
         self.held: List[int] = []
         self.ran: Optional["subprocess.Popen[bytes]"] = None
+        self.starting = threading.RLock()  # Who holds it may start the kit's command, or end it.
 
     def find_left(self, kit: Path) -> None:
         """Keeps other runs of the kit out of all crates, and finds those that aren't proved."""
@@ -101,8 +104,15 @@ class Proof:
         with self.log.open("a") as log:
             print(f"== {self.top}", file=log, flush=True)
             where, nothing = CRATES / self.top, subprocess.DEVNULL
-            ran = self.ran = subprocess.Popen(self.last, cwd=where, stdin=nothing, stdout=log, stderr=log)
+            with self.starting:
+                ran = self.ran = subprocess.Popen(self.last, cwd=where, stdin=nothing, stdout=log, stderr=log)
             return ran.wait()
+
+    def end(self) -> None:
+        """Ends the kit's command for the crate on top, which can't be started afterwards."""
+        self.starting.acquire()
+        if self.ran:
+            self.ran.kill()
 
     def begin(self, pool: ThreadPoolExecutor) -> None:
         """Begins those crates of which all below are proved, as far as processors are idle."""
@@ -122,7 +132,7 @@ class Proof:
         pool = ThreadPoolExecutor(len(self.left))
         while self.left:
             self.begin(pool)
-            done = wait(self.going, SILENCE, FIRST_COMPLETED).done
+            done = self.wait_for_end()
             for name, jobs, status in [(*self.going.pop(it), it.result()) for it in done]:
                 if status and name in with_below(self.top):
                     return name
@@ -132,6 +142,15 @@ class Proof:
             if not done:
                 self.tell_progress()
         return ""
+
+    def wait_for_end(self) -> Set["Future[int]"]:
+        """Those that have ended; none if nothing ends for a while."""
+        until = time.monotonic() + SILENCE
+        while time.monotonic() < until:
+            done = wait(self.going, TURN, FIRST_COMPLETED).done
+            if done:
+                return done
+        return set()
 
     def tell_progress(self) -> None:
         going = [f"{it}, {self.seconds_of(it):.0f} s{self.kept(it)}" for it, _ in self.going.values()]

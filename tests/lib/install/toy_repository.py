@@ -57,14 +57,20 @@ RT = {
     "other": '[ "$1" != version ] || exec echo "rattle-kit-0 logic 0"\nexec "{rt}" "$@"',
     "alone": 'exec "{rt}" "$@"',
     "words": '[ "$1" = version ] || {{ echo asked for "$@"; exit 2; }}\nexec "{rt}" "$@"',
-    # It keeps what it has checked of two functions, and says nothing.
-    "silent": """[ "$1" = lib ] && mkdir out/incremental/new && cd out/incremental/new &&
-    touch Rattle-rsp_c-proofs.one.Lts.oantt Rattle-rsp_c-proofs.two.Lts.oantt && sleep 4 &&
-    rm -r "$PWD" && exit 2
+    # It keeps what it has checked of two functions, and says nothing until it may go on.
+    "silent": """[ "$1" = lib ] && mkdir out/incremental/new && cd out/incremental/new && {{
+    for it in one two; do touch Rattle-rsp_c-proofs.$it.Lts.oantt; done
+    until [ -e "$GO" ]; do sleep 0.1; touch *; done
+    rm -r "$PWD"; exit 2
+}}
 exec {rt} "$@"
 """,
     "broken": "exit 2",
 }
+# In place of the kit's `rattle`: it holds one crate until it may go on.
+HOLDS = """case "$* " in *"--crate-name $HELD "*) until [ -e "$GO" ]; do sleep 0.1; done ;; esac
+exec {rattle} "$@"
+"""
 RSP, C = "./rsp run", "library/c/build"
 LONGEST = 600  # seconds that a run may take on a busy machine
 Data = Union[None, bytes, Callable[[bytes], Optional[bytes]]]
@@ -106,11 +112,9 @@ class Tiny:
                 shutil.copy(TOP / name, self.at / name)
         self.kits = {"": os.environ["PATH"], "none": str(folder / "none")}
         for name, text in RT.items():
-            kit = folder / name / "rt"
-            kit.parent.mkdir()
-            kit.write_text(f"#!/bin/sh\n{text.format(rt=shutil.which('rt'))}\n")
-            kit.chmod(0o755)
-            self.kits[name] = f"{kit.parent}:{os.environ['PATH']}"
+            self.kits[name] = with_program(folder / name / "rt", text.format(rt=shutil.which("rt")))
+        self.kits["holds"] = holding_kit(folder / "holds")
+        self.go = folder / "go"
         (folder / "none").mkdir()
         (folder / "none/python3").symlink_to(os.path.realpath(sys.executable))
         for name in TOOLS.split():
@@ -128,12 +132,12 @@ class Tiny:
         return other
 
     @contextmanager
-    def started(self, words: list[str], kit: str) -> "Iterator[subprocess.Popen[str]]":
+    def started(self, words: list[str], kit: str, held: str = "") -> "Iterator[subprocess.Popen[str]]":
         """A run, which is ended with all that it has begun if what is done in it fails."""
         ran = subprocess.Popen(
             words,
             cwd=self.at,
-            env={**os.environ, "PATH": self.kits[kit]},
+            env={**os.environ, "PATH": self.kits[kit], "HELD": held, "GO": str(self.go)},
             stdin=subprocess.DEVNULL,
             stdout=subprocess.PIPE,
             stderr=subprocess.STDOUT,
@@ -154,22 +158,28 @@ class Tiny:
             said = ran.communicate(timeout=LONGEST)[0]
         return Ran(ran.returncode, said, [])
 
-    def during(self, line: str, act: Callable[[int], object]) -> Ran:
-        """A run of ./rsp, in which something is done once it says the line."""
-        with self.started(RSP.split(), "") as ran:
+    def during(
+        self, line: str, act: Callable[[int], object], command: str = RSP, kit: str = "holds", held: str = ""
+    ) -> Ran:
+        """A run in which something is done once it says a line of this form.
+
+        What the kit holds may go on as soon as there is the file `go`.
+        """
+        self.go.unlink(missing_ok=True)
+        with self.started(command.split(), kit, held) as ran:
             assert ran.stdout
             said = ""
             for got in ran.stdout:
                 said += got
-                if line in got:
+                if re.search(line, got):
                     break
             act(ran.pid)
             said += ran.stdout.read()
         return Ran(ran.returncode, said, self.processes())
 
     def processes(self) -> list[int]:
-        """The processes that are still at work in the repository after a time that a busy machine needs."""
-        until = time.monotonic() + 30
+        """The processes that are still at work in the repository, if they don't end."""
+        until = time.monotonic() + LONGEST
         while processes_in(self.at) and time.monotonic() < until:
             time.sleep(0.2)
         return processes_in(self.at)
@@ -198,6 +208,27 @@ class Tiny:
             yield
         finally:
             self.put(name, was)
+
+
+def with_program(path: Path, text: str) -> str:
+    """A PATH with a program in front of all others."""
+    path.parent.mkdir(parents=True)
+    path.write_text(f"#!/bin/sh\n{text}\n")
+    path.chmod(0o755)
+    return f"{path.parent}:{os.environ['PATH']}"
+
+
+def holding_kit(folder: Path) -> str:
+    """The PATH of the kit that is here, except that its `rattle` can hold a crate."""
+    kit = Path(str(shutil.which("rt"))).resolve().parent.parent
+    path = with_program(folder / "bin/rattle", HOLDS.format(rattle=kit / "bin/rattle"))
+    for it in (*kit.iterdir(), *(kit / "bin").iterdir()):
+        to = folder / it.relative_to(kit)
+        if it.name in ("rt", "rtlib.py"):  # they look for the others beside themselves
+            shutil.copy(it, to)
+        elif not to.exists():
+            to.symlink_to(it)
+    return path
 
 
 def processes_in(folder: Path) -> list[int]:
