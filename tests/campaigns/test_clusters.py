@@ -71,8 +71,7 @@ def started(address: str, out: Path, results: int) -> "subprocess.Popen[str]":
     pipes: Dict[str, Any] = {"stdout": subprocess.PIPE, "stderr": subprocess.PIPE}
     words = [str(it) for it in (CAMPAIGN, *words_of_campaign(), "--scheduler", address, out)]
     client = subprocess.Popen(words, text=True, cwd=SOURCES, **pipes)
-    until = time.time() + 120
-    while time.time() < until and len(list(out.glob("*-*.json"))) < results:
+    while client.poll() is None and len(list(out.glob("*-*.json"))) < results:
         time.sleep(0.05)
     return client
 

@@ -38,7 +38,7 @@ bindkey '^I' list-choices
 zstyle ':completion:*' verbose no
 echo ready
 """
-LONGEST = 20  # seconds for a shell to answer
+LONGEST = 280  # seconds for a shell to answer
 
 
 @pytest.fixture(scope="module")

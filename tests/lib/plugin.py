@@ -105,7 +105,7 @@ class Bench:
         if not front.exists():
             compiled(front, *FLAGS, f"-I{HEADERS}", HERE / "front.c", "-ldl", "-lpthread")
         out.unlink(missing_ok=True)
-        got = run(front, CORE, rom, plugin, out, mode, 60, *options, cwd=self.folder)
+        got = run(front, CORE, rom, plugin, out, mode, 240, *options, cwd=self.folder)
         return got.stdout, out.read_bytes() if out.exists() else b""
 
 

@@ -49,7 +49,7 @@ static void *watch(void *unused)
     printf("front %s %.3f\n", is_done ? "done" : "not-done", elapsed());
     fflush(stdout);
     command(M64CMD_STOP, 0, NULL);
-    for (int i = 0; i < 30 && !is_over; i++) usleep(100000);
+    for (int i = 0; i < 600 && !is_over; i++) usleep(100000);
     if (!is_over) _exit(1);
     return unused;
 }

@@ -106,7 +106,7 @@ def typed(hunt: Bench, home: Path, command: str, last: str, **environment: str) 
     where = {"HOME": str(home), "PATH": "/usr/bin:/bin", "LC_ALL": "C.UTF-8", **environment}
     how: Dict[str, Any] = {"cwd": hunt.folder, "env": where, "text": True, "errors": "replace"}
     # With a screen it takes no signal while the ROM is in its last loop.
-    words = ["timeout", "--kill-after=1", "90", "stdbuf", "-oL", "sh", "-c", f"exec {command}"]
+    words = ["timeout", "--kill-after=1", "240", "stdbuf", "-oL", "sh", "-c", f"exec {command}"]
     found: List[str] = []
     with subprocess.Popen(words, stdout=subprocess.PIPE, stderr=subprocess.STDOUT, **how) as front:
         for line in front.stdout or ():

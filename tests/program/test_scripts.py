@@ -69,7 +69,7 @@ def test_strict(script: Stored, rsp: Any, folder: Path) -> None:
 def test_example(program: Path) -> None:
     """A program that answers late hangs it."""
     words = (sys.executable, TOP / "examples/check_row.py", program)
-    said = run(*words, stderr=subprocess.DEVNULL, timeout=50).stdout
+    said = run(*words, stderr=subprocess.DEVNULL).stdout
     assert said == "VMULF: 1600 lanes agree with the model\n"
 
 
@@ -234,7 +234,7 @@ SOURCES = {
 @pytest.mark.parametrize("source, made", SOURCES.values(), ids=SOURCES)
 def test_text(source: bytes, made: Any, rsp: Any, folder: Path) -> None:
     (folder / "source").write_bytes(source)
-    ran, words = rsp("asm", "source", "words", timeout=10), content(folder / "words")
+    ran, words = rsp("asm", "source", "words"), content(folder / "words")
     if isinstance(made, bytes):
         assert (ran, words) == ((0, b"ok %d words\n" % (len(made) // 4), b""), made)
     else:

@@ -2,7 +2,6 @@
 whom it asks."""
 
 import re
-import time
 from pathlib import Path
 from typing import Any
 
@@ -323,19 +322,15 @@ def test_script_is_read_aloud(filled: Page) -> None:
 
 @pytest.mark.parametrize("count", (5, 18000))
 def test_many_lines_are_read_aloud(count: int, page: Page) -> None:
-    """With a program that reads the page aloud a run of 162,000 lines takes no minute, and what isn't
-    near the view isn't in its tree."""
+    """What isn't near the view isn't in the tree of a program that reads the page aloud."""
     page.call("Accessibility.enable")
     page.type("regs\n" * count)
-    begun = time.monotonic()
     page.click("run")
     page.ended()
-    took = time.monotonic() - begun
     items = [it for it in nodes(page) if it["role"]["value"] == "listitem"]
     page.call("Accessibility.disable")
     assert page.value(SHOWN) == count
     assert len(items) == count if count == 5 else 200 <= len(items) <= 500
-    assert took < 20
 
 
 def test_sources(page: Page, host: Host) -> None:

@@ -11,7 +11,7 @@ from typing import Any, Callable, List
 
 LINKED = 24000  # bytes of a script that a link carries
 TYPED = 4000  # bytes that are typed: Chromium takes long for more
-LONGEST = 60  # seconds that the page may take
+LONGEST = 280  # seconds that the page may take
 # What Selenium calls these keys.
 TAB, ENTER, SHIFT, CONTROL, DOWN, F1 = "\ue004", "\ue007", "\ue008", "\ue009", "\ue015", "\ue031"
 FIRST = "Eight sums at once"  # the example that is there at first

@@ -7,6 +7,7 @@ import os
 import signal
 import sys
 import threading
+from contextlib import suppress
 from typing import Any, Dict, List, Set, Tuple
 from unittest import mock
 
@@ -153,12 +154,13 @@ def test_handle_is_empty_meanwhile() -> None:
 
 
 RACE = """
-import faulthandler, threading, time
+import sys, threading
 import rsp
-machine, session, stop = rsp.Rsp(bytes(4096), 64), rsp.Session(bytes(64)), time.time() + 0.5
+sys.setswitchinterval(1e-5)
+machine, session = rsp.Rsp(bytes(4096), 64), rsp.Session(bytes(64))
 told = []
 def steps():
-    while time.time() < stop:
+    for _ in range(5000):
         try:
             machine.step(), machine.run(100), session.feed("run 100\\n")
         except rsp.RspError as fault:
@@ -169,7 +171,7 @@ threads = [threading.Thread(target=steps) for _ in range(3)]
 [it.join() for it in threads]
 machine.step(), session.feed("step\\n")
 kinds = {it.split(": ")[1].rpartition(" ")[0] for it in told}
-assert kinds <= {"another call is using the", "the script has more than 1048576"}, told
+assert kinds <= {"another call is using the"}, told
 print("done")
 """
 
@@ -205,15 +207,19 @@ def test_child_process() -> None:
 def test_interrupt() -> None:
     """A signal whose handler raises leaves no machine in use, wherever it comes."""
 
+    came = []
+
     def raises(*_: object) -> None:
+        came.append(True)
         raise KeyboardInterrupt
 
     machine, before = loaded("loop: j loop\nnop\n", 4), signal.signal(signal.SIGVTALRM, raises)
     try:
         for turn in range(50):
-            with pytest.raises(KeyboardInterrupt):
+            came.clear()
+            with suppress(KeyboardInterrupt):  # Python drops one that is raised while it frees an object
                 signal.setitimer(signal.ITIMER_VIRTUAL, 1e-4 + turn * 1e-6)
-                while True:
+                while not came:
                     machine.run(5)
             assert machine.step() is Status.OK
     finally:
