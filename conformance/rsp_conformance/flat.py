@@ -1,6 +1,6 @@
 """`flat`: the cases of `steps` as a flat binary file for each instruction, for C without a parser of JSON.
 
-All numbers are little-endian, and states are an brsp_state of brsp.h; conformance/README.md has the layout.
+All numbers are little-endian, and states are a brsp_state of brsp.h; conformance/README.md has the layout.
 """
 
 import struct
@@ -18,7 +18,7 @@ Piece = Tuple[int, int, int, bytes]  # 0 before the case or 1 after it, the bank
 
 
 def state_bytes(state: Numbers) -> bytes:
-    """The numbers of `full` as an brsp_state."""
+    """The numbers of `full` as a brsp_state."""
     lanes = [lane for register in state["v"] for lane in register]
     accumulators = [value >> shift & 0xFFFF for shift in (32, 16, 0) for value in state["acc"]]
     vco, vcc, divider = state["vco"], state["vcc"], (state["div_in"], state["div_out"], state["div_loaded"])

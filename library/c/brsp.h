@@ -85,7 +85,7 @@ enum brsp_reason {
 };
 
 typedef struct brsp_stop {
-    uint32_t reason; /* an brsp_reason */
+    uint32_t reason; /* a brsp_reason */
     uint32_t steps;  /* the number of steps that were made */
     size_t watch;    /* at a watch its number, otherwise 0 */
     uint16_t pc;     /* the address of the next instruction */

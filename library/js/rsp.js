@@ -210,12 +210,12 @@ export class Rsp {
 
   /** A call with numbers alone. */
   #call(call, given, name = call) {
-    ok(wasm[`rsp_${name}`](this.#at, ...numbers(call, given)), call, given);
+    ok(wasm[`brsp_${name}`](this.#at, ...numbers(call, given)), call, given);
   }
 
   /** A call that fills what is at HERE. */
   #fill(call, given, name = call) {
-    ok(wasm[`rsp_${name}`](this.#at, ...numbers(call, given), HERE), call, given);
+    ok(wasm[`brsp_${name}`](this.#at, ...numbers(call, given), HERE), call, given);
   }
 
   #word(call, given) {
@@ -252,7 +252,7 @@ export class Rsp {
   #memory(call, given, size, most) {
     const [bank, address, count] = numbers(call, given, most);
     return lent(call, size * count, (at) => {
-      ok(wasm[`rsp_${call}`](this.#at, bank, address, at, BigInt(count)), call, given);
+      ok(wasm[`brsp_${call}`](this.#at, bank, address, at, BigInt(count)), call, given);
       return copied(at, size * count);
     });
   }

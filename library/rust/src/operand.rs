@@ -8,7 +8,7 @@ use std::fmt;
 pub struct Operand {
     /// Which operand of the line it is, from 1. It may be missing.
     pub number: usize,
-    /// What the statement takes there: an `BRSP_OPERAND_` of `brsp.h`.
+    /// What the statement takes there: a `BRSP_OPERAND_` of `brsp.h`.
     pub kind: u32,
     /// The lowest and the highest number that it may be, and the step of which each is a multiple; None if it has no range.
     pub range: Option<(i64, i64, u32)>,

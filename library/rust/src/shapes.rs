@@ -175,7 +175,7 @@ impl State {
     /// The number of bytes of a state.
     pub const SIZE: usize = size_of::<State>();
 
-    /// A state from its bytes, which are those of an `brsp_state` of C on this computer. None unless there are [`SIZE`](State::SIZE) of them.
+    /// A state from its bytes, which are those of a `brsp_state` of C on this computer. None unless there are [`SIZE`](State::SIZE) of them.
     pub fn from_bytes(bytes: &[u8]) -> Option<State> {
         // SAFETY: there are as many bytes as a state has, and any bytes are one, since all its fields are numbers.
         (bytes.len() == State::SIZE).then(|| unsafe { bytes.as_ptr().cast::<State>().read_unaligned() })

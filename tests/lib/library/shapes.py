@@ -16,7 +16,7 @@ NUMBERS = {
 }
 C_NUMBERS = {"u8": "uint8_t", "u32": "uint32_t", "usize": "size_t"}
 # The structs of one pointer, by their names in C.
-HANDLES = {"Handle": "brsp_machine", "BenchHandle": "rsp_bench"}
+HANDLES = {"Handle": "brsp_machine", "BenchHandle": "brsp_session", "SessionHandle": "brsp_session"}
 AS_C = {"u32": "uint32_t", "usize": "size_t", "Global": "", "": "void"}
 AS_C.update({f"&mut {name}": f"{in_c} *" for name, in_c in HANDLES.items()})
 # The structs that are classes in Python and JavaScript, by their names there.
@@ -51,7 +51,7 @@ def groups(form: str, text: str) -> Tuple[Any, ...]:
 
 def c_name(rust: str) -> str:
     """RspFlagBits is brsp_flag_bits."""
-    return re.sub(r"(?<!^)(?=[A-Z])", "_", rust).lower()
+    return "b" + re.sub(r"(?<!^)(?=[A-Z])", "_", rust).lower()
 
 
 def c_types(rust: str) -> str:

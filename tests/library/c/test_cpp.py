@@ -45,7 +45,7 @@ def test_header(standard: str, compiler: str, folder: Path) -> None:
     """Empty handles don't make a compiler warn; C++98 has no stdint.h of its own, but the compilers have."""
     need(compiler)
     source, strict = folder / "handles.cpp", [it for it in WARNINGS if it != "-Wpedantic"]
-    source.write_text('#include "brsp.h"\nrsp m = BRSP_NONE, n = BRSP_NONE;\nrsp_session b = BRSP_NONE;\n')
+    source.write_text('#include "brsp.h"\nbrsp_machine m = BRSP_NONE, n = BRSP_NONE;\nbrsp_session b = BRSP_NONE;\n')
     compiled(folder / "handles.o", f"-std={standard}", *STRICT, *strict, "-c", source, compiler=compiler)
 
 
