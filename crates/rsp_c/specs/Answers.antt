@@ -21,7 +21,7 @@ use Rattle.rsp_feed.specs.declared.bench.BenchFault.{BenchFault}
 use Rattle.rsp_feed.specs.declared.bench.BenchFault.TheVariants as feeding
 use Rattle.rsp_syntax.specs.declared.fault.AsmFaultKind.{AsmFaultKind}
 use Rattle.rsp_syntax.specs.declared.fault.AsmFaultKind.TheVariants as fault
-use Rattle.rsp_c.specs.declared.status.TheConstants.{OK, NO_MEMORY, OUT_OF_RANGE, HALTED, RESERVED, TASK_PLACE, TASK_SIZE, BREAK_FULL, BREAK_TWICE, NO_BREAK, WATCH_FULL, NO_WATCH, ENDED, TOO_LONG}
+use Rattle.rsp_c.specs.declared.status.TheConstants.{OK, NO_MEMORY, OUT_OF_RANGE, HALTED, RESERVED, TASK_PLACE, TASK_SIZE, BREAK_FULL, BREAK_TWICE, NO_BREAK, WATCH_FULL, NO_WATCH, ENDED, TOO_LONG, OTHER_WORD}
 
 -- a step: done, halted, or at a reserved word
 abbrev pub step_status : StepEnd → ℕ
@@ -32,7 +32,7 @@ step_status (end.Reserved word) = RESERVED
 -- passing the word at pc: it is no transfer, or the machine is halted
 abbrev pub pass_fault_status : PassFault → ℕ
 pass_fault_status passing.Halted = HALTED
-pass_fault_status passing.OtherWord = OUT_OF_RANGE
+pass_fault_status passing.OtherWord = OTHER_WORD
 
 abbrev pub pass_status : {X : Type 0} → Result X PassFault → ℕ
 pass_status (Ok x) = OK

@@ -98,7 +98,7 @@ pub extern "C" fn brsp_event(
 }
 
 /// Passes over the DMA at pc, whose bytes the host then moves, and empties the history. All is as after a step, the SP registers too, but
-/// the memories stay. HALTED if the machine is halted, OUT_OF_RANGE if the word at pc starts no DMA.
+/// the memories stay. HALTED if the machine is halted, OTHER_WORD if the word at pc starts no DMA.
 #[unsafe(no_mangle)]
 pub extern "C" fn brsp_pass_dma(handle: &mut Handle, alloc: Global) -> u32
     ensures answer { result ≡ status_of (λ d. pass_status (pass_dma_of d.state)) handle.old.debugger }

@@ -23,7 +23,7 @@ pub struct RspOperand {
     pub high: i64,
     /// Its number in its line, from 1; 0 if the text isn't refused for an operand.
     pub number: usize,
-    /// What the statement takes there: an `BRSP_OPERAND_` of `brsp.h`.
+    /// What the statement takes there: a `BRSP_OPERAND_` of `brsp.h`.
     pub kind: u32,
     /// If it has a range, each number is a multiple of this; else 0.
     pub step: u32,

@@ -5,7 +5,7 @@ ghost use Rattle.rsp_machine.specs.Host.{with_bank_bytes, bank_length, is_inside
 ghost use Rattle.rsp_debug.specs.Debugging.{set_by_host};
 ghost use Rattle.rsp_c.specs.Answers.{bank_of};
 ghost use Rattle.rsp_c.specs.Bytes.{bank_bytes};
-ghost use Rattle.rsp_c.specs.Calls.{IsDoneIf};
+ghost use Rattle.rsp_c.specs.Calls.{status_of, IsDoneIf, IsFilled};
 ghost use Rattle.rsp_memory.specs.Words.{words_bytes};
 ghost use Rattle.byteorder.specs.Endian.{IsRead, big_number};
 
@@ -41,6 +41,16 @@ pub fn bytes_of<A: Acc>(machine: &Machine<A>, bank: Bank, a: u32, n: usize) -> O
         return None;
     }
     Some(&all[from..from + n])
+}
+
+/// The number of bytes of the image of RDRAM.
+#[unsafe(no_mangle)]
+pub extern "C" fn brsp_image_length(handle: &mut Handle, alloc: Global, out: &mut usize) -> u32
+    ensures answer { result ≡ status_of (λ _. OK) handle.old.debugger }
+    ensures value { IsFilled result (λ d. length d.state.rdram) handle.old.debugger out.old out.new }
+    ensures same { handle.new.debugger ≡ handle.old.debugger }
+{
+    with_held!(handle, alloc, |debugger| do *out = debugger.machine().rdram().len())
 }
 
 /// Writes bytes to a bank from an address on, and empties the history.

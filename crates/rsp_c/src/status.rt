@@ -1,4 +1,4 @@
-// What a call returns.
+// What a call returns: 0, or a number above 100, because the numbers of faults are below 100.
 
 ghost use Rattle.std.specs.Prelude.{◌≡◌, ◌<◌, ◌%◌, IsTrue, Some, Err};
 ghost use Rattle.rsp_c.specs.Answers.{step_status, pass_fault_status, bank_of, is_imem_address, task_status, break_fault_status, add_watch_status, bench_fault_status, fault_number};
@@ -12,39 +12,41 @@ use rsp_memory::Bank;
 /// The call succeeded.
 pub const OK: u32 = 0;
 /// The handle holds no machine.
-pub const NO_MACHINE: u32 = 1;
+pub const NO_MACHINE: u32 = 101;
 /// An allocation failed.
-pub const NO_MEMORY: u32 = 2;
+pub const NO_MEMORY: u32 = 102;
 /// An argument is out of its range.
-pub const OUT_OF_RANGE: u32 = 3;
+pub const OUT_OF_RANGE: u32 = 103;
 /// The machine is halted.
-pub const HALTED: u32 = 4;
+pub const HALTED: u32 = 104;
 /// The word at pc is reserved.
-pub const RESERVED: u32 = 5;
+pub const RESERVED: u32 = 105;
 /// A text has a fault.
-pub const NO_MEANING: u32 = 6;
+pub const NO_MEANING: u32 = 106;
 /// A task's structure is at a wrong address.
-pub const TASK_PLACE: u32 = 7;
+pub const TASK_PLACE: u32 = 107;
 /// A task's boot code has a wrong size.
-pub const TASK_SIZE: u32 = 8;
+pub const TASK_SIZE: u32 = 108;
 /// Sixteen addresses have a breakpoint.
-pub const BREAK_FULL: u32 = 9;
+pub const BREAK_FULL: u32 = 109;
 /// The address has a breakpoint.
-pub const BREAK_TWICE: u32 = 10;
+pub const BREAK_TWICE: u32 = 110;
 /// The address has no breakpoint.
-pub const NO_BREAK: u32 = 11;
+pub const NO_BREAK: u32 = 111;
 /// There are eight watches.
-pub const WATCH_FULL: u32 = 12;
+pub const WATCH_FULL: u32 = 112;
 /// The number has no watch.
-pub const NO_WATCH: u32 = 13;
+pub const NO_WATCH: u32 = 113;
 /// The history holds fewer states.
-pub const SHORT_HISTORY: u32 = 14;
+pub const SHORT_HISTORY: u32 = 114;
 /// A buffer is too short for what there is.
-pub const NO_ROOM: u32 = 15;
+pub const NO_ROOM: u32 = 115;
 /// The end of a script was met.
-pub const ENDED: u32 = 16;
+pub const ENDED: u32 = 116;
 /// A script has more than 1048576 bytes.
-pub const TOO_LONG: u32 = 17;
+pub const TOO_LONG: u32 = 117;
+/// Another word is at pc than the call passes.
+pub const OTHER_WORD: u32 = 118;
 
 /// The status of a step.
 pub fn status_of_step(end: StepEnd) -> u32
@@ -63,7 +65,7 @@ pub fn status_of_pass(fault: PassFault) -> u32
 {
     match fault {
         PassFault::Halted => HALTED,
-        PassFault::OtherWord => OUT_OF_RANGE,
+        PassFault::OtherWord => OTHER_WORD,
     }
 }
 
