@@ -94,10 +94,11 @@ static uint32_t take_steps(attempt *a)
 static int is_count(uint32_t n) { return n >= 1 && n <= 1000000; }
 
 /* Calls that look, alone or at a number; and calls that take a number. */
-#define LOOK(name, type) static uint32_t name(attempt *a) { return rsp_##name(a->m, fills(a, sizeof(type))); }
+#define LOOK(name, type) static uint32_t name(attempt *a) { return brsp_##name(a->m, fills(a, sizeof(type))); }
 #define LOOK_AT(name, type, is_in_range) \
-    static uint32_t name(attempt *a) { uint32_t n = take_edge(a->in); return ranged(a, is_in_range, rsp_##name(a->m, n, fills(a, sizeof(type)))); }
-#define CHANGE(name, is_in_range) static uint32_t name(attempt *a) { uint32_t n = take_edge(a->in); return ranged(a, is_in_range, rsp_##name(a->m, n)); }
+    static uint32_t name(attempt *a) { uint32_t n = take_edge(a->in); return ranged(a, is_in_range, brsp_##name(a->m, n, fills(a, sizeof(type)))); }
+#define CHANGE(name, is_in_range) static uint32_t name(attempt *a) { uint32_t n = take_edge(a->in); return ranged(a, is_in_range, brsp_##name(a->m, n)); }
+LOOK(image_length, size_t)
 LOOK(get, brsp_state)
 LOOK(regs, brsp_scalars)
 LOOK(acc, brsp_accumulators)
@@ -108,7 +109,7 @@ LOOK_AT(reg, uint32_t, n < 32)
 LOOK_AT(vreg, brsp_lanes, n < 32)
 LOOK_AT(read, uint32_t, 1)
 LOOK_AT(peek, uint32_t, 1)
-CHANGE(task, 1)
+CHANGE(start_task, 1)
 CHANGE(set_pc, is_place(n))
 CHANGE(back, is_count(n))
 CHANGE(add_break, is_place(n))
@@ -298,7 +299,7 @@ static uint32_t pass_dma(attempt *a)
     return status;
 }
 
-static uint32_t pass(attempt *a) { return brsp_pass(a->m, take_number(a->in, 4)); }
+static uint32_t pass_move(attempt *a) { return brsp_pass_move(a->m, take_number(a->in, 4)); }
 
 static uint32_t add_watch(attempt *a)
 {
@@ -384,7 +385,7 @@ static uint32_t session_free(attempt *a)
 
 /* Each call, the statuses that brsp.h gives it besides BRSP_OK, and on what it works: it changes a machine or looks at one, makes or frees one, or has none. */
 enum on { CHANGES, LOOKS, MAKES, APART };
-#define S(status) (1u << BRSP_##status)
+#define S(status) (1u << (BRSP_##status - BRSP_NO_MACHINE))
 static const struct {
     uint32_t (*make)(attempt *a);
     uint32_t statuses;
@@ -393,10 +394,10 @@ static const struct {
     { new, S(NO_MEMORY) | S(OUT_OF_RANGE), MAKES }, { new, S(NO_MEMORY) | S(OUT_OF_RANGE), MAKES }, { copy, S(NO_MACHINE) | S(NO_MEMORY), MAKES },
     { free_machine, 0, MAKES }, { get, 0, LOOKS }, { set, S(OUT_OF_RANGE), CHANGES }, { state_fault, 0, APART }, { load, S(OUT_OF_RANGE), CHANGES },
     { load_words, S(OUT_OF_RANGE), CHANGES }, { memory, S(OUT_OF_RANGE), LOOKS }, { memory_words, S(OUT_OF_RANGE), LOOKS },
-    { task, S(TASK_PLACE) | S(TASK_SIZE), CHANGES }, { set_pc, S(OUT_OF_RANGE), CHANGES }, { step, S(HALTED) | S(RESERVED), CHANGES },
+    { start_task, S(TASK_PLACE) | S(TASK_SIZE), CHANGES }, { set_pc, S(OUT_OF_RANGE), CHANGES }, { step, S(HALTED) | S(RESERVED), CHANGES },
     { step_changes, S(HALTED) | S(RESERVED), CHANGES }, { run, S(OUT_OF_RANGE), CHANGES }, { run_until_move, S(OUT_OF_RANGE), CHANGES },
     { trace, S(OUT_OF_RANGE), CHANGES }, { back, S(OUT_OF_RANGE) | S(SHORT_HISTORY), CHANGES }, { there_and_back, 0, CHANGES },
-    { pass, S(HALTED) | S(OUT_OF_RANGE), CHANGES }, { add_break, S(OUT_OF_RANGE) | S(BREAK_TWICE) | S(BREAK_FULL), LOOKS },
+    { pass_move, S(HALTED) | S(OTHER_WORD), CHANGES }, { add_break, S(OUT_OF_RANGE) | S(BREAK_TWICE) | S(BREAK_FULL), LOOKS },
     { drop_break, S(OUT_OF_RANGE) | S(NO_BREAK), LOOKS }, { add_watch, S(OUT_OF_RANGE) | S(WATCH_FULL), LOOKS }, { drop_watch, S(NO_WATCH), LOOKS },
     { reg, S(OUT_OF_RANGE), LOOKS }, { regs, 0, LOOKS }, { vreg, S(OUT_OF_RANGE), LOOKS }, { acc, 0, LOOKS }, { flags, 0, LOOKS }, { divider, 0, LOOKS },
     { read, 0, CHANGES }, { peek, 0, LOOKS }, { write, 0, CHANGES }, { sp, 0, LOOKS }, { set_sp, S(OUT_OF_RANGE), CHANGES },
@@ -404,7 +405,7 @@ static const struct {
     { session_take, S(NO_MACHINE) | S(NO_MEMORY) | S(NO_ROOM) | S(ENDED) | S(TOO_LONG), APART },
     { session_end, S(NO_MACHINE) | S(NO_MEMORY) | S(NO_ROOM) | S(ENDED) | S(TOO_LONG), APART },
     { session_memory, S(NO_MACHINE) | S(OUT_OF_RANGE), APART }, { session_free, 0, APART },
-    { event, S(OUT_OF_RANGE), CHANGES }, { history, 0, LOOKS }, { pass_dma, S(HALTED) | S(OUT_OF_RANGE), CHANGES }
+    { event, S(OUT_OF_RANGE), CHANGES }, { history, 0, LOOKS }, { pass_dma, S(HALTED) | S(OTHER_WORD), CHANGES }, { image_length, 0, LOOKS }
 };
 
 static brsp_machine machines[MACHINES];
@@ -431,8 +432,8 @@ static void make_call(input *in, uint32_t *steps)
         .image = &images[k], .other_image = &images[other], .session_image = &session_images[b], .steps = steps };
     int is_on_machine = calls[number].on == CHANGES || calls[number].on == LOOKS;
     uint32_t status = calls[number].make(&a);
-    MUST(status <= BRSP_TOO_LONG && (!is_on_machine || (status == BRSP_NO_MACHINE) == !before[k].is_there));
-    MUST(status == BRSP_OK || (status == BRSP_NO_MACHINE && is_on_machine) || calls[number].statuses >> status & 1);
+    MUST((status == BRSP_OK || (status >= BRSP_NO_MACHINE && status <= BRSP_OTHER_WORD)) && (!is_on_machine || (status == BRSP_NO_MACHINE) == !before[k].is_there));
+    MUST(status == BRSP_OK || (status == BRSP_NO_MACHINE && is_on_machine) || calls[number].statuses >> (status - BRSP_NO_MACHINE) & 1);
     for (int i = 0; i < 3; i++) {
         MUST(status == BRSP_OK || is_fresh(a.filled[i], 0, a.lengths[i]));
         free(a.filled[i]);

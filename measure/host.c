@@ -86,8 +86,8 @@ ROW(memory_words, status |= brsp_memory_words(&m, BRSP_DMEM, 0, words, 1024))
 ROW(run_six, status |= brsp_run(&m, 6, &stop))
 ROW(run_one, status |= brsp_run(&m, 1, &stop))
 ROW(run_halted, status |= brsp_run(&m, 1000, &stop))
-ROW(start_task, status |= brsp_task(&m, TASK))
-ROW(task, status |= brsp_task(&m, TASK) | brsp_run(&m, 1000, &stop))
+ROW(start_task, status |= brsp_start_task(&m, TASK))
+ROW(task, status |= brsp_start_task(&m, TASK) | brsp_run(&m, 1000, &stop))
 ROW(owner_task, owner_task_once())
 
 static const struct {
@@ -112,7 +112,7 @@ int main(int argc, char **argv)
     if (i == sizeof rows / sizeof *rows) return 2;
     put_task(rows[i].text, rows[i].length);
     if (brsp_new(&m, rdram, sizeof rdram, 0) != BRSP_OK) return 2;
-    status = brsp_task(&m, TASK) | brsp_run(&m, 1000, &stop) | brsp_write(&m, 4, strcmp(rows[i].name, "run-halted") ? 1 : 2) | brsp_write(&m, 1, 0x4000);
+    status = brsp_start_task(&m, TASK) | brsp_run(&m, 1000, &stop) | brsp_write(&m, 4, strcmp(rows[i].name, "run-halted") ? 1 : 2) | brsp_write(&m, 1, 0x4000);
     rows[i].made(atol(argv[2]));
     brsp_free(&m);
     return (int)status;

@@ -33,7 +33,7 @@ ROWS: Dict[str, Row] = {
     "dma-4096": Row("of 4,096 bytes", 586),
     "dma-rows": Row("of 16 rows of 8 bytes", 1206, 700),
     "dma-three": Row("a DMA of 8 bytes by three writes", 306, 230),
-    "start-task": Row("`brsp_task` with a boot of 100 bytes", 202),
+    "start-task": Row("`brsp_start_task` with a boot of 100 bytes", 202),
     "run-one": Row("`brsp_run` of one instruction", 289),
     "run-six": Row("of six", 474, 400),
     "run-halted": Row("on a halted machine", 147),

@@ -34,7 +34,7 @@ static uint32_t call(const char *how, size_t count)
     case 'f' * 256 + 'a': return brsp_state_fault(&state, &word);
     case 'c' * 256 + 'h': return brsp_step_changes(&m, &changes);
     case 'c' * 256 + 'o': return brsp_copy(&copy, &m);
-    case 'p' * 256 + 'a': return brsp_pass(&m, 7) | brsp_set_pc(&m, 0);
+    case 'p' * 256 + 'a': return brsp_pass_move(&m, 7) | brsp_set_pc(&m, 0);
     case 'l' * 256 + 'o': return brsp_load_words(&m, BRSP_DMEM, 0, words, count);
     case 'l' * 256 + 'i': return brsp_session_take(&b, (const uint8_t *)"step\n", 5, &used, reply, sizeof reply, &written);
     case 'w' * 256 + 'o': return brsp_memory_words(&m, BRSP_DMEM, 0, words, count);

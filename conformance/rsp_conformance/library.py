@@ -81,7 +81,7 @@ def main() -> None:
     except (ImportError, OSError) as fault:
         sys.exit(f"library: {fault}")
     try:
-        with rsp.Rsp(IMAGE) as machine:
+        with rsp.Machine(IMAGE) as machine:
             sys.exit(counted(rows(machine, args.folder, names_in(args.folder, args.names))))
     except (VectorsFault, FileFault) as fault:
         sys.exit(printable(f"library: {fault}"))

@@ -24,7 +24,7 @@ public:
                 transfer(event.dma);
             } else {
                 if (event.at.writes) dpc[event.at.number - 8] = event.at.value;
-                machine.pass(dpc[event.at.number - 8]);
+                machine.pass_move(dpc[event.at.number - 8]);
             }
         }
         return budget - left;

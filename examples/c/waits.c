@@ -78,7 +78,7 @@ static int make_move(walk *w, const brsp_move *at)
     if (!at->writes && w->whose) {
         take(w->whose, w), brsp_peek(&w->m, at->number, &n);
         n |= at->number == 4 ? 4 | is_full << 3 : at->number == 5 ? is_full : 1;
-        return !(w->asked[at->stop.pc / 4]++ && w->has_parted) && brsp_pass(&w->m, n) == BRSP_OK;
+        return !(w->asked[at->stop.pc / 4]++ && w->has_parted) && brsp_pass_move(&w->m, n) == BRSP_OK;
     }
     for (n = 1; !at->writes && n <= w->count; n++) follow(w, n);
     if (!at->writes) w->count = 0;

@@ -2,7 +2,7 @@
  * difference is reported with the text of its instruction. The interpreter has a fault that is planted: its SRA shifts
  * zeros in. See docs/EMBEDDING.md. */
 
-import { IMEM, Rsp, Scalars, Status, assemble, state_fault, text } from "rsp";
+import { IMEM, Machine, Scalars, Status, assemble, state_fault, text } from "rsp";
 
 const PROGRAM = `
 loop: sra $3, $1, 2
@@ -62,7 +62,7 @@ function lockstep(start, interpreter) {
 
 const imem = new Uint32Array(1024);
 imem.set(assemble(PROGRAM));
-const machine = new Rsp();
+const machine = new Machine();
 machine.load_words(IMEM, 0, imem);
 const state = machine.get();
 state.words[1] = -64;

@@ -49,6 +49,6 @@ class Mine:
         self.memories[bank][address : address + len(data)] = data
 
 
-with rsp.Rsp(bytes(64)) as machine:
+with rsp.Machine(bytes(64)) as machine:
     machine.load_words(rsp.IMEM, 0, rsp.assemble(PROGRAM))
     print(rsp.first_difference(machine, Mine(bytes(64)), limit=4))

@@ -47,7 +47,7 @@ class Emulator:
         return rsp.Scalars(words=self.r, pc=self.pc, npc=self.npc)
 
 
-def lockstep(start: rsp.Rsp, emulator: Emulator) -> None:
+def lockstep(start: rsp.Machine, emulator: Emulator) -> None:
     """Steps both from one state on, that of `start`, up to a difference or a halt."""
     machine = start.copy()
     steps = 0
@@ -69,7 +69,7 @@ def lockstep(start: rsp.Rsp, emulator: Emulator) -> None:
 def main() -> None:
     words = rsp.assemble(PROGRAM)
     imem = words + [0] * (1024 - len(words))
-    with rsp.Rsp() as machine:
+    with rsp.Machine() as machine:
         machine.load_words(rsp.IMEM, 0, imem)
         state = machine.get()
         state.words[1] = -64 % BELOW

@@ -33,7 +33,7 @@ def main(source: str, image: Optional[str], task: int, at: Optional[int]) -> Non
     text = Path(source).read_text()
     at = at if at is not None else TASK_CODE if image else 0
     words = rsp.assemble(text, at)
-    with rsp.Rsp(Path(image).read_bytes() if image else bytes(64)) as machine:
+    with rsp.Machine(Path(image).read_bytes() if image else bytes(64)) as machine:
         if image:
             machine.start_task(task)
         else:

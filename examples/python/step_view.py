@@ -15,7 +15,7 @@ AROUND = 2  # lines of code before and after the step
 Seen = Tuple[rsp.State, bytes]
 
 
-def seen(machine: rsp.Rsp) -> Seen:
+def seen(machine: rsp.Machine) -> Seen:
     """All registers, and DMEM."""
     return machine.get(), machine.memory(rsp.DMEM, 0, 4096)
 
@@ -33,7 +33,7 @@ def changes(before: Seen, after: Seen) -> Iterator[str]:
             yield f"{at:03x}: {after[1][at : at + 16].hex()}"
 
 
-def show(machine: rsp.Rsp, place: int, right: List[str]) -> None:
+def show(machine: rsp.Machine, place: int, right: List[str]) -> None:
     """The code around a place beside other lines."""
     begin = max(place - 4 * AROUND, 0)
     code = machine.listing(begin, min(2 * AROUND + 1, (4096 - begin) // 4))
@@ -43,9 +43,9 @@ def show(machine: rsp.Rsp, place: int, right: List[str]) -> None:
         print(f"{line}| {right[n] if n < len(right) else ''}".rstrip())
 
 
-def started(source: Path, task: Optional[int]) -> rsp.Rsp:
+def started(source: Path, task: Optional[int]) -> rsp.Machine:
     """A machine that is about to run a text, or a task of an image."""
-    machine = rsp.Rsp(bytes(64) if task is None else source.read_bytes())
+    machine = rsp.Machine(bytes(64) if task is None else source.read_bytes())
     if task is None:
         machine.load_words(rsp.IMEM, 0, rsp.assemble(source.read_text()))
     else:

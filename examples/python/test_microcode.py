@@ -27,7 +27,7 @@ def model(sample: int, volume: int) -> int:
 
 class TestScaled(unittest.TestCase):
     def scaled(self, samples: List[int], volume: int) -> List[int]:
-        with rsp.Rsp(bytes(64)) as machine:
+        with rsp.Machine(bytes(64)) as machine:
             machine.load_words(rsp.IMEM, 0, rsp.assemble(SCALED))
             machine.load(rsp.DMEM, 0, struct.pack(">9h", *samples, volume))
             self.assertEqual(machine.run(100).reason, rsp.Reason.HALT)

@@ -1,13 +1,13 @@
 /* brsp.h: the Nintendo 64's Reality Signal Processor (RSP): emulator, debugger, assembler and disassembler,
- * for C and C++. Each call is proved to do what the instruction table and the definitions of this
- * repository say. docs/EMBEDDING.md shows how to build and link the library, docs/SYSTEMS.md lists the
- * systems, and docs/FAULTS.md compares the statuses with the faults of scripts.
+ * for C and C++. Each call is proved to do what the instruction table and the definitions of this repository
+ * say. docs/EMBEDDING.md shows how to build and link the library, docs/SYSTEMS.md lists the systems, and
+ * docs/FAULTS.md compares the statuses with the faults of scripts.
  *
  * Preconditions, which no call can check:
  *   - A handle is BRSP_NONE before its first call, and afterwards as the last call left it. Never write its
- *     field. You may move a handle, that is, assign it to another one that holds nothing. Then use only
- *     the other one, until you have set the first to BRSP_NONE. What a handle points to belongs to the
- *     library: nobody else reads, writes or frees it.
+ *     field. You may move a handle, that is, assign it to another one that holds nothing. Then use only the
+ *     other one, until you have set the first to BRSP_NONE. What a handle points to belongs to the library:
+ *     nobody else reads, writes or frees it.
  *   - Only one call at a time uses a handle. Between two calls you may hand it to another thread, by a mutex
  *     or a join as for any data, because nothing in a machine is bound to a thread.
  *   - No pointer is null, not even that of an empty buffer. A buffer has at least as many elements as its
@@ -19,12 +19,12 @@
  *   - A call has BRSP_STACK bytes of stack.
  *
  * Postconditions: every call returns, whatever numbers it gets, and all calls except brsp_version, brsp_free
- * and brsp_session_free return a status. If the status isn't BRSP_OK, no machine has changed, and neither has
- * anything that the call fills, with three exceptions: brsp_assemble fills `out` to say why, BRSP_NO_ROOM of
- * brsp_labels says in `count` how many labels there are, and BRSP_TOO_LONG ends a session. A call with a handle
- * that holds nothing returns BRSP_NO_MACHINE, except for the calls that make or free; brsp_copy returns
- * BRSP_NO_MACHINE only if `from` holds nothing. The comments below don't list BRSP_OK and BRSP_NO_MACHINE
- * again. */
+ * and brsp_session_free return a status. If the status isn't BRSP_OK, no machine has changed, and neither
+ * has anything that the call fills, with three exceptions: brsp_assemble fills `out` to say why,
+ * BRSP_NO_ROOM of brsp_labels says in `count` how many labels there are, and BRSP_TOO_LONG ends a session. A
+ * call with a handle that holds nothing returns BRSP_NO_MACHINE, except for the calls that make or free;
+ * brsp_copy returns BRSP_NO_MACHINE only if `from` holds nothing. The comments below don't list BRSP_OK and
+ * BRSP_NO_MACHINE again. */
 #ifndef BRSP_H
 #define BRSP_H
 
@@ -47,26 +47,44 @@ typedef struct brsp_machine {
 /* The most bytes of stack that a call needs. This is measured, not proved. */
 #define BRSP_STACK 131072
 
+/* What a call returns. A status other than BRSP_OK is above 100, because the numbers of faults are below
+ * 100. */
 enum brsp_status {
-    BRSP_OK = 0,            /* done; after a step: one instruction was executed */
-    BRSP_NO_MACHINE = 1,    /* the handle holds no machine, or no session */
-    BRSP_NO_MEMORY = 2,     /* an allocation failed */
-    BRSP_OUT_OF_RANGE = 3,  /* a number, a length or a count is out of its range */
-    BRSP_HALTED = 4,        /* brsp_step, brsp_pass, brsp_pass_dma: the machine is halted */
-    BRSP_RESERVED = 5,      /* brsp_step: the word at pc is reserved */
-    BRSP_NO_MEANING = 6,    /* brsp_assemble, brsp_labels: the text has a fault, which brsp_assemble reports */
-    BRSP_TASK_PLACE = 7,    /* brsp_task: the address isn't a multiple of 8, or 64 bytes pass the image */
-    BRSP_TASK_SIZE = 8,     /* brsp_task: the size of the boot code isn't 1 to 4096 */
-    BRSP_BREAK_FULL = 9,    /* brsp_add_break: sixteen addresses have a breakpoint */
-    BRSP_BREAK_TWICE = 10,  /* brsp_add_break: the address has a breakpoint */
-    BRSP_NO_BREAK = 11,     /* brsp_drop_break: the address has no breakpoint */
-    BRSP_WATCH_FULL = 12,   /* brsp_add_watch: there are eight watches */
-    BRSP_NO_WATCH = 13,     /* brsp_drop_watch: the number has no watch */
-    BRSP_SHORT_HISTORY = 14, /* brsp_back: the history holds fewer states */
-    BRSP_NO_ROOM = 15,      /* brsp_assemble, brsp_labels: there are more words or labels than the buffer can
-                              hold; brsp_session_take, brsp_session_end: it has fewer than BRSP_REPLIES bytes */
-    BRSP_ENDED = 16,        /* brsp_session_take, brsp_session_end: the end of input was met */
-    BRSP_TOO_LONG = 17      /* brsp_session_take, brsp_session_end: the script has more than 1048576 bytes */
+    BRSP_OK = 0,              /* done; after a step: one instruction was executed */
+    BRSP_NO_MACHINE = 101,    /* the handle holds no machine, or no session */
+    BRSP_NO_MEMORY = 102,     /* an allocation failed */
+    BRSP_OUT_OF_RANGE = 103,  /* a number, a length or a count is out of its range */
+    BRSP_HALTED = 104,        /* brsp_step, brsp_pass_move, brsp_pass_dma: the machine is halted */
+    BRSP_RESERVED = 105,      /* brsp_step: the word at pc is reserved */
+    BRSP_NO_MEANING = 106,    /* brsp_assemble, brsp_labels: the text has a fault: see brsp_assembled */
+    BRSP_TASK_PLACE = 107,    /* brsp_start_task: it isn't a multiple of 8, or 64 bytes pass the image */
+    BRSP_TASK_SIZE = 108,     /* brsp_start_task: the size of the boot code isn't 1 to 4096 */
+    BRSP_BREAK_FULL = 109,    /* brsp_add_break: sixteen addresses have a breakpoint */
+    BRSP_BREAK_TWICE = 110,   /* brsp_add_break: the address has a breakpoint */
+    BRSP_NO_BREAK = 111,      /* brsp_drop_break: the address has no breakpoint */
+    BRSP_WATCH_FULL = 112,    /* brsp_add_watch: there are eight watches */
+    BRSP_NO_WATCH = 113,      /* brsp_drop_watch: the number has no watch */
+    BRSP_SHORT_HISTORY = 114, /* brsp_back: the history holds fewer states */
+    BRSP_NO_ROOM = 115,       /* brsp_assemble, brsp_labels: there are more words or labels than the
+                                 buffer can hold; brsp_session_take, brsp_session_end: it has fewer than
+                                 BRSP_REPLIES bytes */
+    BRSP_ENDED = 116,         /* brsp_session_take, brsp_session_end: the end of input was met */
+    BRSP_TOO_LONG = 117,      /* brsp_session_take, brsp_session_end: it has more than 1048576 bytes */
+    BRSP_OTHER_WORD = 118     /* brsp_pass_move, brsp_pass_dma: another word is at pc */
+};
+
+/* The fault of a text (docs/FAULTS.md). */
+enum brsp_fault {
+    BRSP_FAULT_NONE = 0,
+    BRSP_FAULT_BAD_LINE = 10,      /* a line is too long, has an unprintable byte, or no label before `:` */
+    BRSP_FAULT_UNKNOWN_NAME = 11,  /* no statement has this name */
+    BRSP_FAULT_BAD_OPERAND = 12,   /* there are too many or too few operands, or one has another form */
+    BRSP_FAULT_OUT_OF_RANGE = 13,  /* a number doesn't fit into its field */
+    BRSP_FAULT_LABEL_TWICE = 14,   /* an earlier line has the same label */
+    BRSP_FAULT_LABEL_MISSING = 15, /* no line has the label */
+    BRSP_FAULT_PAST_END = 16,      /* a word would be at 4096 or later */
+    BRSP_FAULT_OUT_OF_MEMORY = 17, /* an allocation failed */
+    BRSP_FAULT_NOT_TEXT = 33       /* the text isn't UTF-8 */
 };
 
 /* The three memories. DMEM and IMEM have 4096 bytes, RDRAM as many as the image of brsp_new. */
@@ -92,8 +110,8 @@ typedef struct brsp_stop {
     uint32_t word;   /* at a reserved word the word, otherwise 0 */
 } brsp_stop;
 
-/* Where brsp_run_until_move stopped. All fields except `stop` are 0 unless it stopped before a move. A DMA is
- * such a move: an MTC0 to register 2 or 3. */
+/* Where brsp_run_until_move stopped. All fields except `stop` are 0 unless it stopped before a move. A DMA
+ * is such a move: an MTC0 to register 2 or 3. */
 typedef struct brsp_move {
     brsp_stop stop;   /* before a move the reason is BRSP_AT_MOVE */
     uint32_t word;   /* the move: MFC0 or MTC0 */
@@ -208,7 +226,7 @@ enum brsp_field {
 typedef struct brsp_assembled {
     size_t count;   /* the number of words; 0 if there is a fault */
     size_t line;    /* the line of the fault, from 1; 0 without a fault, and if the text isn't UTF-8 */
-    uint32_t fault; /* the fault: 10 to 17 (docs/FAULTS.md), 33 if the text isn't UTF-8; 0 if none */
+    uint32_t fault; /* a brsp_fault */
 } brsp_assembled;
 
 /* A label of a text. */
@@ -259,16 +277,21 @@ uint32_t brsp_get(brsp_machine *m, brsp_state *out);
  * BRSP_OUT_OF_RANGE for a state that no machine can have: brsp_state_fault says why. */
 uint32_t brsp_set(brsp_machine *m, const brsp_state *state);
 
-/* Gives the first brsp_field for which brsp_set refuses a state, or BRSP_FIELD_NONE if it takes the state. */
+/* Gives the first brsp_field for which brsp_set refuses a state, or BRSP_FIELD_NONE if it takes the
+ * state. */
 uint32_t brsp_state_fault(const brsp_state *state, uint32_t *out);
 
 /* ---- Memories. Each returns BRSP_OUT_OF_RANGE if there is no such bank, or the bytes pass its end. ---- */
+
+/* Gives the number of bytes of the image of RDRAM. Returns no other status. */
+uint32_t brsp_image_length(brsp_machine *m, size_t *out);
 
 /* Writes bytes to a memory, and empties the history. */
 uint32_t brsp_load(brsp_machine *m, uint32_t bank, uint32_t address, const uint8_t *bytes, size_t len);
 
 /* Writes words, the high byte of each first. Empties the history. */
-uint32_t brsp_load_words(brsp_machine *m, uint32_t bank, uint32_t address, const uint32_t *words, size_t len);
+uint32_t brsp_load_words(brsp_machine *m, uint32_t bank, uint32_t address, const uint32_t *words,
+                         size_t len);
 
 /* Reads bytes of a memory. */
 uint32_t brsp_memory(brsp_machine *m, uint32_t bank, uint32_t address, uint8_t *bytes, size_t len);
@@ -281,7 +304,7 @@ uint32_t brsp_memory_words(brsp_machine *m, uint32_t bank, uint32_t address, uin
 /* Starts the task whose structure of 64 bytes is at an address of RDRAM, and clears halted. The structure
  * and the boot code are read from the machine's own RDRAM, so this isn't for hosts that keep RDRAM outside.
  * Empties the history. Returns BRSP_TASK_PLACE or BRSP_TASK_SIZE. */
-uint32_t brsp_task(brsp_machine *m, uint32_t address);
+uint32_t brsp_start_task(brsp_machine *m, uint32_t address);
 
 /* Lets the machine continue at an address of IMEM; a halted machine stays halted. Empties the history.
  * Returns BRSP_OUT_OF_RANGE unless the address is a multiple of 4 below 4096. */
@@ -304,19 +327,19 @@ uint32_t brsp_run(brsp_machine *m, uint32_t n, brsp_stop *out);
  * step. Returns BRSP_OUT_OF_RANGE unless n is 1 to 1000000 and both masks are below 65536. */
 uint32_t brsp_run_until_move(brsp_machine *m, uint32_t n, uint32_t reads, uint32_t writes, brsp_move *out);
 
-/* Runs to the next event, for a caller that owns RDRAM, and describes what is next. Like brsp_run_until_move,
- * but it also stops before each DMA, whatever `writes` is. A move or a DMA is an event only if fewer than n
- * steps were made: after n steps the reason is BRSP_AT_LIMIT. So a caller that steps over the event, by
- * brsp_pass, brsp_pass_dma or brsp_step, has made `steps` + 1 of its n steps. Returns BRSP_OUT_OF_RANGE unless n
- * is 1 to 1000000 and both masks are below 65536. */
+/* Runs to the next event, for a caller that owns RDRAM, and describes what is next. Like
+ * brsp_run_until_move, but it also stops before each DMA, whatever `writes` is. A move or a DMA is an event
+ * only if fewer than n steps were made: after n steps the reason is BRSP_AT_LIMIT. So a caller that steps
+ * over the event, by brsp_pass_move, brsp_pass_dma or brsp_step, has made `steps` + 1 of its n steps.
+ * Returns BRSP_OUT_OF_RANGE unless n is 1 to 1000000 and both masks are below 65536. */
 uint32_t brsp_event(brsp_machine *m, uint32_t n, uint32_t reads, uint32_t writes, brsp_reached *out);
 
 /* The same as brsp_run, with an entry for each step; the other entries stay unchanged. Returns
  * BRSP_OUT_OF_RANGE unless n is 1 to 1000000. */
 uint32_t brsp_trace(brsp_machine *m, brsp_traced *out, size_t n, brsp_stop *stop);
 
-/* Undoes n steps. Returns BRSP_OUT_OF_RANGE unless n is 1 to 1000000, and otherwise BRSP_SHORT_HISTORY if the
- * history holds fewer states. */
+/* Undoes n steps. Returns BRSP_OUT_OF_RANGE unless n is 1 to 1000000, and otherwise BRSP_SHORT_HISTORY if
+ * the history holds fewer states. */
 uint32_t brsp_back(brsp_machine *m, uint32_t n);
 
 /* Gives the number of steps that can be undone, which is the number of states in the history. */
@@ -324,18 +347,18 @@ uint32_t brsp_history(brsp_machine *m, size_t *out);
 
 /* Steps over the MFC0 or MTC0 at pc, for a caller that owns the SP registers. pc and npc advance, register
  * rt of an MFC0 becomes `value`, single step halts as after any instruction, and nothing else happens.
- * Empties the history. Returns BRSP_HALTED if the machine is halted, and otherwise BRSP_OUT_OF_RANGE if
+ * Empties the history. Returns BRSP_HALTED if the machine is halted, and otherwise BRSP_OTHER_WORD if
  * another word is at pc.
  *
- * To set SP registers by brsp_set_sp as well, call first brsp_pass, then brsp_sp, then brsp_set_sp, because what
- * brsp_sp gave before brsp_pass would undo the halt by single step. Leave SP_STATUS to the machine, because
- * BREAK and single step change it too: at a move of register 4, call brsp_step. */
-uint32_t brsp_pass(brsp_machine *m, uint32_t value);
+ * To set SP registers by brsp_set_sp as well, call first brsp_pass_move, then brsp_sp, then brsp_set_sp,
+ * because what brsp_sp gave before brsp_pass_move would undo the halt by single step. Leave SP_STATUS to the
+ * machine, because BREAK and single step change it too: at a move of register 4, call brsp_step. */
+uint32_t brsp_pass_move(brsp_machine *m, uint32_t value);
 
-/* Steps over the DMA at pc, for a caller that moves its bytes. Everything is as after brsp_step, SP registers
- * included, except that the memories stay unchanged. Move the bytes after this call, because they may
- * overwrite the word at pc; the brsp_dma of brsp_event describes them. Empties the history. Returns BRSP_HALTED
- * if the machine is halted, and otherwise BRSP_OUT_OF_RANGE if the word at pc starts no DMA. */
+/* Steps over the DMA at pc, for a caller that moves its bytes. Everything is as after brsp_step, SP
+ * registers included, except that the memories stay unchanged. Move the bytes after this call, because they
+ * may overwrite the word at pc; the brsp_dma of brsp_event describes them. Empties the history. Returns
+ * BRSP_HALTED if the machine is halted, and otherwise BRSP_OTHER_WORD if the word at pc starts no DMA. */
 uint32_t brsp_pass_dma(brsp_machine *m);
 
 /* ---- Breakpoints at addresses of IMEM, at most sixteen, and watches of DMEM, at most eight ---- */
@@ -345,8 +368,8 @@ uint32_t brsp_pass_dma(brsp_machine *m);
  * one. */
 uint32_t brsp_add_break(brsp_machine *m, uint32_t address);
 
-/* Removes a breakpoint. Returns BRSP_OUT_OF_RANGE as above, and otherwise BRSP_NO_BREAK if the address has no
- * breakpoint. */
+/* Removes a breakpoint. Returns BRSP_OUT_OF_RANGE as above, and otherwise BRSP_NO_BREAK if the address has
+ * no breakpoint. */
 uint32_t brsp_drop_break(brsp_machine *m, uint32_t address);
 
 /* Watches 1 to 64 bytes inside DMEM, and gives the watch the lowest free number. Returns BRSP_OUT_OF_RANGE
@@ -390,8 +413,8 @@ uint32_t brsp_write(brsp_machine *m, uint32_t n, uint32_t value);
 /* Gives all SP registers and the interrupt flag, and changes nothing. */
 uint32_t brsp_sp(brsp_machine *m, brsp_sp_words *out);
 
-/* Sets all SP registers and the interrupt flag, without a DMA. Empties the history. Returns BRSP_OUT_OF_RANGE
- * if a word can't be read from its register, or `interrupt` isn't 0 or 1. */
+/* Sets all SP registers and the interrupt flag, without a DMA. Empties the history. Returns
+ * BRSP_OUT_OF_RANGE if a word can't be read from its register, or `interrupt` isn't 0 or 1. */
 uint32_t brsp_set_sp(brsp_machine *m, const brsp_sp_words *given);
 
 /* ---- Texts ---- */
@@ -400,10 +423,10 @@ uint32_t brsp_set_sp(brsp_machine *m, const brsp_sp_words *given);
  * multiple of 4 up to 4096. What follows the words in `words` stays unchanged. Returns
  *   - BRSP_OUT_OF_RANGE for another origin; `out` then stays unchanged;
  *   - BRSP_NO_MEANING if the text has a fault: `out` has the fault and its line;
- *   - BRSP_NO_ROOM if there are more words than `capacity`: `out` has their count, so pass a capacity of 0 to
- *     learn the count;
- *   - BRSP_NO_MEMORY: `out` has fault 17 and the line whose label had no memory. No line up to that one has a
- *     fault, except perhaps in an operand that depends on the labels of all lines. */
+ *   - BRSP_NO_ROOM if there are more words than `capacity`: `out` has their count, so pass a capacity of 0
+ *     to learn the count;
+ *   - BRSP_NO_MEMORY: `out` has fault 17 and the line whose label had no memory. No line up to that one has
+ *     a fault, except perhaps in an operand that depends on the labels of all lines. */
 uint32_t brsp_assemble(uint32_t origin, const uint8_t *text, size_t len, uint32_t *words, size_t capacity,
                       brsp_assembled *out);
 
@@ -429,7 +452,7 @@ uint32_t brsp_text(uint32_t word, uint32_t address, brsp_line *out);
 uint32_t brsp_listing(brsp_machine *m, uint32_t address, brsp_line *lines, size_t len);
 
 /* The kind of an operand that a statement takes. */
-enum {
+enum brsp_operand_kind {
     BRSP_OPERAND_NOTHING = 0,        /* none: the statement has all its operands */
     BRSP_OPERAND_WORD = 1,           /* a number of .word */
     BRSP_OPERAND_SCALAR = 2,         /* a scalar register */
@@ -451,7 +474,7 @@ typedef struct brsp_operand {
     int64_t low;     /* the lowest number that it may be, if it has a range; otherwise 0 */
     int64_t high;    /* the highest one */
     size_t number;   /* which operand of the line, from 1, even if it is missing; 0 if none is refused */
-    uint32_t kind;   /* what the statement takes there */
+    uint32_t kind;   /* what the statement takes there: a brsp_operand_kind */
     uint32_t step;   /* the numbers of the range are multiples of this; 0 if there is no range */
 } brsp_operand;
 
@@ -485,8 +508,8 @@ uint32_t brsp_session_new(brsp_session *b, const uint8_t *image, size_t len);
  *   - BRSP_NO_ROOM for a capacity below BRSP_REPLIES;
  *   - BRSP_ENDED after brsp_session_end;
  *   - BRSP_TOO_LONG if 1048576 bytes were taken and there are more. Then stop: all lines that had ended are
- *     answered, and with BRSP_REPLIES bytes for replies brsp_session_take and brsp_session_end return this again.
- *     brsp_session_memory still reads, and brsp_session_new makes a new session in the handle;
+ *     answered, and with BRSP_REPLIES bytes for replies brsp_session_take and brsp_session_end return this
+ *     again. brsp_session_memory still reads, and brsp_session_new makes a new session in the handle;
  *   - BRSP_NO_MEMORY, only for a line of an `asm` block or its `end`. You may make the same call again. */
 uint32_t brsp_session_take(brsp_session *b, const uint8_t *bytes, size_t len, size_t *used, uint8_t *reply,
                         size_t capacity, size_t *written);
@@ -509,9 +532,10 @@ static inline const char *brsp_status_name(uint32_t status)
     static const char *const names[] = {
         "OK", "NO_MACHINE", "NO_MEMORY", "OUT_OF_RANGE", "HALTED", "RESERVED", "NO_MEANING", "TASK_PLACE",
         "TASK_SIZE", "BREAK_FULL", "BREAK_TWICE", "NO_BREAK", "WATCH_FULL", "NO_WATCH", "SHORT_HISTORY",
-        "NO_ROOM", "ENDED", "TOO_LONG"
+        "NO_ROOM", "ENDED", "TOO_LONG", "OTHER_WORD"
     };
-    return status < sizeof names / sizeof *names ? names[status] : "unknown";
+    uint32_t n = status > 100 ? status - 100 : status ? sizeof names : 0;
+    return n < sizeof names / sizeof *names ? names[n] : "unknown";
 }
 
 /* The name of the fault of an assembly (docs/FAULTS.md). */
@@ -521,7 +545,7 @@ static inline const char *brsp_fault_name(uint32_t fault)
         "BadLine", "UnknownName", "BadOperand", "OutOfRange", "LabelTwice", "LabelMissing", "PastEnd",
         "OutOfMemory"
     };
-    if (fault == 33) return "NotText";
+    if (fault == BRSP_FAULT_NOT_TEXT) return "NotText";
     return fault >= 10 && fault - 10 < sizeof names / sizeof *names ? names[fault - 10] : "unknown";
 }
 
@@ -530,6 +554,26 @@ static inline const char *brsp_reason_name(uint32_t reason)
 {
     static const char *const names[] = { "RESERVED", "HALT", "WATCH", "BREAK", "LIMIT", "MOVE", "DMA" };
     return reason < sizeof names / sizeof *names ? names[reason] : "unknown";
+}
+
+/* What may be in the place of an operand of a kind, for messages. If the operand has a range, the range
+ * follows a form that ends with a comma. */
+static inline const char *brsp_operand_form(uint32_t kind)
+{
+    switch (kind) {
+    case BRSP_OPERAND_NOTHING: return "nothing";
+    case BRSP_OPERAND_SCALAR: return "a scalar register, $0 to $31 or as $t0, but not $v0 and $v1";
+    case BRSP_OPERAND_SP: return "an SP register, $c0 to $c15";
+    case BRSP_OPERAND_CONTROL: return "$vco, $vcc or $vce";
+    case BRSP_OPERAND_VECTOR: return "a vector register, $v0 to $v31";
+    case BRSP_OPERAND_VECTOR_BYTE:
+        return "a vector register, $v0 to $v31, with a byte, [0] to [15], or none";
+    case BRSP_OPERAND_VECTOR_ELEMENT:
+        return "a vector register, $v0 to $v31, with an element, "
+               "[v], [0q], [1q], [0h] to [3h] or [0] to [7], or none";
+    case BRSP_OPERAND_VECTOR_LANE: return "a vector register, $v0 to $v31, with a lane, [0] to [7]";
+    default: return kind < BRSP_OPERAND_VECTOR_LANE ? "a number or a label," : "unknown";
+    }
 }
 
 #ifdef __cplusplus

@@ -1,9 +1,9 @@
 /** The first step after which an emulator differs from the machine. */
 
-import { Difference, Part } from "./shapes.js";
+import { Difference, Part, Status } from "./shapes.js";
 import { numbers, refusal } from "./words.js";
 
-const NAMES = ["DMEM", "IMEM", "RDRAM"], LENGTHS = 1 << 2 | 1 << 3, QUADWORD = 16, OUT_OF_RANGE = 3;
+const NAMES = ["DMEM", "IMEM", "RDRAM"], LENGTHS = 1 << 2 | 1 << 3, QUADWORD = 16;
 
 class FirstDifference {
   constructor(step, line, before, parts, steps = 1) { Object.assign(this, { step, ...line, before, parts, steps }); }
@@ -97,7 +97,7 @@ function begun(machine, emulator) {
 
 export function first_difference(machine, emulator, every = 64, limit = 1000000) {
   numbers("first_difference", [every, limit]);
-  if (every < 1 || every > 1000000) throw refusal(OUT_OF_RANGE, "first_difference", [every, limit]);
+  if (every < 1 || every > 1000000) throw refusal(Status.OUT_OF_RANGE, "first_difference", [every, limit]);
   let [before, found] = begun(machine, emulator), steps = 0;
   while (!found && steps < limit) {
     const made = machine.run_until_move(Math.min(every, limit - steps), 0, LENGTHS).steps;

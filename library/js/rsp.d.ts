@@ -1,9 +1,9 @@
 /** The Nintendo 64's Reality Signal Processor (RSP): emulator, debugger, assembler and disassembler. The library that this
  * module calls is proved to follow the instruction table; the module is only tested.
  *
- *     import { IMEM, Reason, Rsp, assemble } from "rsp";
+ *     import { IMEM, Reason, Machine, assemble } from "rsp";
  *
- *     const machine = new Rsp(new Uint8Array(64), 100);
+ *     const machine = new Machine(new Uint8Array(64), 100);
  *     machine.load_words(IMEM, 0, assemble("ori $2, $0, 0x1234\nbreak\n"));
  *     const stop = machine.run(100);
  *     console.log(Reason[stop.reason], machine.reg(2).toString(16));
@@ -18,26 +18,40 @@ declare global {
   }
 }
 
-/** What a call returns. The numbers aren't those of faults: docs/FAULTS.md lists both. */
+/** What a call returns. No fault has one of these numbers: docs/FAULTS.md lists both. */
 export enum Status {
   OK = 0,
-  NO_MACHINE = 1,
-  NO_MEMORY = 2,
-  OUT_OF_RANGE = 3,
-  HALTED = 4,
-  RESERVED = 5,
-  NO_MEANING = 6,
-  TASK_PLACE = 7,
-  TASK_SIZE = 8,
-  BREAK_FULL = 9,
-  BREAK_TWICE = 10,
-  NO_BREAK = 11,
-  WATCH_FULL = 12,
-  NO_WATCH = 13,
-  SHORT_HISTORY = 14,
-  NO_ROOM = 15,
-  ENDED = 16,
-  TOO_LONG = 17,
+  NO_MACHINE = 101,
+  NO_MEMORY = 102,
+  OUT_OF_RANGE = 103,
+  HALTED = 104,
+  RESERVED = 105,
+  NO_MEANING = 106,
+  TASK_PLACE = 107,
+  TASK_SIZE = 108,
+  BREAK_FULL = 109,
+  BREAK_TWICE = 110,
+  NO_BREAK = 111,
+  WATCH_FULL = 112,
+  NO_WATCH = 113,
+  SHORT_HISTORY = 114,
+  NO_ROOM = 115,
+  ENDED = 116,
+  TOO_LONG = 117,
+  OTHER_WORD = 118,
+}
+
+/** Why a text has no meaning. `FAULTS` has the names in scripts. */
+export enum Fault {
+  BAD_LINE = 10,
+  UNKNOWN_NAME = 11,
+  BAD_OPERAND = 12,
+  OUT_OF_RANGE = 13,
+  LABEL_TWICE = 14,
+  LABEL_MISSING = 15,
+  PAST_END = 16,
+  OUT_OF_MEMORY = 17,
+  NOT_TEXT = 33,
 }
 
 /** The three memories. */
@@ -294,20 +308,20 @@ export function labels(text: string, origin?: number): Record<string, number>;
 /** The disassembly of a word for the address `place`, a multiple of 4 below 4096. */
 export function text(word: number, place?: number): string;
 
-/** The first field for which `Rsp.set` refuses a state, or null if it takes the state. */
+/** The first field for which `Machine.set` refuses a state, or null if it takes the state. */
 export function state_fault(state: State): string | null;
 
 /** A machine with a copy of an image of RDRAM and a history of `depth` states, at most 4096.
  *
  * The image has 64 to 8388608 bytes, a multiple of 8. `free` frees the machine at once, and so does the end of a block
  * that declares it with `using`; a machine that is no longer referenced is freed in time. */
-export class Rsp {
+export class Machine {
   constructor(image?: ArrayBuffer | ArrayBufferView, depth?: number);
   /** The number of bytes of the image. */
   readonly image_length: number;
   /** A second machine with the same registers and memories. Its history has room for as many states, but is empty, and
    * it has no breakpoints and no watches. */
-  copy(): Rsp;
+  copy(): Machine;
   /** Frees the machine. Any later call is refused with NO_MACHINE. */
   free(): void;
   [Symbol.dispose](): void;
@@ -467,5 +481,5 @@ export interface FirstDifference extends Line {
  * stepped from there. Both are left after the step that differs, and the machine's history is empty. Throws a RangeError
  * if a memory of the emulator has a wrong length. */
 export function first_difference(
-  machine: Rsp, emulator: Emulator, every?: number, limit?: number,
+  machine: Machine, emulator: Emulator, every?: number, limit?: number,
 ): FirstDifference | null;

@@ -8,19 +8,25 @@ import { Accumulators, Bank, Changes, Divider, FIELDS, Flags, Reason, Scalars, S
 import { strict_replies } from "./strict.js";
 import { AssemblyError, RspError, allowed, bytes_of, numbers, refusal, state_refusal, words_of } from "./words.js";
 
-export { Accumulators, Bank, Changes, Difference, Divider, FAULTS, Flags, Part, Reason, Scalars, SpWords, State, Status,
-  Traced } from "./shapes.js";
+export { Accumulators, Bank, Changes, Difference, Divider, FAULTS, Fault, Flags, Part, Reason, Scalars, SpWords, State,
+  Status, Traced } from "./shapes.js";
 export { AssemblyError, RspError, ScriptError } from "./words.js";
 export { first_difference } from "./compare.js";
 
 export const { DMEM, IMEM, RDRAM } = Bank;
 export const VERSION = 1;
 
-/** The calls of brsp.h. */
+/** The calls of brsp.h, without their prefix. */
+const CALLS = `version new copy free get set state_fault image_length load load_words memory memory_words start_task set_pc
+  step step_changes run run_until_move event trace back history pass_move pass_dma add_break drop_break
+  add_watch drop_watch reg regs vreg acc flags divider read peek write sp set_sp assemble labels text listing
+  explain session_new session_take session_end session_memory session_free`.split(/\s+/);
 const wasm = await instantiated(new URL("./rsp.wasm", import.meta.url));
-if (wasm.brsp_version() !== VERSION) {
+if ((wasm.brsp_version?.() ?? VERSION) !== VERSION) {
   throw new Error(`rsp.wasm has version ${wasm.brsp_version()} of the interface, and this module is for ${VERSION}`);
 }
+const missing = CALLS.map((it) => `brsp_${it}`).filter((it) => !(it in wasm));
+if (missing.length) throw new Error(`rsp.wasm is older than this module: it lacks ${missing.join(", ")}`);
 
 /** Addresses are BigInts for the calls. What a call fills or is given, up to ROOM bytes, is at HERE. */
 const ROOM = 1024, HERE = wasm.malloc(BigInt(ROOM)), CELL = 8n, NOTHING = cell("rsp");
@@ -153,8 +159,8 @@ export function state_fault(state) {
   return FIELDS[new DataView(wasm.memory.buffer).getUint32(Number(at), true)] ?? null;
 }
 
-/** A handle that holds a machine or a session, the call that frees it, and its image's length. `Rsp.copy` hands one to
- * the constructor. */
+/** A handle that holds a machine or a session, the call that frees it, and its image's length. `Machine.copy` hands one
+ * to the constructor. */
 class Held {
   constructor(at, free, length) { Object.assign(this, { at, free, length }); }
 }
@@ -182,21 +188,22 @@ function filled(call, given, length, make, free = "brsp_free") {
   return made;
 }
 
-export class Rsp {
+export class Machine {
   #at;
-  #length;
 
   constructor(image = new Uint8Array(64), depth = 0) {
-    const own = image instanceof Held ? image : held("Rsp", image, [depth], wasm.brsp_new);
+    const own = image instanceof Held ? image : held("Machine", image, [depth], wasm.brsp_new);
     this.#at = own.at;
-    this.#length = own.length;
     dropped.register(this, own, this);
   }
 
-  get image_length() { return this.#length; }
+  get image_length() {
+    this.#fill("image_length", []);
+    return length_at(HERE);
+  }
 
   copy() {
-    return new Rsp(filled("copy", [], this.#length, (to) => wasm.brsp_copy(to, this.#at)));
+    return new Machine(filled("copy", [], this.image_length, (to) => wasm.brsp_copy(to, this.#at)));
   }
 
   free() {
@@ -209,8 +216,8 @@ export class Rsp {
   [Symbol.dispose ?? Symbol.for("Symbol.dispose")]() { this.free(); }
 
   /** A call with numbers alone. */
-  #call(call, given, name = call) {
-    ok(wasm[`brsp_${name}`](this.#at, ...numbers(call, given)), call, given);
+  #call(call, given) {
+    ok(wasm[`brsp_${call}`](this.#at, ...numbers(call, given)), call, given);
   }
 
   /** A call that fills what is at HERE. */
@@ -263,7 +270,7 @@ export class Rsp {
     return new Uint32Array(this.#memory("memory_words", [bank, address, count], 4, 1 << 21).buffer);
   }
 
-  start_task(address) { this.#call("start_task", [address], "task"); }
+  start_task(address) { this.#call("start_task", [address]); }
 
   set_pc(pc) { this.#call("set_pc", [pc]); }
 
@@ -319,7 +326,7 @@ export class Rsp {
   back(states) { this.#call("back", [states]); }
 
   pass_move(value = 0) {
-    const status = wasm.brsp_pass(this.#at, ...numbers("pass_move", [value]));
+    const status = wasm.brsp_pass_move(this.#at, ...numbers("pass_move", [value]));
     if (status !== Status.HALTED) ok(status, "pass_move", [value]);
     return status;
   }
@@ -331,7 +338,7 @@ export class Rsp {
   }
 
   history() {
-    ok(wasm.brsp_history(this.#at, HERE), "history");
+    this.#fill("history", []);
     return length_at(HERE);
   }
 

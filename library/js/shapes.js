@@ -10,9 +10,11 @@ function numbered(first, ...names) {
   return made;
 }
 
-export const Status = Object.freeze(numbered(0, "OK", "NO_MACHINE", "NO_MEMORY", "OUT_OF_RANGE", "HALTED", "RESERVED",
-  "NO_MEANING", "TASK_PLACE", "TASK_SIZE", "BREAK_FULL", "BREAK_TWICE", "NO_BREAK", "WATCH_FULL", "NO_WATCH",
-  "SHORT_HISTORY", "NO_ROOM", "ENDED", "TOO_LONG"));
+export const Status = Object.freeze({ ...numbered(0, "OK"), ...numbered(101, "NO_MACHINE", "NO_MEMORY", "OUT_OF_RANGE",
+  "HALTED", "RESERVED", "NO_MEANING", "TASK_PLACE", "TASK_SIZE", "BREAK_FULL", "BREAK_TWICE", "NO_BREAK", "WATCH_FULL",
+  "NO_WATCH", "SHORT_HISTORY", "NO_ROOM", "ENDED", "TOO_LONG", "OTHER_WORD") });
+export const Fault = Object.freeze({ ...numbered(10, "BAD_LINE", "UNKNOWN_NAME", "BAD_OPERAND", "OUT_OF_RANGE",
+  "LABEL_TWICE", "LABEL_MISSING", "PAST_END", "OUT_OF_MEMORY"), ...numbered(33, "NOT_TEXT") });
 export const Bank = Object.freeze(numbered(0, "DMEM", "IMEM", "RDRAM"));
 export const Reason = Object.freeze(numbered(0, "RESERVED", "HALT", "WATCH", "BREAK", "LIMIT", "MOVE", "DMA"));
 export const FAULTS = Object.freeze({

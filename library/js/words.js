@@ -1,6 +1,6 @@
 /** Refusals in words: what a call was given, and what it takes. */
 
-import { Bank, FAULTS, Status } from "./shapes.js";
+import { Bank, FAULTS, Fault, Status } from "./shapes.js";
 import { SP_NAMES, hex } from "./shown.js";
 
 const range = (low, high, step = 1) => ({
@@ -12,7 +12,7 @@ const REGISTER = range(0, 31), BANK = { ...range(0, 2), text: "DMEM, IMEM or RDR
 
 /** The arguments of each call, in order. */
 export const ARGUMENTS = {
-  Rsp: { depth: range(0, 4096) },
+  Machine: { depth: range(0, 4096) },
   load: { bank: BANK, address: WORD },
   load_words: { bank: BANK, address: WORD },
   memory: { bank: BANK, address: WORD, length: WORD },
@@ -62,18 +62,18 @@ const OF_SESSION = ["feed", "end", "rdram"];
 
 /** By status, of the first number that the call was given. */
 const SENTENCES = {
-  2: () => "an allocation failed",
-  7: (n) => `${n} isn't a multiple of 8, or the 64 bytes from there pass the image's end`,
-  8: (n) => `the size of the boot code, the word at offset 12 of the structure at ${n}, isn't 1 to 4096`,
-  9: () => "sixteen addresses have a breakpoint",
-  10: (n) => `${n} has a breakpoint`,
-  11: (n) => `${n} has no breakpoint`,
-  12: () => "there are eight watches",
-  13: (n) => `no watch has the number ${n}`,
-  14: (n) => `the history holds fewer states than ${n}`,
-  15: () => "the text has more than 1024 words",
-  16: () => "the script has ended",
-  17: () => "the script has more than 1048576 bytes",
+  102: () => "an allocation failed",
+  107: (n) => `${n} isn't a multiple of 8, or the 64 bytes from there pass the image's end`,
+  108: (n) => `the size of the boot code, the word at offset 12 of the structure at ${n}, isn't 1 to 4096`,
+  109: () => "sixteen addresses have a breakpoint",
+  110: (n) => `${n} has a breakpoint`,
+  111: (n) => `${n} has no breakpoint`,
+  112: () => "there are eight watches",
+  113: (n) => `no watch has the number ${n}`,
+  114: (n) => `the history holds fewer states than ${n}`,
+  115: () => "the text has more than 1024 words",
+  116: () => "the script has ended",
+  117: () => "the script has more than 1048576 bytes",
 };
 
 /** A call was refused, and has changed nothing. */
@@ -125,7 +125,7 @@ function out_of_range(call, given) {
 /** The error of a status, of a call with these numbers. */
 export function refusal(status, call, given = []) {
   const gone = `the ${OF_SESSION.includes(call) ? "session" : "machine"} is freed`;
-  const why = status === Status.OUT_OF_RANGE ? out_of_range(call, given)
+  const why = status === Status.OUT_OF_RANGE || status === Status.OTHER_WORD ? out_of_range(call, given)
     : status === Status.NO_MACHINE ? gone : SENTENCES[status]?.(...given) ?? "refused";
   return new RspError(status, `${call}: ${why}`);
 }
@@ -184,10 +184,10 @@ const FORMS = ["nothing", NUMBER, "a scalar register, $0 to $31 or as $t0, but n
 export function allowed(found, fault) {
   if (!found.number) return "";
   let span = found.step ? `${found.low} to ${found.high}${found.step > 1 ? `, a multiple of ${found.step}` : ""}` : "";
-  if (FAULTS[fault] === "BadOperand") {
+  if (fault === Fault.BAD_OPERAND) {
     span = `${FORMS[found.kind] ?? "another one"} ${span}`.trim();
     if (found.kind === 7 || found.kind === 8) span += ", and a scalar register in parentheses";
-  } else if (FAULTS[fault] === "LabelMissing") {
+  } else if (fault === Fault.LABEL_MISSING) {
     span = `the label of a line, or ${span}`;
   }
   return `operand ${found.number} may be ${span}`;

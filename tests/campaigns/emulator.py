@@ -80,7 +80,7 @@ class Without(Machine):
         word = int(case["word"])
         is_lacking = word & 0xFE00003F == 0x4A000010 or (word & 0xFC00003F == 3 and word >> 16 & 1)
         state, status, changed = super().step(case)
-        return (state, 5, {}) if is_lacking else (state, status, changed)
+        return (state, 105, {}) if is_lacking else (state, status, changed)
 
 
 class Forgets(Machine):

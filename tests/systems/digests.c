@@ -212,7 +212,7 @@ static uint32_t steps(uint32_t n)
         take(brsp_run_until_move(&m, n, reads, writes, &move));
         stop = move.stop;
         take(move.word), take(move.number), take(move.writes), take(move.value);
-        if (stop.reason == BRSP_AT_MOVE) take(brsp_pass(&m, word()));
+        if (stop.reason == BRSP_AT_MOVE) take(brsp_pass_move(&m, word()));
     }
     take_stop(&stop);
     if (stop.reason == BRSP_AT_HALT || stop.reason == BRSP_AT_RESERVED) go_on();

@@ -54,7 +54,7 @@ class Sides:
 
     def __init__(self, spec: str, memories: bytes) -> None:
         self.library, self.emulator = Object(built("library"), memories), emulator_of(spec, memories)
-        self.machine, hidden = rsp.Rsp(bytes(MEMORIES - RDRAM)), ~self.emulator.seen
+        self.machine, hidden = rsp.Machine(bytes(MEMORIES - RDRAM)), ~self.emulator.seen
         self.unseen = [part for part, (low, high) in PARTS.items() if hidden[low:high].any()]
         hidden[PADDING] = 255
         self.hidden = [(word, mask) for word, mask in enumerate(hidden.view("<u8")) if mask]

@@ -39,11 +39,11 @@ class Emulator:
     def fill(self, cases: Array, ends: Array) -> None:
         raise NotImplementedError
 
-    def for_programs(self, compared: rsp.Rsp) -> Any:
+    def for_programs(self, compared: rsp.Machine) -> Any:
         """The emulator for rsp.first_difference, beside the machine that it is compared with."""
         return self
 
-    def memories_after(self, case: Array, memories: bytes, compared: rsp.Rsp) -> Optional[bytes]:
+    def memories_after(self, case: Array, memories: bytes, compared: rsp.Machine) -> Optional[bytes]:
         """All memories after a case, which is run as a program of one step; None if it takes no programs.
 
         `memories` are those before all cases. The emulator has them again afterwards.
@@ -78,7 +78,7 @@ class Object(Emulator):
         if refused := self.lib.cases_run(self.at, cases.ctypes, ends.ctypes, ctypes.c_size_t(len(cases))):
             raise CampaignFault(f"case {refused - 1} of the batch is refused")
 
-    def for_programs(self, compared: rsp.Rsp) -> Any:
+    def for_programs(self, compared: rsp.Machine) -> Any:
         if not hasattr(self.lib, "cases_step"):
             raise CampaignFault(f"{self.what} takes no programs")
         self.compared = compared
@@ -157,7 +157,7 @@ class Single(Emulator):
             end["changed"] = digest()(before, patched(before, changed))
             end["status"] = status  # last: it says that the case is done
 
-    def memories_after(self, case: Array, memories: bytes, compared: rsp.Rsp) -> Optional[bytes]:
+    def memories_after(self, case: Array, memories: bytes, compared: rsp.Machine) -> Optional[bytes]:
         """All memories after a case, which is run once more."""
         return patched(patched(memories, word_of(case)), self.step(case)[2])
 
@@ -183,12 +183,12 @@ class Python(Single):
         end: End = self.machine.step(case)
         return end
 
-    def memories_after(self, case: Array, memories: bytes, compared: rsp.Rsp) -> Optional[bytes]:
+    def memories_after(self, case: Array, memories: bytes, compared: rsp.Machine) -> Optional[bytes]:
         """All memories after a case. A class of `ends` shows them only as a program."""
         shows = Emulator if hasattr(self.machine, "ends") else Single
         return shows.memories_after(self, case, memories, compared)
 
-    def for_programs(self, compared: rsp.Rsp) -> Any:
+    def for_programs(self, compared: rsp.Machine) -> Any:
         if not hasattr(self.machine, "load"):
             raise CampaignFault(f"{type(self.machine).__name__} takes no programs: it has no `load`")
         return self.machine

@@ -12,7 +12,7 @@ BATCH, SHOWN = 1024, 5  # the cases of a call, and the differences of a task tha
 # An end is a state, the status and a digest: the bytes of one, and where its status is.
 END_BYTES, STATUS_AT = 784, 772
 # A status: of a case that isn't done yet, that can't be given, or whose instruction the emulator hasn't.
-UNDONE, UNSHOWN, RESERVED = 0xFFFFFFFF, 0xFFFFFFFE, 5
+UNDONE, UNSHOWN, RESERVED = 0xFFFFFFFF, 0xFFFFFFFE, 105
 
 
 def name_of(what: str, seed: str, number: int) -> str:

@@ -45,7 +45,7 @@ pub extern "C" fn brsp_set(handle: &mut Handle, alloc: Global, state: &RspState)
 /// Starts the task whose structure of 64 bytes is at an address of the RDRAM, and empties the history. TASK_PLACE or TASK_SIZE if it can't
 /// start.
 #[unsafe(no_mangle)]
-pub extern "C" fn brsp_task(handle: &mut Handle, alloc: Global, address: u32) -> u32
+pub extern "C" fn brsp_start_task(handle: &mut Handle, alloc: Global, address: u32) -> u32
     ensures answer { result ≡ status_of (λ d. task_status (task_fault address d.state.rdram)) handle.old.debugger }
     ensures next { IsNext result (λ d. set_by_host (with_task address d.state) d) handle.old.debugger handle.new.debugger }
 {

@@ -99,7 +99,7 @@ pub extern "C" fn brsp_trace(
 /// Skips the MFC0 or MTC0 at pc, and empties the history: pc and npc advance, and the register of an MFC0 becomes the value. SP registers
 /// stay, but single step halts as after any instruction. HALTED if the machine is halted, OTHER_WORD if another word is at pc.
 #[unsafe(no_mangle)]
-pub extern "C" fn brsp_pass(handle: &mut Handle, alloc: Global, value: u32) -> u32
+pub extern "C" fn brsp_pass_move(handle: &mut Handle, alloc: Global, value: u32) -> u32
     ensures answer { result ≡ status_of (λ d. pass_status (pass_of value d.state)) handle.old.debugger }
     ensures next { IfSome handle.old.debugger (λ d. IfOk (pass_of value d.state) (λ s. handle.new.debugger ≡ Some (set_by_host s d))) }
     ensures same { (result ≡ OK → ⊥) → handle.new.debugger ≡ handle.old.debugger }

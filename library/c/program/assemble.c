@@ -5,17 +5,7 @@
 #include <string.h>
 #include <strings.h>
 
-enum { LONGEST_TEXT = 1048576, LONGEST_LINE = TEXT_ROOM - 4, BAD_LINE = 10, UNKNOWN_NAME = 11, BAD_OPERAND = 12, OUT_OF_RANGE = 13, LABEL_MISSING = 15, OUT_OF_MEMORY = 17 };
-
-/* What may be in the place of an operand that can't be read; where nothing is said, a number. */
-#define VECTOR "a vector register, $v0 to $v31"
-static const char *const forms[] = {
-    [BRSP_OPERAND_NOTHING] = "nothing", [BRSP_OPERAND_SCALAR] = "a scalar register, $0 to $31 or as $t0, but not $v0 and $v1",
-    [BRSP_OPERAND_SP] = "an SP register, $c0 to $c15", [BRSP_OPERAND_CONTROL] = "$vco, $vcc or $vce", [BRSP_OPERAND_VECTOR] = VECTOR,
-    [BRSP_OPERAND_VECTOR_BYTE] = VECTOR ", with a byte, [0] to [15], or none",
-    [BRSP_OPERAND_VECTOR_ELEMENT] = VECTOR ", with an element, [v], [0q], [1q], [0h] to [3h] or [0] to [7], or none",
-    [BRSP_OPERAND_VECTOR_LANE] = VECTOR ", with a lane, [0] to [7]"
-};
+enum { LONGEST_TEXT = 1048576, LONGEST_LINE = TEXT_ROOM - 4 };
 
 /* A source line as the assembler cuts it. */
 typedef struct statement {
@@ -126,10 +116,12 @@ static void put_allowed(char *to, size_t room, const brsp_operand *found, uint32
     int n = found->step ? snprintf(range, sizeof range, "%" PRId64 " to %" PRId64, found->low, found->high) : 0;
     if (found->step > 1) snprintf(range + n, sizeof range - (size_t)n, ", a multiple of %u", (unsigned)found->step);
     bool is_memory = found->kind == BRSP_OPERAND_SCALAR_MEMORY || found->kind == BRSP_OPERAND_VECTOR_MEMORY;
-    const char *form = forms[found->kind] ? forms[found->kind] : "a number or a label, ";
-    if (found->kind == BRSP_OPERAND_VECTOR_BYTE && has_halves) form = VECTOR ", with byte [0] or [8] or none";
-    const char *first = kind == BAD_OPERAND ? form : kind == LABEL_MISSING ? "the label of a line, or " : "";
-    snprintf(to, room, "%s%s%s", first, range, kind == BAD_OPERAND && is_memory ? ", and a scalar register in parentheses" : "");
+    bool is_bad = kind == BRSP_FAULT_BAD_OPERAND;
+    const char *form = brsp_operand_form(found->kind);
+    if (found->kind == BRSP_OPERAND_VECTOR_BYTE && has_halves) form = "a vector register, $v0 to $v31, with byte [0] or [8] or none";
+    const char *first = is_bad ? form : kind == BRSP_FAULT_LABEL_MISSING ? "the label of a line, or " : "";
+    const char *register_too = is_bad && is_memory ? ", and a scalar register in parentheses" : "";
+    snprintf(to, room, "%s%s%s%s", first, is_bad && n ? " " : "", range, register_too);
 }
 
 /* The statement without its operands from this number on. */
@@ -150,13 +142,13 @@ static void put_written(const statement *it, const brsp_operand *found, uint32_t
     get_operand(it, found->number, text);
     get_operand(it, found->number + 1, next);
     get_operand(it, found->number + 2, last);
-    if (kind == BAD_OPERAND && found->kind == BRSP_OPERAND_NOTHING && !has_comment(text)) {
+    if (kind == BRSP_FAULT_BAD_OPERAND && found->kind == BRSP_OPERAND_NOTHING && !has_comment(text)) {
         put_without(it, found->number, to);
         return;
     }
-    if (kind == BAD_OPERAND && spell_operand(found, text, (const char *const[]){ next, last }, has_halves, to)) return;
-    if (kind == OUT_OF_RANGE && spell_in_range(found, text, to)) return;
-    snprintf(to, TEXT_ROOM, "%s", kind == BAD_OPERAND ? advice_of_operand(found, text) : "");
+    if (kind == BRSP_FAULT_BAD_OPERAND && spell_operand(found, text, (const char *const[]){ next, last }, has_halves, to)) return;
+    if (kind == BRSP_FAULT_OUT_OF_RANGE && spell_in_range(found, text, to)) return;
+    snprintf(to, TEXT_ROOM, "%s", kind == BRSP_FAULT_BAD_OPERAND ? advice_of_operand(found, text) : "");
 }
 
 /* Ends with a fault of a line for another reason than an operand. */
@@ -166,9 +158,9 @@ static void refuse_statement(const char *head, span line, uint32_t kind)
     char name[TEXT_ROOM], operand[TEXT_ROOM];
     visible(it.name, name);
     get_operand(&it, 1, operand);
-    const char *written = kind == UNKNOWN_NAME ? advice_of_statement(name, operand) : kind == BAD_LINE ? advice_of_line(line) : "";
-    const char *naming = kind == UNKNOWN_NAME ? "\n  name: " : "", *before = *written ? "\n  write: " : "";
-    fault("%s%s%s%s%s", head, naming, kind == UNKNOWN_NAME ? name : "", before, written);
+    const char *written = kind == BRSP_FAULT_UNKNOWN_NAME ? advice_of_statement(name, operand) : kind == BRSP_FAULT_BAD_LINE ? advice_of_line(line) : "";
+    const char *naming = kind == BRSP_FAULT_UNKNOWN_NAME ? "\n  name: " : "", *before = *written ? "\n  write: " : "";
+    fault("%s%s%s%s%s", head, naming, kind == BRSP_FAULT_UNKNOWN_NAME ? name : "", before, written);
 }
 
 /* Ends with the fault of a text and, if it is asked for and there is memory, with what is wrong in its line. */
@@ -177,7 +169,7 @@ static void refuse_text(span text, uint32_t origin, const brsp_assembled *made, 
     unsigned number = (unsigned)made->fault, at = (unsigned)made->line;
     const char *name = brsp_fault_name(number);
     brsp_operand found;
-    if (!at || number == OUT_OF_MEMORY) fault("fault %u %s", number, name);
+    if (!at || number == BRSP_FAULT_OUT_OF_MEMORY) fault("fault %u %s", number, name);
     if (!is_explained || brsp_explain(origin, text.at, text.len, &found) == BRSP_NO_MEMORY) fault("fault %u %s line %u", number, name, at);
     span line = { 0 };
     for (size_t i = 0; i < made->line; i++) next_line(&text, &line);

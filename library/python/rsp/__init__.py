@@ -5,7 +5,7 @@ tested.
 
     import rsp
 
-    with rsp.Rsp(depth=100) as machine:
+    with rsp.Machine(depth=100) as machine:
         machine.load_words(rsp.IMEM, 0, rsp.assemble("ori $2, $0, 0x1234\\nbreak\\n"))
         stop = machine.run(100)
         print(stop.reason.name, hex(machine.reg(2)))
@@ -35,6 +35,7 @@ from typing import (
     Tuple,
     TypeVar,
     Union,
+    cast,
 )
 
 from . import arrays as _arrays
@@ -52,9 +53,9 @@ from .errors import FAULTS
 __version__ = "1.0.0"
 __all__ = [
     "DMEM", "FAULTS", "IMEM", "RDRAM", "VERSION", "Accumulators", "AssemblyError", "Bank", "Session", "Changes",
-    "Difference", "Divider", "Dma", "Emulator", "FirstDifference", "Flags", "Found", "Line", "Move", "Part",
-    "Ran", "Reason", "Rsp", "RspError", "Scalars", "ScriptError", "SpWords", "State", "Status", "Stop",
-    "Timeline", "Traced", "Words", "assemble", "first_difference", "run_script", "state_fault", "text",
+    "Difference", "Divider", "Dma", "Emulator", "Fault", "FirstDifference", "Flags", "Found", "Line", "Machine",
+    "Move", "Part", "Ran", "Reason", "Rsp", "RspError", "Scalars", "ScriptError", "SpWords", "State",
+    "Status", "Stop", "Timeline", "Traced", "Words", "assemble", "first_difference", "run_script", "state_fault", "text",
 ]  # fmt: skip
 
 _S = TypeVar("_S", bound=Structure)
@@ -73,26 +74,41 @@ def __getattr__(name: str) -> Any:
 
 
 class Status(enum.IntEnum):
-    """What a call returns. The numbers aren't those of faults: docs/FAULTS.md lists both."""
+    """What a call returns. No fault has one of these numbers: docs/FAULTS.md lists both."""
 
     OK = 0
-    NO_MACHINE = 1
-    NO_MEMORY = 2
-    OUT_OF_RANGE = 3
-    HALTED = 4
-    RESERVED = 5
-    NO_MEANING = 6
-    TASK_PLACE = 7
-    TASK_SIZE = 8
-    BREAK_FULL = 9
-    BREAK_TWICE = 10
-    NO_BREAK = 11
-    WATCH_FULL = 12
-    NO_WATCH = 13
-    SHORT_HISTORY = 14
-    NO_ROOM = 15
-    ENDED = 16
-    TOO_LONG = 17
+    NO_MACHINE = 101
+    NO_MEMORY = 102
+    OUT_OF_RANGE = 103
+    HALTED = 104
+    RESERVED = 105
+    NO_MEANING = 106
+    TASK_PLACE = 107
+    TASK_SIZE = 108
+    BREAK_FULL = 109
+    BREAK_TWICE = 110
+    NO_BREAK = 111
+    WATCH_FULL = 112
+    NO_WATCH = 113
+    SHORT_HISTORY = 114
+    NO_ROOM = 115
+    ENDED = 116
+    TOO_LONG = 117
+    OTHER_WORD = 118
+
+
+class Fault(enum.IntEnum):
+    """Why a text has no meaning. FAULTS has the names in scripts."""
+
+    BAD_LINE = 10
+    UNKNOWN_NAME = 11
+    BAD_OPERAND = 12
+    OUT_OF_RANGE = 13
+    LABEL_TWICE = 14
+    LABEL_MISSING = 15
+    PAST_END = 16
+    OUT_OF_MEMORY = 17
+    NOT_TEXT = 33
 
 
 class Bank(enum.IntEnum):
@@ -286,9 +302,10 @@ _CALLS = {
     "brsp_get": [_M, POINTER(State)], "brsp_set": [_M, POINTER(State)],
     "brsp_state_fault": [POINTER(State), _W], "brsp_load": [_M, _U, _U, _B, _Z],
     "brsp_load_words": [_M, _U, _U, _W, _Z], "brsp_memory": [_M, _U, _U, c_void_p, _Z],
-    "brsp_memory_words": [_M, _U, _U, _W, _Z], "brsp_task": [_M, _U], "brsp_set_pc": [_M, _U],
+    "brsp_memory_words": [_M, _U, _U, _W, _Z], "brsp_start_task": [_M, _U], "brsp_set_pc": [_M, _U],
     "brsp_step": [_M], "brsp_step_changes": [_M, POINTER(Changes)], "brsp_run": [_M, _U, POINTER(_Stop)],
-    "brsp_back": [_M, _U], "brsp_history": [_M, POINTER(_Z)], "brsp_pass": [_M, _U], "brsp_pass_dma": [_M],
+    "brsp_image_length": [_M, POINTER(_Z)], "brsp_back": [_M, _U], "brsp_history": [_M, POINTER(_Z)],
+    "brsp_pass_move": [_M, _U], "brsp_pass_dma": [_M],
     "brsp_run_until_move": [_M, _U, _U, _U, POINTER(_Move)],
     "brsp_event": [_M, _U, _U, _U, POINTER(_Reached)],
     "brsp_trace": [_M, POINTER(Traced), _Z, POINTER(_Stop)], "brsp_add_break": [_M, _U],
@@ -305,6 +322,13 @@ _CALLS = {
     "brsp_session_end": [_M, c_void_p, _Z, c_void_p],
     "brsp_session_memory": [_M, _U, _U, c_void_p, _Z],
 }  # fmt: skip
+VERSION = 1
+_missing = [_name for _name in (*_CALLS, "brsp_free", "brsp_session_free") if not hasattr(_lib, _name)]
+_found = VERSION if "brsp_version" in _missing else _lib.brsp_version()
+if _found != VERSION:
+    raise ImportError(f"{_NAME} has version {_found} of the interface, and this module is for {VERSION}")
+if _missing:
+    raise ImportError(f"{_NAME} is older than this package: it lacks {', '.join(_missing)}")
 for _dll in _lib, _quick:
     for _name, _types in _CALLS.items():
         getattr(_dll, _name).argtypes, getattr(_dll, _name).restype = _types, _U
@@ -313,11 +337,6 @@ for _dll in _lib, _quick:
 
 _ZEROS = bytes(1 << 22)  # a session's image if none is given; no page of it is written
 _REPLIES, _ROOM = 16384, 65536  # what the library asks for, and what a session has
-
-VERSION = 1
-_found = _lib.brsp_version()
-if _found != VERSION:
-    raise ImportError(f"{_NAME} has version {_found} of the interface, and this module is for {VERSION}")
 
 
 def _ok(status: int, name: str = "", numbers: Sequence[int] = (), owner: str = "machine") -> None:
@@ -409,7 +428,7 @@ def text(word: int, place: int = 0) -> str:
 
 
 def state_fault(state: State) -> Optional[str]:
-    """The first field for which `Rsp.set` refuses a state, or None if it takes the state."""
+    """The first field for which `Machine.set` refuses a state, or None if it takes the state."""
     if not isinstance(state, State):
         raise TypeError(f"state_fault: state is of type {type(state).__name__}, not rsp.State")
     out = c_uint32()
@@ -483,7 +502,7 @@ class _Owner:
             self.close()
 
 
-class Rsp(_Owner):
+class Machine(_Owner):
     """A machine with a copy of an image of RDRAM and a history of `depth` states, at most 4096.
 
     The image has 64 to 8388608 bytes, a multiple of 8. `image_length` is this number. A refused call raises
@@ -491,24 +510,23 @@ class Rsp(_Owner):
     """
 
     def __init__(self, image: bytes = bytes(64), depth: int = 0) -> None:
-        (depth,) = _numbers("Rsp", depth)
+        (depth,) = _numbers("Machine", depth)
         self._hold()
-        self.image_length = _made("Rsp", _lib.brsp_new, self._handle, image, depth)
+        _made("Machine", _lib.brsp_new, self._handle, image, depth)
 
-    def copy(self) -> "Rsp":
+    def copy(self) -> "Machine":
         """A second machine with the same registers and memories. Its history has room for as many states, but
         is empty, and it has no breakpoints and no watches."""
-        made = Rsp.__new__(Rsp)
+        made = Machine.__new__(Machine)
         made._hold()
         self._see_free("brsp_copy")
         self._see_done(_quick.brsp_copy(made._at, self._at), "copy")
-        made.image_length = self.image_length
         return made
 
-    def __copy__(self) -> "Rsp":
+    def __copy__(self) -> "Machine":
         return self.copy()
 
-    def __deepcopy__(self, memo: Any) -> "Rsp":
+    def __deepcopy__(self, memo: Any) -> "Machine":
         return self.copy()
 
     def close(self) -> None:
@@ -520,10 +538,10 @@ class Rsp(_Owner):
         self._see_free(name)
         self._see_done(getattr(_quick, name)(self._at, *numbers), name, numbers)
 
-    def _look(self, name: str, out: _S, *given: int) -> _S:
+    def _look(self, name: str, out: _T, *given: int) -> _T:
         numbers = _numbers(name, *given)
         self._see_free(name)
-        self._see_done(getattr(_quick, name)(self._at, *numbers, byref(out)), name, numbers)
+        self._see_done(getattr(_quick, name)(self._at, *numbers, byref(cast(Any, out))), name, numbers)
         return out
 
     def _word(self, name: str, number: int) -> int:
@@ -556,6 +574,11 @@ class Rsp(_Owner):
         if status == Status.OUT_OF_RANGE:
             raise RspError(Status(status), f"set: {_in_words.state_fault(state_fault(state) or '', state)}")
         self._see_done(status, "set")
+
+    @property
+    def image_length(self) -> int:
+        """The number of bytes of the image of RDRAM."""
+        return self._look("brsp_image_length", c_size_t()).value
 
     def load(self, bank: int, address: int, data: bytes) -> None:
         """Writes the bytes of a buffer to a memory, and empties the history. The bytes of a buffer of words
@@ -605,7 +628,7 @@ class Rsp(_Owner):
     def start_task(self, address: int) -> None:
         """Starts the task whose structure of 64 bytes is at an address of RDRAM, a multiple of 8, and empties
         the history."""
-        self._call("brsp_task", address)
+        self._call("brsp_start_task", address)
 
     def set_pc(self, pc: int) -> None:
         """Sets pc to an address of IMEM, a multiple of 4 below 4096, and empties the history."""
@@ -687,7 +710,7 @@ class Rsp(_Owner):
         """
         (value,) = _numbers("pass_move", value)
         self._see_free("pass_move")
-        status = Status(_quick.brsp_pass(self._at, value))
+        status = Status(_quick.brsp_pass_move(self._at, value))
         if status != Status.HALTED:
             self._see_done(status, "pass_move", [value])
         return status
@@ -706,10 +729,7 @@ class Rsp(_Owner):
 
     def history(self) -> int:
         """The number of steps that can be undone."""
-        out = c_size_t()
-        self._see_free("history")
-        self._see_done(_quick.brsp_history(self._at, byref(out)), "history")
-        return out.value
+        return self._look("brsp_history", c_size_t()).value
 
     def add_break(self, place: int) -> None:
         """Sets a breakpoint at an address of IMEM, a multiple of 4 below 4096; at most sixteen."""
@@ -821,6 +841,9 @@ class Rsp(_Owner):
         status = _quick.brsp_listing(self._at, place, lines, count)
         self._see_done(status, "listing", numbers)
         return [Line(it.place, it.word, it.text.decode()) for it in lines]
+
+
+Rsp = Machine
 
 
 def _address(data: bytes) -> int:

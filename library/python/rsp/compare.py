@@ -8,7 +8,7 @@ from .formatting import Difference, Part
 from .state import State
 
 if TYPE_CHECKING:
-    from . import Rsp
+    from . import Machine
 
 LENGTHS = 1 << 2 | 1 << 3  # a write of SP_RD_LEN or SP_WR_LEN starts a DMA
 QUADWORD = 16
@@ -110,7 +110,7 @@ def _parts(mine: _Seen, its: _Seen) -> Difference:
 
 
 def _step(
-    machine: "Rsp", emulator: Emulator, number: int, rdram: int = 0
+    machine: "Machine", emulator: Emulator, number: int, rdram: int = 0
 ) -> Tuple[bool, Optional[FirstDifference]]:
     """One step of both: whether the machine makes it, and the difference after it."""
     before = machine.get()
@@ -123,7 +123,7 @@ def _step(
 
 
 def _narrowed(
-    machine: "Rsp", emulator: Emulator, before: _Seen, steps: range, parts: Difference
+    machine: "Machine", emulator: Emulator, before: _Seen, steps: range, parts: Difference
 ) -> FirstDifference:
     """The step of a stretch after which they differ, or the whole stretch if no step alone shows it."""
     for side in machine, emulator:
@@ -137,7 +137,7 @@ def _narrowed(
 
 
 def first_difference(
-    machine: "Rsp", emulator: Emulator, every: int = 64, limit: int = 1000000
+    machine: "Machine", emulator: Emulator, every: int = 64, limit: int = 1000000
 ) -> Optional[FirstDifference]:
     """The first step after which an emulator differs from the machine; None if there is no such step within
     `limit` steps, or before a halt or a reserved word.
@@ -154,7 +154,7 @@ def first_difference(
     """
     every, limit = _in_words.integers("first_difference", (every, limit))
     if not 1 <= every <= 1000000 or not 0 <= limit < _in_words.BELOW:
-        raise ValueError(_in_words.refusal(3, "first_difference", (every, limit)))
+        raise ValueError(_in_words.refusal(_in_words.OUT_OF_RANGE, "first_difference", (every, limit)))
     rdram, steps = machine.image_length, 0
     seen = _seen(machine, rdram)
     _put(emulator, seen)

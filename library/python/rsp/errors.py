@@ -7,6 +7,7 @@ from .fields import list_of
 from .formatting import SP_NAMES
 
 BELOW = 1 << 32
+OUT_OF_RANGE, OTHER_WORD = 103, 118
 FAULTS = {
     10: "BadLine", 11: "UnknownName", 12: "BadOperand", 13: "OutOfRange", 14: "LabelTwice",
     15: "LabelMissing", 16: "PastEnd", 17: "OutOfMemory", 33: "NotText",
@@ -35,7 +36,7 @@ BANK = Range(range(3), "rsp.DMEM, rsp.IMEM or rsp.RDRAM")
 
 # The arguments of each call, in order.
 ARGUMENTS: Dict[str, Dict[str, Range]] = {
-    "Rsp": {"depth": Range(range(4097), "0 to 4096")},
+    "Machine": {"depth": Range(range(4097), "0 to 4096")},
     "load": {"bank": BANK, "address": WORD},
     "load_words": {"bank": BANK, "address": WORD},
     "memory": {"bank": BANK, "address": WORD, "length": WORD},
@@ -82,27 +83,25 @@ TOGETHER = {
 
 # By status; {} is the first number that the call was given, {owner} what the handle is of.
 SENTENCES = {
-    1: "the {owner} is closed",
-    2: "an allocation failed",
-    7: "{} isn't a multiple of 8, or the 64 bytes from there pass the image's end",
-    8: "the size of the boot code, the word at offset 12 of the structure at {}, isn't 1 to 4096",
-    9: "sixteen addresses have a breakpoint",
-    10: "{} has a breakpoint",
-    11: "{} has no breakpoint",
-    12: "there are eight watches",
-    13: "no watch has the number {}",
-    14: "the history holds fewer states than {}",
-    15: "the text has more than 1024 words",
-    16: "the script has ended",
-    17: "the script has more than 1048576 bytes",
+    101: "the {owner} is closed",
+    102: "an allocation failed",
+    107: "{} isn't a multiple of 8, or the 64 bytes from there pass the image's end",
+    108: "the size of the boot code, the word at offset 12 of the structure at {}, isn't 1 to 4096",
+    109: "sixteen addresses have a breakpoint",
+    110: "{} has a breakpoint",
+    111: "{} has no breakpoint",
+    112: "there are eight watches",
+    113: "no watch has the number {}",
+    114: "the history holds fewer states than {}",
+    115: "the text has more than 1024 words",
+    116: "the script has ended",
+    117: "the script has more than 1048576 bytes",
 }
 
 
 def call_name(name: str) -> str:
     """The name in Python of a call of the library."""
-    return {"brsp_new": "Rsp", "brsp_task": "start_task"}.get(name) or (
-        name[5:] if name.startswith("brsp_") else name
-    )
+    return {"brsp_new": "Machine"}.get(name) or (name[5:] if name.startswith("brsp_") else name)
 
 
 def named(call: str, numbers: Sequence[Any]) -> Mapping[str, Any]:
@@ -126,7 +125,7 @@ def out_of_range(call: str, numbers: Sequence[int]) -> str:
 def refusal(status: int, name: str, numbers: Sequence[int] = (), owner: str = "machine") -> str:
     """Why a call was refused, in a sentence."""
     call = call_name(name)
-    if status == 3:
+    if status in (OUT_OF_RANGE, OTHER_WORD):
         return f"{call}: {out_of_range(call, numbers)}"
     return f"{call}: {SENTENCES.get(status, 'refused').format(*numbers, owner=owner)}"
 

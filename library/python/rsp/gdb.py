@@ -335,7 +335,7 @@ def _text(word: int, place: int) -> str:
     return rsp.text(word & 0xFC0003FF if word >> 27 == 1 else word, place)
 
 
-def _change(machine: rsp.Rsp, words: Sequence[str]) -> str:
+def _change(machine: rsp.Machine, words: Sequence[str]) -> str:
     """Carries out a command of scripts that changes the machine, and returns its reply."""
     name, *given = words
     if name == "load":
@@ -346,7 +346,7 @@ def _change(machine: rsp.Rsp, words: Sequence[str]) -> str:
     return f"{told:08x}\n" if name == "read" else "ok\n"
 
 
-def run_script(machine: rsp.Rsp, script: str) -> None:
+def run_script(machine: rsp.Machine, script: str) -> None:
     """Carries out the lines of a script that change the machine, up to the first `run` or `step`."""
     lines = iter(it.partition("#")[0] for it in script.splitlines())
     for line in lines:
@@ -433,7 +433,7 @@ def main() -> None:
         print(Path(__file__).with_name("gdb_side.py"))
         return
     try:
-        machine = rsp.Rsp(Path(given.rdram).read_bytes() if given.rdram else bytes(8 << 20))
+        machine = rsp.Machine(Path(given.rdram).read_bytes() if given.rdram else bytes(8 << 20))
         if given.script:
             run_script(machine, Path(given.script).read_text())
         if given.task is not None:

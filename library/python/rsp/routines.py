@@ -2,7 +2,7 @@
 
     import rsp.routines
 
-    with rsp.Rsp(image) as machine:
+    with rsp.Machine(image) as machine:
         machine.start_task(0x100)
         for entry in rsp.routines.entries(machine):
             print(hex(entry.place), entry.name, *entry.broken)
@@ -17,7 +17,7 @@ from types import CodeType
 from typing import TYPE_CHECKING, Any, Dict, Iterator, NamedTuple, Optional, Tuple
 
 if TYPE_CHECKING:
-    from . import Rsp
+    from . import Machine
 
 __all__ = ["PREMISES", "WORDS", "Entry", "broken", "entries", "name_at_pc"]
 
@@ -139,7 +139,7 @@ def _code(premise: str) -> CodeType:
 _CODES = {premise: _code(premise) for premises in (*PREMISES.values(), _EVERYWHERE) for premise in premises}
 
 
-def _values(machine: "Rsp") -> Dict[str, Any]:
+def _values(machine: "Machine") -> Dict[str, Any]:
     state = machine.get()
     values: Dict[str, Any] = {"pc": state.pc, "npc": state.npc}
     values.update(status=machine.peek(4), rdram=machine.image_length)
@@ -157,7 +157,7 @@ def _shown(premise: str, values: Dict[str, Any]) -> str:
     return f"{premise}: {', '.join(parts)}"
 
 
-def name_at_pc(machine: "Rsp") -> Optional[str]:
+def name_at_pc(machine: "Machine") -> Optional[str]:
     """The routine whose words are in IMEM from pc on, or None. If there are two, the longer one."""
     pc = machine.regs().pc
     words = machine.memory_words(_IMEM, 0, 1024)
@@ -166,7 +166,7 @@ def name_at_pc(machine: "Rsp") -> Optional[str]:
     return max(found, key=lambda name: len(WORDS[name])) if found else None
 
 
-def broken(machine: "Rsp", name: str) -> Tuple[str, ...]:
+def broken(machine: "Machine", name: str) -> Tuple[str, ...]:
     """The premises of a routine that don't hold in the machine's state, each with what its registers hold."""
     if name not in PREMISES:
         raise ValueError(f"broken: there is no routine {name}")
@@ -176,7 +176,7 @@ def broken(machine: "Rsp", name: str) -> Tuple[str, ...]:
     )
 
 
-def entries(machine: "Rsp", limit: int = 1000000) -> Iterator[Entry]:
+def entries(machine: "Machine", limit: int = 1000000) -> Iterator[Entry]:
     """Makes up to `limit` steps, and yields an entry each time that pc is at a routine's first word.
 
     The entry comes before the step. A halt or a reserved word ends this; breakpoints and watches don't.

@@ -5,7 +5,7 @@ from bisect import bisect
 from contextlib import contextmanager, suppress
 from typing import Callable, Counter, Iterator, List, NamedTuple, Optional, Set, Tuple
 
-from . import DMEM, IMEM, RDRAM, Reason, Rsp, RspError, State
+from . import DMEM, IMEM, RDRAM, Reason, Machine, RspError, State
 
 _PIECE = 1 << 16  # RDRAM is kept in pieces, which marks share as long as they are equal
 _TO_RDRAM = 1 << 3  # SP_WR_LEN, as a mask of SP registers
@@ -51,8 +51,8 @@ class Timeline:
     then during long searches, and ends them by returning true.
     """
 
-    def __init__(self, machine: Rsp, gap: int = 1 << 19, most: int = 32) -> None:
-        self.machine = Rsp(machine.memory(RDRAM, 0, machine.image_length), 4096)
+    def __init__(self, machine: Machine, gap: int = 1 << 19, most: int = 32) -> None:
+        self.machine = Machine(machine.memory(RDRAM, 0, machine.image_length), 4096)
         for bank in DMEM, IMEM:
             self.machine.load(bank, 0, machine.memory(bank, 0, 4096))
         self.machine.set(machine.get())

@@ -5,7 +5,7 @@ console.
 
     import rsp.waits
 
-    with rsp.Rsp(image) as machine:
+    with rsp.Machine(image) as machine:
         machine.start_task(0x100)
         for it in rsp.waits.missing(machine):
             print(it)
@@ -32,7 +32,7 @@ is under way when the program ends is reported only if you ask for that, because
 
 from typing import Iterator, List, NamedTuple, Optional, Sequence, Set, Tuple
 
-from . import DMEM, IMEM, Move, Reason, Rsp, Status
+from . import DMEM, IMEM, Move, Reason, Machine, Status
 from . import errors as _in_words
 
 __all__ = ["AHEAD", "Missing", "Transfer", "missing"]
@@ -99,7 +99,9 @@ class _Walk:
     The twin shows which bytes an instruction touches: it makes the same step over other bytes.
     """
 
-    def __init__(self, machine: Rsp, twin: Rsp, transfers: Sequence[Transfer], read: Optional[int]) -> None:
+    def __init__(
+        self, machine: Machine, twin: Machine, transfers: Sequence[Transfer], read: Optional[int]
+    ) -> None:
         self.machine, self.transfers = machine, [*transfers]
         self.has_parted, self.reads = False, 0
         self._twin, self._read = twin, read
@@ -173,7 +175,7 @@ class _Walk:
         copy = _Walk(self.machine.copy(), self._twin, self.transfers[-count:], pc)
         found: List[Missing] = []
         untested: List[Missing] = []  # what is missing since the last read
-        beside: Optional[Rsp] = self.machine.copy()  # until the ways part
+        beside: Optional[Machine] = self.machine.copy()  # until the ways part
         for _ in range(AHEAD):
             reads = copy.reads
             more, goes_on = copy.step()
@@ -200,7 +202,7 @@ class _Walk:
         return found
 
 
-def missing(machine: Rsp, limit: int = 1000000, at_end: bool = False) -> Iterator[Missing]:
+def missing(machine: Machine, limit: int = 1000000, at_end: bool = False) -> Iterator[Missing]:
     """Makes up to `limit` steps, and yields each instruction before which a wait is missing, once for each
     MTC0 that orders its transfer. With `at_end` the instruction that halts the machine while a transfer is
     under way is one too.
@@ -210,7 +212,7 @@ def missing(machine: Rsp, limit: int = 1000000, at_end: bool = False) -> Iterato
     microseconds while a transfer is under way.
     """
     (left,) = _in_words.integers("missing", (limit,))
-    twin = Rsp()
+    twin = Machine()
     told: Set[Tuple[int, int, str]] = set()
     while left > 0:
         stop = machine.run_until_move(min(left, 1000000), 0, _ORDERS)

@@ -1,6 +1,6 @@
 //! The first step after which an emulator of three instructions differs from the machine. Its SRA has a planted fault. See docs/EMBEDDING.md.
 
-use rsp::{assemble, first_difference, Bank, Emulator, Machine, Refused, State};
+use rsp::{assemble, first_difference, Bank, Emulator, Machine, RspError, State};
 
 const PROGRAM: &str = "
       lui $1, 0x8000
@@ -56,7 +56,7 @@ impl Emulator for Mine {
     }
 }
 
-fn main() -> Result<(), Refused> {
+fn main() -> Result<(), RspError> {
     let mut machine = Machine::new(&[0; 64], 0)?;
     machine.load_words(Bank::Imem, 0, &assemble(PROGRAM, 0)?)?;
     let mut mine = Mine { state: State::default(), memories: [vec![0; 4096], vec![0; 4096], vec![0; 64]] };

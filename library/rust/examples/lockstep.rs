@@ -1,7 +1,7 @@
 //! Lock step: an emulator of a few scalar instructions beside the proved machine, from one state on. The first difference is reported with the text of its
 //! instruction. The emulator has a fault that is planted: its SRA shifts zeros in. See docs/EMBEDDING.md.
 
-use rsp::{assemble, text, Bank, Machine, Refused, Scalars, StepEnd};
+use rsp::{assemble, text, Bank, Machine, RspError, Scalars, StepEnd};
 
 const PROGRAM: &str = "
 loop: sra $3, $1, 2
@@ -45,7 +45,7 @@ impl Emulator<'_> {
 }
 
 /// Steps both from one state on, that of `start`, up to a difference or a halt.
-fn lockstep(start: &Machine, emulator: &mut Emulator) -> Result<(), Refused> {
+fn lockstep(start: &Machine, emulator: &mut Emulator) -> Result<(), RspError> {
     let mut machine = start.copy()?;
     for steps in 1.. {
         let place = emulator.pc;
@@ -65,7 +65,7 @@ fn lockstep(start: &Machine, emulator: &mut Emulator) -> Result<(), Refused> {
     Ok(())
 }
 
-fn main() -> Result<(), Refused> {
+fn main() -> Result<(), RspError> {
     let imem = assemble(PROGRAM, 0)?;
     let mut machine = Machine::new(&[0; 64], 0)?;
     machine.load_words(Bank::Imem, 0, &imem)?;

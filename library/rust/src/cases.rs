@@ -16,8 +16,8 @@ const PIECE: usize = 1024;
 fn status_of(end: StepEnd) -> u32 {
     match end {
         StepEnd::Done => 0,
-        StepEnd::Halted => 4,
-        StepEnd::Reserved => 5,
+        StepEnd::Halted => 104,
+        StepEnd::Reserved => 105,
     }
 }
 

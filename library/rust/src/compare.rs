@@ -1,6 +1,6 @@
 //! The first step after which an emulator differs from the machine.
 
-use crate::{Bank, Line, Machine, MoveEnd, Part, Refused, State, StepEnd};
+use crate::{Bank, Line, Machine, MoveEnd, Part, RspError, State, StepEnd};
 use std::fmt::{Display, Formatter};
 use std::ops::RangeInclusive;
 
@@ -90,7 +90,7 @@ struct Seen {
 }
 
 impl Seen {
-    fn of_machine(machine: &Machine, rdram: usize) -> Result<Seen, Refused> {
+    fn of_machine(machine: &Machine, rdram: usize) -> Result<Seen, RspError> {
         let mut memories = [vec![0; 4096], vec![0; 4096], vec![0; rdram]];
         for (bank, bytes) in BANKS.into_iter().zip(&mut memories).filter(|(_, bytes)| !bytes.is_empty()) {
             machine.memory(bank, 0, bytes)?;
@@ -141,7 +141,7 @@ enum Both {
 }
 
 /// One step of both, after which they are compared.
-fn step(machine: &mut Machine, emulator: &mut impl Emulator, number: u64, rdram: usize) -> Result<Both, Refused> {
+fn step(machine: &mut Machine, emulator: &mut impl Emulator, number: u64, rdram: usize) -> Result<Both, RspError> {
     let before = machine.get()?;
     let line = next_line(machine, &before)?;
     if machine.step()? != StepEnd::Done {
@@ -159,7 +159,7 @@ fn put(emulator: &mut impl Emulator, seen: &Seen) {
 }
 
 /// The instruction at pc.
-fn next_line(machine: &Machine, state: &State) -> Result<Line, Refused> {
+fn next_line(machine: &Machine, state: &State) -> Result<Line, RspError> {
     Ok(machine.listing(state.pc.into(), 1)?.swap_remove(0))
 }
 
@@ -170,7 +170,7 @@ fn narrowed(
     before: &Seen,
     steps: RangeInclusive<u64>,
     stretch: FirstDifference,
-) -> Result<FirstDifference, Refused> {
+) -> Result<FirstDifference, RspError> {
     machine.set(&before.state)?;
     for (bank, bytes) in before.read() {
         machine.load(bank, 0, bytes)?;
@@ -188,7 +188,7 @@ fn narrowed(
 const LENGTHS: u16 = 1 << 2 | 1 << 3;
 
 /// Makes at most so many steps, and ends before one that starts a DMA. Returns the number of steps.
-fn run_before_dma(machine: &mut Machine, steps: u32) -> Result<u32, Refused> {
+fn run_before_dma(machine: &mut Machine, steps: u32) -> Result<u32, RspError> {
     Ok(match machine.run_until_move(steps, 0, LENGTHS)? {
         MoveEnd::Stop(stop) => stop.steps,
         MoveEnd::Move { steps, .. } => steps,
@@ -200,16 +200,16 @@ fn run_before_dma(machine: &mut Machine, steps: u32) -> Result<u32, Refused> {
 ///
 /// First the machine's registers and memories are copied into the emulator. Then both run in stretches of at most `every` steps, 1 to 1000000,
 /// which end before a DMA. After each stretch all registers, DMEM and IMEM are compared, after a DMA also RDRAM. If they differ, both go back to
-/// the last comparison and are stepped from there. Both are left after the step that differs, and the machine's history is empty. Refused with
-/// [`Refused::OutOfRange`] if `every` isn't in its range.
+/// the last comparison and are stepped from there. Both are left after the step that differs, and the machine's history is empty. RspError with
+/// [`RspError::OutOfRange`] if `every` isn't in its range.
 pub fn first_difference(
     machine: &mut Machine,
     emulator: &mut impl Emulator,
     every: u32,
     limit: u64,
-) -> Result<Option<FirstDifference>, Refused> {
+) -> Result<Option<FirstDifference>, RspError> {
     if !(1..=1_000_000).contains(&every) {
-        return Err(Refused::OutOfRange);
+        return Err(RspError::OutOfRange);
     }
     let rdram = machine.image_length();
     let seen = Seen::of_machine(machine, rdram)?;

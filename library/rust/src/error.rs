@@ -11,7 +11,7 @@ pub const VERSION: u32 = 1;
 ///
 /// `Debug` writes the same sentence as `Display`, because a `main` that returns an error prints it by `Debug`.
 #[derive(Clone, Copy, PartialEq, Eq)]
-pub enum Refused {
+pub enum RspError {
     /// An allocation failed.
     NoMemory,
     /// A number, a length or a count is out of its range.
@@ -51,29 +51,29 @@ pub enum Refused {
     Unknown(u32),
 }
 
-impl fmt::Display for Refused {
+impl fmt::Display for RspError {
     fn fmt(&self, f: &mut fmt::Formatter<'_>) -> fmt::Result {
         f.write_str(match self {
-            Refused::NoMemory => "an allocation failed",
-            Refused::OutOfRange => "a number, a length or a count is out of its range",
-            Refused::NoMeaning { line, fault, operand } => return told(f, *line, *fault, *operand),
-            Refused::TaskPlace => "the task's address isn't a multiple of 8, or its structure passes the image's end",
-            Refused::TaskSize => "the size of the task's boot code isn't 1 to 4096",
-            Refused::BreakFull => "sixteen addresses have a breakpoint",
-            Refused::BreakTwice => "the address has a breakpoint",
-            Refused::NoBreak => "the address has no breakpoint",
-            Refused::WatchFull => "there are eight watches",
-            Refused::NoWatch => "no watch has this number",
-            Refused::ShortHistory => "the history holds fewer states",
-            Refused::Ended => "the script has ended",
-            Refused::TooLong => "the script has more than 1048576 bytes",
-            Refused::Version(found) => return write!(f, "the interface of the library has version {found}, not {VERSION}"),
-            Refused::Unknown(status) => return write!(f, "the library returned the unknown status {status}"),
+            RspError::NoMemory => "an allocation failed",
+            RspError::OutOfRange => "a number, a length or a count is out of its range",
+            RspError::NoMeaning { line, fault, operand } => return told(f, *line, *fault, *operand),
+            RspError::TaskPlace => "the task's address isn't a multiple of 8, or its structure passes the image's end",
+            RspError::TaskSize => "the size of the task's boot code isn't 1 to 4096",
+            RspError::BreakFull => "sixteen addresses have a breakpoint",
+            RspError::BreakTwice => "the address has a breakpoint",
+            RspError::NoBreak => "the address has no breakpoint",
+            RspError::WatchFull => "there are eight watches",
+            RspError::NoWatch => "no watch has this number",
+            RspError::ShortHistory => "the history holds fewer states",
+            RspError::Ended => "the script has ended",
+            RspError::TooLong => "the script has more than 1048576 bytes",
+            RspError::Version(found) => return write!(f, "the interface of the library has version {found}, not {VERSION}"),
+            RspError::Unknown(status) => return write!(f, "the library returned the unknown status {status}"),
         })
     }
 }
 
-impl fmt::Debug for Refused {
+impl fmt::Debug for RspError {
     fn fmt(&self, f: &mut fmt::Formatter<'_>) -> fmt::Result {
         fmt::Display::fmt(self, f)
     }
@@ -90,40 +90,40 @@ fn told(f: &mut fmt::Formatter<'_>, line: usize, fault: u32, operand: Option<Ope
     })
 }
 
-impl Error for Refused {
+impl Error for RspError {
     fn source(&self) -> Option<&(dyn Error + 'static)> {
         match self {
-            Refused::NoMeaning { fault, .. } => Fault::of(*fault).map(|it| it as &dyn Error),
+            RspError::NoMeaning { fault, .. } => Fault::of(*fault).map(|it| it as &dyn Error),
             _ => None,
         }
     }
 }
 
 /// Refuses a library of another version, before it is used.
-pub(crate) fn right_version() -> Result<(), Refused> {
+pub(crate) fn right_version() -> Result<(), RspError> {
     // SAFETY: it takes nothing.
     match unsafe { raw::brsp_version() } {
         VERSION => Ok(()),
-        other => Err(Refused::Version(other)),
+        other => Err(RspError::Version(other)),
     }
 }
 
 /// The result that a status means.
-pub(crate) fn done(status: u32) -> Result<(), Refused> {
+pub(crate) fn done(status: u32) -> Result<(), RspError> {
     Err(match status {
         0 => return Ok(()),
-        2 => Refused::NoMemory,
-        3 => Refused::OutOfRange,
-        7 => Refused::TaskPlace,
-        8 => Refused::TaskSize,
-        9 => Refused::BreakFull,
-        10 => Refused::BreakTwice,
-        11 => Refused::NoBreak,
-        12 => Refused::WatchFull,
-        13 => Refused::NoWatch,
-        14 => Refused::ShortHistory,
-        16 => Refused::Ended,
-        17 => Refused::TooLong,
-        other => Refused::Unknown(other),
+        2 => RspError::NoMemory,
+        3 => RspError::OutOfRange,
+        7 => RspError::TaskPlace,
+        8 => RspError::TaskSize,
+        9 => RspError::BreakFull,
+        10 => RspError::BreakTwice,
+        11 => RspError::NoBreak,
+        12 => RspError::WatchFull,
+        13 => RspError::NoWatch,
+        14 => RspError::ShortHistory,
+        16 => RspError::Ended,
+        17 => RspError::TooLong,
+        other => RspError::Unknown(other),
     })
 }

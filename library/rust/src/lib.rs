@@ -11,7 +11,7 @@
 //! machine.load_words(Bank::Imem, 0, &assemble("ori $2, $0, 0x1234\nbreak\n", 0)?)?;
 //! assert_eq!(machine.run(100)?.reason, Reason::Halt);
 //! assert_eq!(machine.reg(2)?, 0x1234);
-//! # Ok::<(), rsp::Refused>(())
+//! # Ok::<(), rsp::RspError>(())
 //! ```
 
 #![warn(missing_docs)]
@@ -35,7 +35,7 @@ mod texts;
 pub use session::{run_script, Session};
 pub use compare::{first_difference, Emulator, FirstDifference, Quadword};
 pub use difference::{Part, Place};
-pub use error::{Refused, VERSION};
+pub use error::{RspError, VERSION};
 pub use faults::Fault;
 pub use machine::Machine;
 pub use numbers::NoSuchNumber;

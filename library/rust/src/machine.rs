@@ -6,7 +6,7 @@ use crate::shapes::{
     Accumulators, Bank, Changes, DivideState, Event, FlagBits, Line, MoveEnd, Reason, Scalars, SpWords, State, StepEnd, Stop, Traced,
 };
 use crate::texts::{seen, NO_LINE};
-use crate::Refused;
+use crate::RspError;
 use std::cell::UnsafeCell;
 use std::ptr;
 
@@ -25,7 +25,7 @@ unsafe impl Send for Machine {}
 
 impl Machine {
     /// A machine with this image (64 to 8388608 bytes, a multiple of 8) and a history of `depth` states, at most 4096.
-    pub fn new(image: &[u8], depth: u32) -> Result<Machine, Refused> {
+    pub fn new(image: &[u8], depth: u32) -> Result<Machine, RspError> {
         right_version()?;
         let machine = Machine::none(image.len());
         done(unsafe { raw::brsp_new(machine.at(), image.as_ptr(), image.len(), depth) })?;
@@ -34,7 +34,7 @@ impl Machine {
 
     /// A second machine with the same registers and memories. Its history has room for as many states, but is empty, and it has no breakpoints and
     /// no watches.
-    pub fn copy(&self) -> Result<Machine, Refused> {
+    pub fn copy(&self) -> Result<Machine, RspError> {
         let machine = Machine::none(self.image_length);
         done(unsafe { raw::brsp_copy(machine.at(), self.at()) })?;
         Ok(machine)
@@ -55,82 +55,82 @@ impl Machine {
     }
 
     /// All registers.
-    pub fn get(&self) -> Result<State, Refused> {
+    pub fn get(&self) -> Result<State, RspError> {
         let mut out = State::default();
         self.get_into(&mut out)?;
         Ok(out)
     }
 
     /// All registers, written into an existing state.
-    pub fn get_into(&self, out: &mut State) -> Result<(), Refused> {
+    pub fn get_into(&self, out: &mut State) -> Result<(), RspError> {
         done(unsafe { raw::brsp_get(self.at(), out) })
     }
 
     /// Sets all registers, and empties the history. The memories stay unchanged.
-    pub fn set(&mut self, state: &State) -> Result<(), Refused> {
+    pub fn set(&mut self, state: &State) -> Result<(), RspError> {
         done(unsafe { raw::brsp_set(self.at(), state) })
     }
 
     /// Writes bytes to a memory from an address on, and empties the history.
-    pub fn load(&mut self, bank: Bank, address: u32, bytes: &[u8]) -> Result<(), Refused> {
+    pub fn load(&mut self, bank: Bank, address: u32, bytes: &[u8]) -> Result<(), RspError> {
         done(unsafe { raw::brsp_load(self.at(), bank as u32, address, bytes.as_ptr(), bytes.len()) })
     }
 
     /// Writes words to a memory from an address on, the high byte of each first, and empties the history.
-    pub fn load_words(&mut self, bank: Bank, address: u32, words: &[u32]) -> Result<(), Refused> {
+    pub fn load_words(&mut self, bank: Bank, address: u32, words: &[u32]) -> Result<(), RspError> {
         done(unsafe { raw::brsp_load_words(self.at(), bank as u32, address, words.as_ptr(), words.len()) })
     }
 
     /// Fills a buffer with the bytes of a memory from an address on.
-    pub fn memory(&self, bank: Bank, address: u32, bytes: &mut [u8]) -> Result<(), Refused> {
+    pub fn memory(&self, bank: Bank, address: u32, bytes: &mut [u8]) -> Result<(), RspError> {
         done(unsafe { raw::brsp_memory(self.at(), bank as u32, address, bytes.as_mut_ptr(), bytes.len()) })
     }
 
     /// Fills a buffer with the words of a memory from an address on, the high byte of each first.
-    pub fn memory_words(&self, bank: Bank, address: u32, words: &mut [u32]) -> Result<(), Refused> {
+    pub fn memory_words(&self, bank: Bank, address: u32, words: &mut [u32]) -> Result<(), RspError> {
         done(unsafe { raw::brsp_memory_words(self.at(), bank as u32, address, words.as_mut_ptr(), words.len()) })
     }
 
     /// Starts the task whose structure of 64 bytes is at an address of RDRAM, and empties the history.
-    pub fn start_task(&mut self, address: u32) -> Result<(), Refused> {
-        done(unsafe { raw::brsp_task(self.at(), address) })
+    pub fn start_task(&mut self, address: u32) -> Result<(), RspError> {
+        done(unsafe { raw::brsp_start_task(self.at(), address) })
     }
 
     /// Sets pc to an address of IMEM, a multiple of 4 below 4096, and empties the history.
-    pub fn set_pc(&mut self, pc: u32) -> Result<(), Refused> {
+    pub fn set_pc(&mut self, pc: u32) -> Result<(), RspError> {
         done(unsafe { raw::brsp_set_pc(self.at(), pc) })
     }
 
     /// Executes one instruction.
-    pub fn step(&mut self) -> Result<StepEnd, Refused> {
+    pub fn step(&mut self) -> Result<StepEnd, RspError> {
         step_end(unsafe { raw::brsp_step(self.at()) })
     }
 
     /// As [`step`](Machine::step), but also writes what the step changed, if it was made.
-    pub fn step_changes(&mut self, out: &mut Changes) -> Result<StepEnd, Refused> {
+    pub fn step_changes(&mut self, out: &mut Changes) -> Result<StepEnd, RspError> {
         step_end(unsafe { raw::brsp_step_changes(self.at(), out) })
     }
 
     /// Makes 1 to 1000000 steps, up to the first reason to stop.
-    pub fn run(&mut self, steps: u32) -> Result<Stop, Refused> {
+    pub fn run(&mut self, steps: u32) -> Result<Stop, RspError> {
         let mut out = raw::Stop::default();
         done(unsafe { raw::brsp_run(self.at(), steps, &mut out) })?;
         Ok(seen_stop(&out))
     }
 
     /// As [`run`](Machine::run), but also stops before an MFC0 from an SP register whose bit is set in `reads`, and before an MTC0 to one whose bit
-    /// is set in `writes`: bit r is for register r. It may stop there before the first step. [`pass`](Machine::pass) steps over the move, and
+    /// is set in `writes`: bit r is for register r. It may stop there before the first step. [`pass_move`](Machine::pass_move) steps over the move, and
     /// [`step`](Machine::step) executes it.
-    pub fn run_until_move(&mut self, steps: u32, reads: u16, writes: u16) -> Result<MoveEnd, Refused> {
+    pub fn run_until_move(&mut self, steps: u32, reads: u16, writes: u16) -> Result<MoveEnd, RspError> {
         let mut out = raw::Move::default();
         done(unsafe { raw::brsp_run_until_move(self.at(), steps, reads.into(), writes.into(), &mut out) })?;
         Ok(seen_move(&out))
     }
 
     /// Runs to the next event, for a caller that owns RDRAM. As [`run_until_move`](Machine::run_until_move), but also stops before each DMA. A move
-    /// or a DMA is an event only if a step is left. Stepping over it, by [`pass`](Machine::pass), [`pass_dma`](Machine::pass_dma) or
+    /// or a DMA is an event only if a step is left. Stepping over it, by [`pass_move`](Machine::pass_move), [`pass_dma`](Machine::pass_dma) or
     /// [`step`](Machine::step), takes that step.
-    pub fn event(&mut self, steps: u32, reads: u16, writes: u16) -> Result<Event, Refused> {
+    pub fn event(&mut self, steps: u32, reads: u16, writes: u16) -> Result<Event, RspError> {
         let mut out = raw::Reached::default();
         done(unsafe { raw::brsp_event(self.at(), steps, reads.into(), writes.into(), &mut out) })?;
         let dma = (out.at.stop.reason == AT_DMA).then_some(out.dma);
@@ -138,7 +138,7 @@ impl Machine {
     }
 
     /// As [`run`](Machine::run) of as many steps as there are entries, 1 to 1000000, and writes an entry for each step. The other entries stay.
-    pub fn trace(&mut self, entries: &mut [Traced]) -> Result<Stop, Refused> {
+    pub fn trace(&mut self, entries: &mut [Traced]) -> Result<Stop, RspError> {
         let mut out = raw::Stop::default();
         done(unsafe { raw::brsp_trace(self.at(), entries.as_mut_ptr(), entries.len(), &mut out) })?;
         Ok(seen_stop(&out))
@@ -158,142 +158,142 @@ impl Machine {
     }
 
     /// Undoes 1 to 1000000 steps.
-    pub fn back(&mut self, states: u32) -> Result<(), Refused> {
+    pub fn back(&mut self, states: u32) -> Result<(), RspError> {
         done(unsafe { raw::brsp_back(self.at(), states) })
     }
 
-    /// Steps over the MFC0 or MTC0 at pc without executing it; register rt of an MFC0 becomes the value. Empties the history. Refused if another
+    /// Steps over the MFC0 or MTC0 at pc without executing it; register rt of an MFC0 becomes the value. Empties the history. RspError if another
     /// word is at pc, so the end is never Reserved.
-    pub fn pass(&mut self, value: u32) -> Result<StepEnd, Refused> {
-        passed(unsafe { raw::brsp_pass(self.at(), value) })
+    pub fn pass_move(&mut self, value: u32) -> Result<StepEnd, RspError> {
+        passed(unsafe { raw::brsp_pass_move(self.at(), value) })
     }
 
     /// Steps over the DMA at pc, whose bytes the caller then moves. Everything is as after a step, SP registers included, except that the memories
-    /// stay unchanged. Empties the history. Refused if the word at pc starts no DMA.
-    pub fn pass_dma(&mut self) -> Result<StepEnd, Refused> {
+    /// stay unchanged. Empties the history. RspError if the word at pc starts no DMA.
+    pub fn pass_dma(&mut self) -> Result<StepEnd, RspError> {
         passed(unsafe { raw::brsp_pass_dma(self.at()) })
     }
 
     /// The number of steps that can be undone.
-    pub fn history(&self) -> Result<usize, Refused> {
+    pub fn history(&self) -> Result<usize, RspError> {
         let mut out = 0;
         done(unsafe { raw::brsp_history(self.at(), &mut out) })?;
         Ok(out)
     }
 
     /// Sets a breakpoint at an address of IMEM; at most sixteen.
-    pub fn add_break(&mut self, place: u32) -> Result<(), Refused> {
+    pub fn add_break(&mut self, place: u32) -> Result<(), RspError> {
         done(unsafe { raw::brsp_add_break(self.at(), place) })
     }
 
     /// Removes the breakpoint at an address.
-    pub fn drop_break(&mut self, place: u32) -> Result<(), Refused> {
+    pub fn drop_break(&mut self, place: u32) -> Result<(), RspError> {
         done(unsafe { raw::brsp_drop_break(self.at(), place) })
     }
 
     /// Watches 1 to 64 bytes of DMEM, and returns the watch's number. At most eight watches.
-    pub fn add_watch(&mut self, address: u32, len: u32) -> Result<usize, Refused> {
+    pub fn add_watch(&mut self, address: u32, len: u32) -> Result<usize, RspError> {
         let mut number = 0;
         done(unsafe { raw::brsp_add_watch(self.at(), address, len, &mut number) })?;
         Ok(number)
     }
 
     /// Removes a watch.
-    pub fn drop_watch(&mut self, number: u32) -> Result<(), Refused> {
+    pub fn drop_watch(&mut self, number: u32) -> Result<(), RspError> {
         done(unsafe { raw::brsp_drop_watch(self.at(), number) })
     }
 
     /// Scalar register `n`, below 32.
-    pub fn reg(&self, n: u32) -> Result<u32, Refused> {
+    pub fn reg(&self, n: u32) -> Result<u32, RspError> {
         let mut out = 0;
         done(unsafe { raw::brsp_reg(self.at(), n, &mut out) })?;
         Ok(out)
     }
 
     /// The scalar registers, pc and npc.
-    pub fn regs(&self) -> Result<Scalars, Refused> {
+    pub fn regs(&self) -> Result<Scalars, RspError> {
         let mut out = Scalars::default();
         done(unsafe { raw::brsp_regs(self.at(), &mut out) })?;
         Ok(out)
     }
 
     /// The lanes of vector register `n`, below 32.
-    pub fn vreg(&self, n: u32) -> Result<[u16; 8], Refused> {
+    pub fn vreg(&self, n: u32) -> Result<[u16; 8], RspError> {
         let mut out = raw::Lanes::default();
         done(unsafe { raw::brsp_vreg(self.at(), n, &mut out) })?;
         Ok(out.lanes)
     }
 
     /// Sets scalar register `n`, below 32, and empties the history. Register 0 takes only 0.
-    pub fn set_reg(&mut self, n: u32, value: u32) -> Result<(), Refused> {
+    pub fn set_reg(&mut self, n: u32, value: u32) -> Result<(), RspError> {
         let mut state = self.get()?;
-        *state.words.get_mut(n as usize).ok_or(Refused::OutOfRange)? = value;
+        *state.words.get_mut(n as usize).ok_or(RspError::OutOfRange)? = value;
         self.set(&state)
     }
 
     /// Sets the lanes of vector register `n`, below 32, and empties the history.
-    pub fn set_vreg(&mut self, n: u32, lanes: [u16; 8]) -> Result<(), Refused> {
+    pub fn set_vreg(&mut self, n: u32, lanes: [u16; 8]) -> Result<(), RspError> {
         let mut state = self.get()?;
-        *state.vectors.get_mut(n as usize).ok_or(Refused::OutOfRange)? = lanes;
+        *state.vectors.get_mut(n as usize).ok_or(RspError::OutOfRange)? = lanes;
         self.set(&state)
     }
 
     /// The accumulators.
-    pub fn acc(&self) -> Result<Accumulators, Refused> {
+    pub fn acc(&self) -> Result<Accumulators, RspError> {
         let mut out = Accumulators::default();
         done(unsafe { raw::brsp_acc(self.at(), &mut out) })?;
         Ok(out)
     }
 
     /// The flags.
-    pub fn flags(&self) -> Result<FlagBits, Refused> {
+    pub fn flags(&self) -> Result<FlagBits, RspError> {
         let mut out = FlagBits::default();
         done(unsafe { raw::brsp_flags(self.at(), &mut out) })?;
         Ok(out)
     }
 
     /// What divide instructions leave for the next one.
-    pub fn divider(&self) -> Result<DivideState, Refused> {
+    pub fn divider(&self) -> Result<DivideState, RspError> {
         let mut out = DivideState::default();
         done(unsafe { raw::brsp_divider(self.at(), &mut out) })?;
         Ok(out)
     }
 
     /// Reads SP register `n`, modulo 16, as the CPU does. A read of the semaphore, 7, takes it and empties the history.
-    pub fn read(&mut self, n: u32) -> Result<u32, Refused> {
+    pub fn read(&mut self, n: u32) -> Result<u32, RspError> {
         let mut out = 0;
         done(unsafe { raw::brsp_read(self.at(), n, &mut out) })?;
         Ok(out)
     }
 
     /// The word that a read of SP register `n`, modulo 16, would give.
-    pub fn peek(&self, n: u32) -> Result<u32, Refused> {
+    pub fn peek(&self, n: u32) -> Result<u32, RspError> {
         let mut out = 0;
         done(unsafe { raw::brsp_peek(self.at(), n, &mut out) })?;
         Ok(out)
     }
 
     /// Writes SP register `n`, modulo 16, as the CPU does, with its DMA, and empties the history.
-    pub fn write(&mut self, n: u32, value: u32) -> Result<(), Refused> {
+    pub fn write(&mut self, n: u32, value: u32) -> Result<(), RspError> {
         done(unsafe { raw::brsp_write(self.at(), n, value) })
     }
 
     /// All SP registers, with the interrupt flag.
-    pub fn sp(&self) -> Result<SpWords, Refused> {
+    pub fn sp(&self) -> Result<SpWords, RspError> {
         let mut out = SpWords::default();
         done(unsafe { raw::brsp_sp(self.at(), &mut out) })?;
         Ok(out)
     }
 
     /// Sets all SP registers and the interrupt flag, without a DMA, and empties the history.
-    pub fn set_sp(&mut self, given: &SpWords) -> Result<(), Refused> {
+    pub fn set_sp(&mut self, given: &SpWords) -> Result<(), RspError> {
         done(unsafe { raw::brsp_set_sp(self.at(), given) })
     }
 
     /// The words of IMEM from the address `place` on, each with its disassembly.
-    pub fn listing(&self, place: u32, count: usize) -> Result<Vec<Line>, Refused> {
+    pub fn listing(&self, place: u32, count: usize) -> Result<Vec<Line>, RspError> {
         if count > 1024 {
-            return Err(Refused::OutOfRange);
+            return Err(RspError::OutOfRange);
         }
         let mut lines = vec![NO_LINE; count];
         done(unsafe { raw::brsp_listing(self.at(), place, lines.as_mut_ptr(), lines.len()) })?;
@@ -306,17 +306,17 @@ const AT_MOVE: u32 = 5;
 /// The reason of a stop before a DMA.
 const AT_DMA: u32 = 6;
 
-fn step_end(status: u32) -> Result<StepEnd, Refused> {
+fn step_end(status: u32) -> Result<StepEnd, RspError> {
     match status {
         0 => Ok(StepEnd::Done),
         4 => Ok(StepEnd::Halted),
         5 => Ok(StepEnd::Reserved),
-        other => Err(Refused::Unknown(other)),
+        other => Err(RspError::Unknown(other)),
     }
 }
 
 /// The end of a pass, which is never at a reserved word.
-fn passed(status: u32) -> Result<StepEnd, Refused> {
+fn passed(status: u32) -> Result<StepEnd, RspError> {
     match status {
         0 => Ok(StepEnd::Done),
         4 => Ok(StepEnd::Halted),

@@ -94,7 +94,7 @@ extern "C" {
     pub fn brsp_load_words(m: *mut Handle, bank: u32, address: u32, words: *const u32, len: usize) -> u32;
     pub fn brsp_memory(m: *mut Handle, bank: u32, address: u32, bytes: *mut u8, len: usize) -> u32;
     pub fn brsp_memory_words(m: *mut Handle, bank: u32, address: u32, words: *mut u32, len: usize) -> u32;
-    pub fn brsp_task(m: *mut Handle, address: u32) -> u32;
+    pub fn brsp_start_task(m: *mut Handle, address: u32) -> u32;
     pub fn brsp_set_pc(m: *mut Handle, pc: u32) -> u32;
     pub fn brsp_step(m: *mut Handle) -> u32;
     pub fn brsp_step_changes(m: *mut Handle, out: *mut Changes) -> u32;
@@ -104,7 +104,7 @@ extern "C" {
     pub fn brsp_trace(m: *mut Handle, out: *mut Traced, n: usize, stop: *mut Stop) -> u32;
     pub fn brsp_back(m: *mut Handle, n: u32) -> u32;
     pub fn brsp_history(m: *mut Handle, out: *mut usize) -> u32;
-    pub fn brsp_pass(m: *mut Handle, value: u32) -> u32;
+    pub fn brsp_pass_move(m: *mut Handle, value: u32) -> u32;
     pub fn brsp_pass_dma(m: *mut Handle) -> u32;
     pub fn brsp_add_break(m: *mut Handle, place: u32) -> u32;
     pub fn brsp_drop_break(m: *mut Handle, place: u32) -> u32;

@@ -1,6 +1,6 @@
 //! Scripts in which no reply may be a fault.
 
-use crate::{Session, Refused};
+use crate::{Session, RspError};
 use std::error::Error;
 use std::fmt;
 
@@ -10,7 +10,7 @@ use std::fmt;
 #[derive(Clone, Debug, PartialEq, Eq)]
 pub enum ScriptError {
     /// A call was refused.
-    Refused(Refused),
+    RspError(RspError),
     /// A reply is a fault. The lines after it weren't run.
     Fault {
         /// The number of the line, from 1. For a fault of an `asm` block it is the line of the block that is at fault.
@@ -33,7 +33,7 @@ fn printable(line: &str) -> String {
 impl fmt::Display for ScriptError {
     fn fmt(&self, f: &mut fmt::Formatter<'_>) -> fmt::Result {
         match self {
-            ScriptError::Refused(refused) => refused.fmt(f),
+            ScriptError::RspError(refused) => refused.fmt(f),
             ScriptError::Fault { line, text, reply, .. } if text.is_empty() => write!(f, "line {line}: {reply}"),
             ScriptError::Fault { line, text, reply, .. } => write!(f, "line {line}: {reply}: {}", printable(text)),
         }
@@ -43,15 +43,15 @@ impl fmt::Display for ScriptError {
 impl Error for ScriptError {
     fn source(&self) -> Option<&(dyn Error + 'static)> {
         match self {
-            ScriptError::Refused(refused) => Some(refused),
+            ScriptError::RspError(refused) => Some(refused),
             ScriptError::Fault { .. } => None,
         }
     }
 }
 
-impl From<Refused> for ScriptError {
-    fn from(refused: Refused) -> ScriptError {
-        ScriptError::Refused(refused)
+impl From<RspError> for ScriptError {
+    fn from(refused: RspError) -> ScriptError {
+        ScriptError::RspError(refused)
     }
 }
 

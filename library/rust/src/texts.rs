@@ -3,7 +3,7 @@
 use crate::error::{done, right_version};
 use crate::raw;
 use crate::shapes::Line;
-use crate::{Operand, Refused};
+use crate::{Operand, RspError};
 
 const NO_MEANING: u32 = 6;
 
@@ -14,14 +14,14 @@ pub(crate) fn seen(line: &raw::Line) -> Line {
 }
 
 /// The words of a text. The first is for the address `origin`, a multiple of 4 up to 4096.
-pub fn assemble(text: &str, origin: u32) -> Result<Vec<u32>, Refused> {
+pub fn assemble(text: &str, origin: u32) -> Result<Vec<u32>, RspError> {
     right_version()?;
     let mut words = vec![0; 1024];
     let mut out = raw::Assembled::default();
     // SAFETY: each pointer is of a borrow, with its own length.
     let status = unsafe { raw::brsp_assemble(origin, text.as_ptr(), text.len(), words.as_mut_ptr(), words.len(), &mut out) };
     if status == NO_MEANING {
-        return Err(Refused::NoMeaning { line: out.line, fault: out.fault, operand: Operand::of(text, origin) });
+        return Err(RspError::NoMeaning { line: out.line, fault: out.fault, operand: Operand::of(text, origin) });
     }
     done(status)?;
     words.truncate(out.count);
@@ -29,7 +29,7 @@ pub fn assemble(text: &str, origin: u32) -> Result<Vec<u32>, Refused> {
 }
 
 /// The labels of a text with their addresses, in the order of their lines. `origin` is as for [`assemble`], which says why a text is refused.
-pub fn labels(text: &str, origin: u32) -> Result<Vec<(String, u16)>, Refused> {
+pub fn labels(text: &str, origin: u32) -> Result<Vec<(String, u16)>, RspError> {
     assemble(text, origin)?;
     let mut found = vec![raw::Label { address: 0, len: 0, name: [0; 36] }; text.lines().count()];
     let mut count = 0;
@@ -40,7 +40,7 @@ pub fn labels(text: &str, origin: u32) -> Result<Vec<(String, u16)>, Refused> {
 }
 
 /// The disassembly of a word for the address `place`, a multiple of 4 below 4096.
-pub fn text(word: u32, place: u32) -> Result<String, Refused> {
+pub fn text(word: u32, place: u32) -> Result<String, RspError> {
     right_version()?;
     let mut line = NO_LINE;
     // SAFETY: the pointer is of a borrow.

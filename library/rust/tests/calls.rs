@@ -1,6 +1,6 @@
 //! The calls in their ranges and out of them.
 
-use rsp::{assemble, text, version, Bank, Session, Changes, Field, Machine, MoveEnd, Reason, Refused, State, StepEnd, Stop, Traced};
+use rsp::{assemble, text, version, Bank, Session, Changes, Field, Machine, MoveEnd, Reason, RspError, State, StepEnd, Stop, Traced};
 use std::thread;
 
 fn loaded(source: &str, depth: u32) -> Machine {
@@ -13,9 +13,9 @@ fn loaded(source: &str, depth: u32) -> Machine {
 fn a_life() {
     assert_eq!(version(), 1);
     for length in [0, 63, 65, 68] {
-        assert_eq!(Machine::new(&vec![0; length], 0).err(), Some(Refused::OutOfRange));
+        assert_eq!(Machine::new(&vec![0; length], 0).err(), Some(RspError::OutOfRange));
     }
-    assert_eq!(Machine::new(&[0; 64], 4097).err(), Some(Refused::OutOfRange));
+    assert_eq!(Machine::new(&[0; 64], 4097).err(), Some(RspError::OutOfRange));
     for _ in 0..100 {
         Machine::new(&vec![0; 1 << 20], 4096).unwrap();
     }
@@ -32,11 +32,11 @@ fn copies() {
     let mut bytes = [0; 8];
     other.memory(Bank::Rdram, 4088, &mut bytes).unwrap();
     assert_eq!(&bytes, b"RDRAMend");
-    assert_eq!(other.back(1), Err(Refused::ShortHistory));
-    assert_eq!(other.drop_break(8), Err(Refused::NoBreak));
+    assert_eq!(other.back(1), Err(RspError::ShortHistory));
+    assert_eq!(other.drop_break(8), Err(RspError::NoBreak));
     assert_eq!(other.run(9).unwrap().reason, Reason::Halt);
     assert_eq!((other.reg(1), machine.reg(1)), (Ok(3), Ok(1)));
-    assert_eq!(other.back(3), Err(Refused::ShortHistory));
+    assert_eq!(other.back(3), Err(RspError::ShortHistory));
     assert_eq!(other.back(2), Ok(()));
     drop(machine);
     assert_eq!(other.reg(1), Ok(2));
@@ -75,13 +75,13 @@ fn one_thread_at_a_time() {
 #[test]
 fn passes_and_sp_registers() {
     let mut machine = loaded("mfc0 $3, $c7\nmtc0 $3, $c2\nnop\n", 0);
-    assert_eq!(machine.pass(0xfedc_ba98), Ok(StepEnd::Done));
+    assert_eq!(machine.pass_move(0xfedc_ba98), Ok(StepEnd::Done));
     assert_eq!((machine.reg(3), machine.peek(7)), (Ok(0xfedc_ba98), Ok(0)));
-    assert_eq!(machine.pass(0), Ok(StepEnd::Done));
+    assert_eq!(machine.pass_move(0), Ok(StepEnd::Done));
     assert_eq!((machine.reg(3), machine.peek(2), machine.regs().unwrap().pc), (Ok(0xfedc_ba98), Ok(0xff8), 8));
-    assert_eq!(machine.pass(0), Err(Refused::OutOfRange));
+    assert_eq!(machine.pass_move(0), Err(RspError::OutOfRange));
     machine.write(4, 2).unwrap();
-    assert_eq!(machine.pass(0), Ok(StepEnd::Halted));
+    assert_eq!(machine.pass_move(0), Ok(StepEnd::Halted));
     let mut given = machine.sp().unwrap();
     assert_eq!((given.words[4], given.words[2], given.interrupt), (1, 0xff8, 0));
     (given.words[0], given.words[4], given.words[7], given.words[15], given.interrupt) = (0x1ff8, 0x50e2, 1, 5, 1);
@@ -90,7 +90,7 @@ fn passes_and_sp_registers() {
     for (n, word) in [4, 1, 0, 0, 4, 1, 1, 2].into_iter().enumerate() {
         let mut bad = given;
         bad.words[n] = word;
-        assert_eq!(machine.set_sp(&bad), Err(Refused::OutOfRange));
+        assert_eq!(machine.set_sp(&bad), Err(RspError::OutOfRange));
     }
     assert_eq!(machine.sp(), Ok(given));
 }
@@ -98,11 +98,11 @@ fn passes_and_sp_registers() {
 #[test]
 fn moves() {
     let mut machine = loaded("ori $4, $0, 0x1238\nmfc0 $3, $c7\nmtc0 $4, $c2\nbreak\n", 4);
-    assert_eq!(machine.run_until_move(0, 0, 0), Err(Refused::OutOfRange));
-    assert_eq!(machine.run_until_move(1_000_001, 0, 0), Err(Refused::OutOfRange));
+    assert_eq!(machine.run_until_move(0, 0, 0), Err(RspError::OutOfRange));
+    assert_eq!(machine.run_until_move(1_000_001, 0, 0), Err(RspError::OutOfRange));
     let read = MoveEnd::Move { steps: 1, pc: 4, word: 0x4003_3800, number: 7, writes: false, value: 0 };
     assert_eq!(machine.run_until_move(100, 1 << 7, 1 << 2), Ok(read));
-    assert_eq!(machine.pass(5), Ok(StepEnd::Done));
+    assert_eq!(machine.pass_move(5), Ok(StepEnd::Done));
     let write = MoveEnd::Move { steps: 0, pc: 8, word: 0x4084_1000, number: 2, writes: true, value: 0x1238 };
     assert_eq!(machine.run_until_move(100, 0, 0xffff), Ok(write));
     let halt = MoveEnd::Stop(Stop { reason: Reason::Halt, steps: 2, pc: 16, word: None });
@@ -112,7 +112,7 @@ fn moves() {
 #[test]
 fn traces() {
     let mut machine = loaded("ori $1, $0, 0x8001\nsw $1, 0x1044($0)\nmtc2 $1, $v1[2]\nvaddc $v2, $v1, $v1\nbreak\n", 4);
-    assert_eq!(machine.trace(&mut []), Err(Refused::OutOfRange));
+    assert_eq!(machine.trace(&mut []), Err(RspError::OutOfRange));
     let mut entries = [Traced { stored: 9, ..Traced::default() }; 6];
     assert_eq!(machine.trace(&mut entries), Ok(Stop { reason: Reason::Halt, steps: 5, pc: 20, word: None }));
     let scalar = Traced { word: 0x3401_8001, scalar: 1, value: 0x8001, vector: 32, ..Traced::default() };
@@ -149,7 +149,7 @@ fn changes() {
 
 #[test]
 fn names() {
-    assert_eq!(Refused::ShortHistory.to_string(), "the history holds fewer states");
+    assert_eq!(RspError::ShortHistory.to_string(), "the history holds fewer states");
     assert_eq!(assemble("nop\nfoo\n", 0).unwrap_err().to_string(), "fault 11 UnknownName line 2");
     assert_eq!(Reason::Watch(3).to_string(), "WATCH");
     assert_eq!(Field::Sp(3).to_string(), "sp[3]");
@@ -159,22 +159,22 @@ fn names() {
 fn runs_and_stops() {
     let mut machine = loaded("addiu $1, $0, 3\nloop: addiu $1, $1, -1\nsw $1, 64($0)\nbne $1, $0, loop\nnop\nbreak\n", 8);
     assert_eq!(machine.step(), Ok(StepEnd::Done));
-    assert_eq!(machine.back(2), Err(Refused::ShortHistory));
-    assert_eq!(machine.back(0), Err(Refused::OutOfRange));
+    assert_eq!(machine.back(2), Err(RspError::ShortHistory));
+    assert_eq!(machine.back(0), Err(RspError::OutOfRange));
     assert_eq!(machine.back(1), Ok(()));
-    assert_eq!(machine.run(0).err(), Some(Refused::OutOfRange));
+    assert_eq!(machine.run(0).err(), Some(RspError::OutOfRange));
     machine.add_break(16).unwrap();
-    assert_eq!(machine.add_break(16), Err(Refused::BreakTwice));
-    assert_eq!(machine.add_break(17), Err(Refused::OutOfRange));
+    assert_eq!(machine.add_break(16), Err(RspError::BreakTwice));
+    assert_eq!(machine.add_break(17), Err(RspError::OutOfRange));
     let stop = machine.run(100).unwrap();
     assert_eq!((stop.reason, stop.steps, stop.pc), (Reason::Break, 4, 16));
     machine.drop_break(16).unwrap();
-    assert_eq!(machine.drop_break(16), Err(Refused::NoBreak));
+    assert_eq!(machine.drop_break(16), Err(RspError::NoBreak));
     assert_eq!(machine.add_watch(64, 4), Ok(0));
-    assert_eq!(machine.add_watch(4095, 2), Err(Refused::OutOfRange));
+    assert_eq!(machine.add_watch(4095, 2), Err(RspError::OutOfRange));
     assert_eq!(machine.run(100).unwrap().reason, Reason::Watch(0));
     machine.drop_watch(0).unwrap();
-    assert_eq!(machine.drop_watch(u32::MAX), Err(Refused::NoWatch));
+    assert_eq!(machine.drop_watch(u32::MAX), Err(RspError::NoWatch));
     assert_eq!(machine.run(100).unwrap().reason, Reason::Halt);
     assert_eq!(machine.step(), Ok(StepEnd::Halted));
     machine.write(4, 1).unwrap();
@@ -186,15 +186,15 @@ fn runs_and_stops() {
     let stop = machine.run(5).unwrap();
     assert_eq!((stop.reason, stop.word), (Reason::Halt, None));
     machine.write(4, 1).unwrap();
-    assert_eq!(machine.start_task(4), Err(Refused::TaskPlace));
-    assert_eq!(machine.start_task(0), Err(Refused::TaskSize));
+    assert_eq!(machine.start_task(4), Err(RspError::TaskPlace));
+    assert_eq!(machine.start_task(0), Err(RspError::TaskSize));
 }
 
 #[test]
 fn states_and_memories() {
     let mut machine = loaded("nop\nbreak\n", 0);
     let mut state = State { npc: 4, ..State::default() };
-    assert_eq!(machine.set(&state), Err(Refused::OutOfRange));
+    assert_eq!(machine.set(&state), Err(RspError::OutOfRange));
     (state.sp[2], state.sp[3]) = (0xff8, 0xff8);
     assert_eq!(machine.set(&state), Ok(()));
     (state.words[31], state.vectors[31][7], state.accumulators.low[7], state.sp[15]) = (1, 2, 3, 4);
@@ -211,7 +211,7 @@ fn states_and_memories() {
     assert_eq!(faulty(|bad| bad.words[0] = 1), Some(Field::Zero));
     assert_eq!(faulty(|bad| bad.divider.loaded = 2), Some(Field::Loaded));
     assert_eq!(machine.reg(31), Ok(1));
-    assert_eq!(machine.reg(32), Err(Refused::OutOfRange));
+    assert_eq!(machine.reg(32), Err(RspError::OutOfRange));
     assert_eq!(machine.vreg(31).unwrap()[7], 2);
     assert_eq!(machine.acc().unwrap().low[7], 3);
     assert_eq!(machine.peek(15), Ok(4));
@@ -223,16 +223,16 @@ fn states_and_memories() {
     machine.load(Bank::Rdram, 1000, &[7; 3000]).unwrap();
     machine.memory(Bank::Rdram, 1001, &mut bytes).unwrap();
     assert_eq!((bytes[0], bytes[2998], bytes[2999]), (7, 7, 0));
-    assert_eq!(machine.memory(Bank::Rdram, 1097, &mut bytes), Err(Refused::OutOfRange));
-    assert_eq!(machine.load(Bank::Dmem, u32::MAX, &[]), Err(Refused::OutOfRange));
+    assert_eq!(machine.memory(Bank::Rdram, 1097, &mut bytes), Err(RspError::OutOfRange));
+    assert_eq!(machine.load(Bank::Dmem, u32::MAX, &[]), Err(RspError::OutOfRange));
     let mut words = [0; 2];
     machine.load_words(Bank::Dmem, 8, &[0x0102_0304, 0x0506_0708]).unwrap();
     machine.memory_words(Bank::Dmem, 9, &mut words).unwrap();
     assert_eq!(words, [0x0203_0405, 0x0607_0800]);
-    assert_eq!(machine.memory_words(Bank::Rdram, 4089, &mut words), Err(Refused::OutOfRange));
+    assert_eq!(machine.memory_words(Bank::Rdram, 4089, &mut words), Err(RspError::OutOfRange));
     assert_eq!(machine.memory_words(Bank::Dmem, 4096, &mut []), Ok(()));
     assert_eq!(words, [0x0203_0405, 0x0607_0800]);
-    assert_eq!(machine.set_pc(4096), Err(Refused::OutOfRange));
+    assert_eq!(machine.set_pc(4096), Err(RspError::OutOfRange));
     assert_eq!(machine.set_pc(4), Ok(()));
 }
 
@@ -245,11 +245,11 @@ fn single_registers() {
     assert_eq!(machine.set_reg(31, u32::MAX), Ok(()));
     assert_eq!(machine.set_vreg(31, [1, 2, 3, 4, 5, 6, 7, 65535]), Ok(()));
     assert_eq!((machine.set_reg(0, 0), machine.get()), (Ok(()), Ok(wanted)));
-    assert_eq!(machine.back(1), Err(Refused::ShortHistory));
+    assert_eq!(machine.back(1), Err(RspError::ShortHistory));
     for (n, value) in [(0, 1), (32, 0), (u32::MAX, 0)] {
-        assert_eq!(machine.set_reg(n, value), Err(Refused::OutOfRange));
+        assert_eq!(machine.set_reg(n, value), Err(RspError::OutOfRange));
     }
-    assert_eq!(machine.set_vreg(32, [0; 8]), Err(Refused::OutOfRange));
+    assert_eq!(machine.set_vreg(32, [0; 8]), Err(RspError::OutOfRange));
     assert_eq!(machine.get(), Ok(wanted));
 }
 
@@ -269,7 +269,7 @@ fn bytes_of_states() {
 
 #[test]
 fn texts() {
-    assert_eq!(assemble("nop\nfoo\n", 0), Err(Refused::NoMeaning { line: 2, fault: 11, operand: None }));
+    assert_eq!(assemble("nop\nfoo\n", 0), Err(RspError::NoMeaning { line: 2, fault: 11, operand: None }));
     let refused = assemble("nop\nlqv $v1[0], 0x460($0)\n", 0).unwrap_err();
     assert_eq!(refused.to_string(), "fault 13 OutOfRange line 2; operand 2 may be -1024 to 1008, a multiple of 16");
     let refused = assemble("j nowhere\n", 0).unwrap_err();
@@ -281,13 +281,13 @@ fn texts() {
     );
     let refused = assemble("vrcp $v1, $v2[0]\n", 0).unwrap_err();
     assert_eq!(refused.to_string(), "fault 12 BadOperand line 1; operand 1 may be a vector register, $v0 to $v31, with a lane, [0] to [7]");
-    assert_eq!(assemble("nop", 2), Err(Refused::OutOfRange));
+    assert_eq!(assemble("nop", 2), Err(RspError::OutOfRange));
     assert_eq!(text(0x4a63_1050, 4).as_deref(), Ok("vadd $v1, $v2, $v3[1q]"));
-    assert_eq!(text(0, 4096), Err(Refused::OutOfRange));
+    assert_eq!(text(0, 4096), Err(RspError::OutOfRange));
     let machine = loaded("nop\nbreak\n", 0);
     let lines = machine.listing(0, 2).unwrap();
     assert_eq!((lines[1].place, lines[1].word, lines[1].text.as_str()), (4, 13, "break"));
-    assert_eq!(machine.listing(4092, 2), Err(Refused::OutOfRange));
-    assert_eq!(machine.listing(0, 1025), Err(Refused::OutOfRange));
-    assert_eq!(machine.listing(u32::MAX, 0), Err(Refused::OutOfRange));
+    assert_eq!(machine.listing(4092, 2), Err(RspError::OutOfRange));
+    assert_eq!(machine.listing(0, 1025), Err(RspError::OutOfRange));
+    assert_eq!(machine.listing(u32::MAX, 0), Err(RspError::OutOfRange));
 }

@@ -1,51 +1,51 @@
 //! Runs to events, DMAs that a caller moves, the length of the history, and labels.
 
-use rsp::{assemble, labels, Bank, Dma, Machine, MoveEnd, Reason, Refused, StepEnd};
+use rsp::{assemble, labels, Bank, Dma, Machine, MoveEnd, Reason, RspError, StepEnd};
 
 const TEXT: &str = "start: ori $1, $0, 0x1f80\nmtc0 $1, $c0\nori $2, $0, 0x200\nmtc0 $2, $c1\nlui $3, 0x0180\nori $3, $3, 0x1007\n\
     mfc0 $4, $c6\ntransfer: mtc0 $3, $c3\nend: break\n";
 
-fn machine() -> Result<Machine, Refused> {
+fn machine() -> Result<Machine, RspError> {
     let mut machine = Machine::new(&[0; 4096], 8)?;
     machine.load_words(Bank::Imem, 0, &assemble(TEXT, 0)?)?;
     Ok(machine)
 }
 
 #[test]
-fn events_are_described() -> Result<(), Refused> {
+fn events_are_described() -> Result<(), RspError> {
     let mut machine = machine()?;
     let event = machine.event(6, 0, 0)?;
     assert!(matches!(event.at, MoveEnd::Stop(stop) if stop.reason == Reason::Limit && stop.steps == 6));
     assert_eq!((event.dma, event.status, event.interrupt, machine.history()?), (None, 0, false, 6));
     let event = machine.event(5, 1 << 6, 0)?;
     assert!(matches!(event.at, MoveEnd::Move { steps: 0, number: 6, writes: false, .. }) && event.dma.is_none());
-    machine.pass(5)?;
+    machine.pass_move(5)?;
     let event = machine.event(1, 0, 0)?;
     assert!(matches!(event.at, MoveEnd::Move { steps: 0, number: 3, writes: true, value: 0x0180_1007, .. }));
     let dma = Dma { bank: 1, address: 0xf80, rdram: 0x200, length: 8, rows: 2, skip: 24, to_rdram: 1 };
     assert_eq!(event.dma, Some(dma));
-    assert_eq!(machine.event(0, 0, 0), Err(Refused::OutOfRange));
+    assert_eq!(machine.event(0, 0, 0), Err(RspError::OutOfRange));
     Ok(())
 }
 
 #[test]
-fn a_passed_dma_is_the_step_but_for_the_bytes() -> Result<(), Refused> {
+fn a_passed_dma_is_the_step_but_for_the_bytes() -> Result<(), RspError> {
     let mut machine = machine()?;
     machine.run(7)?;
     let mut other = machine.copy()?;
     assert_eq!((machine.pass_dma()?, other.step()?), (StepEnd::Done, StepEnd::Done));
     assert!(machine.get()? == other.get()? && machine.history()? == 0);
-    assert_eq!(machine.pass_dma(), Err(Refused::OutOfRange));
+    assert_eq!(machine.pass_dma(), Err(RspError::OutOfRange));
     machine.run(1)?;
     assert_eq!(machine.pass_dma()?, StepEnd::Halted);
     Ok(())
 }
 
 #[test]
-fn labels_have_their_addresses() -> Result<(), Refused> {
+fn labels_have_their_addresses() -> Result<(), RspError> {
     let found = labels(TEXT, 0x100)?;
     let wanted = [("start", 0x100), ("transfer", 0x11c), ("end", 0x120)].map(|(name, at)| (name.to_string(), at));
     assert_eq!(found, wanted);
-    assert!(labels("nop", 0)?.is_empty() && matches!(labels("j x", 0), Err(Refused::NoMeaning { line: 1, .. })));
+    assert!(labels("nop", 0)?.is_empty() && matches!(labels("j x", 0), Err(RspError::NoMeaning { line: 1, .. })));
     Ok(())
 }

@@ -1,6 +1,6 @@
 //! What users read: states, lines and refusals as text, and enums from numbers.
 
-use rsp::{assemble, Bank, Fault, Machine, Refused, Scalars, State};
+use rsp::{assemble, Bank, Fault, Machine, RspError, Scalars, State};
 use std::error::Error;
 use std::mem::size_of;
 use std::ptr::{addr_of, addr_of_mut};
@@ -89,7 +89,7 @@ fn refusals() {
     let refused = machine.back(1).unwrap_err();
     assert_eq!(refused.to_string(), "the history holds fewer states");
     assert!(refused.source().is_none());
-    assert_eq!(Refused::Version(2).to_string(), "the interface of the library has version 2, not 1");
+    assert_eq!(RspError::Version(2).to_string(), "the interface of the library has version 2, not 1");
     assert_eq!(machine.add_break(2).unwrap_err().to_string(), "a number, a length or a count is out of its range");
     assert_eq!(machine.run(5).unwrap().to_string(), "5 steps to pc 014: all steps are made");
 }

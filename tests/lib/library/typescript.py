@@ -3,9 +3,9 @@
 from lib import TOP
 
 USE = """
-import { Bank, DMEM, FAULTS, IMEM, Reason, Rsp, RspError, State, Status } from "rsp";
+import { Bank, DMEM, FAULTS, IMEM, Reason, Machine, RspError, State, Status } from "rsp";
 import { Session, assemble, first_difference, run_script } from "rsp";
-const machine: Rsp = new Rsp(new Uint8Array(64).buffer, 100), other: Rsp = machine.copy();
+const machine: Machine = new Machine(new Uint8Array(64).buffer, 100), other: Machine = machine.copy();
 machine.load_words(IMEM, 0, assemble("nop"));
 const state: State = new State({ pc: 4, words: new Uint32Array(32) });
 machine.set(state);

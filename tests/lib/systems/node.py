@@ -19,7 +19,7 @@ OLDEST, PLAIN = (
 )  # the Node that has 64-bit memories with tables by a flag, and that which has them without
 FLAG = "--experimental-wasm-memory64"
 WITHOUT = "rsp needs WebAssembly with 64-bit memories: Chrome and Edge have them since 133, Firefox since 134"
-USE = 'import { Reason, Rsp } from "rsp"; console.log(Reason[new Rsp().run(5).reason]);'
+USE = 'import { Reason, Machine } from "rsp"; console.log(Reason[new Machine().run(5).reason]);'
 PAGES = places.TOP / "tests/systems/wasm"
 
 

@@ -62,7 +62,7 @@ static void without_machine(void)
         SEE(brsp_load(m, 9, ANY, &byte, 1) == BRSP_NO_MACHINE);
         SEE(brsp_load_words(m, 0, 0, &word, 1) == BRSP_NO_MACHINE);
         SEE(brsp_memory(m, 0, 0, &byte, 1) == BRSP_NO_MACHINE);
-        SEE(brsp_task(m, 0) == BRSP_NO_MACHINE);
+        SEE(brsp_start_task(m, 0) == BRSP_NO_MACHINE);
         SEE(brsp_set_pc(m, 0) == BRSP_NO_MACHINE);
         SEE(brsp_set_pc(m, 1) == BRSP_NO_MACHINE);
         SEE(brsp_step(m) == BRSP_NO_MACHINE);
@@ -94,7 +94,7 @@ static void without_machine(void)
         SEE(brsp_memory_words(m, 9, ANY, &word, SIZE_MAX) == BRSP_NO_MACHINE);
         SEE(brsp_sp(m, &sp) == BRSP_NO_MACHINE);
         SEE(brsp_set_sp(m, &sp) == BRSP_NO_MACHINE);
-        SEE(brsp_pass(m, 1) == BRSP_NO_MACHINE);
+        SEE(brsp_pass_move(m, 1) == BRSP_NO_MACHINE);
         SEE(brsp_pass_dma(m) == BRSP_NO_MACHINE);
         SEE(brsp_history(m, &number) == BRSP_NO_MACHINE && number == 0);
         SEE(brsp_copy(&to, m) == BRSP_NO_MACHINE && to.at == NULL);
@@ -402,19 +402,19 @@ static void passes(void)
     uint32_t word = 0;
     SEE(brsp_new(&m, image, 64, 4) == BRSP_OK);
     load(&m, "nop\nmfc0 $3, $c7\nmtc0 $3, $c2\nmfc0 $0, $c4\nnop\nbreak\n");
-    SEE(brsp_pass(&m, 9) == BRSP_OUT_OF_RANGE && brsp_step(&m) == BRSP_OK);
-    SEE(brsp_pass(&m, 0xfedcba98u) == BRSP_OK); /* takes no semaphore */
+    SEE(brsp_pass_move(&m, 9) == BRSP_OTHER_WORD && brsp_step(&m) == BRSP_OK);
+    SEE(brsp_pass_move(&m, 0xfedcba98u) == BRSP_OK); /* takes no semaphore */
     SEE(brsp_regs(&m, &scalars) == BRSP_OK && scalars.pc == 8 && scalars.npc == 12 && scalars.words[3] == 0xfedcba98u);
     SEE(brsp_peek(&m, 7, &word) == BRSP_OK && word == 0);
     SEE(brsp_back(&m, 1) == BRSP_SHORT_HISTORY);
-    SEE(brsp_pass(&m, 1) == BRSP_OK); /* no DMA, and no register is written */
+    SEE(brsp_pass_move(&m, 1) == BRSP_OK); /* no DMA, and no register is written */
     SEE(brsp_regs(&m, &scalars) == BRSP_OK && scalars.pc == 12 && scalars.words[3] == 0xfedcba98u && scalars.words[1] == 0);
     SEE(brsp_peek(&m, 2, &word) == BRSP_OK && word == 0xff8);
     SEE(brsp_write(&m, 4, 0x40) == BRSP_OK); /* sets single step */
-    SEE(brsp_pass(&m, 5) == BRSP_OK && brsp_reg(&m, 0, &word) == BRSP_OK && word == 0);
+    SEE(brsp_pass_move(&m, 5) == BRSP_OK && brsp_reg(&m, 0, &word) == BRSP_OK && word == 0);
     SEE(brsp_peek(&m, 4, &word) == BRSP_OK && word == 0x21); /* it has halted */
-    SEE(brsp_pass(&m, 5) == BRSP_HALTED && brsp_regs(&m, &scalars) == BRSP_OK && scalars.pc == 16);
-    SEE(brsp_set_pc(&m, 4) == BRSP_OK && brsp_pass(&m, 5) == BRSP_HALTED);
+    SEE(brsp_pass_move(&m, 5) == BRSP_HALTED && brsp_regs(&m, &scalars) == BRSP_OK && scalars.pc == 16);
+    SEE(brsp_set_pc(&m, 4) == BRSP_OK && brsp_pass_move(&m, 5) == BRSP_HALTED);
     brsp_free(&m);
 }
 
@@ -462,12 +462,12 @@ static void events(void)
     SEE(brsp_event(&m, 0, 0, 0, &event) == BRSP_OUT_OF_RANGE && brsp_event(&m, 1000001, 0, 0, &event) == BRSP_OUT_OF_RANGE);
     SEE(brsp_event(&m, 1, 65536, 0, &event) == BRSP_OUT_OF_RANGE && brsp_event(&m, 1, 0, 65536, &event) == BRSP_OUT_OF_RANGE);
     SEE(brsp_event(&m, ANY, ANY, ANY, &event) == BRSP_OUT_OF_RANGE && !memcmp(&event, &kept, sizeof event));
-    SEE(brsp_pass_dma(&m) == BRSP_OUT_OF_RANGE && brsp_history(&m, &number) == BRSP_OK && number == 0);
+    SEE(brsp_pass_dma(&m) == BRSP_OTHER_WORD && brsp_history(&m, &number) == BRSP_OK && number == 0);
     SEE(brsp_event(&m, 7, 0, 0, &event) == BRSP_OK && event.at.stop.reason == BRSP_AT_LIMIT && event.at.stop.steps == 7 && event.at.stop.pc == 28); /* a DMA is next */
     SEE(event.at.word == 0 && event.at.number == 0 && event.at.writes == 0 && event.at.value == 0 && event.dma.length == 0 && event.dma.rows == 0 && event.status == 0 && event.interrupt == 0);
     SEE(brsp_history(&m, &number) == BRSP_OK && number == 7 && brsp_back(&m, 7) == BRSP_OK && brsp_history(&m, &number) == BRSP_OK && number == 0);
     SEE(brsp_event(&m, 8, 1 << 6, 0, &event) == BRSP_OK && event.at.stop.reason == BRSP_AT_MOVE && event.at.stop.steps == 6 && event.at.number == 6 && event.at.writes == 0 && event.dma.length == 0);
-    SEE(brsp_pass(&m, 77) == BRSP_OK && brsp_event(&m, 1, 0, 0, &event) == BRSP_OK && event.at.stop.reason == BRSP_AT_DMA && event.at.stop.steps == 0 && event.at.stop.pc == 28);
+    SEE(brsp_pass_move(&m, 77) == BRSP_OK && brsp_event(&m, 1, 0, 0, &event) == BRSP_OK && event.at.stop.reason == BRSP_AT_DMA && event.at.stop.steps == 0 && event.at.stop.pc == 28);
     SEE(event.at.word == 0x40831800u && event.at.number == 3 && event.at.writes == 1 && event.at.value == 0x01807007u && event.at.stop.watch == 0 && event.at.stop.word == 0);
     SEE(event.dma.bank == BRSP_IMEM && event.dma.address == 0xf80 && event.dma.rdram == 0xff0000 && event.dma.length == 8 && event.dma.rows == 8 && event.dma.skip == 24 && event.dma.to_rdram == 1);
     SEE(brsp_write(&m, 4, 0x410) == BRSP_OK && brsp_event(&m, 1, 0, ANY >> 16, &event) == BRSP_OK && event.status == 0x80 && event.interrupt == 1);
@@ -477,7 +477,7 @@ static void events(void)
     SEE(brsp_peek(&m, 2, &word) == BRSP_OK && word == 0x1800ff8 && brsp_peek(&m, 3, &word) == BRSP_OK && word == 0x1800ff8);
     SEE(brsp_write(&m, 4, 0x40) == BRSP_OK && brsp_pass_dma(&m) == BRSP_OK && brsp_pass_dma(&m) == BRSP_HALTED); /* single step */
     SEE(brsp_regs(&m, &scalars) == BRSP_OK && scalars.pc == 36 && scalars.npc == 40 && scalars.words[4] == 77);
-    SEE(brsp_write(&m, 4, 0x21) == BRSP_OK && brsp_pass_dma(&m) == BRSP_OUT_OF_RANGE && brsp_run(&m, 5, &stop) == BRSP_OK && stop.steps == 1);
+    SEE(brsp_write(&m, 4, 0x21) == BRSP_OK && brsp_pass_dma(&m) == BRSP_OTHER_WORD && brsp_run(&m, 5, &stop) == BRSP_OK && stop.steps == 1);
     SEE(brsp_history(&m, &number) == BRSP_OK && number == 1 && brsp_event(&m, 5, 0, 0, &event) == BRSP_OK && event.at.stop.reason == BRSP_AT_HALT && event.status == 0x83);
     brsp_free(&m);
 }
@@ -622,11 +622,11 @@ static void tasks(void)
     ram[64 + 12 + 3] = 8;  /* and has 8 bytes */
     memcpy(ram + 128, "\x34\x02\x12\x34\0\0\0\x0d", 8);
     SEE(brsp_new(&m, ram, sizeof ram, 0) == BRSP_OK);
-    SEE(brsp_task(&m, 4) == BRSP_TASK_PLACE);
-    SEE(brsp_task(&m, 200) == BRSP_TASK_PLACE);
-    SEE(brsp_task(&m, ANY) == BRSP_TASK_PLACE);
-    SEE(brsp_task(&m, 0) == BRSP_TASK_SIZE);
-    SEE(brsp_task(&m, 64) == BRSP_OK);
+    SEE(brsp_start_task(&m, 4) == BRSP_TASK_PLACE);
+    SEE(brsp_start_task(&m, 200) == BRSP_TASK_PLACE);
+    SEE(brsp_start_task(&m, ANY) == BRSP_TASK_PLACE);
+    SEE(brsp_start_task(&m, 0) == BRSP_TASK_SIZE);
+    SEE(brsp_start_task(&m, 64) == BRSP_OK);
     SEE(brsp_memory(&m, BRSP_DMEM, 0xfc8, bytes, 4) == BRSP_OK && bytes[3] == 128);
     SEE(brsp_step(&m) == BRSP_OK && brsp_reg(&m, 2, &word) == BRSP_OK && word == 0x1234);
     SEE(brsp_step(&m) == BRSP_OK && brsp_step(&m) == BRSP_HALTED);

@@ -37,7 +37,7 @@ static void test_run()
     see("a step", m.step() == BRSP_OK && m.reg(2) == 0x1234);
     brsp_move at = m.run_until_move(100, 1 << 8, 0);
     see("a move", at.stop.reason == BRSP_AT_MOVE && at.stop.steps == 1 && at.number == 8 && !at.writes);
-    m.pass(0x5678);
+    m.pass_move(0x5678);
     see("what it gave", m.reg(3) == 0x5678);
     brsp_stop stop = m.run(100);
     see("the halt", stop.reason == BRSP_AT_HALT && stop.steps == 1 && stop.pc == 16 && m.step() == BRSP_HALTED);
@@ -80,7 +80,7 @@ static void test_states()
     see("a copy is another machine", copy.reg(5) == 77 && m.memory(BRSP_DMEM, 0, 2) == machine::bytes(2));
     see("a call of brsp.h", brsp_add_break(m.handle(), 8) == BRSP_OK && brsp_add_break(m.handle(), 8) == BRSP_BREAK_TWICE);
     brsp_state before = m.get();
-    see("refused", refuses(BRSP_TASK_SIZE, "TASK_SIZE", [&] { m.task(0); }) && refuses(BRSP_OUT_OF_RANGE, "OUT_OF_RANGE", [&] { m.set_pc(2); }));
+    see("refused", refuses(BRSP_TASK_SIZE, "TASK_SIZE", [&] { m.start_task(0); }) && refuses(BRSP_OUT_OF_RANGE, "OUT_OF_RANGE", [&] { m.set_pc(2); }));
     brsp_state after = m.get();
     see("a refused call changes nothing", before.pc == after.pc && before.words[5] == after.words[5]);
 }

@@ -256,7 +256,7 @@ static void refused_calls(brsp_machine *m)
     REFUSED(brsp_load_words(m, BRSP_DMEM, 0, words, 1025));
     REFUSED(brsp_memory(m, BRSP_RDRAM, 64, &byte, 1));
     REFUSED(brsp_memory_words(m, BRSP_DMEM, 0, words, 1025));
-    REFUSED(brsp_task(m, 1));
+    REFUSED(brsp_start_task(m, 1));
     REFUSED(brsp_set_pc(m, 2));
     REFUSED(brsp_run(m, 0, &stop));
     REFUSED(brsp_run_until_move(m, 1, 65536, 0, &move));
@@ -264,7 +264,7 @@ static void refused_calls(brsp_machine *m)
     REFUSED(brsp_back(m, 0));
     REFUSED(brsp_back(m, 1000000));
     REFUSED(brsp_event(m, 1, 65536, 0, &reached));
-    REFUSED(brsp_pass(m, 1));
+    REFUSED(brsp_pass_move(m, 1));
     REFUSED(brsp_pass_dma(m));
     REFUSED(brsp_add_break(m, 4096));
     REFUSED(brsp_drop_break(m, 4));
@@ -309,7 +309,7 @@ static void other_calls(brsp_machine *m)
         NONE(brsp_memory(m, k, 0, bytes, 4096));
         NONE(brsp_memory_words(m, k, 0, words, 1024));
     }
-    NONE(brsp_task(m, 0));
+    NONE(brsp_start_task(m, 0));
     NONE(brsp_set_pc(m, 0));
     NONE(brsp_step(m));
     NONE(brsp_step_changes(m, &changes));
@@ -319,7 +319,7 @@ static void other_calls(brsp_machine *m)
     NONE(brsp_trace(m, entries, 64, &stop));
     NONE(brsp_back(m, 50));
     NONE(brsp_event(m, 1000, 0xffff, 0xffff, &reached));
-    NONE(brsp_pass(m, 1));
+    NONE(brsp_pass_move(m, 1));
     NONE(brsp_pass_dma(m));
     NONE(brsp_history(m, &number));
     for (k = 0; k < 17; k++) NONE(brsp_add_break(m, 4 * k));

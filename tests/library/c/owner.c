@@ -1,5 +1,5 @@
 /* A program that owns the RDRAM and the SP registers, except SP_STATUS, runs a task on a machine whose image nobody reads: it answers each
- * transfer by brsp_run_until_move and brsp_pass, and moves the bytes of each DMA itself. It ends with the memories and the scalar registers of a
+ * transfer by brsp_run_until_move and brsp_pass_move, and moves the bytes of each DMA itself. It ends with the memories and the scalar registers of a
  * machine that has the RDRAM inside and runs alone. SP_STATUS is the machine's, because BREAK and single step change it too.
  * The last line is `N passed, M failed`. */
 #include "brsp.h"
@@ -77,7 +77,7 @@ static int run_to_halt(void)
         uint32_t value = at.writes ? 0 : read_register(at.number);
         if (at.number != SP_STATUS && at.writes) write_register(at.number, at.value);
         if (at.number == SP_STATUS) brsp_step(&m);
-        else brsp_pass(&m, value);
+        else brsp_pass_move(&m, value);
         transfers++;
     }
     see("the task halts", at.stop.reason == BRSP_AT_HALT);
@@ -140,7 +140,7 @@ static void test_halts(void)
     see("what the microcode read", !memcmp(now.words + 2, read, sizeof read));
 }
 
-/* A program that sets SP registers after a transfer: the halt of single step stays if brsp_sp comes after brsp_pass, and is lost otherwise. */
+/* A program that sets SP registers after a transfer: the halt of single step stays if brsp_sp comes after brsp_pass_move, and is lost otherwise. */
 static void test_order(void)
 {
     brsp_sp_words words;
@@ -148,7 +148,7 @@ static void test_order(void)
     for (int is_right = 0; is_right < 2; is_right++) {
         see("single step", brsp_set_pc(&m, 0) == BRSP_OK && brsp_write(&m, SP_STATUS, CLEAR_HALTED | 0x40) == BRSP_OK);
         if (!is_right) brsp_sp(&m, &words);
-        see("the transfer", brsp_pass(&m, 0) == BRSP_OK);
+        see("the transfer", brsp_pass_move(&m, 0) == BRSP_OK);
         if (is_right) brsp_sp(&m, &words);
         words.words[8] = 0x1000;
         see("the registers", brsp_set_sp(&m, &words) == BRSP_OK && brsp_sp(&m, &words) == BRSP_OK && words.words[8] == 0x1000);

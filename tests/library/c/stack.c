@@ -52,12 +52,12 @@ static void load(void) { word = brsp_load(&m, BRSP_DMEM, 0, bytes, 4096); }
 static void memory(void) { word = brsp_memory(&m, BRSP_DMEM, 0, bytes, 4096); }
 static void load_words(void) { word = brsp_load_words(&m, BRSP_IMEM, 0, words, 1024); }
 static void memory_words(void) { word = brsp_memory_words(&m, BRSP_IMEM, 0, words, 1024); }
-static void task(void) { word = brsp_task(&m, 0); }
+static void task(void) { word = brsp_start_task(&m, 0); }
 static void set_pc(void) { word = brsp_set_pc(&m, 0); }
 static void step(void) { word = brsp_step(&m); }
 static void changed(void) { word = brsp_step_changes(&m, &changes); }
 static void back(void) { word = brsp_back(&m, 1); }
-static void pass(void) { word = brsp_pass(&m, 1); }
+static void pass(void) { word = brsp_pass_move(&m, 1); }
 static void run(void) { word = brsp_run(&m, 100000, &stop); }
 static void run_until_move(void) { word = brsp_run_until_move(&m, 100000, 1, 0, &move); }
 static void event(void) { word = brsp_event(&m, 100000, 0xffff, 0xffff, &reached); }
@@ -111,10 +111,10 @@ static const struct {
     { "brsp_trace", traced },
     { "brsp_back", back }, { "brsp_add_watch", add_watch }, { "brsp_add_break", add_break }, { "brsp_run with both", run },
     { "brsp_drop_break", drop_break }, { "brsp_drop_watch", drop_watch }, { "brsp_copy", copied }, { "brsp_free", freed }, { "brsp_get", get },
-    { "brsp_set", set }, { "brsp_state_fault", fault }, { "brsp_set_pc", set_pc }, { "brsp_pass", pass }, { "brsp_reg", reg }, { "brsp_regs", regs },
+    { "brsp_set", set }, { "brsp_state_fault", fault }, { "brsp_set_pc", set_pc }, { "brsp_pass_move", pass }, { "brsp_reg", reg }, { "brsp_regs", regs },
     { "brsp_vreg", vreg }, { "brsp_acc", acc }, { "brsp_flags", flag }, { "brsp_divider", divide }, { "brsp_peek", peek }, { "brsp_read", taken },
     { "brsp_write", transfer }, { "brsp_sp", sp_words }, { "brsp_set_sp", set_sp }, { "brsp_text", disassemble }, { "brsp_listing", listing },
-    { "brsp_task", task }, { "brsp_session_new", session }, { "brsp_session_take of lines", open_block }, { "brsp_session_take of end", close_block },
+    { "brsp_start_task", task }, { "brsp_session_new", session }, { "brsp_session_take of lines", open_block }, { "brsp_session_take of end", close_block },
     { "brsp_session_take of run", session_run }, { "brsp_session_take of looks", session_looks }, { "brsp_session_memory", session_memory },
     { "brsp_session_end", session_end }, { "brsp_session_free", session_free }
 };

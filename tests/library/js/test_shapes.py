@@ -82,7 +82,7 @@ def test_numbers_and_calls(told: Dict[str, Any]) -> None:
     fields = {FIELDS[name]: number for name, number in shapes.FIELDS.items()}
     fields.update({f"sp[{n}]": fields["sp[0]"] + n for n in range(8)})
     assert {it: int(n) for n, it in told["FIELDS"].items()} == fields
-    known = python_names("Rsp") | {"Rsp", "assemble", "text", "first_difference"}
+    known = python_names("Machine") | {"Machine", "assemble", "text", "first_difference"}
     assert {*told["calls"]} - known == set()
 
 
@@ -115,7 +115,7 @@ def test_declared_numbers() -> None:
     assert enum_of("Reason") == shapes.REASONS
 
 
-@pytest.mark.parametrize("name", ("Rsp", "Session"))
+@pytest.mark.parametrize("name", ("Machine", "Session"))
 def test_declared_methods(name: str) -> None:
     """They are those of Python."""
     assert methods_of(name) - JAVASCRIPT_ALONE == python_names(name) - PYTHON_ALONE

@@ -9,10 +9,10 @@ const TRACED = "ori $1, $0, 0x8001\nsw $1, 0x1044($0)\nmtc2 $1, $v1[2]\nvaddc $v
 /** A stop, but for what a run says. */
 const AT = { reason: 0, steps: 0, pc: 0, watch: null, word: null, move: null };
 
-let rsp, report, OUT, Status, Reason, Rsp, see, same, refused;
+let rsp, report, OUT, Status, Reason, Machine, see, same, refused;
 
 function loaded(source, depth = 0) {
-  const machine = new Rsp(new Uint8Array(4096), depth);
+  const machine = new Machine(new Uint8Array(4096), depth);
   machine.load_words(rsp.IMEM, 0, rsp.assemble(source));
   return machine;
 }
@@ -20,11 +20,11 @@ function loaded(source, depth = 0) {
 const bytes = (text) => new TextEncoder().encode(text);
 
 function lives() {
-  for (const length of [0, 63, 65, 68, (1 << 23) + 8]) refused(OUT, () => new Rsp(new Uint8Array(length)));
-  for (const depth of [4097, -1, 2 ** 32]) refused(OUT, () => new Rsp(new Uint8Array(64), depth));
-  refused(TypeError, () => new Rsp("image"), "Rsp: image is of type string");
-  refused(TypeError, () => new Rsp(new Uint8Array(64), 1.5), "depth is 1.5, not an integer");
-  const machine = new Rsp();
+  for (const length of [0, 63, 65, 68, (1 << 23) + 8]) refused(OUT, () => new Machine(new Uint8Array(length)));
+  for (const depth of [4097, -1, 2 ** 32]) refused(OUT, () => new Machine(new Uint8Array(64), depth));
+  refused(TypeError, () => new Machine("image"), "Machine: image is of type string");
+  refused(TypeError, () => new Machine(new Uint8Array(64), 1.5), "depth is 1.5, not an integer");
+  const machine = new Machine();
   same("a new machine", [machine.regs().npc, machine.image_length], [4, 64]);
   machine.free();
   machine.free();
@@ -41,7 +41,7 @@ function lives() {
   }
   refused(Status.NO_MACHINE, () => machine.iter_trace().next());
   const tested = [...Object.keys(calls), "constructor", "free", "image_length", "iter_trace"].sort();
-  same("all calls", Object.getOwnPropertyNames(Rsp.prototype).sort(), tested);
+  same("all calls", Object.getOwnPropertyNames(Machine.prototype).sort(), tested);
 }
 
 function copies() {
@@ -244,7 +244,7 @@ function strict_scripts() {
 }
 
 function single_registers() {
-  const machine = new Rsp(new Uint8Array(64), 4);
+  const machine = new Machine(new Uint8Array(64), 4);
   machine.step();
   machine.set_reg(31, 0xffffffff);
   machine.set_vreg(31, [1, 2, 3, 4, 5, 6, 7, 65535]);
@@ -262,7 +262,7 @@ function single_registers() {
 }
 
 function sp_registers() {
-  const machine = new Rsp(), given = machine.sp();
+  const machine = new Machine(), given = machine.sp();
   same("the first SP registers", [...given.words], [...Array(16).keys()].map((n) => machine.peek(n)));
   same("no interrupt", given.interrupt, 0);
   for (const [number, word] of Object.entries({ 0: 0x1ff8, 4: 0x50e2, 7: 1, 15: 5 })) given.words[number] = word;
@@ -280,7 +280,7 @@ function sp_registers() {
 }
 
 function states() {
-  const machine = new Rsp(), state = machine.get();
+  const machine = new Machine(), state = machine.get();
   same("the first state", [state.pc, state.npc, state.sp[2]], [0, 4, 0xff8]);
   see("that of a new one", state.equals(new rsp.State()));
   state.words[31] = 1;
@@ -338,7 +338,7 @@ function shown_states() {
 }
 
 function memories() {
-  const image = Uint8Array.from({ length: 64 }, (_, n) => n), machine = new Rsp(image.buffer);
+  const image = Uint8Array.from({ length: 64 }, (_, n) => n), machine = new Machine(image.buffer);
   same("an image", machine.memory(rsp.RDRAM, 3, 4), [3, 4, 5, 6]);
   machine.load(rsp.DMEM, 10, Uint8Array.of(1, 0, 2));
   same("bytes", machine.memory(rsp.DMEM, 9, 5), [0, 1, 0, 2, 0]);
@@ -368,7 +368,7 @@ function memories() {
   machine.write(1, 8);
   machine.write(2, 7);
   same("a DMA", machine.memory(rsp.DMEM, 0, 8), [8, 9, 10, 11, 12, 13, 14, 15]);
-  const large = new Rsp(new Uint8Array(1 << 23).fill(0xa5), 4096);
+  const large = new Machine(new Uint8Array(1 << 23).fill(0xa5), 4096);
   see("a large image", large.memory(rsp.RDRAM, 0, 1 << 23).every((it) => it === 0xa5));
   large.free();
 }
@@ -419,8 +419,8 @@ function differences() {
     machine.set(state);
     return machine;
   };
-  same("none", rsp.first_difference(begun(), new Rsp(new Uint8Array(4096))), null);
-  const wrong = new Rsp(new Uint8Array(4096));
+  same("none", rsp.first_difference(begun(), new Machine(new Uint8Array(4096))), null);
+  const wrong = new Machine(new Uint8Array(4096));
   wrong.run = function (steps) {
     for (let n = 0; n < steps; n++) this.step();
     const state = this.get();
@@ -445,7 +445,7 @@ function differences() {
 
 export async function run(library) {
   ({ rsp } = await watched(library));
-  ({ Status, Reason, Rsp } = rsp);
+  ({ Status, Reason, Machine } = rsp);
   OUT = Status.OUT_OF_RANGE;
   report = new Report();
   see = report.see.bind(report);

@@ -7,10 +7,10 @@ import { watched } from "./watched.js";
 const PAINT = 0xa5, IMAGE = 1 << 20;
 
 /** A thousand machines of many sizes leave the memory as it was after the first ten. */
-function thousand({ Rsp, assemble }, wasm, report) {
+function thousand({ Machine, assemble }, wasm, report) {
   let after_ten = 0;
   for (let n = 0; n < 1000; n++) {
-    const machine = new Rsp(new Uint8Array(64 << (n % 10)), 100 * (n % 10)), other = machine.copy();
+    const machine = new Machine(new Uint8Array(64 << (n % 10)), 100 * (n % 10)), other = machine.copy();
     assemble("label: nop\nj label\nnop\n");
     other.run(10);
     machine.free();
@@ -20,13 +20,13 @@ function thousand({ Rsp, assemble }, wasm, report) {
   report.same("the memory after a thousand machines", wasm.memory.buffer.byteLength, after_ten);
 }
 
-function drop({ Rsp }, count) {
-  for (let n = 0; n < count; n++) new Rsp(new Uint8Array(IMAGE));
+function drop({ Machine }, count) {
+  for (let n = 0; n < count; n++) new Machine(new Uint8Array(IMAGE));
 }
 
 /** Machines that nobody holds are freed: five hundred images of 1 MB never need half of their bytes. */
 async function dropped(rsp, wasm, report) {
-  const before = wasm.memory.buffer.byteLength, held = new rsp.Rsp(new Uint8Array(IMAGE).fill(1));
+  const before = wasm.memory.buffer.byteLength, held = new rsp.Machine(new Uint8Array(IMAGE).fill(1));
   for (let n = 0; n < 25; n++) {
     drop(rsp, 20);
     gc();

@@ -6,6 +6,6 @@ export async function run(library) {
     exports: WebAssembly.Module.exports(module).map((it) => it.name),
     imports: WebAssembly.Module.imports(module),
     names: Object.keys(rsp),
-    methods: Object.getOwnPropertyNames(rsp.Rsp.prototype),
+    methods: Object.getOwnPropertyNames(rsp.Machine.prototype),
   });
 }

@@ -39,12 +39,12 @@ function attempts(rsp, wasm, report, name, call) {
 
 export async function run(library) {
   const report = new Report(), { rsp, wasm } = await watched(library);
-  const machine = new rsp.Rsp(new Uint8Array(4096), 9);
+  const machine = new rsp.Machine(new Uint8Array(4096), 9);
   machine.load_words(rsp.IMEM, 0, rsp.assemble("addiu $1, $1, 1\nsw $1, 0($0)\naddiu $1, $1, 1\nbreak\n"));
   machine.run(3);
   const before = whole(rsp, machine), made = [], label = `${"a".repeat(30)}: nop\n`;
   const calls = {
-    "new Rsp": () => made.push(new rsp.Rsp(new Uint8Array(1 << 16), 4096)),
+    "new Machine": () => made.push(new rsp.Machine(new Uint8Array(1 << 16), 4096)),
     copy: () => made.push(machine.copy()),
     assemble: () => rsp.assemble(`${label}x: nop\nj x\nnop\n`),
     memory: () => machine.memory(rsp.RDRAM, 0, 4096),
@@ -56,7 +56,7 @@ export async function run(library) {
     attempts(rsp, wasm, report, name, call);
     report.same(`${name} leaves the machine`, whole(rsp, machine), before);
   }
-  report.refused(rsp.Status.NO_MEMORY, () => new rsp.Rsp(new Uint8Array(1 << 23)), "Rsp: an allocation failed");
+  report.refused(rsp.Status.NO_MEMORY, () => new rsp.Machine(new Uint8Array(1 << 23)), "Machine: an allocation failed");
   machine.back(3);
   report.same("its history is whole", [machine.reg(1), machine.regs().pc], [0, 0]);
   made.forEach((it) => it.free());

@@ -23,9 +23,9 @@ class Cases {
   }
 }
 
-function result({ Rsp, State, IMEM, RDRAM, Status }, cases) {
+function result({ Machine, State, IMEM, RDRAM, Status }, cases) {
   const state = State.from(cases.bytes(State.size)), length = cases.number(), word = cases.number();
-  const machine = new Rsp(new Uint8Array(length));
+  const machine = new Machine(new Uint8Array(length));
   for (let pieces = cases.number(); pieces; pieces--) {
     const bank = cases.number(), address = cases.number();
     machine.load(bank, address, cases.bytes(cases.number()));
