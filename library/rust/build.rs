@@ -5,6 +5,7 @@
 //! - the folder that pkg-config names, where `library/c/install` has put it.
 
 use std::env;
+use std::fs;
 use std::path::{Path, PathBuf};
 use std::process::Command;
 
@@ -15,7 +16,7 @@ const BUILT: [&str; 2] = ["x86_64-", "-linux-"];
 /// The library folder of an installed rsp that is no older than this crate.
 fn installed() -> Option<PathBuf> {
     let command = env::var_os("PKG_CONFIG").unwrap_or("pkg-config".into());
-    let wanted = concat!("rsp >= ", env!("CARGO_PKG_VERSION"));
+    let wanted = concat!("brsp >= ", env!("CARGO_PKG_VERSION"));
     let said = Command::new(command).args(["--variable=libdir", wanted]).output().ok()?;
     let folder = String::from_utf8(said.stdout).ok()?.trim().replace("\\ ", " ");
     (said.status.success() && !folder.is_empty()).then(|| folder.into())
@@ -43,6 +44,17 @@ fn folder(target: &str) -> Option<PathBuf> {
     found.or_else(|| (target == env::var("HOST").unwrap_or_default()).then(installed).flatten())
 }
 
+/// The calls of src/raw.rs that a library lacks, by the symbols that its archive lists first. None if it lists them in a way that isn't known here.
+fn lacking(library: &Path) -> Option<Vec<String>> {
+    let bytes = fs::read(library).ok()?;
+    let length: usize = std::str::from_utf8(bytes.get(56..66)?).ok()?.trim().parse().ok()?;
+    let symbols = String::from_utf8_lossy(bytes.get(68..)?.get(..length)?).into_owned();
+    let has = |name: &str| symbols.split('\0').any(|it| it.trim_start_matches('_').ends_with(name));
+    let raw = fs::read_to_string(Path::new(env!("CARGO_MANIFEST_DIR")).join("src/raw.rs")).ok()?;
+    let calls = raw.split("pub fn ").skip(1).filter_map(|it| it.split('(').next());
+    Some(calls.filter(|it| !has(it)).map(String::from).collect())
+}
+
 fn main() {
     READ.iter().for_each(|name| println!("cargo:rerun-if-env-changed={name}"));
     let target = env::var("TARGET").expect("cargo names the target");
@@ -53,6 +65,8 @@ fn main() {
     let library = folder.join(file);
     println!("cargo:rerun-if-changed={}", library.display());
     assert!(library.is_file(), "{} isn't there", library.display());
+    let lacking = lacking(&library).unwrap_or_default();
+    assert!(lacking.is_empty(), "{} is older than this crate: it lacks {}", library.display(), lacking.join(", "));
     println!("cargo:rustc-link-search=native={}", folder.display());
     println!("cargo:rustc-link-lib=static={name}");
 }

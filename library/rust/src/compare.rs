@@ -1,6 +1,6 @@
 //! The first step after which an emulator differs from the machine.
 
-use crate::{Bank, Line, Machine, MoveEnd, Part, RspError, State, StepEnd};
+use crate::{Bank, Line, Machine, MoveEnd, Part, RspError, State, Status, StepEnd};
 use std::fmt::{Display, Formatter};
 use std::ops::RangeInclusive;
 
@@ -27,6 +27,7 @@ pub trait Emulator {
 
 /// Sixteen bytes of a memory that differ.
 #[derive(Clone, Copy, Debug, PartialEq, Eq)]
+#[non_exhaustive]
 pub struct Quadword {
     /// The memory.
     pub bank: Bank,
@@ -40,6 +41,7 @@ pub struct Quadword {
 
 /// A step after which a machine and an emulator differ. The machine's values are the first ones.
 #[derive(Clone, Debug, PartialEq, Eq)]
+#[non_exhaustive]
 pub struct FirstDifference {
     /// Its number, from 1. 0 means that they differ before the first step, because the emulator didn't keep what `set` and `load` gave it.
     pub step: u64,
@@ -200,8 +202,8 @@ fn run_before_dma(machine: &mut Machine, steps: u32) -> Result<u32, RspError> {
 ///
 /// First the machine's registers and memories are copied into the emulator. Then both run in stretches of at most `every` steps, 1 to 1000000,
 /// which end before a DMA. After each stretch all registers, DMEM and IMEM are compared, after a DMA also RDRAM. If they differ, both go back to
-/// the last comparison and are stepped from there. Both are left after the step that differs, and the machine's history is empty. RspError with
-/// [`RspError::OutOfRange`] if `every` isn't in its range.
+/// the last comparison and are stepped from there. Both are left after the step that differs, and the machine's history is empty. Refused with
+/// [`Status::OutOfRange`] if `every` isn't in its range.
 pub fn first_difference(
     machine: &mut Machine,
     emulator: &mut impl Emulator,
@@ -209,7 +211,7 @@ pub fn first_difference(
     limit: u64,
 ) -> Result<Option<FirstDifference>, RspError> {
     if !(1..=1_000_000).contains(&every) {
-        return Err(RspError::OutOfRange);
+        return Err(RspError::of(Status::OutOfRange, "first_difference", &[every.into()]));
     }
     let rdram = machine.image_length();
     let seen = Seen::of_machine(machine, rdram)?;

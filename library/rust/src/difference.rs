@@ -5,6 +5,7 @@ use std::fmt::{Display, Formatter, Result};
 
 /// A part of a state.
 #[derive(Clone, Copy, Debug, PartialEq, Eq)]
+#[non_exhaustive]
 pub enum Place {
     /// The address of the next instruction.
     Pc,
@@ -88,6 +89,7 @@ impl Display for Place {
 
 /// A part that differs, with both values.
 #[derive(Clone, Copy, Debug, PartialEq, Eq)]
+#[non_exhaustive]
 pub struct Part {
     /// Which part it is.
     pub place: Place,

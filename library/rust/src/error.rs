@@ -1,5 +1,6 @@
 //! Why a call was refused.
 
+use crate::words::refusal;
 use crate::{raw, Fault, Operand};
 use std::error::Error;
 use std::fmt;
@@ -7,24 +8,16 @@ use std::fmt;
 /// The version of the interface for which this crate is.
 pub const VERSION: u32 = 1;
 
-/// Why a call was refused. The call has changed nothing, except that `TooLong` ends a session.
-///
-/// `Debug` writes the same sentence as `Display`, because a `main` that returns an error prints it by `Debug`.
-#[derive(Clone, Copy, PartialEq, Eq)]
-pub enum RspError {
+/// Why a call was refused, as `brsp.h` numbers it.
+#[derive(Clone, Copy, Debug, PartialEq, Eq)]
+#[non_exhaustive]
+pub enum Status {
     /// An allocation failed.
     NoMemory,
     /// A number, a length or a count is out of its range.
     OutOfRange,
-    /// A text has a fault.
-    NoMeaning {
-        /// The number of the line, from 1.
-        line: usize,
-        /// The number of a [`Fault`], which is the source of this error.
-        fault: u32,
-        /// The operand at fault, if one is.
-        operand: Option<Operand>,
-    },
+    /// A text has a fault, which [`RspError::assembly`] gives.
+    NoMeaning,
     /// The address of a task isn't a multiple of 8, or its structure passes the image's end.
     TaskPlace,
     /// The size of a task's boot code isn't 1 to 4096.
@@ -41,61 +34,83 @@ pub enum RspError {
     NoWatch,
     /// The history holds fewer states.
     ShortHistory,
+    /// A text has more than 1024 words.
+    NoRoom,
     /// The script has ended.
     Ended,
     /// The script has more than 1048576 bytes.
     TooLong,
+    /// Another word is at pc than the call passes over.
+    OtherWord,
     /// The library has this version of the interface, and the crate is for [`VERSION`].
     Version(u32),
     /// A status that this crate doesn't know.
     Unknown(u32),
 }
 
+/// Why a text has no meaning.
+#[derive(Clone, Copy, Debug, PartialEq, Eq)]
+#[non_exhaustive]
+pub struct AssemblyFault {
+    /// The number of the line, from 1.
+    pub line: usize,
+    /// The number of a [`Fault`], which is the source of the error.
+    pub fault: u32,
+    /// The operand at fault, if one is.
+    pub operand: Option<Operand>,
+}
+
+/// Why a call was refused. The call has changed nothing, except that [`Status::TooLong`] ends a session.
+///
+/// `Display` names the call, the argument and its range: `set_pc: pc is 3, not a multiple of 4 below 4096`.
+#[derive(Clone, Debug, PartialEq, Eq)]
+pub struct RspError {
+    status: Status,
+    what: String,
+    assembly: Option<AssemblyFault>,
+}
+
+impl RspError {
+    /// Why the call was refused.
+    pub fn status(&self) -> Status {
+        self.status
+    }
+
+    /// The fault of a text that has one.
+    pub fn assembly(&self) -> Option<AssemblyFault> {
+        self.assembly
+    }
+
+    /// The error of a call with these numbers.
+    pub(crate) fn of(status: Status, call: &str, given: &[u64]) -> RspError {
+        RspError::told(status, refusal(status, call, given))
+    }
+
+    /// The error with this sentence.
+    pub(crate) fn told(status: Status, what: String) -> RspError {
+        RspError { status, what, assembly: None }
+    }
+
+    /// The error of a text with this fault, in the words of scripts: `assemble: fault 11 UnknownName line 2: foo`.
+    pub(crate) fn of_text(text: &str, it: AssemblyFault) -> RspError {
+        let name = Fault::of(it.fault).map_or("unknown".to_string(), |fault| format!("{fault:?}"));
+        let source = text.split('\n').nth(it.line.wrapping_sub(1)).unwrap_or_default().trim();
+        let shown: String = source.chars().map(|it| if it == '\t' { it.to_string() } else { it.escape_debug().to_string() }).collect();
+        let operand = it.operand.map_or(String::new(), |operand| format!("; {}", operand.told(it.fault)));
+        let what = format!("assemble: fault {} {name} line {}: {shown}{operand}", it.fault, it.line);
+        RspError { status: Status::NoMeaning, what, assembly: Some(it) }
+    }
+}
+
 impl fmt::Display for RspError {
     fn fmt(&self, f: &mut fmt::Formatter<'_>) -> fmt::Result {
-        f.write_str(match self {
-            RspError::NoMemory => "an allocation failed",
-            RspError::OutOfRange => "a number, a length or a count is out of its range",
-            RspError::NoMeaning { line, fault, operand } => return told(f, *line, *fault, *operand),
-            RspError::TaskPlace => "the task's address isn't a multiple of 8, or its structure passes the image's end",
-            RspError::TaskSize => "the size of the task's boot code isn't 1 to 4096",
-            RspError::BreakFull => "sixteen addresses have a breakpoint",
-            RspError::BreakTwice => "the address has a breakpoint",
-            RspError::NoBreak => "the address has no breakpoint",
-            RspError::WatchFull => "there are eight watches",
-            RspError::NoWatch => "no watch has this number",
-            RspError::ShortHistory => "the history holds fewer states",
-            RspError::Ended => "the script has ended",
-            RspError::TooLong => "the script has more than 1048576 bytes",
-            RspError::Version(found) => return write!(f, "the interface of the library has version {found}, not {VERSION}"),
-            RspError::Unknown(status) => return write!(f, "the library returned the unknown status {status}"),
-        })
+        f.write_str(&self.what)
     }
-}
-
-impl fmt::Debug for RspError {
-    fn fmt(&self, f: &mut fmt::Formatter<'_>) -> fmt::Result {
-        fmt::Display::fmt(self, f)
-    }
-}
-
-/// The fault of a text in the words of scripts, `fault 11 UnknownName line 2`, and what its operand may be.
-fn told(f: &mut fmt::Formatter<'_>, line: usize, fault: u32, operand: Option<Operand>) -> fmt::Result {
-    write!(f, "fault {fault} ")?;
-    Fault::of(fault).map_or(Ok(()), |it| write!(f, "{it:?} "))?;
-    write!(f, "line {line}")?;
-    operand.map_or(Ok(()), |it| {
-        f.write_str("; ")?;
-        it.told(f, fault)
-    })
 }
 
 impl Error for RspError {
     fn source(&self) -> Option<&(dyn Error + 'static)> {
-        match self {
-            RspError::NoMeaning { fault, .. } => Fault::of(*fault).map(|it| it as &dyn Error),
-            _ => None,
-        }
+        self.assembly.and_then(|it| Fault::of(it.fault)).map(|it| it as &dyn Error)
     }
 }
 
@@ -104,26 +119,48 @@ pub(crate) fn right_version() -> Result<(), RspError> {
     // SAFETY: it takes nothing.
     match unsafe { raw::brsp_version() } {
         VERSION => Ok(()),
-        other => Err(RspError::Version(other)),
+        other => Err(wrong_version(other)),
     }
 }
 
-/// The result that a status means.
-pub(crate) fn done(status: u32) -> Result<(), RspError> {
-    Err(match status {
-        0 => return Ok(()),
-        2 => RspError::NoMemory,
-        3 => RspError::OutOfRange,
-        7 => RspError::TaskPlace,
-        8 => RspError::TaskSize,
-        9 => RspError::BreakFull,
-        10 => RspError::BreakTwice,
-        11 => RspError::NoBreak,
-        12 => RspError::WatchFull,
-        13 => RspError::NoWatch,
-        14 => RspError::ShortHistory,
-        16 => RspError::Ended,
-        17 => RspError::TooLong,
-        other => RspError::Unknown(other),
+fn wrong_version(found: u32) -> RspError {
+    RspError::told(Status::Version(found), format!("the interface of the library has version {found}, not {VERSION}"))
+}
+
+/// The status of a number of `brsp.h`; none if it is BRSP_OK.
+fn refused(status: u32) -> Option<Status> {
+    Some(match status {
+        0 => return None,
+        102 => Status::NoMemory,
+        103 => Status::OutOfRange,
+        106 => Status::NoMeaning,
+        107 => Status::TaskPlace,
+        108 => Status::TaskSize,
+        109 => Status::BreakFull,
+        110 => Status::BreakTwice,
+        111 => Status::NoBreak,
+        112 => Status::WatchFull,
+        113 => Status::NoWatch,
+        114 => Status::ShortHistory,
+        115 => Status::NoRoom,
+        116 => Status::Ended,
+        117 => Status::TooLong,
+        118 => Status::OtherWord,
+        other => Status::Unknown(other),
     })
+}
+
+/// The result that a status means, of a call with these numbers.
+pub(crate) fn done(status: u32, call: &str, given: &[u64]) -> Result<(), RspError> {
+    refused(status).map_or(Ok(()), |it| Err(RspError::of(it, call, given)))
+}
+
+#[cfg(test)]
+mod tests {
+    use super::*;
+
+    #[test]
+    fn another_version_is_told() {
+        assert_eq!(wrong_version(2).to_string(), "the interface of the library has version 2, not 1");
+    }
 }

@@ -5,6 +5,7 @@ use std::fmt;
 
 /// Why a text has no meaning. The numbers are those of docs/FAULTS.md.
 #[derive(Clone, Copy, Debug, PartialEq, Eq)]
+#[non_exhaustive]
 pub enum Fault {
     /// A line is too long, has a byte that isn't printable, or no label before its colon.
     BadLine = 10,

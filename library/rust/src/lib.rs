@@ -16,7 +16,6 @@
 
 #![warn(missing_docs)]
 
-mod session;
 #[doc(hidden)]
 pub mod cases;
 mod compare;
@@ -28,19 +27,21 @@ mod numbers;
 mod operand;
 mod raw;
 mod script;
+mod session;
 mod shapes;
 mod shown;
 mod texts;
+mod words;
 
-pub use session::{run_script, Session};
 pub use compare::{first_difference, Emulator, FirstDifference, Quadword};
 pub use difference::{Part, Place};
-pub use error::{RspError, VERSION};
+pub use error::{AssemblyFault, RspError, Status, VERSION};
 pub use faults::Fault;
 pub use machine::Machine;
 pub use numbers::NoSuchNumber;
 pub use operand::Operand;
 pub use script::{run_script_strict, ScriptError};
+pub use session::{run_script, Session};
 pub use shapes::{
     Accumulators, Bank, Changes, DivideState, Dma, Event, Field, FlagBits, Line, MoveEnd, Reason, Scalars, SpWords, State, StepEnd, Stop,
     Traced,

@@ -6,7 +6,8 @@ use crate::shapes::{
     Accumulators, Bank, Changes, DivideState, Event, FlagBits, Line, MoveEnd, Reason, Scalars, SpWords, State, StepEnd, Stop, Traced,
 };
 use crate::texts::{seen, NO_LINE};
-use crate::RspError;
+use crate::words::state_refusal;
+use crate::{RspError, Status};
 use std::cell::UnsafeCell;
 use std::ptr;
 
@@ -17,7 +18,6 @@ use std::ptr;
 // `Sync`, one call at a time has it; and each pointer is of a borrow with its own length.
 pub struct Machine {
     handle: UnsafeCell<raw::Handle>,
-    image_length: usize,
 }
 
 // SAFETY: a machine is memory of malloc that its handle alone leads to, and no call keeps anything of a thread.
@@ -27,27 +27,31 @@ impl Machine {
     /// A machine with this image (64 to 8388608 bytes, a multiple of 8) and a history of `depth` states, at most 4096.
     pub fn new(image: &[u8], depth: u32) -> Result<Machine, RspError> {
         right_version()?;
-        let machine = Machine::none(image.len());
-        done(unsafe { raw::brsp_new(machine.at(), image.as_ptr(), image.len(), depth) })?;
+        let machine = Machine::none();
+        let status = unsafe { raw::brsp_new(machine.at(), image.as_ptr(), image.len(), depth) };
+        done(status, "Machine", &[image.len() as u64, depth.into()])?;
         Ok(machine)
     }
 
     /// A second machine with the same registers and memories. Its history has room for as many states, but is empty, and it has no breakpoints and
     /// no watches.
     pub fn copy(&self) -> Result<Machine, RspError> {
-        let machine = Machine::none(self.image_length);
-        done(unsafe { raw::brsp_copy(machine.at(), self.at()) })?;
+        let machine = Machine::none();
+        done(unsafe { raw::brsp_copy(machine.at(), self.at()) }, "copy", &[])?;
         Ok(machine)
     }
 
     /// A handle that holds no machine.
-    fn none(image_length: usize) -> Machine {
-        Machine { handle: UnsafeCell::new(raw::Handle { at: ptr::null_mut() }), image_length }
+    fn none() -> Machine {
+        Machine { handle: UnsafeCell::new(raw::Handle { at: ptr::null_mut() }) }
     }
 
-    /// The bytes of RDRAM.
+    /// The number of bytes of the image of RDRAM.
     pub fn image_length(&self) -> usize {
-        self.image_length
+        let mut out = 0;
+        // There is a machine in the handle, so no other status than BRSP_OK comes back.
+        unsafe { raw::brsp_image_length(self.at(), &mut out) };
+        out
     }
 
     fn at(&self) -> *mut raw::Handle {
@@ -63,58 +67,77 @@ impl Machine {
 
     /// All registers, written into an existing state.
     pub fn get_into(&self, out: &mut State) -> Result<(), RspError> {
-        done(unsafe { raw::brsp_get(self.at(), out) })
+        done(unsafe { raw::brsp_get(self.at(), out) }, "get", &[])
     }
 
     /// Sets all registers, and empties the history. The memories stay unchanged.
     pub fn set(&mut self, state: &State) -> Result<(), RspError> {
-        done(unsafe { raw::brsp_set(self.at(), state) })
+        match state.fault() {
+            Some(field) => Err(RspError::told(Status::OutOfRange, state_refusal(field, state))),
+            None => done(unsafe { raw::brsp_set(self.at(), state) }, "set", &[]),
+        }
     }
 
     /// Writes bytes to a memory from an address on, and empties the history.
     pub fn load(&mut self, bank: Bank, address: u32, bytes: &[u8]) -> Result<(), RspError> {
-        done(unsafe { raw::brsp_load(self.at(), bank as u32, address, bytes.as_ptr(), bytes.len()) })
+        done(
+            unsafe { raw::brsp_load(self.at(), bank as u32, address, bytes.as_ptr(), bytes.len()) },
+            "load",
+            &[bank as u64, address.into()],
+        )
     }
 
     /// Writes words to a memory from an address on, the high byte of each first, and empties the history.
     pub fn load_words(&mut self, bank: Bank, address: u32, words: &[u32]) -> Result<(), RspError> {
-        done(unsafe { raw::brsp_load_words(self.at(), bank as u32, address, words.as_ptr(), words.len()) })
+        done(
+            unsafe { raw::brsp_load_words(self.at(), bank as u32, address, words.as_ptr(), words.len()) },
+            "load_words",
+            &[bank as u64, address.into()],
+        )
     }
 
     /// Fills a buffer with the bytes of a memory from an address on.
     pub fn memory(&self, bank: Bank, address: u32, bytes: &mut [u8]) -> Result<(), RspError> {
-        done(unsafe { raw::brsp_memory(self.at(), bank as u32, address, bytes.as_mut_ptr(), bytes.len()) })
+        done(
+            unsafe { raw::brsp_memory(self.at(), bank as u32, address, bytes.as_mut_ptr(), bytes.len()) },
+            "memory",
+            &[bank as u64, address.into(), bytes.len() as u64],
+        )
     }
 
     /// Fills a buffer with the words of a memory from an address on, the high byte of each first.
     pub fn memory_words(&self, bank: Bank, address: u32, words: &mut [u32]) -> Result<(), RspError> {
-        done(unsafe { raw::brsp_memory_words(self.at(), bank as u32, address, words.as_mut_ptr(), words.len()) })
+        done(
+            unsafe { raw::brsp_memory_words(self.at(), bank as u32, address, words.as_mut_ptr(), words.len()) },
+            "memory_words",
+            &[bank as u64, address.into(), words.len() as u64],
+        )
     }
 
     /// Starts the task whose structure of 64 bytes is at an address of RDRAM, and empties the history.
     pub fn start_task(&mut self, address: u32) -> Result<(), RspError> {
-        done(unsafe { raw::brsp_start_task(self.at(), address) })
+        done(unsafe { raw::brsp_start_task(self.at(), address) }, "start_task", &[address.into()])
     }
 
     /// Sets pc to an address of IMEM, a multiple of 4 below 4096, and empties the history.
     pub fn set_pc(&mut self, pc: u32) -> Result<(), RspError> {
-        done(unsafe { raw::brsp_set_pc(self.at(), pc) })
+        done(unsafe { raw::brsp_set_pc(self.at(), pc) }, "set_pc", &[pc.into()])
     }
 
     /// Executes one instruction.
     pub fn step(&mut self) -> Result<StepEnd, RspError> {
-        step_end(unsafe { raw::brsp_step(self.at()) })
+        step_end(unsafe { raw::brsp_step(self.at()) }, "step")
     }
 
     /// As [`step`](Machine::step), but also writes what the step changed, if it was made.
     pub fn step_changes(&mut self, out: &mut Changes) -> Result<StepEnd, RspError> {
-        step_end(unsafe { raw::brsp_step_changes(self.at(), out) })
+        step_end(unsafe { raw::brsp_step_changes(self.at(), out) }, "step_changes")
     }
 
     /// Makes 1 to 1000000 steps, up to the first reason to stop.
     pub fn run(&mut self, steps: u32) -> Result<Stop, RspError> {
         let mut out = raw::Stop::default();
-        done(unsafe { raw::brsp_run(self.at(), steps, &mut out) })?;
+        done(unsafe { raw::brsp_run(self.at(), steps, &mut out) }, "run", &[steps.into()])?;
         Ok(seen_stop(&out))
     }
 
@@ -123,7 +146,11 @@ impl Machine {
     /// [`step`](Machine::step) executes it.
     pub fn run_until_move(&mut self, steps: u32, reads: u16, writes: u16) -> Result<MoveEnd, RspError> {
         let mut out = raw::Move::default();
-        done(unsafe { raw::brsp_run_until_move(self.at(), steps, reads.into(), writes.into(), &mut out) })?;
+        done(
+            unsafe { raw::brsp_run_until_move(self.at(), steps, reads.into(), writes.into(), &mut out) },
+            "run_until_move",
+            &[steps.into()],
+        )?;
         Ok(seen_move(&out))
     }
 
@@ -132,7 +159,7 @@ impl Machine {
     /// [`step`](Machine::step), takes that step.
     pub fn event(&mut self, steps: u32, reads: u16, writes: u16) -> Result<Event, RspError> {
         let mut out = raw::Reached::default();
-        done(unsafe { raw::brsp_event(self.at(), steps, reads.into(), writes.into(), &mut out) })?;
+        done(unsafe { raw::brsp_event(self.at(), steps, reads.into(), writes.into(), &mut out) }, "event", &[steps.into()])?;
         let dma = (out.at.stop.reason == AT_DMA).then_some(out.dma);
         Ok(Event { at: seen_move(&out.at), dma, status: out.status, interrupt: out.interrupt == 1 })
     }
@@ -140,7 +167,7 @@ impl Machine {
     /// As [`run`](Machine::run) of as many steps as there are entries, 1 to 1000000, and writes an entry for each step. The other entries stay.
     pub fn trace(&mut self, entries: &mut [Traced]) -> Result<Stop, RspError> {
         let mut out = raw::Stop::default();
-        done(unsafe { raw::brsp_trace(self.at(), entries.as_mut_ptr(), entries.len(), &mut out) })?;
+        done(unsafe { raw::brsp_trace(self.at(), entries.as_mut_ptr(), entries.len(), &mut out) }, "trace", &[entries.len() as u64])?;
         Ok(seen_stop(&out))
     }
 
@@ -159,144 +186,151 @@ impl Machine {
 
     /// Undoes 1 to 1000000 steps.
     pub fn back(&mut self, states: u32) -> Result<(), RspError> {
-        done(unsafe { raw::brsp_back(self.at(), states) })
+        done(unsafe { raw::brsp_back(self.at(), states) }, "back", &[states.into()])
     }
 
     /// Steps over the MFC0 or MTC0 at pc without executing it; register rt of an MFC0 becomes the value. Empties the history. RspError if another
     /// word is at pc, so the end is never Reserved.
     pub fn pass_move(&mut self, value: u32) -> Result<StepEnd, RspError> {
-        passed(unsafe { raw::brsp_pass_move(self.at(), value) })
+        step_end(unsafe { raw::brsp_pass_move(self.at(), value) }, "pass_move")
     }
 
     /// Steps over the DMA at pc, whose bytes the caller then moves. Everything is as after a step, SP registers included, except that the memories
     /// stay unchanged. Empties the history. RspError if the word at pc starts no DMA.
     pub fn pass_dma(&mut self) -> Result<StepEnd, RspError> {
-        passed(unsafe { raw::brsp_pass_dma(self.at()) })
+        step_end(unsafe { raw::brsp_pass_dma(self.at()) }, "pass_dma")
     }
 
     /// The number of steps that can be undone.
     pub fn history(&self) -> Result<usize, RspError> {
         let mut out = 0;
-        done(unsafe { raw::brsp_history(self.at(), &mut out) })?;
+        done(unsafe { raw::brsp_history(self.at(), &mut out) }, "history", &[])?;
         Ok(out)
     }
 
     /// Sets a breakpoint at an address of IMEM; at most sixteen.
-    pub fn add_break(&mut self, place: u32) -> Result<(), RspError> {
-        done(unsafe { raw::brsp_add_break(self.at(), place) })
+    pub fn add_break(&mut self, address: u32) -> Result<(), RspError> {
+        done(unsafe { raw::brsp_add_break(self.at(), address) }, "add_break", &[address.into()])
     }
 
     /// Removes the breakpoint at an address.
-    pub fn drop_break(&mut self, place: u32) -> Result<(), RspError> {
-        done(unsafe { raw::brsp_drop_break(self.at(), place) })
+    pub fn drop_break(&mut self, address: u32) -> Result<(), RspError> {
+        done(unsafe { raw::brsp_drop_break(self.at(), address) }, "drop_break", &[address.into()])
     }
 
     /// Watches 1 to 64 bytes of DMEM, and returns the watch's number. At most eight watches.
     pub fn add_watch(&mut self, address: u32, len: u32) -> Result<usize, RspError> {
         let mut number = 0;
-        done(unsafe { raw::brsp_add_watch(self.at(), address, len, &mut number) })?;
+        done(unsafe { raw::brsp_add_watch(self.at(), address, len, &mut number) }, "add_watch", &[address.into(), len.into()])?;
         Ok(number)
     }
 
     /// Removes a watch.
     pub fn drop_watch(&mut self, number: u32) -> Result<(), RspError> {
-        done(unsafe { raw::brsp_drop_watch(self.at(), number) })
+        done(unsafe { raw::brsp_drop_watch(self.at(), number) }, "drop_watch", &[number.into()])
     }
 
     /// Scalar register `n`, below 32.
     pub fn reg(&self, n: u32) -> Result<u32, RspError> {
         let mut out = 0;
-        done(unsafe { raw::brsp_reg(self.at(), n, &mut out) })?;
+        done(unsafe { raw::brsp_reg(self.at(), n, &mut out) }, "reg", &[n.into()])?;
         Ok(out)
     }
 
     /// The scalar registers, pc and npc.
     pub fn regs(&self) -> Result<Scalars, RspError> {
         let mut out = Scalars::default();
-        done(unsafe { raw::brsp_regs(self.at(), &mut out) })?;
+        done(unsafe { raw::brsp_regs(self.at(), &mut out) }, "regs", &[])?;
         Ok(out)
     }
 
     /// The lanes of vector register `n`, below 32.
     pub fn vreg(&self, n: u32) -> Result<[u16; 8], RspError> {
         let mut out = raw::Lanes::default();
-        done(unsafe { raw::brsp_vreg(self.at(), n, &mut out) })?;
+        done(unsafe { raw::brsp_vreg(self.at(), n, &mut out) }, "vreg", &[n.into()])?;
         Ok(out.lanes)
     }
 
     /// Sets scalar register `n`, below 32, and empties the history. Register 0 takes only 0.
     pub fn set_reg(&mut self, n: u32, value: u32) -> Result<(), RspError> {
+        if n > 31 || (n == 0 && value != 0) {
+            return Err(RspError::of(Status::OutOfRange, "set_reg", &[n.into(), value.into()]));
+        }
         let mut state = self.get()?;
-        *state.words.get_mut(n as usize).ok_or(RspError::OutOfRange)? = value;
+        state.words[n as usize] = value;
         self.set(&state)
     }
 
     /// Sets the lanes of vector register `n`, below 32, and empties the history.
     pub fn set_vreg(&mut self, n: u32, lanes: [u16; 8]) -> Result<(), RspError> {
         let mut state = self.get()?;
-        *state.vectors.get_mut(n as usize).ok_or(RspError::OutOfRange)? = lanes;
+        *state.vectors.get_mut(n as usize).ok_or_else(|| RspError::of(Status::OutOfRange, "set_vreg", &[n.into()]))? = lanes;
         self.set(&state)
     }
 
     /// The accumulators.
     pub fn acc(&self) -> Result<Accumulators, RspError> {
         let mut out = Accumulators::default();
-        done(unsafe { raw::brsp_acc(self.at(), &mut out) })?;
+        done(unsafe { raw::brsp_acc(self.at(), &mut out) }, "acc", &[])?;
         Ok(out)
     }
 
     /// The flags.
     pub fn flags(&self) -> Result<FlagBits, RspError> {
         let mut out = FlagBits::default();
-        done(unsafe { raw::brsp_flags(self.at(), &mut out) })?;
+        done(unsafe { raw::brsp_flags(self.at(), &mut out) }, "flags", &[])?;
         Ok(out)
     }
 
     /// What divide instructions leave for the next one.
     pub fn divider(&self) -> Result<DivideState, RspError> {
         let mut out = DivideState::default();
-        done(unsafe { raw::brsp_divider(self.at(), &mut out) })?;
+        done(unsafe { raw::brsp_divider(self.at(), &mut out) }, "divider", &[])?;
         Ok(out)
     }
 
     /// Reads SP register `n`, modulo 16, as the CPU does. A read of the semaphore, 7, takes it and empties the history.
     pub fn read(&mut self, n: u32) -> Result<u32, RspError> {
         let mut out = 0;
-        done(unsafe { raw::brsp_read(self.at(), n, &mut out) })?;
+        done(unsafe { raw::brsp_read(self.at(), n, &mut out) }, "read", &[n.into()])?;
         Ok(out)
     }
 
     /// The word that a read of SP register `n`, modulo 16, would give.
     pub fn peek(&self, n: u32) -> Result<u32, RspError> {
         let mut out = 0;
-        done(unsafe { raw::brsp_peek(self.at(), n, &mut out) })?;
+        done(unsafe { raw::brsp_peek(self.at(), n, &mut out) }, "peek", &[n.into()])?;
         Ok(out)
     }
 
     /// Writes SP register `n`, modulo 16, as the CPU does, with its DMA, and empties the history.
     pub fn write(&mut self, n: u32, value: u32) -> Result<(), RspError> {
-        done(unsafe { raw::brsp_write(self.at(), n, value) })
+        done(unsafe { raw::brsp_write(self.at(), n, value) }, "write", &[n.into(), value.into()])
     }
 
     /// All SP registers, with the interrupt flag.
     pub fn sp(&self) -> Result<SpWords, RspError> {
         let mut out = SpWords::default();
-        done(unsafe { raw::brsp_sp(self.at(), &mut out) })?;
+        done(unsafe { raw::brsp_sp(self.at(), &mut out) }, "sp", &[])?;
         Ok(out)
     }
 
     /// Sets all SP registers and the interrupt flag, without a DMA, and empties the history.
     pub fn set_sp(&mut self, given: &SpWords) -> Result<(), RspError> {
-        done(unsafe { raw::brsp_set_sp(self.at(), given) })
+        done(unsafe { raw::brsp_set_sp(self.at(), given) }, "set_sp", &[])
     }
 
-    /// The words of IMEM from the address `place` on, each with its disassembly.
-    pub fn listing(&self, place: u32, count: usize) -> Result<Vec<Line>, RspError> {
+    /// The words of IMEM from an address on, each with its disassembly.
+    pub fn listing(&self, address: u32, count: usize) -> Result<Vec<Line>, RspError> {
         if count > 1024 {
-            return Err(RspError::OutOfRange);
+            return Err(RspError::of(Status::OutOfRange, "listing", &[address.into(), count as u64]));
         }
         let mut lines = vec![NO_LINE; count];
-        done(unsafe { raw::brsp_listing(self.at(), place, lines.as_mut_ptr(), lines.len()) })?;
+        done(
+            unsafe { raw::brsp_listing(self.at(), address, lines.as_mut_ptr(), lines.len()) },
+            "listing",
+            &[address.into(), count as u64],
+        )?;
         Ok(lines.iter().map(seen).collect())
     }
 }
@@ -306,21 +340,12 @@ const AT_MOVE: u32 = 5;
 /// The reason of a stop before a DMA.
 const AT_DMA: u32 = 6;
 
-fn step_end(status: u32) -> Result<StepEnd, RspError> {
+/// The end of a step, or of a call that passes over one, which never ends at a reserved word.
+fn step_end(status: u32, call: &str) -> Result<StepEnd, RspError> {
     match status {
-        0 => Ok(StepEnd::Done),
-        4 => Ok(StepEnd::Halted),
-        5 => Ok(StepEnd::Reserved),
-        other => Err(RspError::Unknown(other)),
-    }
-}
-
-/// The end of a pass, which is never at a reserved word.
-fn passed(status: u32) -> Result<StepEnd, RspError> {
-    match status {
-        0 => Ok(StepEnd::Done),
-        4 => Ok(StepEnd::Halted),
-        other => Err(done(other).unwrap_err()),
+        104 => Ok(StepEnd::Halted),
+        105 => Ok(StepEnd::Reserved),
+        other => done(other, call, &[]).map(|()| StepEnd::Done),
     }
 }
 

@@ -1,10 +1,10 @@
 //! The operand for which a text is refused.
 
-use crate::raw;
-use std::fmt;
+use crate::{raw, Fault};
 
 /// The operand for which a text is refused, and what it may be.
 #[derive(Clone, Copy, Debug, PartialEq, Eq)]
+#[non_exhaustive]
 pub struct Operand {
     /// Which operand of the line it is, from 1. It may be missing.
     pub number: usize,
@@ -33,8 +33,6 @@ const FORMS: [&str; 15] = [
     "a vector register, $v0 to $v31, with a lane, [0] to [7]",
 ];
 const MEMORY: [u32; 2] = [7, 8];
-const BAD_OPERAND: u32 = 12;
-const LABEL_MISSING: u32 = 15;
 
 impl Operand {
     /// The operand for which this text is refused; None if there is none, or if there is no memory to find it.
@@ -49,22 +47,21 @@ impl Operand {
         Some(Operand { number: out.number, kind: out.kind, range })
     }
 
-    /// Writes which operand it is and what it may be, after this fault.
-    pub(crate) fn told(&self, f: &mut fmt::Formatter<'_>, fault: u32) -> fmt::Result {
-        write!(f, "operand {} may be ", self.number)?;
-        if fault == BAD_OPERAND {
-            f.write_str(FORMS.get(self.kind as usize).unwrap_or(&"another one"))?;
-            f.write_str(if self.range.is_some() { " " } else { "" })?;
-        } else if fault == LABEL_MISSING {
-            f.write_str("the label of a line, or ")?;
+    /// Which operand it is and what it may be, after this fault.
+    pub(crate) fn told(&self, fault: u32) -> String {
+        let is_form = fault == Fault::BadOperand as u32;
+        let mut allowed = vec![];
+        if is_form {
+            allowed.push(FORMS.get(self.kind as usize).unwrap_or(&"another one").to_string());
+        } else if fault == Fault::LabelMissing as u32 {
+            allowed.push("the label of a line, or".to_string());
         }
         if let Some((low, high, step)) = self.range {
-            write!(f, "{low} to {high}")?;
-            if step > 1 {
-                write!(f, ", a multiple of {step}")?;
-            }
+            let multiple = if step > 1 { format!(", a multiple of {step}") } else { String::new() };
+            allowed.push(format!("{low} to {high}{multiple}"));
         }
-        let in_memory = fault == BAD_OPERAND && MEMORY.contains(&self.kind);
-        f.write_str(if in_memory { ", and a scalar register in parentheses" } else { "" })
+        let in_memory = is_form && MEMORY.contains(&self.kind);
+        let more = if in_memory { ", and a scalar register in parentheses" } else { "" };
+        format!("operand {} may be {}{more}", self.number, allowed.join(" "))
     }
 }

@@ -90,6 +90,7 @@ extern "C" {
     pub fn brsp_get(m: *mut Handle, out: *mut State) -> u32;
     pub fn brsp_set(m: *mut Handle, state: *const State) -> u32;
     pub fn brsp_state_fault(state: *const State, out: *mut u32) -> u32;
+    pub fn brsp_image_length(m: *mut Handle, out: *mut usize) -> u32;
     pub fn brsp_load(m: *mut Handle, bank: u32, address: u32, bytes: *const u8, len: usize) -> u32;
     pub fn brsp_load_words(m: *mut Handle, bank: u32, address: u32, words: *const u32, len: usize) -> u32;
     pub fn brsp_memory(m: *mut Handle, bank: u32, address: u32, bytes: *mut u8, len: usize) -> u32;

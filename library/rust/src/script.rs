@@ -1,6 +1,6 @@
 //! Scripts in which no reply may be a fault.
 
-use crate::{Session, RspError};
+use crate::{RspError, Session};
 use std::error::Error;
 use std::fmt;
 
@@ -8,9 +8,10 @@ use std::fmt;
 ///
 /// `Display` shows at most 80 characters of the line, and each one that would control a terminal as its escape: `\u{1b}`.
 #[derive(Clone, Debug, PartialEq, Eq)]
+#[non_exhaustive]
 pub enum ScriptError {
     /// A call was refused.
-    RspError(RspError),
+    Refused(RspError),
     /// A reply is a fault. The lines after it weren't run.
     Fault {
         /// The number of the line, from 1. For a fault of an `asm` block it is the line of the block that is at fault.
@@ -33,7 +34,7 @@ fn printable(line: &str) -> String {
 impl fmt::Display for ScriptError {
     fn fmt(&self, f: &mut fmt::Formatter<'_>) -> fmt::Result {
         match self {
-            ScriptError::RspError(refused) => refused.fmt(f),
+            ScriptError::Refused(refused) => refused.fmt(f),
             ScriptError::Fault { line, text, reply, .. } if text.is_empty() => write!(f, "line {line}: {reply}"),
             ScriptError::Fault { line, text, reply, .. } => write!(f, "line {line}: {reply}: {}", printable(text)),
         }
@@ -43,7 +44,7 @@ impl fmt::Display for ScriptError {
 impl Error for ScriptError {
     fn source(&self) -> Option<&(dyn Error + 'static)> {
         match self {
-            ScriptError::RspError(refused) => Some(refused),
+            ScriptError::Refused(refused) => Some(refused),
             ScriptError::Fault { .. } => None,
         }
     }
@@ -51,7 +52,7 @@ impl Error for ScriptError {
 
 impl From<RspError> for ScriptError {
     fn from(refused: RspError) -> ScriptError {
-        ScriptError::RspError(refused)
+        ScriptError::Refused(refused)
     }
 }
 

@@ -12,7 +12,7 @@ const ROOM: usize = 16384;
 
 /// Answers a script as `rsp run` does, on a machine of its own.
 ///
-/// A script of more than 1048576 bytes is refused with [`RspError::TooLong`], and so is any later `feed` or `end`. A session is `Send`, but not `Sync`.
+/// A script of more than 1048576 bytes is refused with [`TooLong`](crate::Status::TooLong), and so is any later `feed` or `end`. A session is `Send`, but not `Sync`.
 // SAFETY of all calls below: as in `Machine`.
 pub struct Session {
     handle: UnsafeCell<raw::SessionHandle>,
@@ -27,7 +27,7 @@ impl Session {
     pub fn new(image: &[u8]) -> Result<Session, RspError> {
         right_version()?;
         let session = Session { handle: UnsafeCell::new(raw::SessionHandle { at: ptr::null_mut() }), image_length: image.len() };
-        done(unsafe { raw::brsp_session_new(session.at(), image.as_ptr(), image.len()) })?;
+        done(unsafe { raw::brsp_session_new(session.at(), image.as_ptr(), image.len()) }, "Session", &[image.len() as u64])?;
         Ok(session)
     }
 
@@ -64,17 +64,18 @@ impl Session {
     /// The number of bytes that the library takes, at most up to an LF, and a copy of the reply, which it writes to `room`.
     fn take(&mut self, bytes: &[u8], room: &mut [u8]) -> Result<(usize, Vec<u8>), RspError> {
         let (mut used, mut written) = (0, 0);
-        done(unsafe {
+        let status = unsafe {
             raw::brsp_session_take(self.at(), bytes.as_ptr(), bytes.len(), &mut used, room.as_mut_ptr(), room.len(), &mut written)
-        })?;
+        };
+        done(status, "feed", &[])?;
         Ok((used, room[..written].to_vec()))
     }
 
     /// Ends the script. Returns the reply to a last line without LF, and the fault of an open `asm` block. Any later `feed` or `end` is refused
-    /// with [`RspError::Ended`].
+    /// with [`Ended`](crate::Status::Ended).
     pub fn end(&mut self) -> Result<Vec<u8>, RspError> {
         let (mut written, mut reply) = (0, vec![0; ROOM]);
-        done(unsafe { raw::brsp_session_end(self.at(), reply.as_mut_ptr(), ROOM, &mut written) })?;
+        done(unsafe { raw::brsp_session_end(self.at(), reply.as_mut_ptr(), ROOM, &mut written) }, "end", &[])?;
         reply.truncate(written);
         Ok(reply)
     }
@@ -82,7 +83,7 @@ impl Session {
     /// A copy of the image in its present state.
     pub fn rdram(&self) -> Result<Vec<u8>, RspError> {
         let mut bytes = vec![0; self.image_length];
-        done(unsafe { raw::brsp_session_memory(self.at(), Bank::Rdram as u32, 0, bytes.as_mut_ptr(), bytes.len()) })?;
+        done(unsafe { raw::brsp_session_memory(self.at(), Bank::Rdram as u32, 0, bytes.as_mut_ptr(), bytes.len()) }, "rdram", &[])?;
         Ok(bytes)
     }
 }

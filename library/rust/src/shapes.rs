@@ -56,9 +56,9 @@ pub struct DivideState {
     pub loaded: u16,
 }
 
-/// All registers. In the default all are 0, which is the state of no machine, so begin with [`crate::Machine::get`].
+/// All registers. The default is the state of a new machine.
 #[repr(C)]
-#[derive(Clone, Copy, Debug, Default, PartialEq, Eq)]
+#[derive(Clone, Copy, Debug, PartialEq, Eq)]
 pub struct State {
     /// The scalar registers; register 0 is 0.
     pub words: [u32; 32],
@@ -68,8 +68,8 @@ pub struct State {
     pub accumulators: Accumulators,
     /// The flags VCO, VCC and VCE.
     pub flags: FlagBits,
-    /// 0 in each state of a machine; [`Machine::set`](crate::Machine::set) doesn't read it.
-    pub zero: u8,
+    /// 0 in each state of a machine, in the place of padding.
+    pub(crate) zero: u8,
     /// What divide instructions leave for the next one.
     pub divider: DivideState,
     /// The address of the next instruction, a multiple of 4 below 4096.
@@ -82,14 +82,40 @@ pub struct State {
     pub interrupt: u32,
 }
 
-/// The SP registers.
+/// SP_RD_LEN and SP_WR_LEN of a new machine.
+const LENGTH: u32 = 0xff8;
+
+impl Default for State {
+    fn default() -> State {
+        State {
+            words: [0; 32],
+            vectors: [[0; 8]; 32],
+            accumulators: Accumulators::default(),
+            flags: FlagBits::default(),
+            zero: 0,
+            divider: DivideState::default(),
+            pc: 0,
+            npc: 4,
+            sp: SpWords::default().words,
+            interrupt: 0,
+        }
+    }
+}
+
+/// The SP registers. The default is those of a new machine.
 #[repr(C)]
-#[derive(Clone, Copy, Debug, Default, PartialEq, Eq)]
+#[derive(Clone, Copy, Debug, PartialEq, Eq)]
 pub struct SpWords {
     /// Registers 0 to 7 and the DPC's, as `peek` gives them.
     pub words: [u32; 16],
     /// 1 if the interrupt flag is set, otherwise 0.
     pub interrupt: u32,
+}
+
+impl Default for SpWords {
+    fn default() -> SpWords {
+        SpWords { words: [0, 0, LENGTH, LENGTH, 0, 0, 0, 0, 0, 0, 0, 0, 0, 0, 0, 0], interrupt: 0 }
+    }
 }
 
 /// An entry of a trace: what a step did. Its bytes have no gaps.
@@ -143,6 +169,7 @@ pub struct Changes {
 
 /// A field of a [`State`] with a value that no machine can have.
 #[derive(Clone, Copy, Debug, PartialEq, Eq)]
+#[non_exhaustive]
 pub enum Field {
     /// `words[0]` isn't 0.
     Zero,
@@ -238,6 +265,7 @@ impl fmt::Display for StepEnd {
 
 /// Why a run stopped.
 #[derive(Clone, Copy, Debug, PartialEq, Eq)]
+#[non_exhaustive]
 pub enum Reason {
     /// The word at pc is reserved.
     Reserved,
@@ -266,6 +294,7 @@ pub struct Stop {
 
 /// Where a run stopped that also stops before moves of SP registers.
 #[derive(Clone, Copy, Debug, PartialEq, Eq)]
+#[non_exhaustive]
 pub enum MoveEnd {
     /// For another reason.
     Stop(Stop),
@@ -308,6 +337,7 @@ pub struct Dma {
 
 /// What [`event`](crate::Machine::event) reached.
 #[derive(Clone, Copy, Debug, PartialEq, Eq)]
+#[non_exhaustive]
 pub struct Event {
     /// Where the run stopped. A DMA is an MTC0 to register 2 or 3.
     pub at: MoveEnd,
@@ -333,6 +363,7 @@ impl fmt::Display for Reason {
 
 /// A word of IMEM.
 #[derive(Clone, Debug, PartialEq, Eq)]
+#[non_exhaustive]
 pub struct Line {
     /// Its address.
     pub place: u16,

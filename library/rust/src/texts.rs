@@ -1,11 +1,11 @@
 //! Assembling and disassembling.
 
-use crate::error::{done, right_version};
+use crate::error::{done, right_version, AssemblyFault};
 use crate::raw;
 use crate::shapes::Line;
 use crate::{Operand, RspError};
 
-const NO_MEANING: u32 = 6;
+const NO_MEANING: u32 = 106;
 
 pub(crate) const NO_LINE: raw::Line = raw::Line { word: 0, place: 0, len: 0, text: [0; 68] };
 
@@ -21,9 +21,10 @@ pub fn assemble(text: &str, origin: u32) -> Result<Vec<u32>, RspError> {
     // SAFETY: each pointer is of a borrow, with its own length.
     let status = unsafe { raw::brsp_assemble(origin, text.as_ptr(), text.len(), words.as_mut_ptr(), words.len(), &mut out) };
     if status == NO_MEANING {
-        return Err(RspError::NoMeaning { line: out.line, fault: out.fault, operand: Operand::of(text, origin) });
+        let fault = AssemblyFault { line: out.line, fault: out.fault, operand: Operand::of(text, origin) };
+        return Err(RspError::of_text(text, fault));
     }
-    done(status)?;
+    done(status, "assemble", &[origin.into()])?;
     words.truncate(out.count);
     Ok(words)
 }
@@ -34,17 +35,17 @@ pub fn labels(text: &str, origin: u32) -> Result<Vec<(String, u16)>, RspError> {
     let mut found = vec![raw::Label { address: 0, len: 0, name: [0; 36] }; text.lines().count()];
     let mut count = 0;
     // SAFETY: each pointer is of a borrow, with its own length.
-    done(unsafe { raw::brsp_labels(origin, text.as_ptr(), text.len(), found.as_mut_ptr(), found.len(), &mut count) })?;
+    done(unsafe { raw::brsp_labels(origin, text.as_ptr(), text.len(), found.as_mut_ptr(), found.len(), &mut count) }, "labels", &[])?;
     let name = |it: &raw::Label| String::from_utf8_lossy(&it.name[..usize::from(it.len)]).into_owned();
     Ok(found[..count].iter().map(|it| (name(it), it.address)).collect())
 }
 
-/// The disassembly of a word for the address `place`, a multiple of 4 below 4096.
-pub fn text(word: u32, place: u32) -> Result<String, RspError> {
+/// The disassembly of a word for an address, a multiple of 4 below 4096.
+pub fn text(word: u32, address: u32) -> Result<String, RspError> {
     right_version()?;
     let mut line = NO_LINE;
     // SAFETY: the pointer is of a borrow.
-    done(unsafe { raw::brsp_text(word, place, &mut line) })?;
+    done(unsafe { raw::brsp_text(word, address, &mut line) }, "text", &[word.into(), address.into()])?;
     Ok(seen(&line).text)
 }
 

@@ -1,7 +1,12 @@
 //! The first difference between a machine and a second one with a planted fault.
 
-use rsp::{assemble, first_difference, Bank, Emulator, Machine, RspError, State, StepEnd};
+use rsp::{assemble, first_difference, Bank, Emulator, Machine, RspError, State, Status, StepEnd};
 use std::panic::{catch_unwind, AssertUnwindSafe};
+
+/// Why a call was refused.
+fn why<T>(result: Result<T, RspError>) -> Option<Status> {
+    result.err().map(|it| it.status())
+}
 
 /// A DMA of 8 bytes into DMEM and one back, then a loop of 40 turns; at its head $2 is 40, 39, ..
 const PROGRAM: &str = "
@@ -121,7 +126,7 @@ fn none() {
         assert_eq!(machine.get().unwrap(), alone(limit));
     }
     for every in [0, 1_000_001] {
-        assert_eq!(first_difference(&mut machine, &mut emulator, every, 9), Err(RspError::OutOfRange));
+        assert_eq!(why(first_difference(&mut machine, &mut emulator, every, 9)), Some(Status::OutOfRange));
     }
 }
 

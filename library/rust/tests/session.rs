@@ -1,8 +1,13 @@
 //! Sessions: scripts in pieces, replies one by one, refusals; and the scripts of the repository, if they are there.
 
-use rsp::{run_script, run_script_strict, Session, RspError, ScriptError};
+use rsp::{run_script, run_script_strict, RspError, ScriptError, Session, Status};
 use std::fs;
 use std::path::Path;
+
+/// Why a call was refused.
+fn why<T>(result: Result<T, RspError>) -> Option<Status> {
+    result.err().map(|it| it.status())
+}
 
 const LONGEST: usize = 1048576;
 
@@ -13,8 +18,8 @@ fn pieces() {
     assert_eq!(session.feed(b"ep\nstep # 2"), Ok(b"step Done pc 004\n".to_vec()));
     assert_eq!(session.feed(""), Ok(vec![]));
     assert_eq!(session.end(), Ok(b"step Done pc 008\n".to_vec()));
-    assert_eq!(session.end(), Err(RspError::Ended));
-    assert_eq!(session.feed(""), Err(RspError::Ended));
+    assert_eq!(why(session.end()), Some(Status::Ended));
+    assert_eq!(why(session.feed("")), Some(Status::Ended));
     assert_eq!(session.rdram(), Ok(vec![0; 64]));
     assert_eq!(run_script("", None), Ok((vec![], vec![0; 1 << 22])));
 }
@@ -26,7 +31,7 @@ fn one_by_one() {
     assert_eq!(replies, [&b"step Done pc 004\n"[..], b"", b"", b"", b"ok 1 words\n"]);
     let text = "#".repeat(LONGEST);
     let mut told = session.feed_iter(text.as_bytes());
-    assert_eq!((told.next(), told.next()), (Some(Err(RspError::TooLong)), None));
+    assert_eq!((told.next().map(why), told.next()), (Some(Some(Status::TooLong)), None));
 }
 
 /// As many lines as a script may have take no more than their replies need.
@@ -44,22 +49,23 @@ fn many_lines() {
 #[test]
 fn refusals() {
     for length in [0, 63, 65, 68, (1 << 23) + 8] {
-        assert_eq!(Session::new(&vec![0; length]).err(), Some(RspError::OutOfRange));
+        assert_eq!(why(Session::new(&vec![0; length])), Some(Status::OutOfRange));
     }
     let script = format!("step\n{}", "#".repeat(LONGEST - 5));
     let wanted = b"step Done pc 004\nfault 32 LineTooLong\n".to_vec();
     assert_eq!(run_script(&script, Some(&[0; 64])), Ok((wanted, vec![0; 64])));
     let mut session = Session::new(&[1; 64]).unwrap();
-    assert_eq!(session.feed(script + "#"), Err(RspError::TooLong));
-    assert_eq!((session.feed(""), session.end(), session.rdram()), (Err(RspError::TooLong), Err(RspError::TooLong), Ok(vec![1; 64])));
-    assert_eq!(RspError::TooLong.to_string(), "the script has more than 1048576 bytes");
+    assert_eq!(why(session.feed(script + "#")), Some(Status::TooLong));
+    assert_eq!((why(session.feed("")), why(session.end())), (Some(Status::TooLong), Some(Status::TooLong)));
+    assert_eq!(session.rdram(), Ok(vec![1; 64]));
+    assert_eq!(session.end().unwrap_err().to_string(), "end: the script has more than 1048576 bytes");
 }
 
 /// The line, its text, the fault and the reply at which a strict run ends.
 #[test]
 fn strict_scripts() {
     let run = |script: &str| run_script_strict(script, Some(&[0; 64]));
-    assert_eq!(run("asm 0\nnop\nend\nstep"), run_script("asm 0\nnop\nend\nstep", Some(&[0; 64])).map_err(ScriptError::RspError));
+    assert_eq!(run("asm 0\nnop\nend\nstep"), run_script("asm 0\nnop\nend\nstep", Some(&[0; 64])).map_err(ScriptError::Refused));
     let faults = [
         ("step\nbrek 0\nback 9\n", 2, "brek 0", 30, "fault 30 BadCommand"),
         ("step\nback 9", 2, "back 9", 27, "fault 27 ShortHistory"),
@@ -79,8 +85,8 @@ fn strict_scripts() {
     let controls = run("step\n\x1b]0;\u{9b}2J\x07\t'\"\\\u{202e}\u{e9}").unwrap_err().to_string();
     assert_eq!(controls, "line 2: fault 33 NotText: \\u{1b}]0;\\u{9b}2J\\u{7}\t'\"\\\\u{202e}\u{e9}");
     assert_eq!(run(&"x".repeat(100)).unwrap_err().to_string(), format!("line 1: fault 30 BadCommand: {}", "x".repeat(80)));
-    assert_eq!(run_script_strict("", Some(&[0; 3])).err(), Some(ScriptError::RspError(RspError::OutOfRange)));
-    assert_eq!(run("#".repeat(LONGEST + 1).as_str()).err(), Some(ScriptError::RspError(RspError::TooLong)));
+    assert!(matches!(run_script_strict("", Some(&[0; 3])), Err(ScriptError::Refused(it)) if it.status() == Status::OutOfRange));
+    assert!(matches!(run("#".repeat(LONGEST + 1).as_str()), Err(ScriptError::Refused(it)) if it.status() == Status::TooLong));
 }
 
 /// The image that a file NAME.rdram describes: its length, and whether its bytes count up.
