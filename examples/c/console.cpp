@@ -6,7 +6,7 @@
 int main()
 {
     Console<uint8_t> console;
-    const auto words = brsp::machine::assemble("lqv $v1[0], 0($0)\n" "vaddc $v1, $v1, $v1\n" "sqv $v1[0], 0($0)\n"
+    const auto words = brsp::assemble("lqv $v1[0], 0($0)\n" "vaddc $v1, $v1, $v1\n" "sqv $v1[0], 0($0)\n"
         "mtc0 $0, $c0\n" "ori $1, $0, 0x2000\n" "mtc0 $1, $c1\n" "ori $2, $0, 15\n" "mtc0 $2, $c3\n" "break\n");
     for (size_t i = 0; i < 4 * words.size(); i++) console.rdram[0x1000 + i] = uint8_t(words[i / 4] >> (24 - i % 4 * 8));
     for (size_t i = 0; i < 8; i++) console.rdram[0x2000 + 2 * i + 1] = uint8_t(i + 1);

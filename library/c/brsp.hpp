@@ -722,7 +722,7 @@ namespace detail {
 template <class Emulator> struct emulated {
     Emulator &emulator;
 #ifdef __cpp_exceptions
-    std::exception_ptr thrown;
+    std::exception_ptr thrown = nullptr;
 #endif
     template <class Work> static void make(void *self, Work work)
     {

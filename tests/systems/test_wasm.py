@@ -101,9 +101,15 @@ def test_names(runner: Any) -> None:
     text = re.sub(r"/\*.*?\*/", "", (wasm.SCRIPTS / "rsp.d.ts").read_text(), flags=re.S)
     declared = re.findall(r"(?m)^export (?:enum|class|const|function) (\w+)", text)
     assert {*shown["names"]} == {*declared}
-    body = re.findall(r"(?ms)^export class Rsp \{\n(.*?)^\}", text)[0]
+    body = re.findall(r"(?ms)^export class Machine \{\n(.*?)^\}", text)[0]
     methods = re.findall(r"(?m)^  (?:readonly )?(\w+)[(:]", body)
     assert {*shown["methods"]} == {*methods, "constructor"}
+
+
+@on(*JAVASCRIPT)
+def test_wrong_uses(runner: Any) -> None:
+    table = (TESTS / "library/wrong_uses.tsv").read_text()
+    assert runner.test("wrong_uses.js").decode().split("\n") == table.splitlines()[1:]
 
 
 @pytest.mark.needs("npm", "node")

@@ -149,12 +149,15 @@ def first_difference(
     most `every` steps, 1 to 1000000, which end before a DMA. After each stretch all registers, DMEM and IMEM
     are compared, after a DMA also RDRAM. If they differ, both go back to the last comparison and are stepped
     from there. Both are left after the step that differs, and the machine's history is empty. Raises
-    ValueError if `every` or `limit`, 0 to 4294967295, isn't in its range, or if a memory of the emulator has
-    a wrong length.
+    RspError with OUT_OF_RANGE if `every` or `limit`, 0 to 4294967295, isn't in its range, and ValueError if a
+    memory of the emulator has a wrong length.
     """
+    from . import RspError, Status  # which are made after this module is loaded
+
     every, limit = _in_words.integers("first_difference", (every, limit))
     if not 1 <= every <= 1000000 or not 0 <= limit < _in_words.BELOW:
-        raise ValueError(_in_words.refusal(_in_words.OUT_OF_RANGE, "first_difference", (every, limit)))
+        words = _in_words.refusal(Status.OUT_OF_RANGE, "first_difference", (every, limit))
+        raise RspError(Status.OUT_OF_RANGE, words)
     rdram, steps = machine.image_length, 0
     seen = _seen(machine, rdram)
     _put(emulator, seen)

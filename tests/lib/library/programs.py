@@ -44,10 +44,11 @@ def passes(program: Path) -> None:
     assert ran.returncode == 0 and has_passed, f"status {ran.returncode}\n{ran.stdout}"
 
 
-def other_version(folder: Path) -> Path:
-    """A folder with libraries whose calls do nothing, of version 2."""
-    names = [name for name, *_ in shapes.exported()]
-    calls = (f"unsigned {it}(void) {{ return {2 if it == 'brsp_version' else 0}; }}\n" for it in names)
+def other_version(folder: Path, without: str = "") -> Path:
+    """A folder with libraries whose calls do nothing: of version 2, or of version 1 without a call."""
+    names = [name for name, *_ in shapes.exported() if name != without]
+    version = 1 if without else 2
+    calls = (f"unsigned {it}(void) {{ return {version if it == 'brsp_version' else 0}; }}\n" for it in names)
     (folder / "calls.c").write_text("".join(calls))
     succeeds("cc", "-fPIC", "-c", "calls.c", cwd=folder)
     succeeds("ar", "rc", "libbrsp.a", "calls.o", cwd=folder)

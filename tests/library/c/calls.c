@@ -97,6 +97,7 @@ static void without_machine(void)
         SEE(brsp_pass_move(m, 1) == BRSP_NO_MACHINE);
         SEE(brsp_pass_dma(m) == BRSP_NO_MACHINE);
         SEE(brsp_history(m, &number) == BRSP_NO_MACHINE && number == 0);
+        SEE(brsp_image_length(m, &number) == BRSP_NO_MACHINE && number == 0);
         SEE(brsp_copy(&to, m) == BRSP_NO_MACHINE && to.at == NULL);
         SEE(m->at == NULL);
     }
@@ -166,6 +167,7 @@ static void memories(void)
     for (i = 0; i < 4096; i++) bytes[i] = (uint8_t)(i * 7 + i / 256);
     for (i = 0; i < 1025; i++) words[i] = 0x01020304u + (uint32_t)i;
     SEE(brsp_new(&m, image, 4096, 0) == BRSP_OK);
+    SEE(brsp_image_length(&m, &i) == BRSP_OK && i == 4096);
     for (bank = BRSP_DMEM; bank <= BRSP_RDRAM; bank++) {
         SEE(brsp_load(&m, bank, 0, bytes, 4096) == BRSP_OK);
         memset(found, 0, sizeof found);

@@ -322,6 +322,7 @@ static void other_calls(brsp_machine *m)
     NONE(brsp_pass_move(m, 1));
     NONE(brsp_pass_dma(m));
     NONE(brsp_history(m, &number));
+    NONE(brsp_image_length(m, &number));
     for (k = 0; k < 17; k++) NONE(brsp_add_break(m, 4 * k));
     for (k = 0; k < 9; k++) NONE(brsp_add_watch(m, k, 64, &number));
     NONE(brsp_run(m, 1000, &stop));

@@ -62,6 +62,7 @@ static void run(void) { word = brsp_run(&m, 100000, &stop); }
 static void run_until_move(void) { word = brsp_run_until_move(&m, 100000, 1, 0, &move); }
 static void event(void) { word = brsp_event(&m, 100000, 0xffff, 0xffff, &reached); }
 static void pass_dma(void) { word = brsp_pass_dma(&m); }
+static void image_length(void) { word = brsp_image_length(&m, &number); }
 static void history(void) { word = brsp_history(&m, &number); }
 static void traced(void) { word = brsp_trace(&m, entries, 256, &stop); }
 static void add_break(void) { word = brsp_add_break(&m, 4092); }
@@ -108,6 +109,7 @@ static const struct {
     { "brsp_load", load }, { "brsp_memory", memory }, { "brsp_memory_words", memory_words }, { "brsp_step", step }, { "brsp_run", run },
     { "brsp_step_changes", changed },
     { "brsp_run_until_move", run_until_move }, { "brsp_event", event }, { "brsp_pass_dma", pass_dma }, { "brsp_history", history },
+    { "brsp_image_length", image_length },
     { "brsp_trace", traced },
     { "brsp_back", back }, { "brsp_add_watch", add_watch }, { "brsp_add_break", add_break }, { "brsp_run with both", run },
     { "brsp_drop_break", drop_break }, { "brsp_drop_watch", drop_watch }, { "brsp_copy", copied }, { "brsp_free", freed }, { "brsp_get", get },

@@ -1,10 +1,11 @@
-"""brsp.hpp, the class of C++17 over brsp.h (machine.cpp), and brsp.h in C++ under strict warnings.
+"""brsp.hpp, the classes of C++17 over brsp.h (machine.cpp), and brsp.h in C++ under strict warnings.
 
-They fail if a method does something else than its call, a machine is lost or freed twice by a move, or a
-compiler warns.
+They fail if a method does something else than its call, a machine is lost or freed twice by a move, a refusal
+names another argument or range, or a compiler warns.
 """
 
 from pathlib import Path
+from typing import Tuple
 
 import pytest
 
@@ -12,7 +13,7 @@ from lib import TOP
 from lib.library.programs import HERE, passes
 from lib.pages import block_with, page
 from lib.packages import need
-from lib.processes import STRICT, compiled, succeeds
+from lib.processes import STRICT, compiled, run, succeeds
 
 pytestmark = pytest.mark.usefixtures("library")
 LIBRARY = TOP / "library/c/libbrsp.a"
@@ -57,7 +58,40 @@ def test_page(folder: Path) -> None:
     assert succeeds(program(folder, source)) == f"{wanted.partition('`')[0]}\n"
 
 
-def test_length() -> None:
-    """The class has at most 60 lines."""
-    text = (TOP / "library/c/brsp.hpp").read_text()
-    assert text[text.index("class rsp::machine") :].partition("\n};\n")[0].count("\n") < 60
+REFUSED = """#include <cstdio>
+#include <cstdlib>
+{handler}
+#include "brsp.hpp"
+int main()
+{{
+    brsp::machine machine;
+    machine.set_pc(3);
+}}
+"""
+SENTENCE = "set_pc: pc is 3, not a multiple of 4 below 4096\n"
+
+
+@pytest.mark.parametrize("words", [(), ("-fno-exceptions",)])
+@pytest.mark.parametrize(
+    ("handler", "status"),
+    [("", -6), ("#define BRSP_REFUSE(error) (std::fputs((error).what(), stderr), std::exit(3))", 3)],
+)
+def test_refusal(handler: str, status: int, words: Tuple[str, ...], folder: Path) -> None:
+    """With and without exceptions: BRSP_REFUSE gets the error; otherwise it is thrown, or ends the program."""
+    source = folder / "refused.cpp"
+    source.write_text(REFUSED.format(handler=handler))
+    made = compiled(folder / "refused", "-std=c++17", *STRICT, *words, source, LIBRARY, compiler="c++")
+    ran = run(made)
+    assert ran.returncode == status and SENTENCE.rstrip() in ran.stdout
+
+
+def test_standard(folder: Path) -> None:
+    source = folder / "old.cpp"
+    source.write_text('#include "brsp.hpp"\n')
+    ran = run("c++", "-std=c++14", f"-I{TOP / 'library/c'}", "-fsyntax-only", source)
+    assert ran.returncode != 0 and "brsp.hpp needs C++17 or later" in ran.stdout
+
+
+def test_lines() -> None:
+    for name in ("brsp.hpp", "brsp_compare.h"):
+        assert [it for it in page(f"library/c/{name}").splitlines() if len(it) > 110] == []

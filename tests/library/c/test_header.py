@@ -27,8 +27,9 @@ def test_calls() -> None:
 
 @pytest.mark.needs("nm")
 def test_exports(library: Path) -> None:
-    shown = succeeds("nm", "-D", "--defined-only", library / "libbrsp.so").splitlines()
-    assert {it.split()[-1] for it in shown} == {name for name, *_ in shapes.exported()}
+    shown = succeeds("nm", "-D", "--defined-only", "--without-symbol-versions", library / "libbrsp.so")
+    names = {it.split()[-1] for it in shown.splitlines()}
+    assert {it for it in names if not it.startswith("BRSP_")} == {name for name, *_ in shapes.exported()}
 
 
 def named(prefix: str, text: str = HEADER) -> Dict[str, int]:
@@ -42,6 +43,14 @@ def test_numbers() -> None:
     assert named("AT_") == shapes.REASONS
     assert re.findall(r"#define BRSP_REPLIES (\d+)", HEADER) == [str(shapes.REPLIES)]
     assert named("FIELD_") == {"NONE": 0, **shapes.FIELDS}
+    faults = {re.sub(r"(?<!^)(?=[A-Z])", "_", it).upper(): number for it, number in shapes.FAULTS.items()}
+    assert named("FAULT_") == {"NONE": 0, **faults}
+
+
+def test_apart() -> None:
+    """No status but BRSP_OK has the number of a fault of scripts."""
+    faults = {int(line.split()[0]) for line in page("docs/data/faults.tsv").splitlines()[1:]}
+    assert len(faults) > 20 and not faults & {*shapes.STATUSES.values()}
 
 
 @pytest.mark.needs("cc")
@@ -62,11 +71,11 @@ def test_layouts(library: Path, folder: Path) -> None:
 
 @pytest.mark.needs("cc")
 def test_names(library: Path, folder: Path) -> None:
-    """The tables of names in brsp.h beside the library's numbers, for the numbers 0 to 99."""
+    """The tables of names in brsp.h beside the library's numbers, for the numbers 0 to 149."""
     lines, wanted = ["unsigned n;"], []
     tables = {"status": shapes.STATUSES, "fault": shapes.FAULTS, "reason": shapes.REASONS}
     for kind, known in tables.items():
-        lines.append(f'for (n = 0; n < 100; n++) printf("{kind} %u %s\\n", n, brsp_{kind}_name(n));')
+        lines.append(f'for (n = 0; n < 150; n++) printf("{kind} %u %s\\n", n, brsp_{kind}_name(n));')
         names = {value: name for name, value in known.items()}
-        wanted += [f"{kind} {n} {names.get(n, 'unknown')}" for n in range(100)]
+        wanted += [f"{kind} {n} {names.get(n, 'unknown')}" for n in range(150)]
     assert said_by(folder, main_of("\n".join(lines))).splitlines() == wanted

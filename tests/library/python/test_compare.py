@@ -158,11 +158,11 @@ def test_stretch_that_single_steps_do_not_show() -> None:
 SHORT = {"memory": lambda it, *place: rsp.Rsp.memory(it, *place)[:8]}
 SHORT_IMEM = {"memory": lambda it, bank, *place: rsp.Rsp.memory(it, bank, *place)[: 8 if bank else 4096]}
 WRONG: Dict[str, Tuple[Dict[str, Any], List[Any], Type[Exception]]] = {
-    "first_difference: every is 0, not 1 to 1000000": ({}, [0], ValueError),
-    "first_difference: every is 1000001, not 1 to 1000000": ({}, [1000001], ValueError),
-    "first_difference: limit is -1, not 0 to 4294967295": ({}, [64, -1], ValueError),
-    "first_difference: limit is 4294967296, not 0 to 4294967295": ({}, [64, 1 << 32], ValueError),
-    f"first_difference: limit is {1 << 70}, not 0 to 4294967295": ({}, [64, 1 << 70], ValueError),
+    "first_difference: every is 0, not 1 to 1000000": ({}, [0], rsp.RspError),
+    "first_difference: every is 1000001, not 1 to 1000000": ({}, [1000001], rsp.RspError),
+    "first_difference: limit is -1, not 0 to 4294967295": ({}, [64, -1], rsp.RspError),
+    "first_difference: limit is 4294967296, not 0 to 4294967295": ({}, [64, 1 << 32], rsp.RspError),
+    f"first_difference: limit is {1 << 70}, not 0 to 4294967295": ({}, [64, 1 << 70], rsp.RspError),
     "first_difference: every is of type str, not an integer": ({}, ["64"], TypeError),
     "first_difference: the emulator's memory(0, 0, 4096) has 8 bytes": (SHORT, [], ValueError),
     "first_difference: the emulator's memory(1, 0, 4096) has 8 bytes": (SHORT_IMEM, [], ValueError),

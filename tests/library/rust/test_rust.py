@@ -44,6 +44,7 @@ def cargo(library: Path) -> Iterator[Cargo]:
         shutil.copytree(CRATE, at, ignore=shutil.ignore_patterns("target", "Cargo.lock"))
         given = {"RSP_LIB_DIR": library, "CARGO_TARGET_DIR": f"{folder}/target"}
         where: Any = {**os.environ, **given, "RSP_SCRIPTS": TESTS / "program/scripts"}
+        where["RSP_WRONG_USES"] = TESTS / "library/wrong_uses.tsv"
         yield lambda *words, **more: run("cargo", *words, cwd=at, env={**where, **more})
 
 
@@ -92,4 +93,12 @@ def test_example(name: str, cargo: Cargo) -> None:
 @pytest.mark.needs("cc", "ar")
 def test_library_of_another_version(cargo: Cargo, folder: Path) -> None:
     ran = cargo(*RUN, "lockstep", RSP_LIB_DIR=other_version(folder))
-    assert (ran.returncode, ran.stdout) == (1, "Error: the interface of the library has version 2, not 1\n")
+    assert ran.returncode == 1 and "the interface of the library has version 2, not 1" in ran.stdout
+
+
+@in_crate
+@pytest.mark.needs("cc", "ar")
+def test_older_library(cargo: Cargo, folder: Path) -> None:
+    """A library that lacks a call is named before it is linked."""
+    ran = cargo("build", "--offline", RSP_LIB_DIR=other_version(folder, without="brsp_image_length"))
+    assert ran.returncode and "is older than this crate: it lacks brsp_image_length" in ran.stdout
