@@ -5,6 +5,7 @@
 #include <signal.h>
 #include <stdlib.h>
 #include <string.h>
+#include <sys/socket.h>
 #include <sys/wait.h>
 #include <unistd.h>
 
@@ -202,7 +203,8 @@ static int lock_step(const task_start *start, uint32_t steps)
     return 1;
 }
 
-/* The child, and the ends of its pipes: a byte begins it, and its messages come back, a line each. */
+/* The child, the socket by which a byte begins it, and the pipe by which its messages come back, a line each. To write to a socket whose other end is
+ * gone is an error; to write to such a pipe would end the emulator. */
 static pid_t child;
 static int begins, messages;
 
@@ -223,7 +225,7 @@ int begin_lock_step(const task_start *start, uint32_t steps)
     child = 0;
     if (!other.steps_by_count && !other.steps_by_flag) return 1;
     if (!make_unit(other.rdram_size) || !make_searcher()) return tell(M64_ERROR, "check: there is no memory for a second machine"), 1;
-    if (pipe(to)) return 0;
+    if (socketpair(AF_UNIX, SOCK_STREAM, 0, to)) return 0;
     if (pipe(from)) return close(to[0]), close(to[1]), 0;
     child = fork();
     if (!child) {
@@ -254,7 +256,7 @@ int end_lock_step(int is_wanted)
 {
     int status = 0;
     if (child <= 0) return is_wanted;
-    if (is_wanted && write(begins, "", 1) == 1) pass_messages();
+    if (is_wanted && send(begins, "", 1, MSG_NOSIGNAL) == 1) pass_messages();
     else kill(child, SIGKILL), close(messages);
     close(begins);
     waitpid(child, &status, 0);

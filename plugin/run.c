@@ -126,7 +126,8 @@ uint32_t run_task(rsp_unit *unit, uint32_t most)
     while (steps < most) {
         int compares = steps >= search.begins;
         uint32_t end = compares || most < search.begins ? most : search.begins, left = end - steps;
-        brsp_run_until_move(&unit->machine, left < STEPS_AT_ONCE ? left : STEPS_AT_ONCE, compares ? STOP_AT_READS : 0, STOP_AT_WRITES, &at);
+        uint32_t at_once = left < STEPS_AT_ONCE ? left : STEPS_AT_ONCE;
+        if (brsp_run_until_move(&unit->machine, at_once, compares ? STOP_AT_READS : 0, STOP_AT_WRITES, &at) != BRSP_OK) break;
         steps += at.stop.steps;
         unit->next_pc = at.stop.pc;
         if (at.stop.reason == BRSP_AT_HALT || steps == most || steps + cost >= LONGEST_TASK) break;

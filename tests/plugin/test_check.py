@@ -80,6 +80,13 @@ def test_child_takes_no_memory(bench: Bench, folder: Path) -> None:
     assert len(expected) == 6 and checked(wary, folder, bench.faulty(1), [products(bench)]) == expected
 
 
+def test_child_that_ended(bench: Bench, folder: Path) -> None:
+    """The process for single steps is killed, as one of a full machine may be: the emulator goes on."""
+    said = checked(bench, folder, bench.faulty(4), [products(bench), products(bench)])
+    assert [it for it in said if "by signal 9" in it] == ["the other plugin failed in single steps, by signal 9"] * 2
+    assert said[-1] == "2 tasks, 2 differ"
+
+
 def test_report_that_is_there(bench: Bench, folder: Path) -> None:
     """A file of a report's name, or a link to another file, stays as it is."""
     kept, link, text = folder / "kept", folder / "rsp-task-1.txt", folder / "rsp-task-1.script"
