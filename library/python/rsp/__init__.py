@@ -292,6 +292,7 @@ def _library() -> str:
 
 # A call of _quick keeps the GIL, so no other one comes in between. One of _lib may take long, so it releases
 # the GIL.
+_set_item: Any = ctypes.Array.__setitem__
 _lib, _quick = ctypes.CDLL(_library()), ctypes.PyDLL(_library())
 if not getattr(sys, "_is_gil_enabled", lambda: True)():
     raise ImportError("rsp needs Python's GIL: the environment variable PYTHON_GIL=1 turns it on")
@@ -779,16 +780,17 @@ class Machine(_Owner):
         if number > 31:
             _ok(Status.OUT_OF_RANGE, "set_vreg", numbers)
         held = _items.taken(f"vectors[{number}]", _items.Lanes, lanes)
-        self._change("set_vreg", lambda state: operator.setitem(state.vectors, number, held))
+        self._change("set_vreg", lambda state: _set_item(state.vectors, number, held))
 
     def _change(self, name: str, change: Callable[[Any], object]) -> None:
         """Changes the state. No other call comes in between."""
         state = unset(State)
+        to = byref(state)
 
         def _both(at: Any) -> int:
-            status: int = _lib.brsp_get(at, byref(state))
+            status: int = _quick.brsp_get(at, to)
             change(state)
-            return status or int(_lib.brsp_set(at, byref(state)))
+            return status or int(_quick.brsp_set(at, to))
 
         self._see_done(self._alone(name, _both), name)
 

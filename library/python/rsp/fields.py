@@ -2,6 +2,7 @@
 
 import ctypes
 import operator
+from array import array as numbers_of
 from typing import TYPE_CHECKING, Any, ClassVar, Iterator, List, Sequence, Union
 
 
@@ -30,6 +31,11 @@ def taken(name: str, kind: Any, value: Any) -> Any:
     """A value for a field or an item of this type, from a list if it is an array."""
     if type(value) is kind:
         return value
+    if type(value) is list and len(value) == getattr(kind, "_length_", None) and kind._type_ in CODES:
+        try:
+            return kind.from_buffer_copy(numbers_of(CODES[kind._type_], value))
+        except (TypeError, OverflowError):
+            pass  # one of them is no number or doesn't fit, which is said below
     if issubclass(kind, ctypes.Structure):
         raise TypeError(f"{name} is of type {type(value).__name__}, not rsp.{kind.__name__}")
     if not issubclass(kind, ctypes.Array):
@@ -40,6 +46,10 @@ def taken(name: str, kind: Any, value: Any) -> Any:
     if len(items) != kind._length_:
         raise ValueError(f"{name} has {len(items)} items, not {kind._length_}")
     return kind(*items)
+
+
+# How the module `array` names the types of numbers in a state.
+CODES = {ctypes.c_uint8: "B", ctypes.c_uint16: "H", ctypes.c_uint32: "I"}
 
 
 class Items:

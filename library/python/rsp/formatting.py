@@ -1,12 +1,18 @@
 """Registers as text: the lines of `regs`, `vregs`, `acc` and `flags`, and tables for a notebook."""
 
+import sys
+from array import array
 from html import escape
+from itertools import chain, repeat
 from typing import Any, Iterable, Iterator, List, NamedTuple, Tuple
 
 SP_NAMES = (
     "SP_MEM_ADDR", "SP_DRAM_ADDR", "SP_RD_LEN", "SP_WR_LEN", "SP_STATUS", "SP_DMA_FULL", "SP_DMA_BUSY",
     "SP_SEMAPHORE", *(f"DPC register {n}" for n in range(8)),
 )  # fmt: skip
+
+SCALAR_NAMES = [f"${n}" for n in range(32)]
+VECTOR_NAMES = [f"$v{n} lane {lane}" for n in range(32) for lane in range(8)]
 
 Named = Iterator[Tuple[str, int, int]]
 
@@ -55,16 +61,25 @@ def table(rows: Iterable[Iterable[str]]) -> str:
     return f"<table>{''.join(lines)}</table>"
 
 
+def high_first(items: Any, code: str) -> bytes:
+    """The bytes of an array of a state, the high byte of each number first."""
+    numbers = array(code, bytes(items))
+    if sys.byteorder == "little":
+        numbers.byteswap()
+    return numbers.tobytes()
+
+
 def regs(state: Any) -> List[str]:
     """The lines of `regs`: pc and npc, then four registers a line."""
-    words = list(state.words)
-    lines = [f"r{n:02} " + " ".join(f"{it:08x}" for it in words[n : n + 4]) for n in range(0, 32, 4)]
+    raw = high_first(state.words, "I")
+    lines = [f"r{n:02} {raw[4 * n : 4 * n + 16].hex(' ', 4)}" for n in range(0, 32, 4)]
     return [f"pc {state.pc:03x} npc {state.npc:03x}", *lines]
 
 
-def vregs(vectors: Iterable[Iterable[int]]) -> List[str]:
+def vregs(vectors: Any) -> List[str]:
     """The lines of `vregs`: a vector register a line, lane 0 first."""
-    return [f"v{n:02} " + " ".join(f"{it:04x}" for it in lanes) for n, lanes in enumerate(vectors)]
+    raw = high_first(vectors, "H")
+    return [f"v{n:02} {raw[16 * n : 16 * n + 16].hex(' ', 2)}" for n in range(32)]
 
 
 def acc(accumulators: Any) -> List[str]:
@@ -74,17 +89,13 @@ def acc(accumulators: Any) -> List[str]:
 
 def scalar_parts(state: Any) -> Named:
     """The name, the value and the digits of pc, npc and each scalar register."""
-    yield "pc", state.pc, 3
-    yield "npc", state.npc, 3
-    for n, value in enumerate(state.words):
-        yield f"${n}", value, 8
+    counters = ("pc", state.pc, 3), ("npc", state.npc, 3)
+    return chain(counters, zip(SCALAR_NAMES, array("I", bytes(state.words)), repeat(8)))
 
 
-def vector_parts(vectors: Iterable[Iterable[int]]) -> Named:
+def vector_parts(vectors: Any) -> Named:
     """Those of each lane of each vector register."""
-    for n, lanes in enumerate(vectors):
-        for lane, value in enumerate(lanes):
-            yield f"$v{n} lane {lane}", value, 4
+    return zip(VECTOR_NAMES, array("H", bytes(vectors)), repeat(4))
 
 
 def acc_parts(accumulators: Any) -> Named:
@@ -156,12 +167,14 @@ def sp_parts(words: Iterable[int], interrupt: int) -> Named:
 
 def state_parts(state: Any) -> Named:
     """Those of all registers."""
-    yield from scalar_parts(state)
-    yield from vector_parts(state.vectors)
-    yield from acc_parts(state.accumulators)
-    yield from flag_parts(state.flags)
-    yield from divider_parts(state.divider)
-    yield from sp_parts(state.sp, state.interrupt)
+    return chain(
+        scalar_parts(state),
+        vector_parts(state.vectors),
+        acc_parts(state.accumulators),
+        flag_parts(state.flags),
+        divider_parts(state.divider),
+        sp_parts(state.sp, state.interrupt),
+    )
 
 
 def line(parts: Named) -> str:

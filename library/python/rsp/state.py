@@ -92,8 +92,7 @@ class Plain(Structure):
         if not self._is_alike(other):
             raise TypeError(f"diff: other is of type {type(other).__name__}, not {self._title()}")
         pairs = zip(self._parts(), other._parts())
-        parts = (Part(name, mine, its, digits) for (name, mine, digits), (_, its, _) in pairs)
-        return Difference(it for it in parts if it.value != it.other)
+        return Difference(Part(*mine[:2], its[1], mine[2]) for mine, its in pairs if mine != its)
 
 
 class Scalars(Plain):
