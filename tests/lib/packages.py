@@ -1,5 +1,6 @@
 """The tools and files that tests need, with the Debian packages that have them."""
 
+import functools
 import glob
 import importlib.util
 import os
@@ -47,6 +48,8 @@ OTHERS = {
     "rt": "there is no `rt`, the Rattle kit (README.md)",
     "clean-tree": "the work tree differs from its commit",
 }
+# Programs that don't take --version.
+SILENT = {"rt", "sh", "Xvfb", "iverilog", "clean-tree"}
 
 
 def is_here(tool: str) -> bool:
@@ -58,6 +61,21 @@ def is_here(tool: str) -> bool:
     if tool.startswith("python:"):
         return importlib.util.find_spec(tool[7:]) is not None
     return bool(glob.glob(tool)) if "/" in tool else shutil.which(tool) is not None
+
+
+@functools.lru_cache(None)
+def broken(tool: str) -> str:
+    """What a program says that is here and doesn't work, such as rustup's cargo without a toolchain: it can't
+    even give its version. Empty if it works."""
+    if tool in SILENT or "/" in tool or ":" in tool or not shutil.which(tool):
+        return ""
+    words = [tool, "--version"]
+    try:
+        ran = subprocess.run(words, stdin=subprocess.DEVNULL, capture_output=True, text=True, timeout=60)
+    except (OSError, subprocess.TimeoutExpired) as fault:
+        return f"{tool} --version: {fault}"
+    said = (ran.stderr + ran.stdout).strip()
+    return f"{tool} --version: {said.splitlines()[0] if said else ran.returncode}" if ran.returncode else ""
 
 
 def packages(*tools: str) -> list[str]:
@@ -78,11 +96,13 @@ def without(tool: str) -> str:
 
 
 def need(*tools: str) -> None:
-    """Skips a test without one of these. With CI=true it fails, unless no package of Debian has the tool."""
+    """Skips a test without one of these, or if one doesn't work. With CI=true it fails, unless no package of
+    Debian has the tool."""
     import pytest  # here, because what measures uses this module without pytest
 
     missing = [it for it in tools if not is_here(it)]
-    if os.environ.get("CI") == "true" and {*missing} - {*OTHERS}:
-        pytest.fail("; ".join(map(without, missing)), pytrace=False)
-    if missing:
-        pytest.skip("; ".join(map(without, missing)))
+    faults = [*map(without, missing), *filter(None, map(broken, tools))]
+    if os.environ.get("CI") == "true" and (len(faults) > len(missing) or {*missing} - {*OTHERS}):
+        pytest.fail("; ".join(faults), pytrace=False)
+    if faults:
+        pytest.skip("; ".join(faults))
