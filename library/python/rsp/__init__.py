@@ -63,6 +63,11 @@ _O = TypeVar("_O", bound="_Owner")
 _T = TypeVar("_T")
 
 
+def __dir__() -> List[str]:
+    """What the package has for its users."""
+    return sorted((*__all__, "__doc__", "__version__", "STATE"))
+
+
 def __getattr__(name: str) -> Any:
     """STATE, a numpy dtype with the layout of a State."""
     if name != "STATE":
@@ -219,6 +224,9 @@ class Stop(_StopParts):
     dma: Optional[Dma] = None
     status: Optional[int] = None
     interrupt: Optional[bool] = None
+
+    def __repr__(self) -> str:
+        return f"Stop(reason=Reason.{self.reason.name}, steps={self.steps}, pc={self.pc:#05x}, watch={self.watch})"
 
 
 class Line(NamedTuple):
@@ -383,26 +391,43 @@ def _words(call: str, words: Iterable[int]) -> Any:
 
 
 class Words(List[int]):
-    """The words of a text. `labels` has the address of each label by its name, in the order of the lines."""
+    """The words of a text. `labels` has the address of each label by its name, in the order of the lines, and
+    `lines` the number of the line of each word, from 1."""
 
     def __init__(self, words: Iterable[int], source: bytes, origin: int) -> None:
         super().__init__(words)
         self._source, self._origin = source, origin
 
-    @property
-    def labels(self) -> Dict[str, int]:
-        """The address of each label by its name, in the order of the lines."""
-        found, count = (_Label * (self._source.count(b"\n") + 1))(), c_size_t()
-        raw = self._source
+    def _labels_of(self, raw: bytes) -> Dict[str, int]:
+        """The addresses of the labels of a text."""
+        found, count = (_Label * (raw.count(b"\n") + 1))(), c_size_t()
         status = _lib.brsp_labels(self._origin, raw, len(raw), found, len(found), byref(count))
         _ok(status, "assemble", [self._origin])
         return {it.name.decode(): it.address for it in found[: count.value]}
+
+    @property
+    def labels(self) -> Dict[str, int]:
+        """The address of each label by its name, in the order of the lines."""
+        return self._labels_of(self._source)
+
+    @property
+    def lines(self) -> List[int]:
+        """The number of the line of each word, from 1."""
+        name, lines = b"_", self._source.split(b"\n")
+        while name in self._source:  # a label of its own before each line gives the line's address
+            name += b"_"
+        named = [b"%s%d:\n%s" % (name, number, line) for number, line in enumerate(lines, 1)]
+        labels = self._labels_of(b"\n".join([*named, name + b"0:"]))
+        places = [labels[f"{name.decode()}{number}"] for number in (*range(1, len(lines) + 1), 0)]
+        counts = ((end - begin) // 4 for begin, end in zip(places, places[1:]))
+        return [number for number, count in enumerate(counts, 1) for _ in range(count)]
 
 
 def assemble(text: str, origin: int = 0) -> Words:
     """The words of a text, at most 1024. The first is for the address `origin`, a multiple of 4 up to 4096.
 
-    `assemble(text).labels["loop"]` is the address of a label. Raises AssemblyError if the text has a fault.
+    `assemble(text).labels["loop"]` is the address of a label, and `assemble(text).lines` has the line of each
+    word. Raises AssemblyError if the text has a fault.
     """
     (origin,) = _numbers("assemble", origin)
     if not isinstance(text, str):
@@ -514,6 +539,14 @@ class Machine(_Owner):
         (depth,) = _numbers("Machine", depth)
         self._hold()
         _made("Machine", _lib.brsp_new, self._handle, image, depth)
+
+    def __repr__(self) -> str:
+        try:
+            pc, status = self.regs().pc, self.peek(4)
+            next_one = self.listing(pc, 1)[0].text
+        except RspError as fault:
+            return f"<rsp.Machine: {fault.status.name}>"
+        return f"<rsp.Machine: pc {pc:03x}, {'halted' if status & 1 else 'running'}, next {next_one}>"
 
     def copy(self) -> "Machine":
         """A second machine with the same registers and memories. Its history has room for as many states, but

@@ -106,9 +106,9 @@ def acc_parts(accumulators: Any) -> Named:
 
 def flag_parts(flags: Any) -> Named:
     """Those of VCO, VCC and VCE."""
-    yield "vco", flags.differ << 8 | flags.carry, 4
-    yield "vcc", flags.clip << 8 | flags.compare, 4
-    yield "vce", flags.extra, 2
+    yield "vco", flags.vco, 4
+    yield "vcc", flags.vcc, 4
+    yield "vce", flags.vce, 2
 
 
 def traced_parts(entry: Any) -> Named:

@@ -2,7 +2,7 @@
 the session shows."""
 
 from ctypes import Structure, c_uint8, c_uint16, c_uint32
-from typing import TYPE_CHECKING, Any, ClassVar, Dict, List, Tuple, Type, TypeVar
+from typing import TYPE_CHECKING, Any, ClassVar, Dict, Iterator, List, Tuple, Type, TypeVar
 
 from . import formatting
 from .fields import Lanes, Sp, SpItems, StoredBytes, Vectors, Words, taken
@@ -124,6 +124,10 @@ class Accumulators(Plain):
         middle: typed.NumbersField
         low: typed.NumbersField
 
+    def __iter__(self) -> Iterator[int]:
+        """The eight accumulators as numbers of 48 bits, lane 0 first."""
+        return (value for _, value, _ in formatting.acc_parts(self))
+
     def _parts(self) -> formatting.Named:
         return formatting.acc_parts(self)
 
@@ -142,6 +146,21 @@ class Flags(Plain):
         compare: int
         clip: int
         extra: int
+
+    @property
+    def vco(self) -> int:
+        """VCO as one number, as in a trace."""
+        return self.differ << 8 | self.carry
+
+    @property
+    def vcc(self) -> int:
+        """VCC as one number, as in a trace."""
+        return self.clip << 8 | self.compare
+
+    @property
+    def vce(self) -> int:
+        """VCE, which is `extra`."""
+        return self.extra
 
     def _parts(self) -> formatting.Named:
         return formatting.flag_parts(self)
@@ -204,6 +223,13 @@ class Traced(Plain):
         vector: int
         stored: int
         lanes: typed.NumbersField
+
+    @property
+    def text(self) -> str:
+        """The disassembly of the word."""
+        from . import text  # here, because the package is made of this module
+
+        return text(self.word, self.pc)
 
     def _parts(self) -> formatting.Named:
         return formatting.traced_parts(self)

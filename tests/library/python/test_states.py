@@ -43,7 +43,7 @@ FIELDS: Tuple[Refusal, ...] = (
     (AttributeError, "rsp.State has no field cp; its fields are words", lambda it: setattr(it, "cp", 0)),
     (AttributeError, ", pc, npc, ", lambda it: setattr(it, "cp", 0)),
     (AttributeError, "rsp.State has no field scalars; its fields are words, vec", lambda it: it.scalars),
-    (AttributeError, "rsp.Flags has no field vco; its fields are carry, ", lambda it: it.flags.vco),
+    (AttributeError, "rsp.Flags has no field vcd; its fields are carry, ", lambda it: it.flags.vcd),
     (AttributeError, "Mine has no field note; its fields are words, ", lambda it: setattr(Mine(), "note", 0)),
     (TypeError, "pc is of type str", lambda it: setattr(it, "pc", "4")),
     (ValueError, "words has 31 items, not 32", lambda it: setattr(it, "words", [0] * 31)),
@@ -269,6 +269,41 @@ def test_shown_state(program: Path) -> None:
     assert lines[-1] == "vco 0000 vcc 0000 vce 00 in 0000 out 0000 loaded 0"
     assert table.startswith("<table><tr><th>pc</th><td><code>00c</code></td>")
     assert table.count("<tr>") == 42
+
+
+def test_shown_machine() -> None:
+    """Where it is, and what it executes next; a stop has addresses as scripts have them."""
+    machine = rsp.Machine(bytes(64))
+    machine.load_words(rsp.IMEM, 0, rsp.assemble("ori $2, $0, 1\nbreak\nnop"))
+    assert repr(machine) == "<rsp.Machine: pc 000, running, next ori $2, $0, 0x0001>"
+    assert repr(machine.run(9)) == "Stop(reason=Reason.HALT, steps=2, pc=0x008, watch=None)"
+    assert repr(machine) == "<rsp.Machine: pc 008, halted, next nop>"
+    machine.close()
+    assert repr(machine) == "<rsp.Machine: NO_MACHINE>"
+
+
+def test_values_of_several_fields() -> None:
+    """Accumulators of 48 bits, flags as the words that a trace has, and the text of an entry of a trace."""
+    machine, state = rsp.Machine(bytes(64)), State()
+    state.accumulators.high[1], state.accumulators.middle[1], state.accumulators.low[7] = 0xFFFF, 2, 3
+    state.flags.carry, state.flags.differ, state.flags.clip, state.flags.extra = 1, 2, 4, 8
+    machine.set(state)
+    assert list(machine.acc()) == [0, 0xFFFF00020000, 0, 0, 0, 0, 0, 3]
+    (entry,) = machine.trace(1)[1]
+    flags = machine.flags()
+    assert (flags.vco, flags.vcc, flags.vce) == (entry.vco, entry.vcc, entry.vce) == (0x201, 0x400, 8)
+    assert entry.text == "nop"
+
+
+def test_lines_of_words() -> None:
+    text = "# two words\n_: .word 1, 2\n\nloop: j loop # _\nnop"
+    assert rsp.assemble(text, 4).lines == [2, 2, 4, 5]
+    assert rsp.assemble("").lines == []
+
+
+def test_dir() -> None:
+    """The package's own names alone."""
+    assert {*dir(rsp)} == {*rsp.__all__, "STATE", "__doc__", "__version__"}
 
 
 def test_copied_and_closed_machine() -> None:
