@@ -1,6 +1,9 @@
 -- The faults among the replies of a run.
-use Rattle.std.specs.Prelude.{ℕ, List, Bool, slice_index, nat_lt, ◌&&◌, ◌+◌, ◌-◌, ◌^◌, ◌==◌, min, length, take, codes, if◌then◌else◌}
-use Rattle.std.specs.Str.{bytes_eq}
+use Rattle.std.specs.Prelude.{◌≡◌, ℕ, ◌<◌, List, Bool, slice_index, nat_lt, ◌&&◌, ◌+◌, ◌-◌, ◌^◌, ◌==◌, min, length, take, codes, if◌then◌else◌, string_bytes}
+use Rattle.std.specs.Str.{bytes_eq, IsTrimAsciiEnd}
+use Rattle.std.specs.Str.Lossy.{utf8_lossy}
+use Rattle.rsp_cli_files.specs.declared.fault.Fault.{Fault}
+use Rattle.rsp_cli_files.specs.declared.fault.Fault.TheVariants.{Replies, OutOfMemory}
 
 -- a reply is a fault if it begins so
 abbrev pub is_fault : List ℕ → Bool
@@ -25,3 +28,13 @@ after_write bytes n is_line_start f = if nat_lt 0 n && is_line_start then after_
 -- whether the next write begins a line: the last byte that was taken is a newline, and if none was taken, nothing changes
 abbrev pub starts_line : List ℕ → ℕ → Bool → Bool
 starts_line bytes n is_line_start = if n == 0 then is_line_start else slice_index bytes (n - 1) == 10
+
+-- the text is how the first fault begins, without the newline at its end
+abbrev pub IsFirst : List ℕ → List ℕ → Type 0
+IsFirst text first = (line : List ℕ) × IsTrimAsciiEnd first line × (text ≡ utf8_lossy line)
+
+-- why a strict run with these faults is refused: by their number and the text of the first one, or for want of memory for this text
+abbrev pub IsRefusal : NotedFaults → Fault → Type 0
+IsRefusal n (Replies count first) = (0 < n.count) × (count ≡ n.count) × IsFirst (string_bytes first) n.first
+IsRefusal n OutOfMemory = 0 < n.count
+IsRefusal n fault = ⊥

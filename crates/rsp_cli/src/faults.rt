@@ -1,5 +1,6 @@
 ghost use Rattle.std.specs.Prelude.{◌≡◌, [], true, IfOk, OnErr};
 ghost use Rattle.std.specs.Io.{WritesAtMost};
+ghost use Rattle.std.specs.Io.KnownBytes.{WriteAppends, Keeps};
 ghost use Rattle.rsp_cli.specs.Faults.{after_reply, after_write, starts_line};
 
 use std::io::{self, Write};
@@ -104,8 +105,13 @@ impl<W> CountingWriter<W> {
 }
 
 impl<W: Write> Write for CountingWriter<W> {
+    /// The bytes that the other writer holds.
+    ghost contents = { λ s. W.contents s.writer };
+
+    /// Passes the bytes on in one write, and counts the reply if a line begins with them and any of them were taken.
     fn write(&mut self, bytes: &[u8]) -> io::Result<usize>
         ensures bound { WritesAtMost result bytes.now }
+        ensures bytes { WriteAppends (W.contents self.old.writer) (W.contents self.new.writer) result bytes.now }
         ensures noted { IfOk result (λ n. self.new.faults ≡ after_write bytes.now n self.old.is_line_start self.old.faults) }
         ensures start { IfOk result (λ n. self.new.is_line_start ≡ starts_line bytes.now n self.old.is_line_start) }
         ensures err { OnErr result ((self.new.faults ≡ self.old.faults) × (self.new.is_line_start ≡ self.old.is_line_start)) }
@@ -120,7 +126,10 @@ impl<W: Write> Write for CountingWriter<W> {
         Ok(taken)
     }
 
-    fn flush(&mut self) -> io::Result<()> {
+    fn flush(&mut self) -> io::Result<()>
+        ensures bytes { Keeps (W.contents self.old.writer) (W.contents self.new.writer) }
+        ensures noted { (self.new.faults ≡ self.old.faults) × (self.new.is_line_start ≡ self.old.is_line_start) }
+    {
         self.writer.flush()
     }
 }

@@ -1,3 +1,6 @@
+ghost use Rattle.std.specs.Prelude.{◌≡◌, OnOk, IfErr};
+ghost use Rattle.rsp_cli.specs.Faults.{IsRefusal};
+
 use crate::faults::{CountingWriter, Faults};
 use crate::status::Status;
 use clap::Error;
@@ -99,13 +102,14 @@ fn run<'a, S: ScriptRunner, F: FileStore, R: Read + Drop, W: Write + Drop>(
 ) -> Result<(), Fault<'a>> {
     let image = read_image(alloc, files, asked.rdram)?;
     if asked.is_strict {
-        return run_strictly(alloc, image, asked.save, runner, files, input, output);
+        let mut output = CountingWriter::new(output);
+        return run_strictly(alloc, image, asked.save, runner, files, input, &mut output);
     }
     let image = answer(alloc, image, runner, input, output)?;
     save_image(files, asked.save, image)
 }
 
-/// Answers a script and saves the image in the same way, and then ends with a fault if a reply was one.
+/// Answers a script and saves the image in the same way, and then ends with a fault if `output` counted one among the replies.
 fn run_strictly<'a, S: ScriptRunner, F: FileStore, R: Read + Drop, W: Write + Drop>(
     alloc: Global,
     image: Rdram,
@@ -113,10 +117,11 @@ fn run_strictly<'a, S: ScriptRunner, F: FileStore, R: Read + Drop, W: Write + Dr
     runner: &S,
     files: &mut F,
     input: R,
-    output: W,
-) -> Result<(), Fault<'a>> {
-    let mut output = CountingWriter::new(output);
-    let image = answer(alloc, image, runner, input, &mut output)?;
+    output: &mut CountingWriter<W>,
+) -> Result<(), Fault<'a>>
+    ensures strict { OnOk result (output.new.faults.count ≡ 0) }
+{
+    let image = answer(alloc, image, runner, input, &mut *output)?;
     save_image(files, saved, image)?;
     refuse_faults(alloc, output.faults())
 }
@@ -134,7 +139,10 @@ fn save_image<'a, F: FileStore>(
 }
 
 /// Ends a strict run with a fault if a reply was one.
-fn refuse_faults<'a>(alloc: Global, faults: &Faults) -> Result<(), Fault<'a>> {
+fn refuse_faults<'a>(alloc: Global, faults: &Faults) -> Result<(), Fault<'a>>
+    ensures none { OnOk result (faults.now.count ≡ 0) }
+    ensures some { IfErr result (IsRefusal faults.now) }
+{
     let count = faults.count();
     if count == 0 {
         return Ok(());
