@@ -10,17 +10,18 @@ import re
 import subprocess
 import sys
 from pathlib import Path
-from typing import Any, Callable, List, Optional, Sequence, Tuple
+from typing import Any, Callable, Dict, List, Optional, Sequence, Tuple
 
 import pytest
 
 from lib import TOP
 from lib.numbers import clamped, halves
-from lib.pages import block_with, page
+from lib.pages import block_with, page, tables
 from lib.processes import compiled, run
 
 ASSEMBLY, COOKBOOK = "docs/ASSEMBLY.md", "docs/COOKBOOK.md"
 MIPS = "mips-linux-gnu-gcc"
+HEADER = Path("/usr/include/mupen64plus/m64p_plugin.h")
 # Opcodes with a distance in words from the delay slot, and the codes of opcode 1 that have one.
 BRANCHES = (4, 5, 6, 7)
 SIGNS = (0, 1, 16, 17)
@@ -262,6 +263,18 @@ def test_explanation(refusal: List[str], rsp: Any, folder: Path) -> None:
     assert rsp("asm", "text", "made", *at, "--explain") == (1, b"", told.encode())
 
 
+@pytest.mark.needs("/usr/include/mupen64plus")
+def test_sp_names(rsp: Any, folder: Path) -> None:
+    """The names of SP registers have the numbers of mupen64plus's header, which lists them in order."""
+    listed = HEADER.read_text().partition("} RSP_INFO;")[0]
+    names = [it for it in re.findall(r"\b((?:SP|DPC)_\w+)_REG;", listed) if it != "SP_PC"]
+    cells = tables("docs/MACHINE.md", "## SP registers")
+    assert len(names) == 16 and names == [name for it in cells for name in it[1].split(", ")]
+    for number, name in enumerate(names):
+        (folder / "text").write_text(f"mfc0 $1, {name}\n")
+        assert rsp("asm", "text", "made", "--explain").errors.endswith(b"\n  write: $c%d\n" % number)
+
+
 def test_written_statements(files: Files) -> None:
     """What --explain says to write in the place of a whole line is a statement, or begins with one."""
     wholes = [re.match(r"[a-z]+ \$[^, ]+(, [^,; ]+(?=[,;]|$))*", it[5]) for it in REFUSED if it[2] == "-"]
@@ -398,6 +411,37 @@ def test_words_for_gnu_as(files: Files) -> None:
     files.shell(block_with(ASSEMBLY, "mips-linux-gnu-objcopy -O binary -j .text").splitlines()[0])
     made, wanted = ((files.folder / it).read_bytes() for it in ("linked.bin", "mine.bin"))
     assert len(wanted) == 16 and made[:16] == wanted and not any(made[16:])
+
+
+def scalar_names() -> Dict[str, int]:
+    """The names of scalar registers with their numbers, as ASSEMBLY lists them."""
+    row = next(line for line in page(ASSEMBLY).splitlines() if line.startswith("| scalar register |"))
+    found: Dict[str, int] = {}
+    for part, digits in re.findall(r"((?:`\$\w+`(?: to | or | )?)+)\(([\d, to]+)\)", row):
+        names, numbers = re.findall(r"\$(\w+)", part), [int(it) for it in re.findall(r"\d+", digits)]
+        if " to " in part:
+            numbers = list(range(numbers[0], numbers[1] + 1))
+            names = [f"{names[0][0]}{index}" for index in range(len(numbers))]
+        elif " or " in part:
+            numbers *= len(names)
+        found.update(zip(names, numbers))
+    return found
+
+
+@pytest.mark.needs("mips-linux-gnu-gcc")
+def test_scalar_names(files: Files) -> None:
+    """Each name of a scalar register is the register that it is for GNU's assembler, and that the page gives.
+
+    No proof and no script shows an exchange of two names: the definition has the code's table once more, and
+    disassembly shows numbers.
+    """
+    numbers = scalar_names()
+    lines = [f"addu $1, ${name}, $0" for name in numbers]
+    link(files.folder, "\n".join([".set noat", ".text", "_start: .globl _start", *lines, ""]))
+    files.shell(block_with(ASSEMBLY, "mips-linux-gnu-objcopy -O binary -j .text").splitlines()[0])
+    words = unpacked((files.folder / "linked.bin").read_bytes())[: len(lines)]
+    assert len(lines) == 31 and files.words_of(lines) == words
+    assert [word >> 21 & 31 for word in words] == list(numbers.values())
 
 
 # Each a part of a file or of OVERLAY, and what is there instead; then a part of what the check of it prints.
