@@ -168,6 +168,11 @@ def test_faults_of_commands() -> None:
     assert listed == caused | {("end", "10 BadLine"), ("end", "16 PastEnd")}
 
 
+def test_forms_planned_otherwise() -> None:
+    """DECISIONS has each form that was planned otherwise: who shortens the page drops no reason."""
+    assert len([*tables("docs/DECISIONS.md", "## Forms that were planned otherwise")]) >= 13
+
+
 def test_messages() -> None:
     """FAULTS lists the program's messages."""
     source = page("crates/rsp_cli_files/src/fault.rt")
