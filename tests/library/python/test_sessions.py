@@ -17,6 +17,7 @@ import pytest
 
 import rsp
 from lib.library.module import raised, refused
+from lib.pages import data
 from lib.program import content, ran
 from lib.script_cases import Stored, stored
 from rsp import RspError, Status
@@ -30,20 +31,17 @@ vaddc $v2, $v1, $v1;vmulf $v3, $v1, $v2[1];vrcp $v4[0], $v1[3];mtc0 $2, $c2;mfc0
 loop: bne $1, $2, loop;j 0;jr $1;.word 0xffffffff;.word 1, 2;x:;# nothing;foo $1;addiu $1, $2;lw $1, loop($0)\
 """
 NO_LINES = "walk;step 1; ;#;\tstep # one\r;\xff;load rom 0 00;load dmem 0 0;end end;asm;run 0x;mem dmem 0 0"
-# The forms of the commands: A is any address, P one of IMEM, N, L and W numbers, H bytes, B a memory.
-FORMS = """\
-load B A H;load B A H;asm P;end;step;step;run N;run N;run L;break P;unbreak P;watch L N;unwatch N;back N
-back L;pc P;read N;write N W;write N L;task A;regs;vregs;acc;flags;sp;mem B A L;mem B A N;dis P N;write 2 W
-write 3 L;write 4 1\
-"""
+# Each command with the names of its operands, and again those that a script is mostly made of.
+FORMS = [it["Command"] for it in data("commands")]
+FORMS += 2 * ["load BANK ADDR HEX", "step", "run N", "write 2 VALUE", "write 3 LEN", "write 4 1"]
 OF: Dict[str, Callable[[Chance], str]] = {
-    "A": lambda c: str(c.choice((c.randrange(256), 8 * c.randrange(512), c.randrange(1 << 24)))),
-    "P": lambda c: hex(c.choice((0, 4 * c.randrange(16), 4 * c.randrange(1024), c.randrange(5000)))),
-    "N": lambda c: str(c.randrange(18)),
-    "L": lambda c: str(c.choice((c.randrange(300), c.randrange(5000)))),
-    "W": lambda c: hex(c.getrandbits(c.choice((4, 16, 32, 33)))),
-    "H": lambda c: bytes(c.randrange(256) for _ in range(c.randrange(1, 40))).hex(),
-    "B": lambda c: c.choice(("dmem", "imem", "imem", "rdram")),
+    "BANK": lambda c: c.choice(("dmem", "imem", "imem", "rdram")),
+    "ADDR": lambda c: hex(c.choice((c.randrange(256), 4 * c.randrange(1024), c.randrange(1 << 24)))),
+    "N": lambda c: str(c.choice((c.randrange(18), c.randrange(18), c.randrange(5000)))),
+    "LEN": lambda c: str(c.choice((c.randrange(18), c.randrange(300)))),
+    "K": lambda c: str(c.randrange(10)),
+    "VALUE": lambda c: hex(c.getrandbits(c.choice((4, 16, 32, 33)))),
+    "HEX": lambda c: bytes(c.randrange(256) for _ in range(c.randrange(1, 40))).hex(),
 }
 
 
@@ -61,8 +59,8 @@ def line(chance: Chance) -> bytes:
     kind = chance.random()
     if kind < 0.25:
         return one_of(NO_LINES if kind < 0.05 else TEXTS, chance)
-    words = one_of(FORMS, chance).decode().split()
-    return " ".join(OF[it](chance) if it in OF else it for it in words).encode()
+    words = chance.choice(FORMS).split()
+    return " ".join(OF[it](chance) if it.isupper() else it for it in words).encode()
 
 
 def random_script(chance: Chance) -> bytes:
