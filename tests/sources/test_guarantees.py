@@ -22,7 +22,7 @@ from pathlib import Path
 from typing import Dict, Iterator, List, Match, NamedTuple, Optional, Set, Tuple
 
 from lib import TESTS, TOP
-from lib.definitions import rests_on
+from lib.definitions import rests_on, used_by
 from lib.lists import see_same
 from lib.pages import data, page
 from rsp_tools.page_tables import crates
@@ -31,7 +31,8 @@ GUARANTEES = "docs/GUARANTEES.md"
 # What a source is read by: the beginning and the end of a block of methods, a function, a precondition, and a
 # promise, which may have no name.
 FOUND = re.compile(
-    r"^(?:pub )?(?:unsafe )?(?P<kind>impl|trait)\b(?:<[^{]*?>)? ?(?:[^{\n]*? for )?(?P<owner>\w+)[^\n]*\{$"
+    r"^(?:pub )?(?:unsafe )?(?P<kind>impl|trait)\b(?:<[^{]*?>)? ?(?P<met>[^{\n]*? for )?(?P<owner>\w+)"
+    r"[^\n]*\{$"
     r"|^(?P<end>\})$"
     r"|^\s*(?P<seen>pub(?:\([^)]*\))? )?(?P<how>(?:const |unsafe |async |extern (?:\"C\" )?)*)"
     r"fn (?P<name>\w+)"
@@ -80,22 +81,26 @@ def see_all_read(path: Path, text: str, found: List[Match[str]]) -> None:
 def parts_of(
     text: str, found: List[Match[str]], names: Optional[Set[str]], types: Set[str]
 ) -> Iterator[Part]:
-    """The public parts of a module, whose names that are passed on are these; None is all."""
+    """The public parts of a module, whose names that are passed on are these; None is all.
+
+    Of the calls of a type's traits only the promises count: what they require is the trait's.
+    """
     kind = owner = call = signature = ""
+    is_met = False
     for it in found:
         if it["kind"] or it["end"]:
-            kind, owner, call = it["kind"] or "", it["owner"] or "", ""
+            kind, owner, call, is_met = it["kind"] or "", it["owner"] or "", "", it["met"] is not None
         elif it["name"]:
             by_owner = owner in (names or set()) | types
             is_named = names is None or (by_owner if owner else it["name"] in names or "extern" in it["how"])
             is_public = it["seen"] == "pub " or kind == "trait"
-            call = f"{owner}::{it['name']}".lstrip(":") if is_named and is_public else ""
-            signature = SIGNATURE_END.split(text[it.start() :], maxsplit=1)[0]
-            if call:
+            call = f"{owner}::{it['name']}".lstrip(":") if is_named and (is_public or is_met) else ""
+            signature = "" if is_met else SIGNATURE_END.split(text[it.start() :], maxsplit=1)[0]
+            if call and not is_met:
                 yield Part(call, signature)
         elif call and it["ensures"]:
             yield Part(call, signature, promise=it["promise"] or "-")
-        elif call:
+        elif call and not is_met:
             yield Part(call, signature, clause=" ".join(it["clause"].split()))
 
 
@@ -199,9 +204,23 @@ def test_crates() -> None:
     assert len(roots) >= len(crates()) and not [it for it in roots if not it.read_text().startswith("//! ")]
 
 
-def test_crates_without_mutations() -> None:
-    named = [it["Crate"] for it in data("without_mutants")]
-    see_same(named, [it for it in crates() if not [*TOP.glob(f"crates/{it}/must-fail/*.edit")]])
+def test_mutations() -> None:
+    """The table names the crates that have none, and GUARANTEES says how many there are, rounded to tens."""
+    count = {it: len([*TOP.glob(f"crates/{it}/must-fail/*.edit")]) for it in crates()}
+    see_same([it["Crate"] for it in data("without_mutants")], [it for it in crates() if not count[it]])
+    assert f"refuses some {round(sum(count.values()), -1)} wrong bodies" in page(GUARANTEES)
+
+
+def test_definitions() -> None:
+    """GUARANTEES counts the files of definitions on which the main theorem rests, and those of types."""
+    root = TOP / "crates/rsp_bench/src/run.rt"
+    files, _ = rests_on(root)
+    lines = sum(len(it.read_text().splitlines()) for it in files)
+    assert f"{len(files)} files of this repository with some {round(lines, -2):,} lines" in page(GUARANTEES)
+    names = [name for it in (root, *files) for passed in (False, True) for name, _ in used_by(it, passed)]
+    found = [re.match(r"Rattle\.rsp_\w+\.specs\.declared\.\w+", it) for it in names]
+    declared = {it[0] for it in found if it}
+    assert f"types that {len(declared)} source files declare" in page(GUARANTEES)
 
 
 def test_laws() -> None:
