@@ -1,7 +1,8 @@
 /* brsp.h: the Nintendo 64's Reality Signal Processor (RSP): emulator, debugger, assembler and disassembler,
- * for C and C++. Each call is proved to do what the instruction table and the definitions of this repository
- * say. docs/EMBEDDING.md shows how to build and link the library, docs/SYSTEMS.md lists the systems, and
- * docs/FAULTS.md compares the statuses with the faults of scripts.
+ * for C and C++. Each call is proved to do what the instruction table and the definitions of this
+ * repository say. (Only tests show that calls free the memory of a handle, and that an allocation failed if
+ * a call returns BRSP_NO_MEMORY.) docs/EMBEDDING.md shows how to build and link the library, docs/SYSTEMS.md
+ * lists the systems, and docs/FAULTS.md compares the statuses with the faults of scripts.
  *
  * Preconditions, which no call can check:
  *   - A handle is BRSP_NONE before its first call, and afterwards as the last call left it. Never write its
@@ -56,7 +57,8 @@ enum brsp_status {
     BRSP_OUT_OF_RANGE = 103,  /* a number, a length or a count is out of its range */
     BRSP_HALTED = 104,        /* brsp_step, brsp_pass_move, brsp_pass_dma: the machine is halted */
     BRSP_RESERVED = 105,      /* brsp_step: the word at pc is reserved */
-    BRSP_NO_MEANING = 106,    /* brsp_assemble, brsp_labels: the text has a fault: see brsp_assembled */
+    BRSP_NO_MEANING = 106,    /* brsp_assemble, brsp_labels: the text has a fault: see brsp_assembled;
+                                 brsp_explain: the text isn't UTF-8 */
     BRSP_TASK_PLACE = 107,    /* brsp_start_task: it isn't a multiple of 8, or 64 bytes pass the image */
     BRSP_TASK_SIZE = 108,     /* brsp_start_task: the size of the boot code isn't 1 to 4096 */
     BRSP_BREAK_FULL = 109,    /* brsp_add_break: sixteen addresses have a breakpoint */
@@ -437,7 +439,8 @@ uint32_t brsp_assemble(uint32_t origin, const uint8_t *text, size_t len, uint32_
  *   - BRSP_NO_MEANING if the text has a fault or isn't UTF-8: brsp_assemble says which;
  *   - BRSP_NO_ROOM if there are more labels than `capacity`: `count` has their number, so pass a capacity of
  *     0 to learn the number;
- *   - BRSP_NO_MEMORY. */
+ *   - BRSP_NO_MEMORY: no line up to some line with a label has a fault, except perhaps in an operand that
+ *     depends on the labels of all lines; or no line has a fault at all. */
 uint32_t brsp_labels(uint32_t origin, const uint8_t *text, size_t len, brsp_label *labels, size_t capacity,
                     size_t *count);
 
@@ -479,8 +482,10 @@ typedef struct brsp_operand {
 } brsp_operand;
 
 /* Finds the operand for which brsp_assemble refuses a text, with fault 12, 13 or 15. Returns
- * BRSP_OUT_OF_RANGE for an origin that isn't a multiple of 4 up to 4096, BRSP_NO_MEANING if the text isn't
- * UTF-8, and BRSP_NO_MEMORY. */
+ *   - BRSP_OUT_OF_RANGE for an origin that isn't a multiple of 4 up to 4096;
+ *   - BRSP_NO_MEANING if the text isn't UTF-8;
+ *   - BRSP_NO_MEMORY: no line up to some line with a label has a fault, except perhaps in an operand that
+ *     depends on the labels of all lines. */
 uint32_t brsp_explain(uint32_t origin, const uint8_t *text, size_t len, brsp_operand *out);
 
 /* ---- Scripts: docs/SCRIPT.md lists their commands and replies ---- */
