@@ -56,8 +56,8 @@ share/fish/vendor_completions.d/rsp.fish
 MADE = {
     "linux-aarch64": "lib/libbrsp.a lib/libbrsp.so lib/libbrsp.so.1 lib/pkgconfig/brsp.pc bin/rsp",
     "macos": "lib/libbrsp.a lib/libbrsp.dylib lib/pkgconfig/brsp.pc",
-    "windows-x86_64": "lib/libbrsp.a lib/libbrsp.dll.a lib/brsp.lib lib/brsp_static.lib bin/brsp.dll bin/rsp.exe "
-    "lib/pkgconfig/brsp.pc",
+    "windows-x86_64": "lib/libbrsp.a lib/libbrsp.dll.a lib/brsp.lib lib/brsp_static.lib "
+    "bin/brsp.dll bin/rsp.exe lib/pkgconfig/brsp.pc",
     "wasm64": "package.json rsp.js rsp.d.ts rsp.wasm",
     "page": "index.html",
 }

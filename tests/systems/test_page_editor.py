@@ -160,8 +160,8 @@ def test_lines_are_side_by_side(text: int, pixel: float, page: Page) -> None:
 
 
 def test_sideways(page: Page) -> None:
-    """A long line is wholly in the text area, whose surface goes sideways: numbers and replies stay in view, and
-    the caret comes out from below the replies."""
+    """A long line is wholly in the text area, whose surface goes sideways: numbers and replies stay in view,
+    and the caret comes out from below the replies."""
     page.type("# " + 40 * "abc\tdef " + "\n")
     page.run()
     painted(page)
@@ -422,8 +422,8 @@ def test_room_is_taken_once(width: int, page: Page) -> None:
 
 @pytest.mark.parametrize("width, height", ((360, 740), (640, 400)), ids=("telephone", "zoom of 200 %"))
 def test_run_on_a_small_screen(width: int, height: int, page: Page) -> None:
-    """Run is in view at first; then each reply is below its line; a fault comes into view; a line leads back to
-    the script."""
+    """Run is in view at first; then each reply is below its line; a fault comes into view; a line leads back
+    to the script."""
     screen = {"width": width, "height": height, "deviceScaleFactor": 1, "mobile": True}
     page.call("Emulation.setDeviceMetricsOverride", **screen)
     painted(page)

@@ -225,7 +225,8 @@ CUT_OFF = f"""(async () => {{
     if (beyond > -20) scroller.scrollBy(beyond + 50, 0);
     scrollBy(0, last.getBoundingClientRect().top - 0.7 * innerHeight);
     const box = last.getBoundingClientRect();
-    const is_seen = (part) => row.contains(document.elementFromPoint((box.left + box.right) / 2, box.top + part * box.height));
+    const middle = (box.left + box.right) / 2;
+    const is_seen = (part) => row.contains(document.elementFromPoint(middle, box.top + part * box.height));
     if (![0.15, 0.5, 0.85].every(is_seen)) cut.push(row.textContent);
   }}
   return cut;
@@ -257,8 +258,8 @@ HIDDEN = """(() => {
 @pytest.mark.parametrize("text", (100, 200))
 @pytest.mark.parametrize("width", (320, 360, 412, 768, 960, 1280, 2560))
 def test_nothing_is_cut_off(width: int, text: int, filled: Page) -> None:
-    """Each reply's last letter can be reached, all other texts are painted whole, and the page itself isn't wider
-    than the screen."""
+    """Each reply's last letter can be reached, all other texts are painted whole, and the page itself isn't
+    wider than the screen."""
     height = {320: 568, 360: 740, 412: 915, 768: 1024}.get(width, 800)
     screen = {"width": width, "height": height, "deviceScaleFactor": 1, "mobile": width < 900}
     filled.call("Emulation.setDeviceMetricsOverride", **screen)

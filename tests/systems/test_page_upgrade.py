@@ -16,7 +16,8 @@ from rsp_tools.systems import web_page as pages
 pytestmark = pytest.mark.xdist_group("page")
 # The version of the style, of the page's script, and of the worker, which adds it to the replies.
 VERSIONS = """[getComputedStyle(document.documentElement).getPropertyValue("--version").trim(),
-  document.documentElement.dataset.version, document.querySelector("#replies li:last-child samp:last-child")?.textContent]"""
+  document.documentElement.dataset.version,
+  document.querySelector("#replies li:last-child samp:last-child")?.textContent]"""
 
 
 def version(number: int) -> pages.Files:

@@ -5,8 +5,8 @@ from pathlib import Path
 from typing import Any, Dict
 
 PROGRAMS = ("chromium", "chromedriver", "python:selenium")
-# As root Chromium has no sandbox of its own; a small window, with room for replies beside scripts, is painted sooner; gc() is for machines that are
-# dropped.
+# As root Chromium has no sandbox of its own; a small window, with room for replies beside scripts, is painted
+# sooner; gc() is for machines that are dropped.
 WORDS = """
 --headless=new --no-sandbox --disable-gpu --disable-dev-shm-usage --no-first-run
 --window-size=1000,400 --js-flags=--expose-gc

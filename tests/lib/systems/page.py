@@ -32,7 +32,8 @@ ALL_SHOWN = f"""(async () => {{
   if (!{the('whole')}.checked) {the('whole')}.click();
   const height = {the('probe')}.getBoundingClientRect().height;
   let count = 0; // a reply may be far below the first line
-  for (let top = 0; top < scroller.scrollHeight && !(count && Object.keys(found).length === count); top += 100 * height) {{
+  const isDone = () => count && Object.keys(found).length === count;
+  for (let top = 0; top < scroller.scrollHeight && !isDone(); top += 100 * height) {{
     scroller.scrollTo(0, top);
     await painted();
     for (const it of {the('replies')}.children) {{

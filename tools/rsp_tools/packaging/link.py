@@ -1,8 +1,8 @@
 """Links what is shipped, by cc and binutils: the same input gives the same bytes. It fails as they do.
 
-  library ARCHIVE..   makes libbrsp.a, libbrsp.so.1 and the same as libbrsp.so in library/c, of the crate's and
-                      the kit's archives. Both show the calls of brsp.h alone. All else in them is local, as
-                      another library of the kit may be in the same program.
+  library ARCHIVE..   makes libbrsp.a, libbrsp.so.1 and the same as libbrsp.so in library/c, of the crate's
+                      and the kit's archives. Both show the calls of brsp.h alone. All else in them is local,
+                      as another library of the kit may be in the same program.
   program OBJECT OUT  links the program again, of the object file that rt leaves and the kit's archives: it
                       needs no newer glibc than tools/packaging/start.c says.
 """

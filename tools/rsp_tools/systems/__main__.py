@@ -5,8 +5,8 @@ x86-64, or for those that are named.
                    pkg-config, CMake, and the Python wheel; glibc 2.17
   windows-x86_64   library/systems/windows-x86_64: rsp.exe, a program in C over the library, brsp.dll, an
                    import library and a static one for mingw and for MSVC, CMake, and the Python wheel
-  macos            library/systems/macos: libbrsp.dylib and libbrsp.a for Intel and ARM, pkg-config, CMake, and
-                   the Python wheel; macOS 11. Never run on a Mac
+  macos            library/systems/macos: libbrsp.dylib and libbrsp.a for Intel and ARM, pkg-config, CMake,
+                   and the Python wheel; macOS 11. Never run on a Mac
   wasm64           library/systems/wasm64: rsp.wasm for browsers, Node 24 and Deno, with an ES module and its
                    types, as a package of npm; and of it library/systems/page, static files that answer
                    scripts in a browser

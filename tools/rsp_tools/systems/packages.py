@@ -24,7 +24,7 @@ def header(out: Path) -> None:
 
 
 def pkg_config(out: Path, rpath: str = " -Wl,-rpath,${libdir}") -> None:
-    """Writes brsp.pc, which finds the folder that it lies in. By `rpath` a program finds the library there."""
+    """Writes brsp.pc, which finds its own folder. By `rpath` a program finds the library there."""
     (out / "lib" / "pkgconfig").mkdir(parents=True)
     text = filled(TEMPLATES / "brsp.pc.in", PREFIX="${pcfiledir}/../..", RPATH=rpath)
     (out / "lib" / "pkgconfig" / "brsp.pc").write_text(text)
