@@ -1,5 +1,6 @@
 """The links of pages, in the repository and in an archive that is unpacked: those that lead nowhere."""
 
+import os
 import re
 from pathlib import Path
 from typing import Iterator, List, Tuple
@@ -51,7 +52,15 @@ def broken(root: Path, least: int = 1) -> List[str]:
 
 
 def broken_everywhere(archive: Path, least: int) -> List[str]:
-    """The links of an archive's pages to what neither the archive nor the repository has at that place."""
-    dead = (it.partition(": ") for it in broken(archive, least))
-    links = ((TOP / Path(page).relative_to(archive), target) for page, _, target in dead)
-    return [f"{page}: {target}" for page, target in links if f"{page}: {target}" in broken_in(page)]
+    """The links of an archive's pages that lead nowhere, except to what the README names and the repository
+    has at that place."""
+    (told,) = re.findall(r"files that aren't here: (.*)\. All", (archive / "README.md").read_text())
+    named = tuple(re.findall("`(.*?)`", told))
+    assert not [it for it in named if (archive / it).exists()]
+    lost = []
+    for page, _, link in (it.partition(": ") for it in broken(archive, least)):
+        at = Path(page).relative_to(archive)
+        target = os.path.normpath(at.parent / link.partition("#")[0])
+        if f"{TOP / at}: {link}" in broken_in(TOP / at) or not f"{target}/".startswith(named):
+            lost.append(f"{page}: {link}")
+    return lost

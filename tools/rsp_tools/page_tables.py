@@ -21,7 +21,7 @@ from rsp_tools import TOP
 
 DATA = TOP / "docs/data"
 TABLES = {"commands": "docs/SCRIPT.md", "faults": "docs/FAULTS.md"}
-ANCHOR = re.compile(r'<a id="(\w+)"></a>')  # by which a link leads to a place that isn't a heading
+ANCHOR = re.compile(r'<a id="([\w-]+)"></a>')  # by which a link leads to a place that isn't a heading
 LAYERS, OF_VECTORS = "docs/ARCHITECTURE.md", "conformance/README.md"
 EXAMPLE = "VCH-003"  # the case of `programs` that OF_VECTORS shows
 

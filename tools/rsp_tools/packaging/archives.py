@@ -35,10 +35,13 @@ def name_of(system: str, version: str) -> str:
 
 
 def finished(system: str, files: Iterable[File], about: About) -> Archive:
-    """An archive of these files, with the file COMMIT, and sums. npm packs into a folder `package`."""
+    """An archive of these files, with the files README.md and COMMIT, and sums. npm packs into a folder
+    `package`."""
     name = name_of(system, about.version)
     folder = "package" if system == "wasm64" else f"rsp-{about.version}-{system}"
     listed = [*files, File("COMMIT", f"{about.commit}\n".encode())]
+    if system != "source":
+        listed.append(readme.page(system, about, listed))
     return Archive(name, folder, archive_formats.with_sums(listed))
 
 
@@ -49,15 +52,13 @@ def of_native(program: bytes, plugin: bytes, about: About) -> Archive:
 
 def of_system(system: str, made: Path, about: About, thin: systems.Thin = systems.thinned) -> Archive:
     """That for another system, of the folder that tools/systems has made for it."""
-    readme_of = File("README.md", readme.page(system, about))
-    return finished(system, [*systems.contents(system, made, about, thin), readme_of], about)
+    return finished(system, systems.contents(system, made, about, thin), about)
 
 
 def of_conformance(about: About) -> Archive:
     """The test vectors with their tools: the same for all systems. Its folders can be copied into that of a
     system's archive, where the tools find the program, the library and the plugin."""
-    readme_of = File("README.md", readme.page("conformance", about))
-    return finished("conformance", [*repository.tracked(CONFORMANCE), readme_of], about)
+    return finished("conformance", repository.tracked(CONFORMANCE), about)
 
 
 def of_source(about: About) -> Archive:

@@ -7,7 +7,7 @@ from typing import Iterator
 
 import wheels
 from rsp_tools import TOP
-from rsp_tools.packaging import install_tree, readme, repository
+from rsp_tools.packaging import install_tree, repository
 from rsp_tools.packaging.release_info import About
 from rsp_tools.packaging.install_tree import File
 from rsp_tools.targets import NATIVE
@@ -35,4 +35,3 @@ def contents(program: bytes, plugin: bytes, about: About) -> Iterator[File]:
     yield from repository.of_systems(PARTS)
     for target, name in NATIVE.rust.items():
         yield File(f"library/rust/lib/{target}/{name}", (TOP / "library/c" / name).read_bytes())
-    yield File("README.md", readme.page(NATIVE.name, about))
