@@ -6,6 +6,7 @@ before it.
 
 import shutil
 import sys
+from contextlib import nullcontext
 from pathlib import Path
 
 import pytest
@@ -14,9 +15,11 @@ from lib import TOP, packages
 from lib.install import needed_packages
 from lib.install.page_commands import Block, check, lines_of
 from lib.install.ways import Way
+from lib.pages import page
 from lib.processes import run, succeeds
 from lib.user import User
 from rsp_tools import release
+from rsp_tools.build import LOGIC
 
 FEW = "sh dirname readlink python3".split()
 LINKERS = "git cc ar ld objcopy".split()
@@ -96,6 +99,40 @@ def test_packages_of_the_newcomer(monkeypatch: pytest.MonkeyPatch) -> None:
     monkeypatch.setattr(release, "missing", lambda *_: "binutils pkg-config")
     with pytest.raises(SystemExit, match="missing: apt-get install binutils pkg-config libmupen64plus-dev$"):
         release.check_packages([], True)
+
+
+def test_logic_of_the_kit() -> None:
+    """README names the one for which tools/build asks."""
+    assert f"`{LOGIC}`" in page("README.md")
+
+
+@pytest.mark.parametrize("name", [*release.DATED, *release.NUMBERS])
+def test_copy_of_the_version(name: str, monkeypatch: pytest.MonkeyPatch) -> None:
+    """Each is that of VERSION, and is refused otherwise."""
+    release.check_versions()
+    for copies in release.DATED, release.NUMBERS:
+        for other in {*copies} - {name}:
+            monkeypatch.delitem(copies, other)
+    monkeypatch.setattr(release.header, "dated_version", lambda: "0.0.1 (2000-01-01)")
+    with pytest.raises(SystemExit, match=f"^release: {name} says version "):
+        release.check_versions()
+
+
+@pytest.mark.parametrize(
+    "day, tags, is_right",
+    [
+        ("unreleased", [], True),
+        ("unreleased", ["v0.9.0"], False),
+        ("2030-01-01", [], False),
+        ("2030-01-01", ["v0.9.1"], False),
+        ("2030-01-01", ["other", "v0.9.0"], True),
+    ],
+)
+def test_day_of_a_version(day: str, tags: list[str], is_right: bool, monkeypatch: pytest.MonkeyPatch) -> None:
+    """A day stands only with a tag, and a tag only with a day."""
+    monkeypatch.setattr(release.header, "version", lambda: "0.9.0")
+    with nullcontext() if is_right else pytest.raises(SystemExit, match="tag v0.9.0"):
+        release.check_day(day, tags)
 
 
 def test_block_is_typed_whole_or_not_at_all() -> None:

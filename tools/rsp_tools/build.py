@@ -24,7 +24,7 @@ from rsp_tools import TOOLS
 from rsp_tools.crates import CRATES, library, proved_with, uses, with_below
 from rsp_tools.proof import PROCESSORS, Proof
 
-LOGIC = "logic dac8208d650f15bf"
+LOGIC = (TOOLS / "logic").read_text().strip()
 # Whose functions proof.py calls.
 TRIED = [f"rattle-kit-{it} {LOGIC}" for it in ("13b", "13f")]
 # Who speaks of a crate, the file that is built of it, what `rt` is asked for, and by how many jobs over the
@@ -33,7 +33,6 @@ BUILT = {
     "rsp_main": ("rsp", "rsp_main", "run", 1),
     "rsp_c": ("library/c/build", "librsp_c.a", "lib", PROCESSORS),
 }
-TOOK = "8 to 12 minutes on four processors, 10 to 17 on two"
 
 
 def changed_at(name: str) -> float:
@@ -124,7 +123,7 @@ class Build:
         if by_parts:
             self.proof.find_left(kit_folder())
             count, left = len(proved_with(self.crate)), len(self.proof.left)
-            takes = f"takes {self.proof.to_go()} (all took {TOOK})"
+            takes = f"takes {self.proof.to_go()}"
             self.say(f"{count - left} of {count} crates are proved; proving the others {takes}")
         self.log.write_text("")
         failed = self.proof.run()

@@ -18,13 +18,14 @@ With --systems it also makes the archives for other systems, after tools/systems
 
 Each archive has its README.md, CHANGELOG.md, SHA256SUMS of its files, and COMMIT. dist/SHA256SUMS has the
 sums of what this run made. Two runs from one commit give the same bytes. Before it makes anything it names
-the packages of Debian that are missing, in one line of apt-get. It fails if the work tree isn't clean, a
-version differs, the newcomer's tests fail, or a system isn't made. Then it leaves what was in dist. The last
-lines say what was left out, and why.
+the packages of Debian that are missing, in one line of apt-get. It fails if the work tree isn't clean, a copy
+of the version differs, VERSION has a day and the commit no tag or the other way round, the newcomer's tests
+fail, or a system isn't made. Then it leaves what was in dist. The last lines say what was left out, and why.
 """
 
 import argparse
 import os
+import re
 import shutil
 import subprocess
 import sys
@@ -49,12 +50,16 @@ NEWCOMER = "tests/install/test_newcomer.py"
 # What links and packs, for any system.
 PROGRAMS = "git cc ar ld objcopy".split()
 HOW = b"# sha256sum --ignore-missing -c SHA256SUMS checks those of these files that are here\n"
-# Where the packages of other languages and the list of changes name the version.
-VERSIONS = {
-    "CHANGELOG.md": r"^## ([\d.]+)",
-    "library/python/pyproject.toml": r'^version = "([\d.]+)"',
-    "library/rust/Cargo.toml": r'^version = "([\d.]+)"',
-    "library/js/package.json": r'^  "version": "([\d.]+)"',
+# The copies of what is in VERSION: with its day, and without.
+DATED = {
+    "crates/rsp_cli_args/src/lib.rt": r'^const VERSION: &str = "(.*)";$',
+    "CHANGELOG.md": r"^## (.*)$",
+}
+NUMBERS = {
+    "library/python/pyproject.toml": r'^version = "(.*)"$',
+    "library/python/rsp/__init__.py": r'^__version__ = "(.*)"$',
+    "library/rust/Cargo.toml": r'^version = "(.*)"$',
+    "library/js/package.json": r'^  "version": "(.*)",$',
 }
 
 
@@ -68,11 +73,21 @@ def succeed(why: str, *words: str) -> None:
         fail(why)
 
 
-def check_versions(version: str) -> None:
-    for name, form in VERSIONS.items():
-        (named,) = header.found(form, TOP / name)
-        if named != version:
-            fail(f"{name} says version {named}, not {version}")
+def check_versions() -> None:
+    """Ends if a copy of the version differs."""
+    dated, number = header.dated_version(), header.version()
+    for wanted, copies in (dated, DATED), (number, NUMBERS):
+        for name, form in copies.items():
+            (named,) = header.found(form, TOP / name)
+            if named != wanted:
+                fail(f"{name} says version {named}, and VERSION says {dated}")
+
+
+def check_day(day: str, tags: List[str]) -> None:
+    """Ends unless a version has a day if, and only if, its commit has the version's tag."""
+    tag = f"v{header.version()}"
+    if (tag in tags) != (re.fullmatch(r"\d{4}-\d\d-\d\d", day) is not None):
+        fail(f"VERSION says {day}, and the commit has {'the' if tag in tags else 'no'} tag {tag}")
 
 
 def check_names(names: List[str]) -> None:
@@ -173,8 +188,9 @@ def main() -> None:
     check_packages(names, not asked.untested)
     if said("git", "status", "--porcelain"):
         fail("the work tree differs from its commit")
-    version = install_tree.version()[0]
-    check_versions(version)
+    version, day = install_tree.version()
+    check_versions()
+    check_day(day, said("git", "tag", "--points-at", "HEAD").split())
     if asked.object == OBJECT:
         succeed("./rsp has built nothing", "./rsp", "run")
     succeed("library/c/build has built nothing", "library/c/build")

@@ -50,7 +50,7 @@ pub extern "C" fn rsp_answer() -> u32 {
 """,
 }
 HEADER = "#define BRSP_VERSION 1\nuint32_t rsp_answer(void);\n"
-COPIED = "rsp library/c/build library/c/brsp.map library/python/pyproject.toml"
+COPIED = "VERSION rsp library/c/build library/c/brsp.map library/python/pyproject.toml"
 TOOLS = "sh env cat dirname readlink grep sed find head tr sort sha256sum"
 # Programs in place of `rt`, without the rest of its kit: of another logic; of this one; silent; failing.
 RT = {

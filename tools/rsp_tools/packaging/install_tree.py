@@ -56,9 +56,9 @@ def file(name: str, path: Path) -> File:
 
 def shared() -> Iterator[File]:
     """What is below share/ wherever the program is: the man page, and what completes its words in shells."""
-    number, day = header.dated_version().split()
+    number, day = version()
     for path in sorted(it for it in SHARE.rglob("*") if it.is_file()):
-        text = path.read_text().replace("@VERSION@", number).replace("@DAY@", day.strip("()"))
+        text = path.read_text().replace("@VERSION@", number).replace("@DAY@", day)
         yield File(str(path.relative_to(SHARE.parent)), text.encode())
 
 
@@ -70,7 +70,7 @@ def starter(about: Tuple[str, str], processor: str) -> File:
 
 
 def version() -> Tuple[str, str]:
-    """The version and its day."""
+    """The version and its day, or `unreleased`."""
     number, day = header.dated_version().split()
     return number, day.strip("()")
 

@@ -31,9 +31,8 @@ def stack() -> int:
 
 
 def dated_version() -> str:
-    """The version of the project with its day, which has its one place in rsp_cli_args."""
-    source = places.CRATES / "rsp_cli_args/src/lib.rt"
-    return found(r'const VERSION: &str = "([\d.]+ \([\d-]+\))"', source)[0]
+    """The version of the project with its day, or with the word `unreleased`."""
+    return (places.TOP / "VERSION").read_text().strip()
 
 
 def version() -> str:
