@@ -102,7 +102,9 @@ def test_source(released: Path, folder: Path) -> None:
     succeeds("git", "init", "-q", folder)
     succeeds("git", *IDENTITY, "commit", "-q", "--allow-empty", "-m", "another", cwd=folder)
     assert succeeds("./rsp", "--version", cwd=top) == told, "it is the commit of the repository around it"
-    assert succeeds("tools/sources", "rsp_main", cwd=top) == succeeds("tools/sources", "rsp_main")
+    assert succeeds("tools/build", "--sources", "rsp_main", cwd=top) == succeeds(
+        "tools/build", "--sources", "rsp_main"
+    )
 
 
 def test_links(archive: Path, suite: Path) -> None:

@@ -159,7 +159,13 @@ def test_builds_the_library(library_tree: Tiny) -> None:
 
 @pytest.mark.parametrize("what, command", BOTH)
 def test_has_nothing_to_do(tree: Tiny, command: str) -> None:
+    """The times of the files say so, without Python; or, if files have others here, their sums."""
     assert tree.run(command, "broken") == NOTHING
+    assert tree.run(command, "no python") == NOTHING
+    with tree.changed("crates/rsp_decode/src/lib.rt", lambda it: it):
+        assert tree.run(command, "no python").status in (1, 9)
+        assert tree.run(command, "broken") == NOTHING
+        assert tree.run(command, "no python") == NOTHING
 
 
 def edited(text: bytes) -> bytes:
@@ -178,18 +184,29 @@ def of_another_line(text: bytes) -> bytes:
     return text.replace(b"rsp_middle: rsp_above", b"rsp_middle: rsp_above rsp_side")
 
 
+def of_one_length(text: bytes) -> bytes:
+    return text.replace(b"0", b"1").replace(b"answer", b"answes")
+
+
 def older_mark(mark: bytes) -> bytes:
-    """The mark as it was once: what proved the program, and the lines of crates.txt, without a sum."""
+    """The mark as it was once: what proved the program, the lines of crates.txt, and the sums."""
+    version, _crates, _times, sums = mark.split(b"\n", 3)
+    return version + b"\n" + sums
+
+
+def without_sums(mark: bytes) -> bytes:
     return b"".join(it for it in mark.splitlines(True) if b"  " not in it)
 
 
 CHANGES: dict[str, tuple[str, str, Data]] = {
     "an edit": ("program", MIDDLE, edited),
+    "an edit that leaves the length": ("program", MIDDLE, of_one_length),
     "a new file": ("program", "crates/rsp_middle/src/new.rt", b""),
     "a file less": ("program", SIDE, None),
     "another line of crates.txt": ("program", "crates.txt", of_another_line),
     "another program": ("program", "crates/rsp_main/out/rsp_main", b"#!/bin/sh\n"),
     "a mark of the older form": ("program", MARK, older_mark),
+    "a mark without sums": ("program", MARK, without_sums),
     "an empty mark": ("program", MARK, b""),
     "an edit for the library": ("library", "crates/rsp_decode/src/lib.rt", edited),
     "the library's mark of the older form": ("library", "crates/rsp_c/out/built", older_mark),
@@ -216,9 +233,16 @@ def test_change(tree: Tiny, what: str, name: str, data: Data) -> None:
 
 @of_program
 def test_mark_of_another_logic(program_tree: Tiny) -> None:
-    """A kit of the logic that the mark names has nothing to do; another one builds again."""
-    with program_tree.changed(MARK, lambda mark: b"rattle-kit-0 logic 0\n" + mark.partition(b"\n")[2]):
+    """A kit of the logic that the mark names has nothing to do, nor has a machine without one; another one
+    builds again."""
+
+    def other(mark: bytes) -> bytes:
+        _version, crates, _times, sums = mark.split(b"\n", 3)
+        return b"\n".join([b"rattle-kit-0 logic 0", crates, b"", sums])
+
+    with program_tree.changed(MARK, other):
         assert program_tree.run(RSP, "other") == NOTHING
+        assert program_tree.run(RSP, "none") == NOTHING
         ran = program_tree.run("./rsp --version")
         assert ran.status == 0 and ran.said.endswith("\nproved and built by rattle-kit-0 logic 0\n")
         has_something_to_do(program_tree, RSP)

@@ -4,8 +4,9 @@ It fails if a proof does, and then says where to read more. CRATE is rsp_main, t
 this), or rsp_c, the library for C (library/c/build calls this).
 
 It says when each crate begins, how far a long proof is, and how long it took. It does nothing if nothing
-has changed: the mark out/built has the kit's version, what `tools/sources` said before the proof began,
-and the sum of the file that was built. If it is stopped, the next run goes on from there.
+has changed: the mark out/built has the kit's version and the sums of what was built and of what it is made
+of. ./rsp and library/c/build see by the times of these files that nothing has changed (built.sh). If it is
+stopped, the next run goes on from there.
 """
 
 import argparse
@@ -20,8 +21,8 @@ import time
 from pathlib import Path
 from typing import List, NoReturn, Optional
 
-from rsp_tools import TOOLS
-from rsp_tools.crates import CRATES, library, proved_with, uses, with_below
+from rsp_tools import TOOLS, TOP
+from rsp_tools.crates import CRATES, LINES, library, proved_with, uses, with_below
 from rsp_tools.proof import PROCESSORS, Proof
 
 LOGIC = (TOOLS / "logic").read_text().strip()
@@ -33,18 +34,29 @@ BUILT = {
     "rsp_main": ("rsp", "rsp_main", "run", 1),
     "rsp_c": ("library/c/build", "librsp_c.a", "lib", PROCESSORS),
 }
+PARTS = ("src", "specs", "proofs")  # the folders of a crate
 
 
 def changed_at(name: str) -> float:
     """When the crate's sources were last changed, by a time that no command sets back."""
-    folders = [found for part in ("src", "specs", "proofs") for found in os.walk(CRATES / name / part)]
+    folders = [found for part in PARTS for found in os.walk(CRATES / name / part)]
     return max(os.lstat(f"{at}/{it}").st_ctime for at, _, files in folders for it in ["", *files])
 
 
+def sum_of(path: Path) -> str:
+    """A line of the file's sum; none if it can't be read."""
+    try:
+        return f"{hashlib.sha256(path.read_bytes()).hexdigest()}  {path.relative_to(CRATES)}\n"
+    except OSError:
+        return ""
+
+
 def sources(crate: str) -> str:
-    """What the crate and those below it are made of."""
-    words = [str(TOOLS / "sources"), *with_below(crate)]
-    return subprocess.run(words, stdout=subprocess.PIPE, errors="surrogateescape", check=True).stdout
+    """What the crate and those below it are made of: their lines of crates.txt, and the sums of all files."""
+    names = with_below(crate)
+    folders = [found for name in names for part in PARTS for found in os.walk(CRATES / name / part)]
+    files = sorted(Path(at, it) for at, _, files in folders for it in files)
+    return "".join([*(f"{LINES[it]}\n" for it in names), *map(sum_of, files)])
 
 
 @functools.lru_cache(None)
@@ -80,8 +92,9 @@ class Build:
         out = CRATES / crate / "out"
         self.file, self.object = out / file, out / f"{crate}.o"
         self.mark, self.log = out / "built", out / "built.log"
-        # The system's clock of files is a little behind.
-        self.since = time.time() - 0.02
+        # The system's clock of files is a little behind, so what is changed from now on gets a later time.
+        self.since, self.times = time.time() - 0.02, self.tell_times()
+        time.sleep(0.02)
         self.sources = sources(crate)
         self.proof: Optional[Proof] = None
 
@@ -98,17 +111,41 @@ class Build:
             self.proof.end()
         os._exit(status)
 
+    def tell_times(self) -> str:
+        """What ./rsp and library/c/build compare."""
+        tell = '. "$1/tools/built.sh" && tell_times "$1" "$2" "$3"'
+        words = ["sh", "-c", tell, "sh", str(TOP), str(self.file.relative_to(CRATES)), self.crates()]
+        return subprocess.run(words, stdout=subprocess.PIPE, text=True).stdout.strip()
+
+    def crates(self) -> str:
+        return " ".join(with_below(self.crate))
+
     def made_of(self) -> str:
-        """What the mark says after the kit's version."""
-        sum_of_file = hashlib.sha256(self.file.read_bytes()).hexdigest()
-        return f"{self.sources}{sum_of_file}  {self.file.relative_to(CRATES)}\n"
+        """The last part of the mark."""
+        return self.sources + sum_of(self.file)
+
+    def marked(self) -> str:
+        """The kit's version, if the mark says that the file is built of these sources, or nothing."""
+        text = self.mark.read_text(errors="surrogateescape") if self.mark.exists() else ""
+        version, *_, made_of = [*text.split("\n", 3), ""][:4]
+        return version if self.file.exists() and made_of == self.made_of() else ""
 
     def is_built(self) -> bool:
-        """Whether the file is built of these sources, by a kit of the right logic or by the one here."""
-        marked = self.mark.read_text(errors="surrogateescape") if self.mark.exists() else ""
-        version, _, made_of = marked.partition("\n")
-        is_same = self.file.exists() and made_of == self.made_of()
-        return is_same and (version.endswith(LOGIC) or version == kit())
+        """Whether the file is built of these sources by a kit of the right logic, or by the one here.
+
+        Where there is no kit, any will do.
+        """
+        version = self.marked()
+        is_right = version.endswith(LOGIC) or version == kit() or not shutil.which("rt")
+        return version != "" and is_right
+
+    def put_mark(self, version: str) -> None:
+        """The times of what is proved by another logic don't say whether another kit is here."""
+        times = self.times if version.endswith(LOGIC) else ""
+        text = f"{version}\n{self.crates()}\n{times}\n{self.made_of()}"
+        beside = self.mark.with_name(f"built.{os.getpid()}")
+        beside.write_text(text, errors="surrogateescape")
+        beside.replace(self.mark)
 
     def prove(self) -> None:
         """Proves what isn't proved, and builds the file."""
@@ -160,12 +197,13 @@ class Build:
         elif not self.has_object():
             # `rt ci` took the program from what it keeps, and keeps no object file.
             self.compile("src/main.rt", self.object)
+        self.times = self.tell_times()
         # An edit that was taken back in the meantime leaves the same sums, and may yet be part of the file.
         edited = [it for it in with_below(self.crate) if changed_at(it) >= self.since]
         if edited:
             self.say(f"{', '.join(edited)}: edited in the meantime, so the next run proves again")
         else:
-            self.mark.write_text(f"{version}\n{self.made_of()}", errors="surrogateescape")
+            self.put_mark(version)
 
     def wanted_kit(self) -> str:
         if not shutil.which("rt"):
@@ -184,6 +222,8 @@ def arguments() -> argparse.Namespace:
     over = "right after `rt ci`: build over what it proved; FILE has what --sources said before it"
     kinds.add_argument("--proved", metavar="FILE", help=over)
     kinds.add_argument("--sources", action="store_true", help="only print what the crate is made of")
+    by = "only print what proved the crate, if it is built of the sources as they are"
+    kinds.add_argument("--by", action="store_true", help=by)
     kinds.add_argument("--kit", action="store_true", help="only say if the proofs want another kit")
     words.add_argument("crate", nargs="?", choices=[*BUILT], metavar="CRATE", help=" or ".join(BUILT))
     words.add_argument("command", nargs=argparse.REMAINDER, metavar="COMMAND")
@@ -199,6 +239,9 @@ def main() -> int:
     if given.sources:
         print(made.sources, end="")
         return 0
+    if given.by:
+        print(made.marked())
+        return 0
     if given.kit:
         made.wanted_kit()
         return 0
@@ -210,6 +253,8 @@ def main() -> int:
             made.since = os.stat(proved).st_mtime
         if proved or not made.is_built():
             made.build(bool(proved))
+        elif os.access(made.mark.parent, os.W_OK):  # what was built elsewhere has other times here
+            made.put_mark(made.marked())
     except OSError as fault:
         made.fail(f"{fault.filename or made.log}: {fault.strerror}, so nothing is built here")
     if given.command:

@@ -51,7 +51,7 @@ pub extern "C" fn rsp_answer() -> u32 {
 }
 HEADER = "#define BRSP_VERSION 1\nuint32_t rsp_answer(void);\n"
 COPIED = "VERSION rsp library/c/build library/c/brsp.map library/python/pyproject.toml"
-TOOLS = "sh env cat dirname readlink grep sed find head tr sort sha256sum"
+TOOLS = "sh env cat dirname readlink find sha256sum"
 # Programs in place of `rt`, without the rest of its kit: of another logic; of this one; silent; failing.
 RT = {
     "other": '[ "$1" != version ] || exec echo "rattle-kit-0 logic 0"\nexec "{rt}" "$@"',
@@ -113,6 +113,7 @@ class Tiny:
         self.kits = {"": os.environ["PATH"], "none": str(folder / "none")}
         for name, text in RT.items():
             self.kits[name] = with_program(folder / name / "rt", text.format(rt=shutil.which("rt")))
+        self.kits["no python"] = with_program(folder / "no python/python3", "exit 9")
         self.kits["holds"] = holding_kit(folder / "holds")
         self.go = folder / "go"
         (folder / "none").mkdir()

@@ -12,11 +12,10 @@ from pathlib import Path
 from typing import Callable, Dict, List, NamedTuple
 
 from rsp_tools import targets
-from rsp_tools.build import over_libraries
-from rsp_tools.crates import with_below
+from rsp_tools.build import Build, over_libraries
 
 from . import places
-from .toolchain import Refused, call, kit, llvm
+from .toolchain import Refused, kit, llvm
 
 TARGETS: Dict[str, str] = {it.processor: it.triple for it in targets.TARGETS.values() if it.is_linux}
 
@@ -35,12 +34,11 @@ Source = Callable[[str], Module]
 
 
 class Crate(NamedTuple):
-    """A crate that a clone builds for itself: what it is, its file, how it is made, and the words of `rattle
-    build` for it."""
+    """A crate that a clone builds for itself: what it is, how it is made, and the words of `rattle build` for
+    it."""
 
     name: str
     what: str
-    made: str
     command: str
     words: str
 
@@ -49,22 +47,16 @@ class Crate(NamedTuple):
         return places.CRATES / self.name / "out"
 
 
-LIBRARY = Crate("rsp_c", "library", "librsp_c.a", "library/c/build", "src/lib.rt --crate-type staticlib")
-PROGRAM = Crate("rsp_main", "program", "rsp_main", "./rsp run", "src/main.rt")
+LIBRARY = Crate("rsp_c", "library", "library/c/build", "src/lib.rt --crate-type staticlib")
+PROGRAM = Crate("rsp_main", "program", "./rsp run", "src/main.rt")
 
 
 def mark(crate: Crate) -> str:
     """The kit's version and the sums of all sources. Refused if the crate isn't built of them."""
-    built = crate.out / "built"
-    if not built.is_file() or not (crate.out / crate.made).is_file():
-        raise Refused(f"the {crate.what} isn't built: {crate.command} makes it")
-    text = built.read_text(errors="surrogateescape")
-    # The first line is the kit's version, and the last one the sum of what is built.
-    if call(str(places.SOURCES), *with_below(crate.name)).splitlines() != text.splitlines()[1:-1]:
-        raise Refused(
-            f"the {crate.what}'s sources have changed since it was built: {crate.command} makes it again"
-        )
-    return text
+    build = Build(crate.name)
+    if not build.is_built():
+        raise Refused(f"the {crate.what} isn't built of the sources as they are: {crate.command} makes it")
+    return f"{build.marked()}\n{build.made_of()}"
 
 
 def words_of(crate: Crate, target: str, toolchain: Path, out: Path) -> List[str]:

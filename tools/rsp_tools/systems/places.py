@@ -11,7 +11,6 @@ PROGRAM = TOP / "library" / "c" / "program"
 HELP = TOP / "docs" / "help"
 PYTHON = TOP / "library" / "python"
 RUST = TOP / "library" / "rust"
-SOURCES = TOP / "tools" / "sources"
 # What is made: a folder for each system. What is kept to make it again sooner: the modules, and what their
 # checks found.
 MADE = TOP / "library" / "systems"
