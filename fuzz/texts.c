@@ -10,7 +10,7 @@ static void see_round_trip(uint32_t word, uint32_t address)
     brsp_line line;
     brsp_assembled made;
     uint32_t again;
-    MUST(brsp_text(word, address, &line) == BRSP_OK && line.word == word && line.place == address && line.len <= 64);
+    MUST(brsp_text(word, address, &line) == BRSP_OK && line.word == word && line.address == address && line.len <= 64);
     for (size_t i = 0; i < sizeof line.text; i++) MUST((line.text[i] != 0) == (i < line.len));
     uint8_t *text = copy_of(line.text, line.len);
     MUST(brsp_assemble(address, text, line.len, &again, 1, &made) == BRSP_OK && made.count == 1 && again == word);

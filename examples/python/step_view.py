@@ -37,7 +37,7 @@ def show(machine: rsp.Machine, place: int, right: List[str]) -> None:
     """The code around a place beside other lines."""
     begin = max(place - 4 * AROUND, 0)
     code = machine.listing(begin, min(2 * AROUND + 1, (4096 - begin) // 4))
-    left = [f"{'>' if it.place == place else ' '} {it.place:03x} {it.text}" for it in code]
+    left = [f"{'>' if it.address == place else ' '} {it.address:03x} {it.text}" for it in code]
     for n in range(max(len(left), len(right))):
         line = (left[n] if n < len(left) else "").ljust(40)
         print(f"{line}| {right[n] if n < len(right) else ''}".rstrip())

@@ -241,7 +241,7 @@ typedef struct brsp_label {
 /* A word with its disassembly. */
 typedef struct brsp_line {
     uint32_t word;
-    uint16_t place; /* its address in IMEM */
+    uint16_t address; /* its address in IMEM */
     uint16_t len;   /* the bytes of the text, at most 64 */
     char text[68];  /* the text, then zeros, at least four */
 } brsp_line;

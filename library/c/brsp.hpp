@@ -705,7 +705,7 @@ struct step_difference {
  * emulator`. */
 [[nodiscard]] inline std::string to_string(const step_difference &it)
 {
-    const std::string place = detail::hex(it.line.place, 3);
+    const std::string place = detail::hex(it.line.address, 3);
     std::string out = "step " + std::to_string(it.step) + ", " + place + ": " + it.line.text;
     if (it.steps != 1)
         out = "steps " + std::to_string(it.step - it.steps + 1) + " to " + std::to_string(it.step) +

@@ -3,7 +3,7 @@
  *
  *     brsp_difference found;
  *     if (brsp_first_difference(&machine, &emulator, 64, 1000000, &found) == BRSP_OK && found.count) {
- *         printf("step %u, %03x: %s\n", found.step, found.line.place, found.line.text);
+ *         printf("step %u, %03x: %s\n", found.step, found.line.address, found.line.text);
  *         for (size_t i = 0; i < found.count; i++) puts(found.parts[i].name);
  *     }
  *     brsp_difference_free(&found);
@@ -47,7 +47,7 @@ typedef struct brsp_part {
  * that differ after it. Step 0 means that they differ before the first step, because the emulator didn't
  * keep what `set` and `load` gave it. If `steps` isn't 1, that many steps up to `step` lead to a difference,
  * but none of them alone: then the emulator has state that `get` and `set` don't carry. The first of these
- * steps is at line.place. */
+ * steps is at line.address. */
 typedef struct brsp_difference {
     uint32_t step, steps;
     brsp_line line;

@@ -9,7 +9,7 @@ class FirstDifference {
   constructor(step, line, before, parts, steps = 1) { Object.assign(this, { step, ...line, before, parts, steps }); }
 
   #head() {
-    const place = this.place.toString(16).padStart(3, "0");
+    const place = this.address.toString(16).padStart(3, "0");
     if (this.steps === 1) return `step ${this.step}, ${place}: ${this.text}`;
     const steps = `steps ${this.step - this.steps + 1} to ${this.step}, from ${place} on`;
     return `${steps}: no step alone differs, so get and set leave something out`;

@@ -293,7 +293,7 @@ export interface Event extends Stop {
 
 /** A word of IMEM with its address and its disassembly. */
 export interface Line {
-  place: number;
+  address: number;
   word: number;
   text: string;
 }
@@ -305,8 +305,8 @@ export function assemble(text: string, origin?: number): Uint32Array;
 /** The address of each label of a text by its name. `origin` and the refusals are as for `assemble`. */
 export function labels(text: string, origin?: number): Record<string, number>;
 
-/** The disassembly of a word for the address `place`, a multiple of 4 below 4096. */
-export function text(word: number, place?: number): string;
+/** The disassembly of a word for an address, a multiple of 4 below 4096. */
+export function text(word: number, address?: number): string;
 
 /** The first field for which `Machine.set` refuses a state, or null if it takes the state. */
 export function state_fault(state: State): string | null;
@@ -374,9 +374,9 @@ export class Machine {
    * Refused if the word at pc starts no DMA. */
   pass_dma(): Status.OK | Status.HALTED;
   /** Sets a breakpoint at an address of IMEM, a multiple of 4 below 4096; at most sixteen. */
-  add_break(place: number): void;
+  add_break(address: number): void;
   /** Removes the breakpoint at an address. */
-  drop_break(place: number): void;
+  drop_break(address: number): void;
   /** Watches 1 to 64 bytes of DMEM, and returns the watch's number, 0 to 7. */
   add_watch(address: number, length: number): number;
   /** Removes a watch. */
@@ -409,8 +409,8 @@ export class Machine {
   sp(): SpWords;
   /** Sets all SP registers and the interrupt flag, without a DMA, and empties the history. */
   set_sp(given: SpWords): void;
-  /** At most 1024 words of IMEM from the address `place` on, a multiple of 4, with their disassembly. */
-  listing(place: number, count: number): Line[];
+  /** At most 1024 words of IMEM from an address on, a multiple of 4, with their disassembly. */
+  listing(address: number, count: number): Line[];
 }
 
 /** Answers a script as `rsp run` does, on a machine of its own with a copy of the image (4 MiB of zeros if none is
@@ -456,13 +456,13 @@ export interface Emulator {
   load(bank: Bank, address: number, data: Uint8Array): unknown;
 }
 
-/** A step after which they differ: its number `step`, from 1; its instruction, with the address `place`, the `word` and
+/** A step after which they differ: its number `step`, from 1; its instruction, with its `address`, the `word` and
  * its `text`; and the state `before` it.
  *
  * `parts` lists what differs after the step, the machine's value first: registers, then quadwords of memories, such as
  * `DMEM 3f0`. Step 0 means that they differ before the first step, because the emulator didn't keep what `set` and
  * `load` gave it. If `steps` isn't 1, that many steps up to `step` lead to a difference, but none of them alone: then the
- * emulator has state that `get` and `set` don't carry. The first of these steps is at `place`. */
+ * emulator has state that `get` and `set` don't carry. The first of these steps is at `address`. */
 export interface FirstDifference extends Line {
   step: number;
   before: State;

@@ -105,8 +105,8 @@ function bytes_of_words(words) { return new Uint8Array(words.buffer); }
 function text_of(bytes) { return new TextDecoder().decode(bytes); }
 
 function line_at(at) {
-  const { word, place, len } = struct("RspLine", at), text = BigInt(layout("RspLine").fields.at(-1).offset);
-  return { place, word, text: text_of(copied(at + text, len)) };
+  const { word, address, len } = struct("RspLine", at), text = BigInt(layout("RspLine").fields.at(-1).offset);
+  return { address, word, text: text_of(copied(at + text, len)) };
 }
 
 /** The fault of a text, which brsp_assemble has reported at HERE. */
@@ -141,9 +141,9 @@ export function labels(text, origin = 0) {
   }));
 }
 
-export function text(word, place = 0) {
-  numbers("text", [word, place]);
-  ok(wasm.brsp_text(word, place, HERE), "text", [word, place]);
+export function text(word, address = 0) {
+  numbers("text", [word, address]);
+  ok(wasm.brsp_text(word, address, HERE), "text", [word, address]);
   return line_at(HERE).text;
 }
 
@@ -342,9 +342,9 @@ export class Machine {
     return length_at(HERE);
   }
 
-  add_break(place) { this.#call("add_break", [place]); }
+  add_break(address) { this.#call("add_break", [address]); }
 
-  drop_break(place) { this.#call("drop_break", [place]); }
+  drop_break(address) { this.#call("drop_break", [address]); }
 
   add_watch(address, length) {
     this.#fill("add_watch", [address, length]);
@@ -402,10 +402,10 @@ export class Machine {
     ok(wasm.brsp_set_sp(this.#at, HERE), "set_sp", []);
   }
 
-  listing(place, count) {
-    const { size } = layout("RspLine"), given = numbers("listing", [place, count], 1024);
+  listing(address, count) {
+    const { size } = layout("RspLine"), given = numbers("listing", [address, count], 1024);
     return lent("listing", size * count, (at) => {
-      ok(wasm.brsp_listing(this.#at, place, at, BigInt(count)), "listing", given);
+      ok(wasm.brsp_listing(this.#at, address, at, BigInt(count)), "listing", given);
       return Array.from({ length: count }, (_, n) => line_at(at + BigInt(n * size)));
     });
   }

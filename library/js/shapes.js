@@ -47,7 +47,7 @@ export const STRUCTS = {
     ["quadword", "u16"], ["accumulators", "RspAccumulators"], ["bytes", "u8", 32]],
   RspLabel: [["address", "u16"], ["len", "u16"], ["name", "u8", 36]],
   RspAssembled: [["count", "u64"], ["line", "u64"], ["fault", "u32"]],
-  RspLine: [["word", "u32"], ["place", "u16"], ["len", "u16"], ["text", "u8", 68]],
+  RspLine: [["word", "u32"], ["address", "u16"], ["len", "u16"], ["text", "u8", 68]],
   RspOperand: [["low", "i64"], ["high", "i64"], ["number", "u64"], ["kind", "u32"], ["step", "u32"]],
 };
 

@@ -26,8 +26,8 @@ export const ARGUMENTS = {
   iter_trace: { limit: WORD },
   back: { states: COUNT },
   pass_move: { value: WORD },
-  add_break: { place: PLACE },
-  drop_break: { place: PLACE },
+  add_break: { address: PLACE },
+  drop_break: { address: PLACE },
   add_watch: { address: range(0, 4095), length: range(1, 64) },
   drop_watch: { number: WORD },
   reg: { number: REGISTER },
@@ -38,8 +38,8 @@ export const ARGUMENTS = {
   peek: { number: WORD },
   write: { number: WORD, value: WORD },
   assemble: { origin: range(0, 4096, 4) },
-  text: { word: WORD, place: PLACE },
-  listing: { place: PLACE, count: range(0, 1024) },
+  text: { word: WORD, address: PLACE },
+  listing: { address: PLACE, count: range(0, 1024) },
   first_difference: { every: COUNT, limit: WORD },
 };
 
@@ -53,7 +53,7 @@ const TOGETHER = {
   pass_move: () => "the word at pc is no MFC0 or MTC0",
   set_reg: (number, value) => `register 0 holds 0, and not ${value}`,
   set_sp: () => "a word can't be read from its SP register, or interrupt isn't 0 or 1",
-  listing: (place, count) => `${count} words from ${place} on pass the end of IMEM`,
+  listing: (address, count) => `${count} words from ${address} on pass the end of IMEM`,
   add_watch: (address, length) => `${length} bytes from ${address} on pass the end of DMEM`,
 };
 

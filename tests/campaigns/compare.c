@@ -36,7 +36,7 @@ int main(void)
     brsp_load(&m, BRSP_DMEM, 0, memories, 4096);
     brsp_load(&m, BRSP_IMEM, 0, memories + IMEM, 4096);
     if (brsp_first_difference(&m, &e, numbers[0], numbers[1], &found) != BRSP_OK) return 4;
-    if (found.count) printf("%u %u %03x %08x %s pc %03x\n", found.step, found.steps, found.line.place, found.line.word, found.line.text, found.before.pc);
+    if (found.count) printf("%u %u %03x %08x %s pc %03x\n", found.step, found.steps, found.line.address, found.line.word, found.line.text, found.before.pc);
     for (size_t i = 0; i < found.count; i++) {
         const brsp_part *part = found.parts + i;
         printf("%s %llx%016llx %llx%016llx %u\n", part->name, (unsigned long long)part->value[0], (unsigned long long)part->value[1],

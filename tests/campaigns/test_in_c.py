@@ -54,7 +54,7 @@ def first_in_words(found: Any) -> List[str]:
     """What compare.c prints of a first difference; nothing if there is none."""
     if not found:
         return []
-    what = f"{found.step} {found.steps} {found.place:03x} {found.word:08x} {found.text}"
+    what = f"{found.step} {found.steps} {found.address:03x} {found.word:08x} {found.text}"
     parts = (f"{it.name} {it.value:x} {it.other:x} {it.digits}" for it in found.parts)
     return [f"{what} pc {found.before.pc:03x}", *parts]
 

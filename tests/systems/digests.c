@@ -157,7 +157,7 @@ static void texts(void)
         text[len++] = '\n';
     }
     take_bytes(lines, sizeof lines);
-    take(brsp_assemble(lines[0].place, (const uint8_t *)text, len, words, 64, &out));
+    take(brsp_assemble(lines[0].address, (const uint8_t *)text, len, words, 64, &out));
     take(out.count), take(out.line), take(out.fault);
     take_bytes(words, 4 * out.count);
 }

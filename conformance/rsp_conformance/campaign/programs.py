@@ -72,7 +72,7 @@ def at_fault(texts: List[str], found: rsp.FirstDifference) -> str:
     If no step alone differs, an earlier word has left the emulator in a state that it doesn't show: the first
     one is at fault.
     """
-    first = texts[0] if found.steps > 1 else named(found.word, found.place)
+    first = texts[0] if found.steps > 1 else named(found.word, found.address)
     others = [text for text in texts if text != first]
     how = ", which shows at " if found.steps > 1 else ", after "
     return first + (how + ", ".join(others) if others else "")
@@ -80,7 +80,7 @@ def at_fault(texts: List[str], found: rsp.FirstDifference) -> str:
 
 def where(found: rsp.FirstDifference) -> str:
     """The step after which a program differs, or the steps none of which differs alone."""
-    text = named(found.word, found.place)
+    text = named(found.word, found.address)
     if found.steps == 1:
         return f"step {found.step}, {text}"
     return f"steps {found.step - found.steps + 1} to {found.step}, from {text} on"
@@ -88,7 +88,7 @@ def where(found: rsp.FirstDifference) -> str:
 
 def result_of(sides: Sides, name: str, program: Program, found: rsp.FirstDifference, cut: Set[str]) -> Result:
     """The result of a program that differs. It is cut down if `cut` has no program of its instruction."""
-    at, what = where(found), name_in(named(found.word, found.place))
+    at, what = where(found), name_in(named(found.word, found.address))
     made: Result = {}
     if is_to_cut := found.step and len(cut) < SHOWN and (found.steps > 1 or what not in cut):
         made = cut_down(sides, program, found.step, found.steps > 1)

@@ -230,14 +230,14 @@ class Stop(_StopParts):
 
 
 class Line(NamedTuple):
-    """A word of IMEM with its address `place` and its disassembly."""
+    """A word of IMEM with its `address` and its disassembly."""
 
-    place: int
+    address: int
     word: int
     text: str
 
     def __str__(self) -> str:
-        return f"{self.place:03x} {self.word:08x} {self.text}"
+        return f"{self.address:03x} {self.word:08x} {self.text}"
 
 
 class _Handle(Structure):
@@ -272,7 +272,7 @@ class _Assembled(Structure):
 
 
 class _Line(Structure):
-    _fields_ = [("word", c_uint32), ("place", c_uint16), ("len", c_uint16), ("text", ctypes.c_char * 68)]
+    _fields_ = [("word", c_uint32), ("address", c_uint16), ("len", c_uint16), ("text", ctypes.c_char * 68)]
 
 
 class _Label(Structure):
@@ -444,11 +444,11 @@ def assemble(text: str, origin: int = 0) -> Words:
     return Words(words[: out.count], raw, origin)
 
 
-def text(word: int, place: int = 0) -> str:
-    """The disassembly of a word below 2**32 for the address `place`, a multiple of 4 below 4096."""
-    word, place = _numbers("text", word, place)
+def text(word: int, address: int = 0) -> str:
+    """The disassembly of a word below 2**32 for an address, a multiple of 4 below 4096."""
+    word, address = _numbers("text", word, address)
     out = _Line()
-    _ok(_lib.brsp_text(word, place, byref(out)), "text", [word, place])
+    _ok(_lib.brsp_text(word, address, byref(out)), "text", [word, address])
     found: bytes = out.text
     return found.decode()
 
@@ -765,13 +765,13 @@ class Machine(_Owner):
         """The number of steps that can be undone."""
         return self._look("brsp_history", c_size_t()).value
 
-    def add_break(self, place: int) -> None:
+    def add_break(self, address: int) -> None:
         """Sets a breakpoint at an address of IMEM, a multiple of 4 below 4096; at most sixteen."""
-        self._call("brsp_add_break", place)
+        self._call("brsp_add_break", address)
 
-    def drop_break(self, place: int) -> None:
+    def drop_break(self, address: int) -> None:
         """Removes the breakpoint at an address."""
-        self._call("brsp_drop_break", place)
+        self._call("brsp_drop_break", address)
 
     def add_watch(self, address: int, length: int) -> int:
         """Watches 1 to 64 bytes of DMEM, and returns the watch's number, 0 to 7."""
@@ -864,18 +864,18 @@ class Machine(_Owner):
         status = _quick.brsp_set_sp(self._at, byref(given))
         self._see_done(status, "set_sp")
 
-    def listing(self, place: int, count: int) -> List[Line]:
-        """At most 1024 words of IMEM from the address `place` on, a multiple of 4, with their disassembly.
+    def listing(self, address: int, count: int) -> List[Line]:
+        """At most 1024 words of IMEM from an address on, a multiple of 4, with their disassembly.
 
         The machine ignores bits 10 to 25 of a jump, but no jump in source text sets them. So the text of such
         a word is a `.word`.
         """
-        numbers = place, count = _numbers("listing", place, count, most=1024)
+        numbers = address, count = _numbers("listing", address, count, most=1024)
         lines = (_Line * count)()
         self._see_free("brsp_listing")
-        status = _quick.brsp_listing(self._at, place, lines, count)
+        status = _quick.brsp_listing(self._at, address, lines, count)
         self._see_done(status, "listing", numbers)
-        return [Line(it.place, it.word, it.text.decode()) for it in lines]
+        return [Line(it.address, it.word, it.text.decode()) for it in lines]
 
 
 Rsp = Machine

@@ -41,18 +41,18 @@ class Emulator(Protocol):
 
 
 class FirstDifference(NamedTuple):
-    """A step after which they differ: its number `step`, from 1; its instruction, with the address `place`,
+    """A step after which they differ: its number `step`, from 1; its instruction, with its `address`,
     the `word` and its `text`; and the state `before` it.
 
     `parts` lists what differs after the step, the machine's value first: registers, then quadwords of
     memories, such as `DMEM 3f0`. Step 0 means that they differ before the first step, because the emulator
     didn't keep what `set` and `load` gave it. If `steps` isn't 1, that many steps up to `step` lead to a
     difference, but none of them alone: then the emulator has state that `get` and `set` don't carry. The
-    first of these steps is at `place`.
+    first of these steps is at `address`.
     """
 
     step: int
-    place: int
+    address: int
     word: int
     text: str
     before: State
@@ -61,9 +61,9 @@ class FirstDifference(NamedTuple):
 
     def _head(self) -> str:
         if self.steps != 1:
-            steps = f"steps {self.step - self.steps + 1} to {self.step}, from {self.place:03x} on"
+            steps = f"steps {self.step - self.steps + 1} to {self.step}, from {self.address:03x} on"
             return f"{steps}: no step alone differs, so get and set leave something out"
-        return f"step {self.step}, {self.place:03x}: {self.text}"
+        return f"step {self.step}, {self.address:03x}: {self.text}"
 
     def __str__(self) -> str:
         return "\n  ".join([self._head(), *self.parts.told("on the machine", "in the emulator").split("\n")])

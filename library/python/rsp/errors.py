@@ -49,8 +49,8 @@ ARGUMENTS: Dict[str, Dict[str, Range]] = {
     "trace": {"steps": COUNT},
     "back": {"states": COUNT},
     "pass_move": {"value": WORD},
-    "add_break": {"place": PLACE},
-    "drop_break": {"place": PLACE},
+    "add_break": {"address": PLACE},
+    "drop_break": {"address": PLACE},
     "add_watch": {"address": Range(range(4096), "0 to 4095"), "length": Range(range(1, 65), "1 to 64")},
     "drop_watch": {"number": WORD},
     "reg": {"number": REGISTER},
@@ -61,8 +61,8 @@ ARGUMENTS: Dict[str, Dict[str, Range]] = {
     "peek": {"number": WORD},
     "write": {"number": WORD, "value": WORD},
     "assemble": {"origin": Range(range(0, 4097, 4), "a multiple of 4 up to 4096")},
-    "text": {"word": WORD, "place": PLACE},
-    "listing": {"place": PLACE, "count": Range(range(1025), "0 to 1024")},
+    "text": {"word": WORD, "address": PLACE},
+    "listing": {"address": PLACE, "count": Range(range(1025), "0 to 1024")},
     "first_difference": {"every": COUNT, "limit": WORD},
     "missing": {"limit": WORD},
 }
@@ -77,7 +77,7 @@ TOGETHER = {
     "set_reg": "register 0 holds 0, and not {value}",
     "pass_dma": "the word at pc starts no DMA",
     "set_sp": "a word can't be read from its SP register, or interrupt isn't 0 or 1",
-    "listing": "{count} words from {place} on pass the end of IMEM",
+    "listing": "{count} words from {address} on pass the end of IMEM",
     "add_watch": "{length} bytes from {address} on pass the end of DMEM",
 }
 

@@ -62,12 +62,12 @@ pub struct FirstDifference {
 impl Display for FirstDifference {
     fn fmt(&self, f: &mut Formatter<'_>) -> std::fmt::Result {
         match self.steps {
-            1 => write!(f, "step {}, {:03x}: {}", self.step, self.line.place, self.line.text)?,
+            1 => write!(f, "step {}, {:03x}: {}", self.step, self.line.address, self.line.text)?,
             steps => {
-                let (first, place) = (self.step - steps + 1, self.line.place);
+                let (first, address) = (self.step - steps + 1, self.line.address);
                 write!(
                     f,
-                    "steps {first} to {}, from {place:03x} on: no step alone differs, so get and set leave something out",
+                    "steps {first} to {}, from {address:03x} on: no step alone differs, so get and set leave something out",
                     self.step
                 )?;
             }

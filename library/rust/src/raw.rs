@@ -77,7 +77,7 @@ pub struct Label {
 #[derive(Clone, Copy)]
 pub struct Line {
     pub word: u32,
-    pub place: u16,
+    pub address: u16,
     pub len: u16,
     pub text: [u8; 68],
 }
@@ -107,8 +107,8 @@ extern "C" {
     pub fn brsp_history(m: *mut Handle, out: *mut usize) -> u32;
     pub fn brsp_pass_move(m: *mut Handle, value: u32) -> u32;
     pub fn brsp_pass_dma(m: *mut Handle) -> u32;
-    pub fn brsp_add_break(m: *mut Handle, place: u32) -> u32;
-    pub fn brsp_drop_break(m: *mut Handle, place: u32) -> u32;
+    pub fn brsp_add_break(m: *mut Handle, address: u32) -> u32;
+    pub fn brsp_drop_break(m: *mut Handle, address: u32) -> u32;
     pub fn brsp_add_watch(m: *mut Handle, address: u32, len: u32, number: *mut usize) -> u32;
     pub fn brsp_drop_watch(m: *mut Handle, number: u32) -> u32;
     pub fn brsp_reg(m: *mut Handle, n: u32, out: *mut u32) -> u32;
@@ -124,8 +124,8 @@ extern "C" {
     pub fn brsp_set_sp(m: *mut Handle, given: *const SpWords) -> u32;
     pub fn brsp_assemble(origin: u32, text: *const u8, len: usize, words: *mut u32, capacity: usize, out: *mut Assembled) -> u32;
     pub fn brsp_labels(origin: u32, text: *const u8, len: usize, labels: *mut Label, capacity: usize, count: *mut usize) -> u32;
-    pub fn brsp_text(word: u32, place: u32, out: *mut Line) -> u32;
-    pub fn brsp_listing(m: *mut Handle, place: u32, lines: *mut Line, len: usize) -> u32;
+    pub fn brsp_text(word: u32, address: u32, out: *mut Line) -> u32;
+    pub fn brsp_listing(m: *mut Handle, address: u32, lines: *mut Line, len: usize) -> u32;
     pub fn brsp_explain(origin: u32, text: *const u8, len: usize, out: *mut Operand) -> u32;
     pub fn brsp_session_new(b: *mut SessionHandle, image: *const u8, len: usize) -> u32;
     pub fn brsp_session_take(

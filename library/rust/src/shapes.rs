@@ -366,7 +366,7 @@ impl fmt::Display for Reason {
 #[non_exhaustive]
 pub struct Line {
     /// Its address.
-    pub place: u16,
+    pub address: u16,
     /// The word.
     pub word: u32,
     /// Its disassembly.

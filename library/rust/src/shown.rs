@@ -60,7 +60,7 @@ impl Display for State {
 /// The line of `dis`: the address, the word and its disassembly.
 impl Display for Line {
     fn fmt(&self, f: &mut Formatter<'_>) -> Result {
-        write!(f, "{:03x} {:08x} {}", self.place, self.word, self.text)
+        write!(f, "{:03x} {:08x} {}", self.address, self.word, self.text)
     }
 }
 

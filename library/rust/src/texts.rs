@@ -7,10 +7,10 @@ use crate::{Operand, RspError};
 
 const NO_MEANING: u32 = 106;
 
-pub(crate) const NO_LINE: raw::Line = raw::Line { word: 0, place: 0, len: 0, text: [0; 68] };
+pub(crate) const NO_LINE: raw::Line = raw::Line { word: 0, address: 0, len: 0, text: [0; 68] };
 
 pub(crate) fn seen(line: &raw::Line) -> Line {
-    Line { place: line.place, word: line.word, text: String::from_utf8_lossy(&line.text[..usize::from(line.len)]).into_owned() }
+    Line { address: line.address, word: line.word, text: String::from_utf8_lossy(&line.text[..usize::from(line.len)]).into_owned() }
 }
 
 /// The words of a text. The first is for the address `origin`, a multiple of 4 up to 4096.

@@ -305,7 +305,7 @@ fn texts() {
     assert_eq!(why(text(0, 4096)), Some(Status::OutOfRange));
     let machine = loaded("nop\nbreak\n", 0);
     let lines = machine.listing(0, 2).unwrap();
-    assert_eq!((lines[1].place, lines[1].word, lines[1].text.as_str()), (4, 13, "break"));
+    assert_eq!((lines[1].address, lines[1].word, lines[1].text.as_str()), (4, 13, "break"));
     assert_eq!(why(machine.listing(4092, 2)), Some(Status::OutOfRange));
     assert_eq!(why(machine.listing(0, 1025)), Some(Status::OutOfRange));
     assert_eq!(why(machine.listing(u32::MAX, 0)), Some(Status::OutOfRange));

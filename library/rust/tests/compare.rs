@@ -97,7 +97,7 @@ fn a_fault_is_found_at_its_step() {
     for every in [1, 2, 7, 64, 10000] {
         let (mut machine, mut emulator) = pair(36, 17, lane);
         let found = first_difference(&mut machine, &mut emulator, every, 1000).unwrap().unwrap();
-        assert_eq!((found.step, found.line.place, found.line.text.as_str()), (step, 36, "vadd $v2, $v2, $v1"));
+        assert_eq!((found.step, found.line.address, found.line.text.as_str()), (step, 36, "vadd $v2, $v2, $v1"));
         assert_eq!((found.before, machine.get().unwrap()), (alone(step - 1), alone(step)));
         assert_eq!((found.registers.len(), found.registers[0].place.to_string()), (1, "$v2 lane 5".to_string()));
         let (mut machine, mut emulator) = pair(40, 17, byte);
@@ -222,7 +222,7 @@ impl Emulator for Whole {
 fn a_stretch_is_named_if_single_steps_dont_show_it() {
     let (mut machine, emulator) = pair(0, 99, lane);
     let found = first_difference(&mut machine, &mut Whole(emulator), 3, 1000).unwrap().unwrap();
-    assert_eq!((found.step, found.steps, found.line.place, found.before), (3, 3, 0, alone(0)));
+    assert_eq!((found.step, found.steps, found.line.address, found.before), (3, 3, 0, alone(0)));
     let said = "steps 1 to 3, from 000 on: no step alone differs, so get and set leave something out\n";
     assert!(found.to_string().starts_with(said), "{found}");
 }

@@ -787,7 +787,7 @@ static void texts(void)
     SEE(words[0] == 0 && words[1] == 0x4a631050u && words[2] == 0x0d && words[3] == 9);
     memset(&line, 0xee, sizeof line);
     SEE(brsp_text(words[1], 4, &line) == BRSP_OK && !strcmp(line.text, "vadd $v1, $v2, $v3[1q]") && line.len == 22);
-    SEE(line.text[67] == 0 && line.word == words[1] && line.place == 4);
+    SEE(line.text[67] == 0 && line.word == words[1] && line.address == 4);
     SEE(brsp_text(0x1000ffffu, 0, &line) == BRSP_OK && !strcmp(line.text, "beq $0, $0, 0x000"));
     SEE(brsp_text(0xffffffffu, 0, &line) == BRSP_OK && !strcmp(line.text, ".word 0xffffffff") && line.len == 16);
     SEE(brsp_text(0, 4096, &line) == BRSP_OUT_OF_RANGE);
@@ -796,7 +796,7 @@ static void texts(void)
     SEE(brsp_load_words(&m, BRSP_IMEM, 4084, words, 3) == BRSP_OK);
     SEE(brsp_listing(&m, 4084, lines, 3) == BRSP_OK);
     SEE(!strcmp(lines[0].text, "nop") && !strcmp(lines[1].text, "vadd $v1, $v2, $v3[1q]") && !strcmp(lines[2].text, "break"));
-    SEE(lines[0].place == 4084 && lines[2].place == 4092 && lines[2].word == 0x0d && lines[2].len == 5);
+    SEE(lines[0].address == 4084 && lines[2].address == 4092 && lines[2].word == 0x0d && lines[2].len == 5);
     SEE(brsp_listing(&m, 4088, lines, 3) == BRSP_OUT_OF_RANGE);
     SEE(brsp_listing(&m, 4096, lines, 0) == BRSP_OUT_OF_RANGE);
     SEE(brsp_listing(&m, 2, lines, 1) == BRSP_OUT_OF_RANGE);
@@ -804,7 +804,7 @@ static void texts(void)
     SEE(brsp_listing(&m, 0, lines, 0) == BRSP_OK);
     SEE(!strcmp(lines[0].text, "nop"));
     SEE(brsp_listing(&m, 0, many, 1025) == BRSP_OUT_OF_RANGE);
-    SEE(brsp_listing(&m, 0, many, 1024) == BRSP_OK && !strcmp(many[1023].text, "break") && many[1023].place == 4092);
+    SEE(brsp_listing(&m, 0, many, 1024) == BRSP_OK && !strcmp(many[1023].text, "break") && many[1023].address == 4092);
     brsp_free(&m);
 }
 

@@ -91,7 +91,7 @@ def test_fault(fault: str, every: int) -> None:
     step, place = HEAD + TURN * (TURNS - 17) + 1 + at, 4 * (HEAD + at)
     machine, emulator = machines(PROGRAM, place, 17 - (at > 1), spoil)
     found = rsp.first_difference(machine, emulator, every)
-    assert found and (found.step, found.place, found.text) == (step, place, text)
+    assert found and (found.step, found.address, found.text) == (step, place, text)
     assert [it[0] for it in parts_of(found)] == [name]
     assert found.before == alone(step - 1)
     assert machine.get() == alone(step), "both stay after it"
@@ -149,7 +149,7 @@ def test_stretch_that_single_steps_do_not_show() -> None:
     machine, _ = machines()
     whole = emulator_with(Faulty, run=lambda it, steps: (Faulty.run(it, steps), steps == 1 or it.lane()))
     found = rsp.first_difference(machine, whole, 3)
-    assert found and (found.step, found.steps, found.place, found.before) == (3, 3, 0, alone(0))
+    assert found and (found.step, found.steps, found.address, found.before) == (3, 3, 0, alone(0))
     text = "steps 1 to 3, from 000 on: no step alone differs, so get and set leave something out\n  "
     assert str(found).startswith(text)
     assert str(machine.listing(0, 1)[0]) == "000 34010007 ori $1, $0, 0x0007"

@@ -120,7 +120,7 @@ MESSAGES: Tuple[Refusal, ...] = (
     (RspError, "2 words from 4092", lambda it: it.listing(4092, 2)),
     (TypeError, "text is of type bytes", lambda it: ANY.assemble(b"nop")),
     (rsp.AssemblyError, "fault 11 UnknownName line 2: foo $1", lambda it: rsp.assemble("nop\n foo $1")),
-    (RspError, "text: place is 3", lambda it: rsp.text(0, 3)),
+    (RspError, "text: address is 3", lambda it: rsp.text(0, 3)),
     (RspError, "image has 65 bytes", lambda it: rsp.Rsp(bytes(65))),
     (RspError, "depth is 5000, not 0 to 4096", lambda it: rsp.Rsp(bytes(64), 5000)),
     (AttributeError, "rsp has no names", lambda it: ANY.names),

@@ -74,7 +74,7 @@ function runs() {
   machine.back(1);
   machine.add_break(16);
   refused(Status.BREAK_TWICE, () => machine.add_break(16), "16 has a breakpoint");
-  refused(OUT, () => machine.add_break(17), "place is 17, not a multiple of 4 below 4096");
+  refused(OUT, () => machine.add_break(17), "address is 17, not a multiple of 4 below 4096");
   same("a breakpoint", machine.run(100), { ...AT, reason: Reason.BREAK, steps: 4, pc: 16 });
   machine.drop_break(16);
   same("a watch's number", machine.add_watch(64, 4), 0);
@@ -431,7 +431,7 @@ function differences() {
   // Of the loop's four steps the fortieth sum is step 1 + 4 * 39 + 1.
   const line = "$2 is 00000028 on the machine and 00010028 in the emulator";
   same("the first", String(found), `step 158, 004: addiu $2, $2, 1\n  ${line}`);
-  same("its state before", [found.before.words[2], found.steps, found.place], [39, 1, 4]);
+  same("its state before", [found.before.words[2], found.steps, found.address], [39, 1, 4]);
   const memory = (bank, address, length) => new Uint8Array(length);
   const bare = { run() {}, get: () => new rsp.State(), set() {}, memory, load() {} };
   const kept = rsp.first_difference(begun(), bare);
