@@ -38,4 +38,4 @@ def test_cpp(folder: Path) -> None:
     need("c++")
     source = folder / "ares.cpp"
     source.write_text(IN_CPP)
-    succeeds(compiled(folder / "ares", "-std=c++17", source, LIBRARY, compiler="c++"))
+    succeeds(compiled(folder / "ares", "-std=c++17", *STRICT, source, LIBRARY, compiler="c++"))

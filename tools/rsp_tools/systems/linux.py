@@ -28,6 +28,7 @@ def make(target: Target, out: Path, at: Path, source: Source = module) -> None:
     (out / "lib").mkdir(parents=True)
     llvm("llvm-ar", "rcsD", out / "lib" / "libbrsp.a", at / "rsp.o")
     words = ["-shared", f"-Wl,-soname,{soname}", *hardening.words(target.name, "link"), LINKED]
+    words.append(f"-Wl,--version-script={places.HEADER.with_name('brsp.map')}")
     call(target.compiler, *words, "-o", out / "lib" / soname, at / "rsp.o")
     shutil.copy(
         out / "lib" / soname, out / "lib" / "libbrsp.so"
