@@ -1,4 +1,4 @@
-"""`rsp.gdb` in sessions of a real GDB, on an ELF of `rsp.elf`, and on packets that are wrong.
+"""`rsp.gdb` in sessions of a real GDB, on an ELF of make_elf.py, and on packets that are wrong.
 
 They fail if GDB doesn't show what the microcode does, forwards or backwards.
 """
@@ -15,8 +15,7 @@ import pytest
 import rsp
 from lib import TOP
 from lib.library.module import loaded
-from lib.processes import run
-from rsp.elf import elf
+from lib.processes import run, succeeds
 from rsp.gdb import Stub, Wire
 
 PACKAGE = TOP / "library/python"
@@ -37,7 +36,8 @@ def gdb(folder: Path, *commands: str) -> str:
     """What GDB says to commands, after it has loaded SCALE."""
     (folder / "script.rsp").write_text("load dmem 0x80 0064\nload rdram 0 0001\nrun 5\n")
     (folder / "text.s").write_text(SCALE)
-    (folder / "text.elf").write_bytes(elf(SCALE, "text.s"))
+    env = {**os.environ, "PYTHONPATH": str(PACKAGE)}
+    succeeds(sys.executable, TOP / "examples/python/make_elf.py", "text.s", "text.elf", cwd=folder, env=env)
     stub = f"env PYTHONPATH={PACKAGE} {sys.executable} -m rsp.gdb"
     side = run(*stub.split(), "--side").stdout.strip()
     told = [f"target remote | {stub} --script script.rsp", "load", *commands]
@@ -87,7 +87,7 @@ monitor waits; monitor when; monitor task 1; monitor task; monitor read 4; monit
 }
 
 
-@pytest.mark.needs("gdb-multiarch")
+@pytest.mark.needs("gdb-multiarch", "mips-linux-gnu-gcc")
 @pytest.mark.parametrize("name", SESSIONS)
 def test_session(name: str, folder: Path) -> None:
     lines = SESSIONS[name].strip().split("\n")
