@@ -49,10 +49,11 @@ def write(
     folder: Union[str, Path], files: Dict[str, bytes], platforms: Sequence[str] = PLATFORMS, date: int = FIRST
 ) -> str:
     """Writes a wheel of these files to a folder, and returns its name. All files have the same date, in
-    seconds since 1970, which a wheel keeps as that of UTC."""
+    seconds since 1970, which a wheel keeps as that of UTC. A wheel for Linux has the command rsp-gdb."""
     info, lines, tags = f"{NAME}.dist-info", "", "".join(f"Tag: py3-none-{it}\n" for it in platforms)
     files = {**files, f"{info}/METADATA": METADATA.encode(), f"{info}/WHEEL": f"{WHEEL}{tags}".encode()}
-    files[f"{info}/entry_points.txt"] = SCRIPTS.encode()
+    if platforms[0].startswith("manylinux"):
+        files[f"{info}/entry_points.txt"] = SCRIPTS.encode()
     for path, data in files.items():
         digest = base64.urlsafe_b64encode(hashlib.sha256(data).digest()).rstrip(b"=").decode()
         lines += f"{path},sha256={digest},{len(data)}\n"

@@ -242,6 +242,7 @@ def test_wheel(archive: Path, folder: Path) -> None:
     assert succeeds("own/bin/python", "-c", code, **where) == f"{told}\n"
     first = succeeds("own/bin/rsp", "run", input=page("examples/first.rsp"), **where)
     assert first == page("examples/first.out")
+    assert Path(succeeds("own/bin/rsp-gdb", "--side", **where).strip()).is_file()
 
 
 @pytest.mark.needs("objdump")

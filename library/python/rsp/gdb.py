@@ -3,11 +3,11 @@
     gdb-multiarch -x "$(rsp-gdb --side)" microcode.elf -ex 'target remote | rsp-gdb' -ex load
 
 `rsp-gdb`, which is `python3 -m rsp.gdb`, speaks GDB's remote protocol on its standard input and output, or
-with --port on a socket.
+with --port on a socket. It works on Linux.
 """
 
 import argparse
-import itertools
+import math
 import os
 import re
 import select
@@ -15,11 +15,13 @@ import signal
 import socket
 import struct
 import sys
+import time
 from pathlib import Path
-from typing import Callable, Dict, List, NamedTuple, Optional, Sequence, Set, Tuple
+from typing import Any, Callable, Dict, List, NamedTuple, Optional, Sequence, Set, Tuple
 
 import rsp
 import rsp.waits
+from rsp.formatting import vregs
 from rsp.timeline import Watch
 
 _IMEM = 0x04001000  # GDB's address of IMEM
@@ -35,15 +37,22 @@ _SP_NAMES = "mem_addr dram_addr rd_len wr_len status dma_full dma_busy semaphore
 _DPC_NAMES = "start end current status clock bufbusy pipebusy tmem"
 _SIGNALS = {"interrupted": 2, "reserved": 4, "cannot step": 17}  # SIGINT, SIGILL, SIGSTOP; else 5, SIGTRAP
 _EVER = 1 << 62
+_PACKET = 0x4000  # the most bytes of a packet
+_COUNTED = 4000000
+_SLICE = 0.5  # how many seconds of `monitor goto` a packet may take
 _HELP = """\
-monitor task ADDR     starts the task whose structure is at an address of RDRAM
-monitor read N        reads SP register N, as the CPU does
-monitor write N V     writes SP register N, as the CPU does: `write 4 5` clears halted and broke
-monitor when          the number of the present step
-monitor goto STEP     goes to a step
-monitor counts [STEP] how often each instruction was executed, from a step to the present one
-monitor waits         the waits for a DMA that are missing from here to the halt, at most 1000000 steps on
+monitor when           the number of the present step
+monitor goto STEP      goes to a step
+monitor counts [STEP]  how often each instruction was executed, from a step to the present one
+monitor waits          the waits for a DMA that are missing from here to the halt, at most 1000000 steps on
+monitor why            why the last breakpoint or watch was refused
+These are as in a script for `rsp run`:
+monitor task ADDR | pc ADDR | load BANK ADDR HEX | write N VALUE | read N
+monitor regs | vregs | acc | flags | sp | mem BANK ADDR LEN | dis ADDR N
 """
+# After a script these ask for all that its machine is.
+_BANKS = "".join(f"mem {bank} {at} 256\n" for bank in ("dmem", "imem") for at in range(0, 4096, 256))
+_ASKED = f"\n{_BANKS}regs\nvregs\nacc\nflags\nsp\n".encode()
 
 
 class _Register(NamedTuple):
@@ -104,7 +113,10 @@ _XML, _REGISTERS = _description()
 
 def _place(address: int) -> Tuple[rsp.Bank, int]:
     """The memory of an address, and the address there. RDRAM is in KSEG0 and KSEG1, as for the CPU, and the
-    SP's memories are there and at 0x04000000. Below 0x4000 are DMEM and IMEM too, as microcode has them."""
+    SP's memories are there and at 0x04000000. Below 0x4000 are DMEM and IMEM too, as microcode has them. GDB
+    extends the sign of an address of a MIPS to 64 bits."""
+    if address >> 32 not in (0, 0xFFFFFFFF):
+        raise ValueError
     address &= 0xFFFFFFFF
     physical = address & 0x1FFFFFFF if address >> 30 == 2 else address
     if physical >> 18 == 0x04000000 >> 18 or address < 0x4000:
@@ -115,8 +127,18 @@ def _place(address: int) -> Tuple[rsp.Bank, int]:
 
 
 def _two(numbers: str) -> Tuple[int, int]:
-    first, second = (int(it, 16) for it in numbers.split(","))
-    return first, second
+    """The two numbers of a packet."""
+    found = re.fullmatch("([0-9a-f]{1,16}),([0-9a-f]{1,16})", numbers)
+    if not found:
+        raise ValueError
+    return int(found[1], 16), int(found[2], 16)
+
+
+def _number(text: str) -> int:
+    """A number of a command, as scripts have them."""
+    if not re.fullmatch("[0-9]{1,16}|0x[0-9a-fA-F]{1,16}", text):
+        raise ValueError(f"{text[:80]} isn't a number")
+    return int(text, 16 if "x" in text else 10)
 
 
 class Stub:
@@ -127,7 +149,8 @@ class Stub:
         self.line, self.asked, self.say = line, asked, say
         self.no_ack = self.ended = False
         line.is_interrupted = self._interrupted
-        self._was_interrupted = False
+        self._was_interrupted, self._end = False, math.inf  # the time at which a packet has to be answered
+        self._goal, self._why = -1, "nothing was refused"
         self._breaks: Set[int] = set()  # GDB's addresses; below 4096 that of a JR's target, which is a link
         self._watches: Dict[Watch, int] = {}  # with GDB's address of each
         self._fresh: Optional[int] = None  # the breakpoint that was set last since the last stop
@@ -145,7 +168,7 @@ class Stub:
         }
 
     def _interrupted(self) -> bool:
-        self._was_interrupted = self.asked()
+        self._was_interrupted = self._was_interrupted or self.asked() or time.monotonic() > self._end
         return self._was_interrupted
 
     def reply(self, packet: bytes) -> Optional[bytes]:
@@ -198,13 +221,17 @@ class Stub:
     def _query(self, rest: str) -> bytes:
         name, _, more = rest.partition(":")
         if name == "Supported":
-            return b"PacketSize=4000;QStartNoAckMode+;qXfer:features:read+;ReverseStep+;ReverseContinue+"
+            return (
+                b"PacketSize=%x;QStartNoAckMode+;qXfer:features:read+;ReverseStep+;ReverseContinue+" % _PACKET
+            )
         if name == "Xfer" and more.startswith("features:read:target.xml:"):
             at, length = _two(more.split(":")[-1])
             return (b"m" if at + length < len(_XML) else b"l") + _XML[at : at + length]
         if name.startswith("Rcmd,"):
             told = self._monitor(bytes.fromhex(name[5:]).decode("latin-1").split() or ["help"])
             return told.encode().hex().encode() or b"OK"
+        if name == "rsp.goto":
+            return self._goto().encode().hex().encode() if self._goal >= 0 else b""
         if name == "rsp.text":
             word, address = _two(more)
             return _text(word, address & 0xFFC).encode().hex().encode()
@@ -246,19 +273,24 @@ class Stub:
             breaks = self._breaks - {at} if remove else self._breaks | {at}
             places = {it & 0xFFC for it in breaks}
             if len(places) > 16:
-                return b"E.there are at most sixteen breakpoints"
+                return self._refused("there are at most sixteen breakpoints, one of them GDB's own")
             self._breaks, self.line.breaks = breaks, places
             self._fresh = None if remove else low & 0xFFC
         elif kind == "2":
             if bank != rsp.DMEM or not 0 < size <= 4096 - low:
-                return b"E.only bytes of DMEM can be watched"
+                return self._refused("only bytes of DMEM can be watched, so none of RDRAM or IMEM")
             parts = {(low + n, min(64, size - n)): at for n in range(0, size, 64)}
             kept = {it: told for it, told in self._watches.items() if it not in parts}
             if not remove and len(kept) + len(parts) > 8:
-                return b"E.there are at most eight watches of at most 64 bytes"
+                return self._refused("there are at most eight watches of at most 64 bytes")
             self._watches = kept if remove else {**kept, **parts}
             self.line.watches = {*self._watches}
         return b"OK" if kind in "012" else b""
+
+    def _refused(self, why: str) -> bytes:
+        """GDB shows no reason, so `monitor why` does."""
+        self._why = why
+        return f"E.{why}".encode()
 
     def _resume(self, rest: str) -> bytes:
         if rest == "Cont?":
@@ -289,8 +321,7 @@ class Stub:
             steps = 1
         self._fresh = None
         found = self.line.run_to(before + steps)
-        if found.reason is rsp.Reason.WATCH:
-            self.line.goto(found.step - 1)
+        if found.reason is rsp.Reason.WATCH and self.line.goto(found.step - 1) == found.step - 1:
             return self._stopped(watch=found.watch)
         if found.reason is rsp.Reason.RESERVED:
             self.say("[rsp] the word at pc is reserved\n")
@@ -307,27 +338,62 @@ class Stub:
         pc = _IMEM + self.line.machine.regs().pc
         return f"T{_SIGNALS.get(why, 5):02x}{told}25:{pc:08x};thread:1;".encode()
 
+    def _goto(self) -> str:
+        """Goes towards the goal. GDB sends no Ctrl-C while it waits for the reply to `monitor`, so this takes
+        at most half a second, and what GDB has sourced asks for more."""
+        self._was_interrupted, self._end = False, time.monotonic() + _SLICE
+        at, goal = self.line.goto(self._goal), self._goal
+        self._end = math.inf
+        if self._was_interrupted and at != goal:
+            return f"step {at}, on the way to {goal}\n"
+        self._goal = -1
+        return f"step {at}\n"
+
+    def _counts(self, least: int = 0) -> str:
+        if self.line.step - least > _COUNTED:
+            raise ValueError(f"name a step at most {_COUNTED} before {self.line.step}")
+        words = self.line.machine.memory_words(rsp.IMEM, 0, 1024)
+        rows = sorted(self.line.counts(least).items())
+        return "".join(f"{n:9} {at:03x} {_text(words[at // 4], at)}\n" for at, n in rows)
+
+    def _shown(self, words: Sequence[str]) -> Optional[str]:
+        """The reply to a command that changes nothing, or None if there is no such command."""
+        machine, name, given = self.line.machine, words[0], words[1:]
+        state = machine.get()
+        texts: Dict[str, Callable[..., Any]] = {
+            "when": lambda: f"step {self.line.step}",
+            "why": lambda: self._why,
+            "waits": lambda: "\n".join(map(str, rsp.waits.missing(machine.copy()))) or "none is missing",
+            "regs": machine.regs,
+            "vregs": lambda: "\n".join(vregs(state.vectors)),
+            "acc": machine.acc,
+            "flags": lambda: f"{state.flags} {state.divider}",
+            "sp": lambda: "".join(f"c{n} {it:08x}\n" for n, it in enumerate(state.sp))
+            + f"interrupt {state.interrupt}",
+            "mem": lambda *it: _memory_lines(machine, *it),
+            "dis": lambda at, count: "\n".join(map(str, machine.listing(_number(at), _number(count)))),
+        }
+        return f"{texts[name](*given)}\n" if name in texts else None
+
     def _monitor(self, words: Sequence[str]) -> str:
-        line, name, given = self.line, words[0], words[1:]
+        name, *given = words
+        self._goal = -1
         try:
-            if name in ("task", "read", "write"):
-                told = _change(line.machine, words)
-                line.changed()
+            if name in ("task", "pc", "load", "write", "read"):
+                told = _change(self.line.machine, *words)
+                if name != "read" or _number(given[0]) == 7:  # which takes the semaphore
+                    self.line.changed()
                 return told
-            if name == "when" and not given:
-                return f"step {line.step}\n"
-            if name == "goto":
-                return f"step {line.goto(int(given[0], 0))}\n"
+            if name == "goto" and len(given) == 1:
+                self._goal = _number(given[0])
+                return self._goto()
             if name == "counts":
-                rows = sorted(line.counts(*(int(it, 0) for it in given)).items())
-                words_there = line.machine.memory_words(rsp.IMEM, 0, 1024)
-                return "".join(f"{n:9} {at:03x} {_text(words_there[at // 4], at)}\n" for at, n in rows)
-            if name == "waits" and not given:
-                found = [*rsp.waits.missing(line.machine.copy())]
-                return "".join(f"{it}\n" for it in found) or "none is missing\n"
-        except (rsp.RspError, LookupError, ValueError, TypeError) as fault:
+                return self._counts(*map(_number, given))
+            return self._shown(words) or _HELP
+        except TypeError:  # too many words, or too few
+            return _HELP
+        except (rsp.RspError, ValueError) as fault:
             return f"fault: {fault}\n"
-        return _HELP
 
 
 def _text(word: int, place: int) -> str:
@@ -335,30 +401,54 @@ def _text(word: int, place: int) -> str:
     return rsp.text(word & 0xFC0003FF if word >> 27 == 1 else word, place)
 
 
-def _change(machine: rsp.Machine, words: Sequence[str]) -> str:
+def _bank(text: str) -> rsp.Bank:
+    """A memory by its name."""
+    if text.upper() not in rsp.Bank.__members__:
+        raise ValueError("BANK is dmem, imem or rdram")
+    return rsp.Bank[text.upper()]
+
+
+def _memory_lines(machine: rsp.Machine, bank: str, start: str, length: str) -> str:
+    """The reply to `mem`."""
+    at, most = _number(start), _number(length)
+    if not 0 < most <= 4096:
+        raise ValueError("LEN is 1 to 4096")
+    raw = machine.memory(_bank(bank), at, most)
+    return "\n".join(f"{at + n:06x}: {raw[n : n + 16].hex()}" for n in range(0, most, 16))
+
+
+def _change(machine: rsp.Machine, name: str, *given: str) -> str:
     """Carries out a command of scripts that changes the machine, and returns its reply."""
-    name, *given = words
-    if name == "load":
-        machine.load(rsp.Bank[given[0].upper()], int(given[1], 0), bytes.fromhex(given[2]))
-        return "ok\n"
-    call = getattr(machine, {"task": "start_task", "pc": "set_pc"}.get(name, name))
-    told = call(*(int(it, 0) for it in given))
-    return f"{told:08x}\n" if name == "read" else "ok\n"
+    calls: Dict[str, Callable[..., Optional[int]]] = {
+        "task": lambda at: machine.start_task(_number(at)),
+        "pc": lambda at: machine.set_pc(_number(at)),
+        "load": lambda bank, at, data: machine.load(_bank(bank), _number(at), bytes.fromhex(data)),
+        "write": lambda number, value: machine.write(_number(number), _number(value)),
+        "read": lambda number: machine.read(_number(number)),
+    }
+    told = calls[name](*given)
+    return "ok\n" if told is None else f"c{given[0]} {told:08x}\n"
 
 
-def run_script(machine: rsp.Machine, script: str) -> None:
-    """Carries out the lines of a script that change the machine, up to the first `run` or `step`."""
-    lines = iter(it.partition("#")[0] for it in script.splitlines())
-    for line in lines:
-        words = line.split() or [""]
-        if words[0] in ("run", "step"):
-            return
-        if words[0] == "asm":
-            block = "\n".join(itertools.takewhile(lambda it: it.split() != ["end"], lines))
-            at = int(words[1], 0)
-            machine.load_words(rsp.IMEM, at, rsp.assemble(block, at))
-        elif words[0] in ("load", "task", "pc", "write", "read"):
-            _change(machine, words)
+def after_script(script: bytes, image: bytes) -> rsp.Machine:
+    """The machine as a script for `rsp run` leaves it. Raises rsp.ScriptError at the first fault."""
+    try:
+        replies, rdram = rsp.run_script(script + _ASKED, image, strict=True)
+    except rsp.ScriptError:
+        rsp.run_script(script, image, strict=True)  # its message has no line of what was asked
+        raise
+    lines = replies.decode().splitlines()
+    banks = bytes.fromhex("".join(it.partition(": ")[2] for it in lines[-579:-67]))
+    registers = " ".join(it.partition(" ")[2] for it in lines[-67:])
+    pc, npc, *v = (int(it, 16) for it in re.findall(r"\b[0-9a-f]+\b", registers))
+    acc = v[_ACCUMULATORS:][:8]
+    v[_ACCUMULATORS : _ACCUMULATORS + 8] = [it >> n & 0xFFFF for n in (32, 16, 0) for it in acc]
+    v[_PC:_PC] = [pc, npc]
+    machine = rsp.Machine(rdram)
+    machine.load(rsp.DMEM, 0, banks[:4096])
+    machine.load(rsp.IMEM, 0, banks[4096:])
+    machine.set(rsp.State.from_buffer_copy(_STATE.pack(*v)))
+    return machine
 
 
 class Wire:
@@ -371,8 +461,8 @@ class Wire:
 
     def _fill(self, wait: Optional[float]) -> None:
         if self._open and select.select([self._source], [], [], wait)[0]:
-            more = os.read(self._source, 65536)
-            self._held, self._open = self._held + more, bool(more)
+            more = os.read(self._source, 2 * _PACKET)
+            self._held, self._open = (self._held + more)[-4 * _PACKET :], bool(more)
 
     def interrupted(self) -> bool:
         """Whether Ctrl-C or the end of the connection came while the machine ran."""
@@ -388,7 +478,7 @@ class Wire:
         self._sink(self._last)
 
     def packet(self, acks: Callable[[], bool]) -> Optional[bytes]:
-        """The next packet, or None at the end."""
+        """The next packet, or None at the end. One that is too long is dropped."""
         while True:
             head, dollar, rest = self._held.partition(b"$")
             if b"-" in head and self._last:
@@ -396,13 +486,13 @@ class Wire:
             body, _, tail = rest.partition(b"#")
             if dollar and len(tail) >= 2:
                 self._held = tail[2:]
-                good = tail[:2].lower() == b"%02x" % (sum(body) & 255)
+                good = tail[:2].lower() == b"%02x" % (sum(body) & 255) and len(body) <= _PACKET
                 if acks():
                     self._sink(b"+" if good else b"-")
                 if good:
                     return body
                 continue
-            self._held = dollar + rest if len(rest) < 1 << 20 else b""
+            self._held = dollar + rest if len(rest) <= _PACKET + 2 else b""
             if not self._open:
                 return None
             self._fill(None)
@@ -411,46 +501,68 @@ class Wire:
 def _serve(line: rsp.Timeline, source: int, sink: Callable[[bytes], object]) -> None:
     wire = Wire(source, sink)
     stub = Stub(line, wire.interrupted, lambda told: wire.send(b"O" + told.encode().hex().encode()))
-    while not stub.ended:
-        packet = wire.packet(lambda: not stub.no_ack)
-        if packet is None:
-            return
-        answer = stub.reply(packet)
-        if answer is not None:
-            wire.send(answer)
+    try:
+        while not stub.ended:
+            packet = wire.packet(lambda: not stub.no_ack)
+            if packet is None:
+                return
+            answer = stub.reply(packet)
+            if answer is not None:
+                wire.send(answer)
+    except ConnectionError:  # GDB has ended
+        return
+
+
+def _bytes(path: str, most: int) -> bytes:
+    """A file, or so much of it that it is too long."""
+    with open(path, "rb") as file:
+        return file.read(most + 1)
+
+
+def _machine(given: argparse.Namespace) -> rsp.Machine:
+    """The machine of the options."""
+    image = _bytes(given.rdram, 8 << 20) if given.rdram else bytes(8 << 20)
+    machine = after_script(_bytes(given.script, 1 << 20), image) if given.script else rsp.Machine(image)
+    if given.task:
+        machine.start_task(_number(given.task))
+    return machine
+
+
+def _serve_port(line: rsp.Timeline, port: int) -> None:
+    """Serves the first program that connects, and no other."""
+    with socket.create_server(("127.0.0.1", port)) as server:
+        place = server.getsockname()[1]
+        print(f"rsp-gdb: listens on 127.0.0.1:{place}", file=sys.stderr, flush=True)
+        link = server.accept()[0]
+    with link:
+        link.setsockopt(socket.IPPROTO_TCP, socket.TCP_NODELAY, 1)
+        _serve(line, link.fileno(), link.sendall)
 
 
 def main() -> None:
     """The command `rsp-gdb`."""
     parser = argparse.ArgumentParser("rsp-gdb", description="lets GDB debug the RSP: target remote | rsp-gdb")
     parser.add_argument("--rdram", metavar="FILE", help="the contents of RDRAM; without it 8 MiB of zeros")
-    parser.add_argument("--task", metavar="ADDR", type=lambda it: int(it, 0), help="starts the task there")
-    parser.add_argument("--script", metavar="FILE", help="carries a script out, up to its first run or step")
-    parser.add_argument("--port", type=int, metavar="N", help="listens on port N of 127.0.0.1 instead")
+    parser.add_argument("--script", metavar="FILE", help="carries out a script for `rsp run` first")
+    parser.add_argument("--task", metavar="ADDR", help="starts the task there, after the script")
+    parser.add_argument("--port", metavar="N", help="listens on port N of 127.0.0.1 instead, for one GDB")
     parser.add_argument("--side", action="store_true", help="prints the path of the file for GDB's option -x")
     given = parser.parse_args()
     if given.side:
         print(Path(__file__).with_name("gdb_side.py"))
         return
     try:
-        machine = rsp.Machine(Path(given.rdram).read_bytes() if given.rdram else bytes(8 << 20))
-        if given.script:
-            run_script(machine, Path(given.script).read_text())
-        if given.task is not None:
-            machine.start_task(given.task)
-    except (OSError, LookupError, ValueError, TypeError, rsp.RspError) as fault:
+        port = _number(given.port) if given.port else None
+        line = rsp.Timeline(_machine(given))
+        if port is None:
+            signal.signal(signal.SIGINT, signal.SIG_IGN)  # GDB sends Ctrl-C as a byte
+            _serve(line, 0, lambda raw: os.write(1, raw))
+        else:
+            _serve_port(line, port)
+    except (OSError, OverflowError, ValueError, rsp.RspError, rsp.ScriptError) as fault:
         sys.exit(f"rsp-gdb: {fault}")
-    line = rsp.Timeline(machine)
-    if given.port is None:
-        signal.signal(signal.SIGINT, signal.SIG_IGN)  # GDB sends Ctrl-C as a byte
-        _serve(line, 0, lambda raw: os.write(1, raw))
-        return
-    with socket.create_server(("127.0.0.1", given.port)) as server:
-        print(f"rsp-gdb: listens on 127.0.0.1:{given.port}", file=sys.stderr)
-        while True:
-            with server.accept()[0] as link:
-                link.setsockopt(socket.IPPROTO_TCP, socket.TCP_NODELAY, 1)
-                _serve(line, link.fileno(), link.sendall)
+    except KeyboardInterrupt:
+        sys.exit(130)
 
 
 if __name__ == "__main__":

@@ -5,8 +5,11 @@ import re
 from typing import Any, Dict, List, Optional, Set
 
 gdb: Any = importlib.import_module("gdb")  # only GDB has it
-importlib.import_module("gdb.disassembler")
-importlib.import_module("gdb.unwinder")
+try:
+    importlib.import_module("gdb.disassembler")
+    importlib.import_module("gdb.unwinder")
+except ImportError:
+    raise gdb.GdbError("rsp-gdb needs GDB 13 or later") from None
 IMEM = 0x04001000
 
 
@@ -95,16 +98,52 @@ class Frames:
         return frames
 
 
+def arrive() -> None:
+    """After `monitor`. GDB sends no Ctrl-C while it waits for a reply, so the stub goes to a step in parts,
+    and between them Ctrl-C ends this. GDB doesn't expect that `monitor` changes registers."""
+    link, told = gdb.selected_inferior().connection, ""
+    try:
+        while isinstance(link, gdb.RemoteTargetConnection):
+            more = bytes.fromhex((link.send_packet("qrsp.goto") or b"").decode())
+            if not more:
+                break
+            told = more.decode()
+    except KeyboardInterrupt:
+        pass
+    finally:
+        gdb.write(told)
+        gdb.execute("maintenance flush register-cache", to_string=True)
+
+
+def show(_: object, words: str, __: bool) -> None:
+    """`info registers`. GDB's own shows a vector of a MIPS as one number."""
+    frame = gdb.selected_frame()
+    names: List[str] = []
+    for word in words.split() or [*(f"r{n}" for n in range(32)), "pc", "npc"]:
+        try:
+            names += [it.name for it in frame.architecture().registers(word)]
+        except ValueError:  # it isn't a group
+            names.append(word.lstrip("$"))
+    for name in names:
+        value = gdb.parse_and_eval(f"${name}")
+        if value.type.code == gdb.TYPE_CODE_UNION:
+            value = value["s"]
+        has_parts = value.type.code in (gdb.TYPE_CODE_ARRAY, gdb.TYPE_CODE_FLAGS)
+        gdb.write(f"{name:<14} {value if has_parts else value.format_string(format='x')}\n")
+
+
 def start() -> Optional[str]:
     """Tells GDB of all this."""
+    registers: Any = type("Registers", (gdb.Command,), {"invoke": show, "__doc__": show.__doc__})
+    registers("info registers", gdb.COMMAND_DATA)
     kind: Any = type("Text", (gdb.disassembler.Disassembler,), {"__call__": text})
     gdb.disassembler.register_disassembler(kind("rsp"), None)
     gdb.unwinder.register_unwinder(None, Caller(), replace=True)
     gdb.frame_filters["rsp"] = Frames()
     gdb.execute("set architecture mips:3000")
     gdb.execute("set endian big")
-    flush = "python gdb.execute('maintenance flush register-cache', to_string=True)"
-    done: Optional[str] = gdb.execute(f"define hookpost-monitor\n{flush}\nend", to_string=True)
+    gdb.execute("set remotetimeout 60")  # GDB gives up after a few seconds otherwise, on a busy computer
+    done: Optional[str] = gdb.execute("define hookpost-monitor\npython arrive()\nend", to_string=True)
     return done
 
 

@@ -18,7 +18,7 @@ class Found(NamedTuple):
     """Where a search ended: the `reason`, the number of the `step`, and after Reason.WATCH the `watch` whose
     bytes the step before it has changed.
 
-    The reason is LIMIT if nothing was found, or if the search was interrupted.
+    The reason is LIMIT if nothing was found, or if the search was interrupted: `step` is where it was then.
     """
 
     reason: Reason
@@ -47,8 +47,8 @@ class Timeline:
 
     `machine` may be looked at as you like. After a change by its other calls, such as `load`, call `changed`.
     `breaks` holds up to sixteen addresses of IMEM, and `watches` up to eight ranges of DMEM: pairs of an
-    address and a length of up to 64 bytes. Both may be changed at any time. `is_interrupted` is asked now and
-    then during long searches, and ends them by returning true.
+    address and a length of up to 64 bytes. Both may be changed at any time. `goto`, `run_to` and `back` ask
+    `is_interrupted` after at most a million steps each time, and end where they are if it returns true.
     """
 
     def __init__(self, machine: Machine, gap: int = 1 << 19, most: int = 32) -> None:
@@ -73,7 +73,9 @@ class Timeline:
 
     def goto(self, step: int) -> int:
         """Goes to a step, whatever breakpoints and watches there are, and returns the number of the step at
-        which it arrives: another one if the machine halts before, or meets a reserved word."""
+        which it arrives: another one if the machine halts before, or meets a reserved word, or if this is
+        interrupted."""
+        step = max(step, 0)
         if 0 <= self.step - step <= self.machine.history():
             if step < self.step:
                 self.machine.back(self.step - step)
@@ -82,7 +84,7 @@ class Timeline:
             mark = self._marks[max(self._after(step) - 1, 0)]
             if step < self.step or self.step < mark.step:
                 self._restore(mark)
-            while self.step < step:
+            while self.step < step and not self.is_interrupted():
                 if self._advance(step - self.step).reason in (Reason.HALT, Reason.RESERVED):
                     break
         return self.step
@@ -106,14 +108,17 @@ class Timeline:
         start = end = self.step
         least, window = max(0, min(least, start)), 4096
         found = Found(Reason.LIMIT, least)
+        if not self.breaks and not self.watches:
+            end = least
         while end > least and found.reason is Reason.LIMIT:
-            if self.is_interrupted():
-                return Found(Reason.LIMIT, self.goto(end))
             mark = self._marks[self._after(end - 1) - 1]
             begin, window = max(mark.step, least, end - window), 16 * window
-            self.goto(begin)
+            if self.goto(begin) != begin:
+                return Found(Reason.LIMIT, self.step)
             with self._armed():
                 while self.step < end:
+                    if self.is_interrupted():
+                        return Found(Reason.LIMIT, self.step)
                     here = self._advance(end - self.step)
                     if self.step < start and self._is_at_break():
                         found = Found(Reason.BREAK, self.step)
@@ -122,12 +127,12 @@ class Timeline:
                     elif here.reason in (Reason.HALT, Reason.RESERVED):
                         break  # only if the machine was changed without a call of `changed`
             end = begin
-        self.goto(found.step)
-        return found
+        return found if self.goto(found.step) == found.step else Found(Reason.LIMIT, self.step)
 
     def counts(self, least: int = 0) -> Counter[int]:
         """How often the instruction at each address was executed from the step `least` to the present one."""
-        here = self.step
+        here, is_interrupted = self.step, self.is_interrupted
+        self.is_interrupted = lambda: False
         counted: Counter[int] = collections.Counter()
         marks = [it.step for it in self._marks if least < it.step < here]
         for begin, end in zip([least, *marks], [*marks, here]):
@@ -136,6 +141,7 @@ class Timeline:
                 copy = self.machine.copy()
                 counted.update(it.pc for it in copy.iter_trace(end - begin))
         self.goto(here)
+        self.is_interrupted = is_interrupted
         return counted
 
     def _after(self, step: int) -> int:

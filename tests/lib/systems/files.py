@@ -57,7 +57,7 @@ def check_metadata(text: str) -> None:
     assert found.get_payload() == (places.PYTHON / "README.md").read_text()
 
 
-INFO = "METADATA", "WHEEL", "RECORD", "entry_points.txt"
+INFO = "METADATA", "WHEEL", "RECORD"
 
 
 def check_wheel(system: str, folder: Path) -> None:
@@ -75,6 +75,8 @@ def check_wheel(system: str, folder: Path) -> None:
         assert said == f"loads {Path(at).resolve()}/{library}\n"
     commands = {f"rsp-{header.version()}.data/scripts/{it}": it for it in [Path(target.program).name] if it}
     wanted = modules | {library} | {f"{info}/{it}" for it in INFO} | {*commands}
+    if system.startswith("linux"):
+        wanted.add(f"{info}/entry_points.txt")  # of rsp-gdb
     assert {*files} == wanted
     are_same = [files[it] == (folder / "bin" / name).read_bytes() for it, name in commands.items()]
     assert all(are_same), "the wheel has another program"

@@ -1,24 +1,34 @@
 """`rsp.gdb` in sessions of a real GDB, on an ELF of make_elf.py, and on packets that are wrong.
 
-They fail if GDB doesn't show what the microcode does, forwards or backwards.
+They fail if GDB doesn't show what the microcode does, forwards or backwards, or if a packet or Ctrl-C ends,
+hangs or misleads the stub.
 """
 
+import fcntl
 import os
+import pty
 import random
 import re
+import socket
+import subprocess
 import sys
+import termios
+from contextlib import contextmanager
 from pathlib import Path
-from typing import List
+from typing import Any, Callable, Dict, Iterator, List, Tuple
 
 import pytest
 
 import rsp
 from lib import TOP
 from lib.library.module import loaded
+from lib.pages import block_with, page
 from lib.processes import run, succeeds
-from rsp.gdb import Stub, Wire
+from rsp.gdb import Stub, Wire, after_script
 
-PACKAGE = TOP / "library/python"
+STUB = (sys.executable, "-m", "rsp.gdb")
+ENV = {**os.environ, "PYTHONPATH": str(TOP / "library/python"), "TERM": "dumb", "LC_ALL": "C"}
+with_gdb = pytest.mark.needs("gdb-multiarch", "mips-linux-gnu-gcc")
 # Doubles 72 samples, one turn too many: the last store but one is in the limit at 0x80.
 TEXT = """start: ori $16, $0, 0; ori $17, $0, 0x80; jal scale; ori $8, $0, 1; bgezal $0, check; nop
 ori $20, $0, last; jalr $31, $20; nop; break
@@ -30,20 +40,31 @@ last: mtc0 $0, $c0; ori $20, $0, 0; mtc0 $0, $c1; ori $4, $0, 255; mtc0 $4, $c2;
 jr $31; sh $4, 0x92($17)
 """
 SCALE = TEXT.replace("; ", "\n").replace("last: m", 196 * "\n" + "last: m")
+# Runs two steps, which leave 7 in $11.
+SCRIPT = """load dmem 0x80 0064\nload rdram 0 0001\nasm 0\nori $11, $0, 7\nbreak\nend
+run 5\nwrite 4 5\npc 0\n"""
 
 
-def gdb(folder: Path, *commands: str) -> str:
-    """What GDB says to commands, after it has loaded SCALE."""
-    (folder / "script.rsp").write_text("load dmem 0x80 0064\nload rdram 0 0001\nrun 5\n")
+def made(folder: Path) -> List[str]:
+    """The words that start GDB on SCALE, up to its commands."""
+    (folder / "script.rsp").write_text(SCRIPT)
     (folder / "text.s").write_text(SCALE)
-    env = {**os.environ, "PYTHONPATH": str(PACKAGE)}
-    succeeds(sys.executable, TOP / "examples/python/make_elf.py", "text.s", "text.elf", cwd=folder, env=env)
-    stub = f"env PYTHONPATH={PACKAGE} {sys.executable} -m rsp.gdb"
-    side = run(*stub.split(), "--side").stdout.strip()
-    told = [f"target remote | {stub} --script script.rsp", "load", *commands]
-    words = [word for it in told for word in ("-ex", it)]
-    said = run("gdb-multiarch", "-nx", "-q", "-batch", "-x", side, "text.elf", *words, cwd=folder).stdout
-    return said.partition("Transfer rate")[2]
+    make = TOP / "examples/python/make_elf.py"
+    succeeds(sys.executable, make, "text.s", "text.elf", cwd=folder, env=ENV)
+    (folder / "rsp-gdb").write_text(f'#!/bin/sh\nexec {" ".join(STUB)} "$@"\n')
+    (folder / "rsp-gdb").chmod(0o755)
+    side = run(*STUB, "--side", env=ENV).stdout.strip()
+    stub = "target remote | ./rsp-gdb --script script.rsp"
+    return ["gdb-multiarch", "-nx", "-q", "-x", side, "text.elf", "-ex", stub, "-ex", "load"]
+
+
+def see_parts(told: str, parts: List[str]) -> None:
+    """That the parts are in a text, in this order."""
+    at = 0
+    for part in parts:
+        found = told.find(part, at)
+        assert found >= 0, f"{part!r} isn't in its place in:\n{told}"
+        at = found + len(part)
 
 
 # Commands, and in the lines after them what GDB says, part by part.
@@ -51,8 +72,8 @@ SESSIONS = {
     "the last store to the limit, backwards": """
 break check; continue; p $v04.s[0]; p $vcc = 0x1234; watch *(short*)0x80; reverse-continue; x/i $pc
     check () at text.s:19 | = 0 | Old value = 200 | New value = 100 | sqv $v4[0], 0($16)
-reverse-stepi; p $vcc; stepi; x/2i $pc; reverse-continue
-    12\t | = 0 | 13\t | sqv | slt $9, $17, $16 | No more reverse-execution history | start ()
+reverse-stepi; p $vcc; stepi; x/2i $pc; reverse-continue; p $r11
+    12\t | = 0 | 13\t | sqv | slt $9, $17, $16 | No more reverse-execution history | start () | = 7
 """,
     "stores in delay slots and by a DMA": """
 watch *(short*)0x110; watch *(short*)0x112; watch *(short*)0; continue; continue; continue
@@ -78,26 +99,195 @@ tbreak check; reverse-continue; backtrace; next; next; next; next; up; tbreak 10
     #0  check () | #1  0x04001018 in start () at text.s:6 | 20\t | 21\t | 23\t | start () at text.s:7
     Initial frame selected | line 223.
 """,
+    "conditions, until, reverse steps and finishes": """
+break scale if $r16 == 0x20; continue; until 17; reverse-step; reverse-next; reverse-finish; info breakpoints
+    scale () at text.s:11 | scale () at text.s:17 | 16\t | 15\t | 16\t | breakpoint already hit 1 time
+tbreak inner; continue; reverse-finish; disassemble /s start,+8; detach
+    inner () | check () at text.s:22 | text.s: | 1\tstart: | ori $16, $0, 0 | 2\tori | detached
+""",
+    "registers and memories": """
+tbreak last; continue; set $v01.s[3] = -5; info registers v01 vcc $acc sp_status npc; x/2xh 0x04000080
+    v01            {0, 0, 0, -5 | vcc | acc            {0, 0 | [ ] | npc            0x400106c | 0x00c8
+p $v04.u[1] = 65535; p $v04.s[1]; p/x $v04.b[2]; set var *(char*)0x80000123 = 5; x/bx 0xa0000123; x/xw 0x1000
+    = 65535 | = -1 | = 0xff | 0xa0000123:\t0x05 | 0x34100000
+python print([it for it in sys.modules if it in ("rsp", "ctypes")]); x/xw 0x20000000
+    [] | Cannot access memory at address 0x20000000
+""",
     "monitor": """
-monitor; tbreak check; continue; monitor counts; monitor counts 66
-    monitor task ADDR | 10 028 lqv $v1[0], 0($16) | 1 040 jr | 1 010 bgezal | 1 014
-monitor waits; monitor when; monitor task 1; monitor task; monitor read 4; monitor goto x
-    07c: lh $5, 0($0): loads | step 68 | fault: start_task: 1 | fault: | 00000000 | fault: invalid literal
+monitor; tbreak check; continue; monitor counts; monitor counts 66; monitor why
+    monitor task ADDR | 10 028 lqv $v1[0], 0($16) | 1 040 jr | 1 010 bgezal | 1 014 | nothing was refused
+monitor waits; monitor when; monitor task 1; monitor task; monitor read 4; monitor goto x; monitor goto
+    07c: lh $5, 0($0): loads | step 68 | fault: start_task: 1 | monitor when | c4 00000000 | fault: x isn't
+monitor goto -1; monitor load imem 0x20 zz; monitor load disk 0 00; monitor load dmem 0x84 0a0B; monitor sp
+    monitor when | fault: | fault: BANK | ok | c4 00000000 | interrupt 0
+monitor mem dmem 0x80 6; monitor mem dmem 4000 0x61; monitor dis 0x10 1; monitor pc 8; monitor regs
+    000080: 00c800000a0b | fault: memory | 010 0411000d bgezal $0, 0x048 | ok | pc 008 npc 00c | r08 00000001
+watch *(int*)0x80000000; continue; monitor why; monitor vregs; monitor flags; monitor write 7 1 2
+    Could not insert | only bytes of DMEM can be watched | v01 0000 | vco 0000 vcc 0000 | monitor when
 """,
 }
 
 
-@pytest.mark.needs("gdb-multiarch", "mips-linux-gnu-gcc")
+@with_gdb
 @pytest.mark.parametrize("name", SESSIONS)
 def test_session(name: str, folder: Path) -> None:
     lines = SESSIONS[name].strip().split("\n")
-    told = gdb(folder, *(part for it in lines if it[0] != " " for part in it.split("; ")))
-    at = 0
-    for part in (part for it in lines if it[0] == " " for part in it.strip(" ").split(" | ")):
-        found = told.find(part, at)
-        assert found >= 0, f"{part!r} isn't in its place in:\n{told}"
-        at = found + len(part)
+    commands = [part for it in lines if it[0] != " " for part in it.split("; ")]
+    words = [*made(folder), "-batch", *(word for it in commands for word in ("-ex", it))]
+    told = run(*words, cwd=folder, env=ENV).stdout.partition("Transfer rate")[2]
+    see_parts(told, [part for it in lines if it[0] == " " for part in it.strip(" ").split(" | ")])
     assert not re.search("identical|corrupt|SIGTRAP", told)  # SIGTRAP is a stop that GDB doesn't expect
+
+
+@with_gdb
+def test_page(folder: Path) -> None:
+    """The first session of the page, typed as it stands."""
+    made(folder)
+    name = "docs/GDB.md"
+    (folder / "scale.s").write_text(block_with(name, "# Doubles the samples"))
+    (folder / "data.rsp").write_text(re.findall("`(load dmem .*?)`", page(name))[0])
+    session = block_with(name, "(gdb) target remote")
+    (folder / "examples").symlink_to(TOP / "examples")
+    path = f"{folder}:{Path(sys.executable).parent}:{os.environ['PATH']}"
+    typed = "\n".join(re.findall(r"(?m)^\(gdb\) (.*)$", session))
+    words = "sh", "-ec", block_with(name, "python3 examples/python/make_elf.py")
+    told = succeeds(*words, cwd=folder, env={**ENV, "PATH": path}, input=typed)
+    see_parts(told, [it for it in session.splitlines() if it and not it.startswith("(gdb)")])
+
+
+@contextmanager
+def terminal(folder: Path, *words: str) -> Iterator[Callable[[str, str], str]]:
+    """GDB in a terminal, where Ctrl-C is a key. The call types, and returns what is shown up to a text."""
+    at, inside = pty.openpty()
+    own: Dict[str, Any] = {"stdin": inside, "stdout": inside, "stderr": inside, "cwd": folder, "env": ENV}
+    begun = lambda: fcntl.ioctl(0, termios.TIOCSCTTY, 0)  # noqa: E731
+    gdb = subprocess.Popen([*made(folder), *words], start_new_session=True, preexec_fn=begun, **own)
+
+    def typed(text: str, until: str) -> str:
+        os.write(at, text.encode())
+        shown = ""
+        while until not in shown:
+            shown += os.read(at, 4096).decode(errors="replace")
+        return shown
+
+    try:
+        typed("", "144")  # the bytes that are loaded
+        yield typed
+    finally:
+        gdb.kill()
+        gdb.wait()
+        os.close(at)
+        os.close(inside)
+
+
+@with_gdb
+def test_interrupts(folder: Path) -> None:
+    """Ctrl-C ends a run and `monitor goto`, which the microcode doesn't."""
+    with terminal(folder) as typed:
+        typed("set var *(int*)0x04001000 = 0x08000000\n", "(gdb)")  # j 0x000
+        typed("monitor goto 9999999999999\n", "on the way to 9999999999999")
+        said = typed("\3", "(gdb)")
+        typed("monitor when\n", "step ")
+        while "SIGINT" not in said:
+            typed("continue\n", "Continuing.")
+            said = typed("\3", "(gdb)")
+        typed("reverse-continue\n", "No more reverse-execution history")
+
+
+@with_gdb
+def test_machine_interface(folder: Path) -> None:
+    """What front ends speak to GDB."""
+    with terminal(folder, "-i=mi") as typed:
+        typed("-break-insert check\n", 'bkpt={number="1"')
+        typed("-exec-continue\n", 'reason="breakpoint-hit"')
+        typed("-break-watch *(short*)0x80\n", "^done,wpt=")
+        typed("-exec-continue --reverse\n", 'value={old="200",new="100"}')
+        typed('-data-evaluate-expression "$v04.s[0]"\n', 'value="200"')
+
+
+@contextmanager
+def at_port(folder: Path, *words: str) -> Iterator[Tuple["subprocess.Popen[str]", int]]:
+    """A stub at a free port."""
+    stub = subprocess.Popen(
+        [*STUB, "--port", "0", *words], stderr=subprocess.PIPE, text=True, env=ENV, cwd=folder
+    )
+    assert stub.stderr
+    try:
+        yield stub, int(stub.stderr.readline().rpartition(":")[2])
+    finally:
+        stub.kill()
+        stub.wait()
+        stub.stderr.close()
+
+
+def see_said(link: socket.socket, sent: bytes, wanted: bytes) -> None:
+    """That what comes back has this."""
+    link.sendall(sent)
+    got = b""
+    while wanted not in got:
+        more = link.recv(65536)
+        assert more, got
+        got += more
+
+
+def test_port(folder: Path) -> None:
+    """One client at 127.0.0.1, with whom the stub ends. A million wrong bytes leave it as it is."""
+    task = bytes(8) + b"\0\0\1\0\0\0\0\x10" + bytes(48)
+    (folder / "image").write_bytes(bytes(64) + task + bytes(128) + 4 * b"\x24\2\0\7")
+    with at_port(folder, "--rdram", "image", "--task", "0x40") as (stub, port):
+        assert "in use" in run(*STUB, "--port", port, env=ENV).stdout
+        with pytest.raises(ConnectionRefusedError):
+            socket.create_connection(("127.0.0.2", port))
+        with socket.create_connection(("127.0.0.1", port)) as link:
+            see_said(link, b"$m4001000,4#22", b"$24020007#")
+            with pytest.raises(ConnectionRefusedError):
+                socket.create_connection(("127.0.0.1", port))
+            random_bytes = random.Random(2).randbytes(1000000).replace(b"-", b"")
+            for wrong in random_bytes, b"$" + 1000000 * b"a", 1000000 * b"$", 1000 * b"$m0,4#00":
+                link.sendall(wrong + b"#00")
+            see_said(link, b"$?#3f", b"$T05")
+            see_said(link, b"+$c#63\3", b"$T02")
+            see_said(link, b"+$D#44", b"$OK#")
+        assert stub.wait() == 0
+
+
+FAULTS = {
+    "--port x": "x isn't a number",
+    "--port 65536": "bind(): port must be 0-65535.",
+    "--task 1": "start_task: 1 isn't a multiple of 8",
+    "--task x": "x isn't a number",
+    "--rdram /dev/zero": "Rsp: image has 8388609 bytes, not a multiple of 8 from 64 to 8388608",
+    "--rdram absent": "[Errno 2] No such file or directory: 'absent'",
+    "--script wrong": "line 2: fault 30 BadCommand: nonsense",
+    "--script open": "line 3: fault 10 BadLine",
+    "--script /dev/zero": "the script has more than 1048576 bytes",
+}
+
+
+@pytest.mark.parametrize("words", FAULTS)
+def test_fault(words: str, folder: Path) -> None:
+    """A sentence, and status 1."""
+    (folder / "wrong").write_text("regs\nnonsense\n")
+    (folder / "open").write_text("regs\nasm 0\n")
+    ended = run(*STUB, *words.split(), cwd=folder, env=ENV)
+    assert ended.returncode == 1 and ended.stdout.startswith("rsp-gdb: ") and ended.stdout.count("\n") == 1
+    assert FAULTS[words] in ended.stdout
+
+
+def test_script() -> None:
+    """After a script the machine is what the steps of its program make of it."""
+    text = """lqv $v1[0], 0($0)\nvmudh $v2, $v1, $v1\nvch $v3, $v1, $v2\nvrcph $v4[0], $v1[1]\nmtc0 $1, $c0
+mfc0 $5, $c7\nvaddc $v5, $v1, $v1\nlui $6, 0x8123\nmtc0 $6, $c1\njr $6\naddiu $7, $0, -1\nbreak"""
+    data, image = random.Random(3).randbytes(16), random.Random(4).randbytes(4096)
+    script = f"load dmem 0 {data.hex()}\nasm 0\n{text}\nend\nrun 10\nload rdram 8 01\n"
+    told, wanted = after_script(script.encode(), image), rsp.Rsp(image)
+    wanted.load(rsp.DMEM, 0, data)
+    wanted.load_words(rsp.IMEM, 0, rsp.assemble(text))
+    wanted.run(10)
+    wanted.load(rsp.RDRAM, 8, b"\1")
+    assert told.get() == wanted.get() and told.regs().npc != told.regs().pc + 4
+    for bank, length in (rsp.DMEM, 4096), (rsp.IMEM, 4096), (rsp.RDRAM, 4096):
+        assert told.memory(bank, 0, length) == wanted.memory(bank, 0, length)
 
 
 def stub() -> Stub:
@@ -110,30 +300,34 @@ def test_packets() -> None:
     before = asked.reply(b"g"), asked.reply(b"m4000000,1f00")
     wrong = (
         b"m1 m80001000,4 m20000000,4 M0,2:00 M4000fff,2:0000 X0,1: P0 P26=00000000 P25=00 P999=00 Z Z0,x,4"
+        b" Z0,80000000,4 Z2,0,0 Z2,4000fff,2 Z2,0,ffffffff qRcmd,0 vCont;t Z3,0,4 bx m-1,4 m0,-1 m4000000,"
+        b" m0,0x4 mffffffffffffffffffffffff,4 M0,100000000: P100000000=00 Z2,100000000,4 Z0,4001000,4,4"
+        b" qXfer:features:read:target.xml:-1,5 qRcmd,zz qrsp.text:100000000,0 qrsp.text:0 vCont;x z9,0,4"
     )
-    for packet in (
-        wrong + b" Z0,80000000,4 Z2,0,0 Z2,4000fff,2 Z2,0,ffffffff qRcmd,0 vCont;t Z3,0,4 bx"
-    ).split():
+    for packet in wrong.split():
         told = asked.reply(packet)
         assert told is not None and (not told or told.startswith(b"E")), packet
     assert (asked.reply(b"g"), asked.reply(b"m4000000,1f00")) == before
     replies = [asked.reply(b"Z0,400%x,4" % n) for n in range(0x1000, 0x1044, 4)]
-    assert replies == [b"OK"] * 16 + [b"E.there are at most sixteen breakpoints"]
+    most = b"E.there are at most sixteen breakpoints, one of them GDB's own"
+    assert replies == [b"OK"] * 16 + [most]
     replies = [asked.reply(it) for it in (b"Z2,0,1c1", b"Z2,8,40", b"z2,0,1c1", b"Z2,0,200", b"Z2,0,201")]
     many = b"E.there are at most eight watches of at most 64 bytes"
     assert replies == [b"OK", many, b"OK", b"OK", many]
     assert asked.reply(b"qrsp.text:0d00040a,0") == b"jal 0x028".hex().encode()
-    asked.asked = lambda: True  # Ctrl-C
-    assert (asked.reply(b"c") or b"").startswith(b"T02")
     for _ in range(3000):
         packet = bytes(
             chance.choice(b"0123456789abf,;:=gmMXPpZzqQvbT?H\xff") for _ in range(chance.randrange(12))
         )
         assert isinstance(asked.reply(packet), bytes), packet
+    asked = stub()
+    asked.line.goto(60)
+    asked.asked = lambda: True  # Ctrl-C
+    assert [(asked.reply(it) or b"")[:3] for it in (b"Z2,0,4", b"bc", b"c")] == [b"OK", b"T02", b"T02"]
 
 
 def test_wire() -> None:
-    """A wrong sum, a packet in parts, one that is sent again, and Ctrl-C."""
+    """A wrong sum, a packet in parts, one that is sent again, one that is too long, and Ctrl-C."""
     source, to = os.pipe()
     sent: List[bytes] = []
     wire = Wire(source, sent.append)
@@ -142,6 +336,8 @@ def test_wire() -> None:
     os.write(to, b"f\3")
     assert wire.packet(lambda: True) == b"?" and sent == [b"$a}\3#e1", b"-", sent[0], b"+"]
     assert wire.interrupted() and not wire.interrupted()
+    os.write(to, b"$" + 0x5000 * b"a" + b"#00$m#6d")
+    assert wire.packet(lambda: False) == b"m"
     os.close(to)
     assert wire.packet(lambda: True) is None and wire.interrupted()
     os.close(source)

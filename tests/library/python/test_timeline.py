@@ -12,14 +12,19 @@ import pytest
 
 import rsp
 from lib.library.module import loaded
+from lib.pages import block_with, page
 from rsp import Found, Reason
 
-# 160 turns. Each stores at changing places; every 32nd sends bytes to RDRAM and brings others.
+# 160 turns. Each stores at changing places; every 32nd sends bytes to RDRAM and brings others, lets go of the
+# semaphore, and calls one of two overlays, which it brings to f00.
 PROGRAM = """turn: addiu $1, $1, 1; addiu $5, $5, 16; andi $5, $5, 0x7f0; sw $1, 0($5); lqv $v1[0], 0($5)
 vadd $v2, $v1, $v2; sqv $v2[0], 16($5); andi $2, $1, 31; bne $2, $0, turn; sw $2, 0x10($0); mtc0 $5, $c0
 sll $3, $1, 11; mtc0 $3, $c1; addiu $4, $0, 127; mtc0 $4, $c3; addiu $6, $5, 256; mtc0 $6, $c0
-addiu $3, $3, 64; mtc0 $3, $c1; mtc0 $4, $c2; addiu $7, $0, 160; bne $1, $7, turn; sw $1, 0x14($0); break"""
-PLACES = [4 * n for n in range(24)]
+addiu $3, $3, 64; mtc0 $3, $c1; mtc0 $4, $c2; mtc0 $0, $c7; ori $3, $0, 0x1f00; mtc0 $3, $c0; andi $3, $1, 32
+addiu $3, $3, 0x200; mtc0 $3, $c1; ori $3, $0, 15; mtc0 $3, $c2; jal 0xf00; mfc0 $8, $c7
+addiu $7, $0, 160; bne $1, $7, turn; sw $8, 0x14($0); break"""
+OVERLAYS = "addiu $9, $9, 1; jr $31; sw $9, 0x18($0)", "mfc0 $9, $c7; jr $31; sh $9, 0x1c($0)"
+PLACES = [4 * n for n in range(34)]
 EVER = 1 << 40
 Seen = Tuple[int, int, bytes]  # a hash of the whole machine, pc, DMEM
 
@@ -30,18 +35,33 @@ def seen(machine: rsp.Rsp) -> Seen:
     return hash(bytes(state) + dmem + rest), state.pc, dmem
 
 
+def words(text: str) -> bytes:
+    return b"".join(it.to_bytes(4, "big") for it in rsp.assemble(text.replace("; ", "\n")))
+
+
+def changed(machine: rsp.Rsp, task: bool) -> None:
+    """A change by the user: of a register and RDRAM, or the start of a task, which is the program again."""
+    if task:
+        machine.start_task(0x100)
+    else:
+        machine.set_reg(3, 77)
+        machine.load(rsp.RDRAM, 8, b"changed")
+
+
 def both(chance: random.Random) -> Tuple[rsp.Timeline, List[Seen]]:
     """A timeline at its end, which was changed in its middle, and all its steps."""
-    machine = rsp.Rsp(chance.randbytes(1 << 17))
-    machine.load_words(rsp.IMEM, 0, rsp.assemble(PROGRAM.replace("; ", "\n")))
+    machine, code = rsp.Rsp(chance.randbytes(1 << 17)), words(PROGRAM)
+    task = bytes(8) + (0x1000).to_bytes(4, "big") + len(code).to_bytes(4, "big") + chance.randbytes(48)
+    for at, data in (0x100, task), (0x200, words(OVERLAYS[0])), (0x220, words(OVERLAYS[1])), (0x1000, code):
+        machine.load(rsp.RDRAM, at, data)
+    machine.load(rsp.IMEM, 0, code)
     line = rsp.Timeline(machine, chance.choice((40, 300, 5000)), chance.choice((3, 8, 32)))
-    steps, changed = [seen(machine)], chance.randrange(500, 1500)
+    steps, at, task_starts = [seen(machine)], chance.randrange(500, 1500), chance.random() < 0.5
     while machine.step() is rsp.Status.OK:
-        if len(steps) == changed:
-            assert line.run_to(changed) == (Reason.LIMIT, changed, None)
+        if len(steps) == at:
+            assert line.run_to(at) == (Reason.LIMIT, at, None)
             for it in machine, line.machine:
-                it.set_reg(3, 77)
-                it.load(rsp.RDRAM, 8, b"changed")
+                changed(it, task_starts)
             line.changed()
         steps.append(seen(machine))
     assert line.run_to(EVER) == (Reason.HALT, len(steps) - 1, None)
@@ -97,10 +117,28 @@ def test_change_before_an_end(single: int, reason: Reason) -> None:
     assert line.back() == (Reason.LIMIT, 0, None)
 
 
-@pytest.mark.parametrize("forwards", (True, False))
-def test_interrupted(forwards: bool) -> None:
-    line = rsp.Timeline(loaded("loop: j loop\nnop\n"))
-    here, answers = line.goto(0 if forwards else 3000000), iter((False, False, True))
+@pytest.mark.parametrize("way", ("goto", "run_to", "back"))
+def test_interrupted(way: str) -> None:
+    """It ends soon, and a whole machine is there."""
+    machine = loaded("loop: addiu $1, $1, 1\nj loop\nnop\n")
+    line, answers = rsp.Timeline(machine, 1 << 17, 4), iter(4 * [False] + 9 * [True])
+    here = line.goto(3000000 if way == "back" else 0)
+    line.watches = {(0, 4)}
     line.is_interrupted = lambda: next(answers)
-    got = line.run_to(EVER) if forwards else line.back()
-    assert got == (Reason.LIMIT, line.step, None) and 0 < line.step != here
+    got = getattr(line, way)(*[] if way == "back" else [EVER])
+    assert got in ((Reason.LIMIT, line.step, None), line.step) and 0 < line.step != here
+    assert line.machine.reg(1) == (line.step + 2) // 3
+
+
+def test_example(capsys: pytest.CaptureFixture[str]) -> None:
+    """That of EMBEDDING finds the store."""
+    name = "docs/EMBEDDING.md"
+    exec(block_with(name, "import rsp\n\ntext ="))
+    assert f"It prints `{capsys.readouterr().out.strip()}`" in page(name)
+
+
+def test_marks() -> None:
+    """They don't grow without end, as they do if the gap stays."""
+    line = rsp.Timeline(loaded("loop: j loop\nnop\n"), 1, 4)
+    line.goto(300)
+    assert len(line._marks) <= 5 and line._gap > 32
