@@ -22,11 +22,14 @@ from typing import Any, Callable, Dict, List, NamedTuple, Optional, Sequence, Se
 import rsp
 import rsp.waits
 from rsp.formatting import vregs
+from rsp.script import ACCUMULATORS as _ACCUMULATORS
+from rsp.script import ASKED, machine_of
+from rsp.script import PC as _PC
+from rsp.script import STATE as _STATE
 from rsp.timeline import Watch
 
 _IMEM = 0x04001000  # GDB's address of IMEM
-_STATE = struct.Struct("<32I256H24H2HBx5H17I")  # a State; GDB's registers are parts of this list of numbers
-_ACCUMULATORS, _FLAGS, _PC, _SP, _NUMBERS = 288, 312, 318, 320, 337
+_FLAGS, _SP, _NUMBERS = 312, 320, 337  # in the list of numbers of which GDB's registers are parts
 _TYPES = """
 <vector id="v8i16" type="int16" count="8"/><vector id="v8u16" type="uint16" count="8"/>
 <vector id="v16u8" type="uint8" count="16"/><vector id="v8i64" type="int64" count="8"/>
@@ -50,9 +53,6 @@ These are as in a script for `rsp run`:
 monitor task ADDR | pc ADDR | load BANK ADDR HEX | write N VALUE | read N
 monitor regs | vregs | acc | flags | sp | mem BANK ADDR LEN | dis ADDR N
 """
-# After a script these ask for all that its machine is.
-_BANKS = "".join(f"mem {bank} {at} 256\n" for bank in ("dmem", "imem") for at in range(0, 4096, 256))
-_ASKED = f"\n{_BANKS}regs\nvregs\nacc\nflags\nsp\n".encode()
 
 
 class _Register(NamedTuple):
@@ -433,22 +433,10 @@ def _change(machine: rsp.Machine, name: str, *given: str) -> str:
 def after_script(script: bytes, image: bytes) -> rsp.Machine:
     """The machine as a script for `rsp run` leaves it. Raises rsp.ScriptError at the first fault."""
     try:
-        replies, rdram = rsp.run_script(script + _ASKED, image, strict=True)
+        return machine_of(*rsp.run_script(script + ASKED, image, strict=True))
     except rsp.ScriptError:
         rsp.run_script(script, image, strict=True)  # its message has no line of what was asked
         raise
-    lines = replies.decode().splitlines()
-    banks = bytes.fromhex("".join(it.partition(": ")[2] for it in lines[-579:-67]))
-    registers = " ".join(it.partition(" ")[2] for it in lines[-67:])
-    pc, npc, *v = (int(it, 16) for it in re.findall(r"\b[0-9a-f]+\b", registers))
-    acc = v[_ACCUMULATORS:][:8]
-    v[_ACCUMULATORS : _ACCUMULATORS + 8] = [it >> n & 0xFFFF for n in (32, 16, 0) for it in acc]
-    v[_PC:_PC] = [pc, npc]
-    machine = rsp.Machine(rdram)
-    machine.load(rsp.DMEM, 0, banks[:4096])
-    machine.load(rsp.IMEM, 0, banks[4096:])
-    machine.set(rsp.State.from_buffer_copy(_STATE.pack(*v)))
-    return machine
 
 
 class Wire:

@@ -1,12 +1,19 @@
 """What a script has answered and left, and the first fault among its replies."""
 
+import re
+import struct
 from typing import TYPE_CHECKING, Any, Iterator, List, Union
 
 from . import errors as _in_words
 
 if TYPE_CHECKING:
-    from . import Session
+    from . import Machine, Session
 
+# The lines of a script that ask for all that its machine is, but RDRAM.
+_BANKS = "".join(f"mem {bank} {at} 256\n" for bank in ("dmem", "imem") for at in range(0, 4096, 256))
+ASKED = f"\n{_BANKS}regs\nvregs\nacc\nflags\nsp\n".encode()
+STATE = struct.Struct("<32I256H24H2HBx5H17I")  # a State as a list of numbers; where some of them are:
+ACCUMULATORS, PC = 288, 318
 _FAULT = b"fault "
 _SHOWN = 80  # how much of a line a message shows
 
@@ -81,6 +88,24 @@ def strict_replies(session: "Session", script: Union[str, bytes]) -> bytes:
     if last.startswith(_FAULT):
         raise _fault(lines, len(lines), block or _opened(lines, len(lines)), last)
     return b"".join([*told, last])
+
+
+def machine_of(replies: bytes, rdram: bytes) -> "Machine":
+    """The machine of a script whose last lines are ASKED, by its replies and the image that it left."""
+    from . import DMEM, IMEM, Machine, State  # here, because the package is made of this module
+
+    lines = replies.decode().splitlines()
+    banks = bytes.fromhex("".join(it.partition(": ")[2] for it in lines[-579:-67]))
+    registers = " ".join(it.partition(" ")[2] for it in lines[-67:])
+    pc, npc, *v = (int(it, 16) for it in re.findall(r"\b[0-9a-f]+\b", registers))
+    acc = v[ACCUMULATORS:][:8]
+    v[ACCUMULATORS : ACCUMULATORS + 8] = [it >> n & 0xFFFF for n in (32, 16, 0) for it in acc]
+    v[PC:PC] = [pc, npc]
+    machine = Machine(rdram)
+    machine.load(DMEM, 0, banks[:4096])
+    machine.load(IMEM, 0, banks[4096:])
+    machine.set(State.from_buffer_copy(STATE.pack(*v)))
+    return machine
 
 
 def _opened(lines: List[bytes], number: int) -> int:

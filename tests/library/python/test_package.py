@@ -60,11 +60,10 @@ def test_installed_files(site: Path, library: Path) -> None:
     assert by_python("-c", ASKED, path=site) == f"{site}/rsp/__init__.py 3 0\n"
 
 
-# Examples with their words, and what they print: two beside another emulator, two on a loop of three turns.
+# Examples with their words, and what they print: two beside another emulator, one on a loop of three turns.
 SHOWN: Dict[str, Tuple[List[object], str]] = {
     "lockstep": ([], LOCKSTEP),
     "first_difference": ([], FIRST_DIFFERENCE),
-    "step_counts": ([HERE / "turns.s"], (HERE / "turns.counted").read_text()),
     "step_view": ([HERE / "turns.s", 6, 4], (HERE / "turns.viewed").read_text()),
 }
 
@@ -76,31 +75,44 @@ def test_example(name: str, site: Path) -> None:
     assert by_python(EXAMPLES / f"{name}.py", *words, path=site) == wanted
 
 
-def task_image(folder: Path) -> Tuple[Path, Dict[int, Path]]:
-    """The image of examples/task.rsp before its task starts, and its two texts by their addresses."""
-    script = page("examples/task.rsp").partition("\ntask ")[0] + "\n"
-    image, texts = folder / "image", {}
+def test_view_of_a_task(folder: Path) -> None:
+    """By an image with the task, and by a script that has started it."""
+    script, image = page("examples/task.rsp").partition("\ntask ")[0] + "\n", folder / "image"
     image.write_bytes(rsp.run_script(script, bytes(0x2000)).image)
-    for at, block in re.findall(r"(?ms)^asm (\w+)\n(.*?)^end$", script):
-        texts[int(at, 0)] = folder / f"{at}.s"
-        texts[int(at, 0)].write_text(block)
-    return image, texts
+    (folder / "script").write_text(f"{script}task 0x100\n")
+    for words in ([image, 1, "--task", "0x100"], [folder / "script", 1, "--script"]):
+        said = by_python(EXAMPLES / "step_view.py", *words, path=OURS)
+        assert said.splitlines()[1] == f"{'> 000 addiu $1, $0, 4224'.ljust(40)}| $1 00001080"
 
 
-def test_examples_on_a_task(folder: Path) -> None:
-    """Labels are where the text is, and a text that isn't in IMEM is refused."""
-    path, (image, texts) = OURS, task_image(folder)
-    counts, view = EXAMPLES / "step_counts.py", EXAMPLES / "step_view.py"
-    said = by_python(counts, texts[0x80], image, "0x100", path=path)
-    assert re.findall(r"(?m)^(\w+):\n +\d+ (\w+) (.*)$", said) == [("sent", "0b0", "mfc0 $1, $c6")]
-    said = by_python(counts, texts[0], image, "0x100", "--at", "0", path=path)
-    assert re.findall(r"(?m)^(\w+):\n +\d+ (\w+) (.*)$", said) == [("wait", "034", "mfc0 $1, $c6")]
-    told = by_python(counts, texts[0], image, "0x100", path=path)
-    assert told == "step_counts: IMEM holds c8012000 at 080, which isn't the text's word\n"
-    told = by_python(counts, texts[0], image, "0x100", "--at", "0x400", path=path)
-    assert told == "step_counts: no word of the text is executed at 400: --at says where the text is\n"
-    said = by_python(view, image, 1, "--task", "0x100", path=path)
-    assert said.splitlines()[1] == f"{'> 000 addiu $1, $0, 4224'.ljust(40)}| $1 00001080"
+WITH_OURS = {**os.environ, "PYTHONPATH": str(OURS)}
+
+
+def counts(script: Path, *words: object) -> Tuple[str, int]:
+    """What rsp.counts prints of a script, and its status."""
+    ran = run(sys.executable, "-m", "rsp.counts", script, *words, env=WITH_OURS)
+    return ran.stdout, ran.returncode
+
+
+def test_counts(folder: Path) -> None:
+    """A loop of three turns in several runs, and an instruction that is never executed."""
+    text, script = (HERE / "turns.s").read_text(), folder / "script"
+    script.write_text(f"asm 0\n{text}dead: nop\nend\nrun 2\nstep\nbrek 0\nrun 100\nback 3\n")
+    shown, status = counts(script)
+    counted = re.sub(r"(?m)^( +\d+) +[\d.]+ % ", r"\1", shown.partition("never executed:")[0])
+    assert counted.partition("\n")[2] == (HERE / "turns.counted").read_text()
+    assert shown.startswith("rsp.counts: line 12: fault 30 BadCommand\n")
+    assert shown.endswith("never executed:\ndead:\n                   018 nop\n") and status == 0
+    assert counts(script, "--fail-unexecuted")[1] == 1
+    line = '"$0" -m rsp.counts "$1" | true'
+    assert run("sh", "-c", line, sys.executable, script, env=WITH_OURS).stdout.count("\n") == 1
+
+
+def test_counts_of_a_task(folder: Path) -> None:
+    """What the boot code loads is counted, with the label of the block that it came from."""
+    shown, _ = counts(TOP / "examples/task.rsp")
+    assert re.findall(r"(?m)^(\w+):\n +1 +2.9 %  (\w+) mfc0", shown) == [("wait", "034"), ("sent", "0b0")]
+    assert "\n      35 steps\n" in shown
 
 
 def suite(by: str, changed: str, site: Path, folder: Path) -> str:

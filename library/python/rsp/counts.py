@@ -1,0 +1,115 @@
+"""Counts how often a script executes each instruction.
+
+    python3 -m rsp.counts SCRIPT [--rdram FILE] [--fail-unexecuted]
+
+It carries out the script as `rsp run` does, with its loads, blocks and tasks, and names the lines that are
+refused on standard error. Each line that it prints has the executions of an instruction, their share of all
+steps, its address and its text; labels are those of the script's blocks. Instructions of these blocks that
+were never executed are at the end, and with --fail-unexecuted the status is then 1.
+"""
+
+import argparse
+import os
+import re
+import sys
+from collections import Counter
+from pathlib import Path
+from typing import Dict, Iterator, List, NamedTuple, Tuple
+
+import rsp
+from rsp.script import ASKED, machine_of
+
+__all__ = ["Counted", "counted"]
+
+Place = Tuple[int, int]  # an address of IMEM, and the word that was there
+
+
+class Counted(NamedTuple):
+    """What a script has executed: how often each word at its address. `labels` are those of its blocks by
+    their address and the word there, `blocks` all words of its blocks, and `faults` the replies that refuse a
+    line, each with the line's number."""
+
+    steps: "Counter[Place]"
+    labels: Dict[Place, str]
+    blocks: List[Place]
+    faults: List[str]
+
+    def unexecuted(self) -> List[Place]:
+        """The words of blocks that were never executed."""
+        return sorted({*self.blocks} - {*self.steps})
+
+
+def counted(script: str, image: bytes) -> Counted:
+    """Carries out a script over an image of RDRAM."""
+    found = Counted(Counter(), {}, [], [])
+    lines = enumerate(script.splitlines(), 1)
+    session = rsp.Session(image)
+    for number, line in lines:
+        words = line.partition("#")[0].split() or [""]
+        if words[0] in ("run", "step"):
+            machine = machine_of(session.feed(ASKED), session.rdram)
+            reply = session.feed(f"{line}\n").decode()
+            stop = re.match(r"stop \w+.* steps (\d+)|step Done", reply)
+            count = int(stop[1] or 1) if stop else 0
+            found.steps.update((it.pc, it.word) for it in machine.iter_trace(count) if count)
+        else:
+            reply = session.feed(f"{line}\n").decode()
+            block: List[str] = []
+            while words[0] == "asm" and not reply and (following := next(lines, None)):
+                block.append(following[1])
+                reply = session.feed(f"{following[1]}\n").decode()
+            if reply.startswith("ok") and words[0] == "asm":
+                _note(found, int(words[1], 0), "\n".join(block[:-1]))
+        if reply.startswith("fault "):
+            found.faults.append(f"line {number}: {reply.strip()}")
+    return found
+
+
+def _note(found: Counted, at: int, text: str) -> None:
+    """Notes the words and the labels of a block."""
+    words = rsp.assemble(text, at)
+    places = {at + 4 * n: word for n, word in enumerate(words)}
+    found.blocks.extend(places.items())
+    found.labels.update({(it, places[it]): name for name, it in words.labels.items() if it in places})
+
+
+def report(found: Counted) -> Iterator[str]:
+    """The lines that the program prints."""
+    total = sum(found.steps.values())
+    for (place, word), count in sorted(found.steps.items()):
+        if (place, word) in found.labels:
+            yield f"{found.labels[place, word]}:"
+        yield f"{count:8} {100 * count / total:5.1f} %  {place:03x} {rsp.text(word, place)}"
+    yield f"{total:8} steps"
+    if found.unexecuted():
+        yield "never executed:"
+    for place, word in found.unexecuted():
+        if (place, word) in found.labels:
+            yield f"{found.labels[place, word]}:"
+        yield f"{'':17}  {place:03x} {rsp.text(word, place)}"
+
+
+def main() -> int:
+    """The program. The status."""
+    form = argparse.RawDescriptionHelpFormatter
+    parser = argparse.ArgumentParser("python3 -m rsp.counts", description=__doc__, formatter_class=form)
+    parser.add_argument("script", metavar="SCRIPT", type=Path)
+    parser.add_argument("--rdram", metavar="FILE", type=Path, help="the image, instead of zeros")
+    parser.add_argument("--fail-unexecuted", action="store_true")
+    given = parser.parse_args()
+    try:
+        image = given.rdram.read_bytes() if given.rdram else bytes(1 << 22)
+        found = counted(given.script.read_text(), image)
+        for it in found.faults:
+            print(f"rsp.counts: {it}", file=sys.stderr)
+        print("\n".join(report(found)), flush=True)
+    except BrokenPipeError:
+        os.dup2(os.open(os.devnull, os.O_WRONLY), 1)  # so that Python's end writes nothing to the closed pipe
+        return 0
+    except (OSError, ValueError, rsp.RspError) as fault:
+        sys.exit(f"rsp.counts: {fault}")
+    return int(given.fail_unexecuted and bool(found.unexecuted()))
+
+
+if __name__ == "__main__":
+    sys.exit(main())
