@@ -1,4 +1,4 @@
-/* waits TEXT [IMAGE]: the missing waits for a DMA in a text of microcode, by the rules at the top of library/python/rsp/waits.py. The machine's DMA
+/* waits TEXT [IMAGE [DMEM]]: missing waits for a DMA in a text of microcode, by the rules of library/python/rsp/waits.py. The machine's DMA
  * is done at once; a copy of it gets the answer of a console where a transfer is under way, and is followed. */
 #include "brsp.h"
 #include <stdio.h>
@@ -103,15 +103,15 @@ static int step(walk *w)
 
 int main(int argc, char **argv)
 {
-    static uint8_t text[1 << 16], image[1 << 16];
+    static uint8_t text[1 << 16], image[1 << 16], dmem[4096];
     static uint32_t words[1024], n, is_missing;
     static walk w;
-    brsp_assembled out;
-    brsp_line line;
-    FILE *file = argc > 1 ? fopen(argv[1], "rb") : NULL, *filled = argc > 2 ? fopen(argv[2], "rb") : NULL;
-    if (!file || (argc > 2 && (!filled || !fread(image, 1, sizeof image, filled)))) return 2;
-    if (brsp_assemble(0, text, fread(text, 1, sizeof text, file), words, 1024, &out) != BRSP_OK) return 2;
-    if (brsp_new(&w.m, image, sizeof image, 0) != BRSP_OK || brsp_load_words(&w.m, BRSP_IMEM, 0, words, out.count) != BRSP_OK || brsp_new(&twin, image, 64, 0) != BRSP_OK) return 2;
+    brsp_assembled out; brsp_line line;
+    FILE *files[3] = { NULL };
+    for (n = 1; n < 4 && n < (uint32_t)argc; n++) if (!(files[n - 1] = fopen(argv[n], "rb"))) return 2;
+    if (argc < 2 || (files[1] && !fread(image, 1, sizeof image, files[1])) || (files[2] && !fread(dmem, 1, sizeof dmem, files[2]))) return 2;
+    if (brsp_assemble(0, text, fread(text, 1, sizeof text, files[0]), words, 1024, &out) != BRSP_OK) return 2;
+    if (brsp_new(&w.m, image, sizeof image, 0) != BRSP_OK || brsp_load_words(&w.m, BRSP_IMEM, 0, words, out.count) != BRSP_OK || brsp_new(&twin, image, 64, 0) != BRSP_OK || brsp_load(&w.m, BRSP_DMEM, 0, dmem, sizeof dmem) != BRSP_OK) return 2;
     for (n = 0; n < LIMIT && step(&w); n++) continue;
     for (n = 0; n < 1024; n++)
         if (w.found[n].what && brsp_listing(&w.m, 4 * n, &line, 1) == BRSP_OK)

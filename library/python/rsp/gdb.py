@@ -363,7 +363,7 @@ class Stub:
         texts: Dict[str, Callable[..., Any]] = {
             "when": lambda: f"step {self.line.step}",
             "why": lambda: self._why,
-            "waits": lambda: "\n".join(map(str, rsp.waits.missing(machine.copy()))) or "none is missing",
+            "waits": lambda: "\n".join(map(str, rsp.waits.causes(machine.copy()))) or "none is missing",
             "regs": machine.regs,
             "vregs": lambda: "\n".join(vregs(state.vectors)),
             "acc": machine.acc,

@@ -7,7 +7,7 @@ console.
 
     with rsp.Machine(image) as machine:
         machine.start_task(0x100)
-        for it in rsp.waits.missing(machine):
+        for it in rsp.waits.causes(machine):
             print(it)
 
 The rules are our own:
@@ -30,12 +30,12 @@ Transfers that the CPU orders are left out, and so are waits that give up after 
 is under way when the program ends is reported only if you ask for that, because the CPU may wait for it.
 """
 
-from typing import Iterator, List, NamedTuple, Optional, Sequence, Set, Tuple
+from typing import Iterator, List, Mapping, NamedTuple, Optional, Sequence, Set, Tuple
 
 from . import DMEM, IMEM, Move, Reason, Machine, Status
 from . import errors as _in_words
 
-__all__ = ["AHEAD", "Missing", "Transfer", "missing"]
+__all__ = ["AHEAD", "Missing", "Transfer", "causes", "missing"]
 
 AHEAD = 10000  # steps after an answer that isn't the machine's
 _READS, _WRITES, _ORDERS = 0b1110000, 0b1111, 0b1100  # of SP registers, as masks
@@ -87,8 +87,16 @@ class Missing(NamedTuple):
     read: Optional[int] = None
 
     def __str__(self) -> str:
+        return self.told({})
+
+    def told(self, labels: Mapping[str, int]) -> str:
+        """The sentence, with the last label up to the address beside it, as in `230 (mix+8): lqv ..`. `labels`
+        are those of a text (`Words.labels`)."""
         when = "" if self.read is None else f" if it is under way at the read of {self.read:03x}"
-        return f"{self.place:03x}: {self.text}: {self.what} before the end of {self.transfer}{when}"
+        before = [(at, name) for name, at in labels.items() if at <= self.place]
+        at, name = max(before, default=(0, ""))
+        label = f" ({name}{f'+{self.place - at}' if self.place > at else ''})" if name else ""
+        return f"{self.place:03x}{label}: {self.text}: {self.what} before the end of {self.transfer}{when}"
 
 
 class _Walk:
@@ -200,6 +208,15 @@ class _Walk:
         self.machine.step()
         self._code = self.machine.memory_words(IMEM, 0, 1024)
         return found
+
+
+def causes(machine: Machine, limit: int = 1000000, at_end: bool = False) -> Iterator[Missing]:
+    """As `missing`, but of all instructions that do the same before the end of one transfer only the first."""
+    known: Set[Tuple[int, str]] = set()
+    for it in missing(machine, limit, at_end):
+        if (it.transfer.place, it.what) not in known:
+            known.add((it.transfer.place, it.what))
+            yield it
 
 
 def missing(machine: Machine, limit: int = 1000000, at_end: bool = False) -> Iterator[Missing]:

@@ -190,11 +190,20 @@ def test_what_is_told() -> None:
     assert it.transfer == (0x14, rsp.DMEM, 0x400, 256, False) and it.read is None
     told = "018: lqv $v1[0], 240($2): loads before the end of the transfer of 014, to DMEM 400 to 4ff"
     assert str(it) == told
+    assert it.told({"begin": 0, "after": 0x1C}) == told.replace("018:", "018 (begin+24):")
+    assert it.told({"begin": 0, "here": 0x18}) == told.replace("018:", "018 (here):")
     (it,) = rsp.waits.missing(loaded(BEGIN + PUT + wait(5) + STORE + "break\n"))
     told = "024: sqv $v1[0], 240($2): stores before the end of the transfer of 014, from DMEM 400 to 4ff"
     assert str(it) == f"{told} if it is under way at the read of 018"
     (it,) = rsp.waits.missing(loaded(BEGIN + GET + STATUS.format(0x80) + wait(5, "next") + LOAD + "break\n"))
     assert it.read == 0x28  # the last one before it
+
+
+def test_causes() -> None:
+    """Two loads after one transfer have one cause; a store after it has another."""
+    program = BEGIN + GET + LOAD + LOAD + STORE + "break\n"
+    assert [it.place for it in rsp.waits.missing(loaded(program))] == [0x18, 0x1C, 0x20]
+    assert [it.place for it in rsp.waits.causes(loaded(program))] == [0x18, 0x20]
 
 
 @pytest.mark.parametrize("waits, read", [("", None), (wait(5), 0x18)])
@@ -300,5 +309,9 @@ def test_in_c(folder: Path) -> None:
     for data, status in (b"\x00" * 4096, 0), (b"\x01" * 4096, 1), (b"", 2):
         image.write_bytes(data)
         assert run(made, text, image).returncode == status
+    text.write_text(f"lw $5, 8($0)\n{BEGIN}beq $5, $0, end\nnop\n{GET}{LOAD}end: break\n")
+    for data, status in (bytes(12), 0), (bytes(11) + b"\1", 1):
+        image.write_bytes(data)
+        assert run(made, text, TOP / "examples/c/waits.c", image).returncode == status
     assert run(made).returncode == run(made, folder / "none").returncode == 2
     assert run(made, text, folder / "none").returncode == 2
