@@ -83,7 +83,9 @@ def test_child_takes_no_memory(bench: Bench, folder: Path) -> None:
 def test_child_that_ended(bench: Bench, folder: Path) -> None:
     """The process for single steps is killed, as one of a full machine may be: the emulator goes on."""
     said = checked(bench, folder, bench.faulty(4), [products(bench), products(bench)])
-    assert [it for it in said if "by signal 9" in it] == ["the other plugin failed in single steps, by signal 9"] * 2
+    assert [it for it in said if "by signal 9" in it] == [
+        "the other plugin failed in single steps, by signal 9"
+    ] * 2
     assert said[-1] == "2 tasks, 2 differ"
 
 

@@ -52,10 +52,11 @@ from .errors import FAULTS
 
 __version__ = "1.0.0"
 __all__ = [
-    "DMEM", "FAULTS", "IMEM", "RDRAM", "VERSION", "Accumulators", "AssemblyError", "Bank", "Session", "Changes",
-    "Difference", "Divider", "Dma", "Emulator", "Fault", "FirstDifference", "Flags", "Found", "Line", "Machine",
-    "Move", "Part", "Ran", "Reason", "Rsp", "RspError", "Scalars", "ScriptError", "SpWords", "State",
-    "Status", "Stop", "Timeline", "Traced", "Words", "assemble", "first_difference", "run_script", "state_fault", "text",
+    "DMEM", "FAULTS", "IMEM", "RDRAM", "VERSION", "Accumulators", "AssemblyError", "Bank", "Session",
+    "Changes", "Difference", "Divider", "Dma", "Emulator", "Fault", "FirstDifference", "Flags", "Found",
+    "Line", "Machine", "Move", "Part", "Ran", "Reason", "Rsp", "RspError", "Scalars", "ScriptError",
+    "SpWords", "State", "Status", "Stop", "Timeline", "Traced", "Words", "assemble", "first_difference",
+    "run_script", "state_fault", "text",
 ]  # fmt: skip
 
 _S = TypeVar("_S", bound=Structure)
@@ -226,7 +227,8 @@ class Stop(_StopParts):
     interrupt: Optional[bool] = None
 
     def __repr__(self) -> str:
-        return f"Stop(reason=Reason.{self.reason.name}, steps={self.steps}, pc={self.pc:#05x}, watch={self.watch})"
+        reason = f"Reason.{self.reason.name}"
+        return f"Stop(reason={reason}, steps={self.steps}, pc={self.pc:#05x}, watch={self.watch})"
 
 
 class Line(NamedTuple):

@@ -1,7 +1,7 @@
-"""What a caller of the library is compiled against: symbols, layouts and numbers. And what a change of it asks
-of the version.
+"""What a caller of the library is compiled against, symbols, layouts and numbers, and what a change of it
+asks of the version.
 
-`PYTHONPATH=tests:tools:conformance python3 -m lib.library.interface` writes tests/library/c/interface.tsv anew.
+`tools/python lib.library.interface` writes tests/library/c/interface.tsv anew.
 """
 
 import re

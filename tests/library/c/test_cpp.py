@@ -46,7 +46,9 @@ def test_header(standard: str, compiler: str, folder: Path) -> None:
     """Empty handles don't make a compiler warn; C++98 has no stdint.h of its own, but the compilers have."""
     need(compiler)
     source, strict = folder / "handles.cpp", [it for it in WARNINGS if it != "-Wpedantic"]
-    source.write_text('#include "brsp.h"\nbrsp_machine m = BRSP_NONE, n = BRSP_NONE;\nbrsp_session b = BRSP_NONE;\n')
+    source.write_text(
+        '#include "brsp.h"\nbrsp_machine m = BRSP_NONE, n = BRSP_NONE;\nbrsp_session b = BRSP_NONE;\n'
+    )
     compiled(folder / "handles.o", f"-std={standard}", *STRICT, *strict, "-c", source, compiler=compiler)
 
 
@@ -77,7 +79,7 @@ SENTENCE = "set_pc: pc is 3, not a multiple of 4 below 4096\n"
     [("", -6), ("#define BRSP_REFUSE(error) (std::fputs((error).what(), stderr), std::exit(3))", 3)],
 )
 def test_refusal(handler: str, status: int, words: Tuple[str, ...], folder: Path) -> None:
-    """With and without exceptions: BRSP_REFUSE gets the error; otherwise it is thrown, or ends the program."""
+    """With and without exceptions: BRSP_REFUSE gets the error; else it is thrown, or ends the program."""
     source = folder / "refused.cpp"
     source.write_text(REFUSED.format(handler=handler))
     made = compiled(folder / "refused", "-std=c++17", *STRICT, *words, source, LIBRARY, compiler="c++")

@@ -1,4 +1,4 @@
-"""The library beside names that others have: its headers, and its symbols in the static and the shared library.
+"""The library beside names that others have: its headers, and its symbols in both libraries.
 
 They fail if a name of brsp.h or brsp.hpp is libdragon's, of a plugin of mupen64plus, or of an emulator.
 """

@@ -1,4 +1,4 @@
-"""Wrong uses of first_difference: each comes to the same in every language, as tests/library/wrong_uses.tsv says.
+"""Wrong uses of first_difference: each comes to the same in all languages, as ../wrong_uses.tsv says.
 
 They fail if a language accepts what another refuses, or reads what it was never given. Rust's are in
 library/rust/tests/wrong_uses.rs, JavaScript's in tests/systems/wasm/wrong_uses.js.
