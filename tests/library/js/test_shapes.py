@@ -22,7 +22,7 @@ TYPES = page("library/js/rsp.d.ts")
 # A field that has another name there.
 RENAMED = {"bytes": "stored_bytes"}
 # What one of the classes of Python and JavaScript has alone: a call of numpy, and how a machine is freed.
-PYTHON_ALONE, JAVASCRIPT_ALONE = {"close", "memory_array"}, {"free", "image_length"}
+PYTHON_ALONE, JAVASCRIPT_ALONE = {"close", "memory_array"}, {"free"}
 # The fields of a state that can have a fault.
 FIELDS = {
     "ZERO": "words[0]",

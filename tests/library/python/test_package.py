@@ -134,11 +134,18 @@ def test_suite(by: str, passes: str, site: Path, folder: Path) -> None:
 
 
 @pytest.mark.needs("cc", "ar")
-def test_library_of_another_version(folder: Path) -> None:
+@pytest.mark.parametrize(
+    ("without", "wanted"),
+    [
+        ("", "libbrsp.so has version 2 of the interface, and this module is for 1"),
+        ("brsp_image_length", "libbrsp.so is older than this package: it lacks brsp_image_length"),
+    ],
+)
+def test_other_library(without: str, wanted: str, folder: Path) -> None:
+    """A library of another version, and one that lacks a call."""
     shutil.copytree(OURS / "rsp", folder / "rsp")
-    shutil.copy(other_version(folder) / "libbrsp.so", folder / "rsp")
-    wanted = "ImportError: libbrsp.so has version 2 of the interface, and this module is for 1\n"
-    assert by_python("-c", "import rsp", path=folder).endswith(wanted)
+    shutil.copy(other_version(folder, without) / "libbrsp.so", folder / "rsp")
+    assert by_python("-c", "import rsp", path=folder).endswith(f"ImportError: {wanted}\n")
 
 
 def test_no_library(folder: Path) -> None:
