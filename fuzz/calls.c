@@ -243,14 +243,15 @@ static uint32_t event(attempt *a)
     brsp_reached *out = fills(a, sizeof *out);
     uint32_t n = take_steps(a), of_reads = take_edge(a->in), of_writes = take_edge(a->in), status_word;
     static const brsp_dma none;
-    int is_in_range = is_count(n) && of_reads < 65536 && of_writes < 65536;
+    int is_in_range = is_count(n) && of_reads < 65536 && of_writes < 131072;
     uint32_t status = ranged(a, is_in_range, brsp_event(a->m, n, of_reads, of_writes, out));
     if (status != BRSP_OK) return status;
-    see_stop(&out->at.stop, n, BRSP_AT_DMA);
+    see_stop(&out->at.stop, n, of_writes >= BRSP_STATUS_WRITES ? BRSP_AT_STATUS : BRSP_AT_DMA);
     int is_dma = out->at.stop.reason == BRSP_AT_DMA;
     MUST(is_dma ? out->at.writes && (out->at.number == 2 || out->at.number == 3) && out->at.stop.steps < n : !memcmp(&out->dma, &none, sizeof none));
     MUST(!is_dma || (out->dma.length >= 8 && out->dma.length <= 4096 && out->dma.rows >= 1 && out->dma.rows <= 256 && out->dma.address < 4096));
     MUST(brsp_peek(a->m, 4, &status_word) == BRSP_OK && out->status == status_word);
+    MUST(out->at.stop.reason != BRSP_AT_INTERRUPT || (out->interrupt && !a->before->state.interrupt) || out->at.stop.steps > 1);
     return status;
 }
 

@@ -93,7 +93,8 @@ enum brsp_fault {
 enum brsp_bank { BRSP_DMEM = 0, BRSP_IMEM = 1, BRSP_RDRAM = 2 };
 
 /* Why a run stopped. If several reasons hold, the first of this list counts, except that a move comes before
- * the limit. (In brsp_event the limit comes before a move.) */
+ * the limit. (In brsp_event the limit comes before a move, and after
+ * BRSP_AT_INTERRUPT and BRSP_AT_STATUS.) */
 enum brsp_reason {
     BRSP_AT_RESERVED = 0, /* the machine isn't halted, and the word at pc is reserved */
     BRSP_AT_HALT = 1,     /* it is halted, whatever the word is */
@@ -101,8 +102,13 @@ enum brsp_reason {
     BRSP_AT_BREAK = 3,    /* the last step came to a breakpoint */
     BRSP_AT_LIMIT = 4,    /* all steps are made */
     BRSP_AT_MOVE = 5,     /* brsp_run_until_move, brsp_event: such a move is next */
-    BRSP_AT_DMA = 6       /* brsp_event: a DMA is next */
+    BRSP_AT_DMA = 6,      /* brsp_event: a DMA is next */
+    BRSP_AT_INTERRUPT = 7, /* brsp_event with BRSP_STATUS_WRITES: the last step raised the interrupt by an MTC0 */
+    BRSP_AT_STATUS = 8    /* the same: the last step was another MTC0 to SP_STATUS */
 };
+
+/* Bit 16 of brsp_event's mask `writes`. */
+#define BRSP_STATUS_WRITES 65536
 
 typedef struct brsp_stop {
     uint32_t reason; /* a brsp_reason */
@@ -333,7 +339,14 @@ uint32_t brsp_run_until_move(brsp_machine *m, uint32_t n, uint32_t reads, uint32
  * brsp_run_until_move, but it also stops before each DMA, whatever `writes` is. A move or a DMA is an event
  * only if fewer than n steps were made: after n steps the reason is BRSP_AT_LIMIT. So a caller that steps
  * over the event, by brsp_pass_move, brsp_pass_dma or brsp_step, has made `steps` + 1 of its n steps.
- * Returns BRSP_OUT_OF_RANGE unless n is 1 to 1000000 and both masks are below 65536. */
+ *
+ * With BRSP_STATUS_WRITES in `writes` it also stops after each MTC0 to SP_STATUS, whose step it makes: for
+ * BRSP_AT_INTERRUPT if the interrupt flag was clear before that step and is set after it, otherwise for
+ * BRSP_AT_STATUS. So a caller hears of an interrupt before the next instruction. (A BREAK that raises one
+ * halts, and every run stops there.) Bit 4 of `writes` then makes no difference.
+ *
+ * Returns BRSP_OUT_OF_RANGE unless n is 1 to 1000000, `reads` is below 65536, and `writes` is too without
+ * BRSP_STATUS_WRITES. */
 uint32_t brsp_event(brsp_machine *m, uint32_t n, uint32_t reads, uint32_t writes, brsp_reached *out);
 
 /* The same as brsp_run, with an entry for each step; the other entries stay unchanged. Returns
@@ -557,7 +570,8 @@ static inline const char *brsp_fault_name(uint32_t fault)
 /* The name of the reason of a stop. */
 static inline const char *brsp_reason_name(uint32_t reason)
 {
-    static const char *const names[] = { "RESERVED", "HALT", "WATCH", "BREAK", "LIMIT", "MOVE", "DMA" };
+    static const char *const names[] = { "RESERVED", "HALT", "WATCH", "BREAK", "LIMIT", "MOVE", "DMA",
+                                         "INTERRUPT", "STATUS" };
     return reason < sizeof names / sizeof *names ? names[reason] : "unknown";
 }
 

@@ -2,17 +2,17 @@
 
 ghost use Rattle.std.specs.Prelude.{◌≡◌, ◌<◌, ◌≤◌, Some, IfSome, IfOk};
 ghost use Rattle.rsp_machine.specs.Pass.{pass_dma_of};
-ghost use Rattle.rsp_debug.specs.Debugging.{move_end_in, after_run_until_move, set_by_host};
+ghost use Rattle.rsp_debug.specs.Debugging.{after_run, set_by_host};
 ghost use Rattle.rsp_c.specs.Answers.{pass_status};
 ghost use Rattle.rsp_c.specs.Calls.{status_of, IsDoneIf, IsNext, IsFilled};
-ghost use Rattle.rsp_c.specs.Events.{event_moves, event_end, c_reached};
+ghost use Rattle.rsp_c.specs.Events.{event_end, c_reached, is_status_write, c_after_status, event_of, after_event};
 
 use crate::c_structs::RspMove;
 use crate::handle::{Handle, with_held};
 use crate::status::{OK, OUT_OF_RANGE, status_of_pass};
-use crate::to_c::{AT_DMA, c_move};
+use crate::to_c::{AT_DMA, AT_INTERRUPT, AT_STATUS, c_move};
 use rsp_acc::Acc;
-use rsp_debug::{MoveEnd, Moves, Reason, Stop};
+use rsp_debug::{Debugger, MoveEnd, Moves, Reason, Stop};
 use rsp_machine::Machine;
 use rsp_regs::Dma as RspDma;
 use std::alloc::Global;
@@ -21,7 +21,8 @@ use std::alloc::Global;
 #[repr(C)]
 #[derive(Clone, Copy, Drop)]
 pub struct RspReached {
-    /// Where it stopped, with the move that is next, if one is. Before a DMA the reason is 6.
+    /// Where it stopped, with the move that is next, if one is. Before a DMA the reason is 6. After a write of SP_STATUS it is 7 if that step
+    /// raised the interrupt, else 8.
     pub at: RspMove,
     /// The DMA that is next; zeros if none is.
     pub dma: RspDma,
@@ -33,6 +34,10 @@ pub struct RspReached {
 
 /// The length registers, as a mask.
 const LENGTH_REGISTERS: u16 = 12;
+/// The same with SP_STATUS.
+const STATUS_AND_LENGTH_REGISTERS: u16 = 28;
+/// The bit of `writes` that asks for the writes of SP_STATUS.
+const STATUS_WRITES: u32 = 0x1_0000;
 
 /// The end of a run of at most `n` steps. If all of them are made, it is at the limit, and a move that is next isn't reported.
 fn event_end(n: u32, end: MoveEnd) -> MoveEnd
@@ -69,8 +74,43 @@ fn c_reached<A: Acc>(end: MoveEnd, machine: &Machine<A>) -> RspReached
     }
 }
 
+/// Whether a run ended before a write of SP_STATUS.
+fn is_status_write(end: MoveEnd) -> bool
+    ensures { result ≡ is_status_write end }
+{
+    matches!(
+        end,
+        MoveEnd::Move {
+            register: 4,
+            writes: true,
+            ..
+        }
+    )
+}
+
+/// Makes the step of a write of SP_STATUS, after a run of `steps`, and reports what that comes to.
+fn step_status<A: Acc>(debugger: &mut Debugger<A>, steps: u32) -> RspReached
+    requires { steps < 1000000 }
+    ensures reached { result ≡ c_after_status steps debugger.old }
+    ensures next { debugger.new ≡ after_run 1 debugger.old }
+{
+    let before = debugger.machine().sp_regs().interrupt();
+    let Ok(stop) = debugger.run(1) else {
+        unreachable!()
+    };
+    let machine = debugger.machine();
+    let steps = steps + stop.steps;
+    let mut reached = c_reached(MoveEnd::Stop(Stop { steps, ..stop }), machine);
+    if matches!(stop.reason, Reason::Limit) {
+        let raised = machine.sp_regs().interrupt() && !before;
+        reached.at.stop.reason = if raised { AT_INTERRUPT } else { AT_STATUS };
+    }
+    reached
+}
+
 /// Runs as `brsp_run_until_move` does, also up to each DMA, and reports what is next. A move or a DMA is reported only if fewer than `n`
-/// steps are made: if all are, the end is at the limit. So passing over it is one of the `n` steps too.
+/// steps are made: if all are, the end is at the limit. So passing over it is one of the `n` steps too. With bit 16 of `writes` a run also
+/// ends after each write of SP_STATUS, whose step it makes.
 #[unsafe(no_mangle)]
 pub extern "C" fn brsp_event(
     handle: &mut Handle,
@@ -80,17 +120,23 @@ pub extern "C" fn brsp_event(
     writes: u32,
     out: &mut RspReached,
 ) -> u32
-    ensures range { IsDoneIf (λ d. (1 ≤ n) × (n ≤ 1000000) × (reads < 65536) × (writes < 65536)) handle.old.debugger result }
-    ensures event { IsFilled result (λ d. c_reached (event_end n (move_end_in n (event_moves reads writes) d)) (after_run_until_move n (event_moves reads writes) d).state) handle.old.debugger out.old out.new }
-    ensures counted { result ≡ OK → 5 ≤ out.new.at.stop.reason → out.new.at.stop.steps < n }
-    ensures next { IsNext result (after_run_until_move n (event_moves reads writes)) handle.old.debugger handle.new.debugger }
+    ensures range { IsDoneIf (λ d. (1 ≤ n) × (n ≤ 1000000) × (reads < 65536) × (writes < 131072)) handle.old.debugger result }
+    ensures event { IsFilled result (event_of n reads writes) handle.old.debugger out.old out.new }
+    ensures counted { result ≡ OK → 5 ≤ out.new.at.stop.reason → out.new.at.stop.reason ≤ 6 → out.new.at.stop.steps < n }
+    ensures next { IsNext result (after_event n reads writes) handle.old.debugger handle.new.debugger }
 {
-    with_held!(handle, alloc, |debugger| if reads <= 0xffff && writes <= 0xffff => {
-        let (reads, writes) = (reads as u16, writes as u16 | LENGTH_REGISTERS);
-        match debugger.run_until_move(n, Moves { reads, writes }) {
+    with_held!(handle, alloc, |debugger| if reads <= 0xffff && writes <= 0x1_ffff => {
+        let asked = writes >= STATUS_WRITES;
+        let more = if asked { STATUS_AND_LENGTH_REGISTERS } else { LENGTH_REGISTERS };
+        let moves = Moves { reads: reads as u16, writes: (writes % 0x1_0000) as u16 | more };
+        match debugger.run_until_move(n, moves) {
             Err(_) => OUT_OF_RANGE,
             Ok(end) => {
-                *out = c_reached(event_end(n, end), debugger.machine());
+                let end = event_end(n, end);
+                *out = match end {
+                    MoveEnd::Move { steps, .. } if asked && is_status_write(end) => step_status(&mut debugger, steps),
+                    _ => c_reached(end, debugger.machine()),
+                };
                 OK
             }
         }

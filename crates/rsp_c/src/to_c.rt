@@ -74,6 +74,10 @@ pub fn c_stop(stop: Stop, imem: &SpMem) -> RspStop
 const AT_MOVE: u32 = 5;
 /// The reason of a run that ends before a DMA.
 pub const AT_DMA: u32 = 6;
+/// The reason after a write of SP_STATUS that raised the interrupt.
+pub const AT_INTERRUPT: u32 = 7;
+/// The reason after another write of SP_STATUS.
+pub const AT_STATUS: u32 = 8;
 
 /// The end of a run that also ends before moves, of a machine with this IMEM.
 pub fn c_move(end: MoveEnd, imem: &SpMem) -> RspMove
