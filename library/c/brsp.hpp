@@ -81,6 +81,7 @@ inline constexpr range origins{ 0, 4096, 4, "a multiple of 4 up to 4096" };
 inline constexpr range count{ 1, 1000000, 1, "1 to 1000000" };
 inline constexpr range mask{ 0, 65535, 1, "0 to 65535" };
 inline constexpr range registers{ 0, 31, 1, "0 to 31" };
+inline constexpr range event_mask{ 0, 131071, 1, "0 to 131071" };
 inline constexpr range banks{ 0, 2, 1, "BRSP_DMEM, BRSP_IMEM or BRSP_RDRAM" };
 inline constexpr range depths{ 0, 4096, 1, "0 to 4096" };
 inline constexpr range dmem{ 0, 4095, 1, "0 to 4095" };
@@ -484,7 +485,7 @@ public:
                      { "event",
                        { { "steps", steps, detail::count },
                          { "reads", reads, detail::mask },
-                         { "writes", writes, detail::mask } } });
+                         { "writes", writes, detail::event_mask } } });
         return out;
     }
     [[nodiscard]] traced_run trace(uint32_t steps)

@@ -70,8 +70,12 @@ export enum Reason {
   LIMIT = 4,
   MOVE = 5,
   DMA = 6,
+  INTERRUPT = 7,
+  STATUS = 8,
 }
 
+/** A bit of the mask `writes` of `Machine.event`. */
+export const STATUS_WRITES: 65536;
 export const DMEM: Bank.DMEM;
 export const IMEM: Bank.IMEM;
 export const RDRAM: Bank.RDRAM;
@@ -355,7 +359,8 @@ export class Machine {
   run_until_move(steps: number, reads: number, writes: number): Stop;
   /** Runs to the next event, for a caller that owns RDRAM. As `run_until_move`, but also stops before each DMA, with
    * Reason.DMA. A move or a DMA is an event only if a step is left. Stepping over it, by `pass_move`, `pass_dma` or
-   * `step`, takes that step. */
+   * `step`, takes that step. With the bit STATUS_WRITES in `writes` it also stops after each MTC0 to SP_STATUS, whose step
+   * it makes: with Reason.INTERRUPT if that step raised the interrupt, otherwise with Reason.STATUS. */
   event(steps: number, reads?: number, writes?: number): Event;
   /** As `run`, with an entry for each step that it made. */
   trace(steps: number): [Stop, Traced[]];

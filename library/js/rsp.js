@@ -16,6 +16,7 @@ export { first_difference } from "./compare.js";
 export const { DMEM, IMEM, RDRAM } = Bank;
 export const VERSION = 1;
 
+export const STATUS_WRITES = 1 << 16;
 /** The calls of brsp.h, without their prefix. */
 const CALLS = `version new copy free get set state_fault image_length load load_words memory memory_words start_task set_pc
   step step_changes run run_until_move event trace back history pass_move pass_dma add_break drop_break

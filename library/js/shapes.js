@@ -16,7 +16,8 @@ export const Status = Object.freeze({ ...numbered(0, "OK"), ...numbered(101, "NO
 export const Fault = Object.freeze({ ...numbered(10, "BAD_LINE", "UNKNOWN_NAME", "BAD_OPERAND", "OUT_OF_RANGE",
   "LABEL_TWICE", "LABEL_MISSING", "PAST_END", "OUT_OF_MEMORY"), ...numbered(33, "NOT_TEXT") });
 export const Bank = Object.freeze(numbered(0, "DMEM", "IMEM", "RDRAM"));
-export const Reason = Object.freeze(numbered(0, "RESERVED", "HALT", "WATCH", "BREAK", "LIMIT", "MOVE", "DMA"));
+export const Reason = Object.freeze(numbered(0, "RESERVED", "HALT", "WATCH", "BREAK", "LIMIT", "MOVE", "DMA", "INTERRUPT",
+  "STATUS"));
 export const FAULTS = Object.freeze({
   10: "BadLine", 11: "UnknownName", 12: "BadOperand", 13: "OutOfRange", 14: "LabelTwice", 15: "LabelMissing",
   16: "PastEnd", 17: "OutOfMemory", 33: "NotText",

@@ -7,7 +7,7 @@ const range = (low, high, step = 1) => ({
   has: (n) => n >= low && n <= high && (n - low) % step === 0,
   text: step === 1 ? `${low} to ${high}` : high === 4096 ? "a multiple of 4 up to 4096" : "a multiple of 4 below 4096",
 });
-const WORD = range(0, 0xffffffff), PLACE = range(0, 4092, 4), COUNT = range(1, 1000000), MASK = range(0, 65535);
+const WORD = range(0, 0xffffffff), PLACE = range(0, 4092, 4), COUNT = range(1, 1000000), MASK = range(0, 65535), EVENT_MASK = range(0, 131071);
 const REGISTER = range(0, 31), BANK = { ...range(0, 2), text: "DMEM, IMEM or RDRAM" };
 
 /** The arguments of each call, in order. */
@@ -21,7 +21,7 @@ export const ARGUMENTS = {
   set_pc: { pc: PLACE },
   run: { steps: COUNT },
   run_until_move: { steps: COUNT, reads: MASK, writes: MASK },
-  event: { steps: COUNT, reads: MASK, writes: MASK },
+  event: { steps: COUNT, reads: MASK, writes: EVENT_MASK },
   trace: { steps: COUNT },
   iter_trace: { limit: WORD },
   back: { states: COUNT },

@@ -54,9 +54,9 @@ __version__ = "1.0.0"
 __all__ = [
     "DMEM", "FAULTS", "IMEM", "RDRAM", "VERSION", "Accumulators", "AssemblyError", "Bank", "Session",
     "Changes", "Difference", "Divider", "Dma", "Emulator", "Fault", "FirstDifference", "Flags", "Found",
-    "Line", "Machine", "Move", "Part", "Ran", "Reason", "Rsp", "RspError", "Scalars", "ScriptError",
-    "SpWords", "State", "Status", "Stop", "Timeline", "Traced", "Words", "assemble", "first_difference",
-    "run_script", "state_fault", "text",
+    "Line", "Machine", "Move", "Part", "Ran", "Reason", "Rsp", "RspError", "STATUS_WRITES", "Scalars",
+    "ScriptError", "SpWords", "State", "Status", "Stop", "Timeline", "Traced", "Words", "assemble",
+    "first_difference", "run_script", "state_fault", "text",
 ]  # fmt: skip
 
 _S = TypeVar("_S", bound=Structure)
@@ -136,8 +136,12 @@ class Reason(enum.IntEnum):
     MOVE = 5
     DMA = 6
 
+    INTERRUPT = 7
+    STATUS = 8
 
 DMEM, IMEM, RDRAM = Bank.DMEM, Bank.IMEM, Bank.RDRAM
+STATUS_WRITES = 1 << 16  # a bit of the mask `writes` of Machine.event
+
 _REASONS = (*Reason,)  # by their numbers
 _STEP_ENDS = {it.value: it for it in (Status.OK, Status.HALTED, Status.RESERVED)}
 
@@ -743,6 +747,9 @@ class Machine(_Owner):
         Empties the history.
 
         Returns OK, or HALTED if the machine is halted. Refused if another word is at pc.
+
+        With the bit STATUS_WRITES in `writes` it also stops after each MTC0 to SP_STATUS, whose step it
+        makes: with Reason.INTERRUPT if that step raised the interrupt, otherwise with Reason.STATUS.
         """
         (value,) = _numbers("pass_move", value)
         self._see_free("pass_move")

@@ -30,6 +30,7 @@ WORD = Range(range(BELOW), "0 to 4294967295")
 PLACE = Range(range(0, 4096, 4), "a multiple of 4 below 4096")
 COUNT = Range(range(1, 1000001), "1 to 1000000")
 MASK = Range(range(65536), "0 to 65535")
+EVENT_MASK = Range(range(1 << 17), "0 to 131071")
 REGISTER = Range(range(32), "0 to 31")
 BANKS = "DMEM", "IMEM", "RDRAM"
 BANK = Range(range(3), "rsp.DMEM, rsp.IMEM or rsp.RDRAM")
@@ -45,7 +46,7 @@ ARGUMENTS: Dict[str, Dict[str, Range]] = {
     "set_pc": {"pc": PLACE},
     "run": {"steps": COUNT},
     "run_until_move": {"steps": COUNT, "reads": MASK, "writes": MASK},
-    "event": {"steps": COUNT, "reads": MASK, "writes": MASK},
+    "event": {"steps": COUNT, "reads": MASK, "writes": EVENT_MASK},
     "trace": {"steps": COUNT},
     "back": {"states": COUNT},
     "pass_move": {"value": WORD},

@@ -37,7 +37,7 @@ pub use compare::{first_difference, Emulator, FirstDifference, Quadword};
 pub use difference::{Part, Place};
 pub use error::{AssemblyFault, RspError, Status, VERSION};
 pub use faults::Fault;
-pub use machine::Machine;
+pub use machine::{Machine, STATUS_WRITES};
 pub use numbers::NoSuchNumber;
 pub use operand::Operand;
 pub use script::{run_script_strict, ScriptError};

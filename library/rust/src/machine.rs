@@ -11,6 +11,9 @@ use crate::{RspError, Status};
 use std::cell::UnsafeCell;
 use std::ptr;
 
+/// A bit of the mask `writes` of [`Machine::event`].
+pub const STATUS_WRITES: u32 = 1 << 16;
+
 /// A machine with a copy of an image of RDRAM, breakpoints, watches and a history.
 ///
 /// It is `Send`, but not `Sync`: only one thread at a time uses it.
@@ -157,9 +160,12 @@ impl Machine {
     /// Runs to the next event, for a caller that owns RDRAM. As [`run_until_move`](Machine::run_until_move), but also stops before each DMA. A move
     /// or a DMA is an event only if a step is left. Stepping over it, by [`pass_move`](Machine::pass_move), [`pass_dma`](Machine::pass_dma) or
     /// [`step`](Machine::step), takes that step.
-    pub fn event(&mut self, steps: u32, reads: u16, writes: u16) -> Result<Event, RspError> {
+    ///
+    /// With the bit [`STATUS_WRITES`] in `writes` it also stops after each MTC0 to SP_STATUS, whose step it makes: with [`Reason::Interrupt`] if
+    /// that step raised the interrupt, otherwise with [`Reason::Status`].
+    pub fn event(&mut self, steps: u32, reads: u16, writes: u32) -> Result<Event, RspError> {
         let mut out = raw::Reached::default();
-        done(unsafe { raw::brsp_event(self.at(), steps, reads.into(), writes.into(), &mut out) }, "event", &[steps.into()])?;
+        done(unsafe { raw::brsp_event(self.at(), steps, reads.into(), writes, &mut out) }, "event", &[steps.into(), writes.into()])?;
         let dma = (out.at.stop.reason == AT_DMA).then_some(out.dma);
         Ok(Event { at: seen_move(&out.at), dma, status: out.status, interrupt: out.interrupt == 1 })
     }
@@ -350,7 +356,7 @@ fn step_end(status: u32, call: &str) -> Result<StepEnd, RspError> {
 }
 
 fn seen_move(out: &raw::Move) -> MoveEnd {
-    if out.stop.reason < AT_MOVE {
+    if out.stop.reason != AT_MOVE && out.stop.reason != AT_DMA {
         return MoveEnd::Stop(seen_stop(&out.stop));
     }
     let (steps, pc) = (out.stop.steps, out.stop.pc);
@@ -363,6 +369,8 @@ fn seen_stop(out: &raw::Stop) -> Stop {
         1 => Reason::Halt,
         2 => Reason::Watch(out.watch),
         3 => Reason::Break,
+        7 => Reason::Interrupt,
+        8 => Reason::Status,
         _ => Reason::Limit,
     };
     let word = (reason == Reason::Reserved).then_some(out.word);

@@ -277,6 +277,10 @@ pub enum Reason {
     Break,
     /// All steps were made.
     Limit,
+    /// The last step raised the interrupt by an MTC0: only of [`event`](crate::Machine::event), if it is asked for.
+    Interrupt,
+    /// The last step was another MTC0 to SP_STATUS: the same.
+    Status,
 }
 
 /// Where a run stopped.
@@ -357,6 +361,8 @@ impl fmt::Display for Reason {
             Reason::Watch(_) => "WATCH",
             Reason::Break => "BREAK",
             Reason::Limit => "LIMIT",
+            Reason::Interrupt => "INTERRUPT",
+            Reason::Status => "STATUS",
         })
     }
 }

@@ -83,6 +83,8 @@ impl Display for Stop {
             Reason::Watch(number) => write!(f, "watch {number}"),
             Reason::Break => f.write_str("a breakpoint"),
             Reason::Limit => f.write_str("all steps are made"),
+            Reason::Interrupt => f.write_str("the last step raised the interrupt"),
+            Reason::Status => f.write_str("the last step wrote SP_STATUS"),
         }
     }
 }

@@ -15,6 +15,7 @@ const WORD: Range = Range { low: 0, high: u32::MAX as u64, step: 1, text: "0 to 
 const PLACE: Range = Range { low: 0, high: 4092, step: 4, text: "a multiple of 4 below 4096" };
 const ORIGIN: Range = Range { low: 0, high: 4096, step: 4, text: "a multiple of 4 up to 4096" };
 const COUNT: Range = Range { low: 1, high: 1_000_000, step: 1, text: "1 to 1000000" };
+const EVENT_MASK: Range = Range { low: 0, high: 131_071, step: 1, text: "0 to 131071" };
 const REGISTER: Range = Range { low: 0, high: 31, step: 1, text: "0 to 31" };
 const DEPTH: Range = Range { low: 0, high: 4096, step: 1, text: "0 to 4096" };
 const DMEM: Range = Range { low: 0, high: 4095, step: 1, text: "0 to 4095" };
@@ -31,7 +32,8 @@ fn arguments(call: &str) -> &'static [(&'static str, Range)] {
         "memory" => &[("bank", WORD), ("address", WORD), ("length", WORD)],
         "memory_words" => &[("bank", WORD), ("address", WORD), ("count", WORD)],
         "set_pc" => &[("pc", PLACE)],
-        "run" | "trace" | "run_until_move" | "event" => &[("steps", COUNT)],
+        "run" | "trace" | "run_until_move" => &[("steps", COUNT)],
+        "event" => &[("steps", COUNT), ("writes", EVENT_MASK)],
         "back" => &[("states", COUNT)],
         "add_break" | "drop_break" => &[("address", PLACE)],
         "add_watch" => &[("address", DMEM), ("length", WATCHED)],

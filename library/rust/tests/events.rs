@@ -1,6 +1,6 @@
 //! Runs to events, DMAs that a caller moves, the length of the history, and labels.
 
-use rsp::{assemble, labels, Bank, Dma, Machine, MoveEnd, Reason, RspError, Status, StepEnd};
+use rsp::{assemble, labels, Bank, Dma, Machine, MoveEnd, Reason, RspError, Status, StepEnd, STATUS_WRITES};
 
 /// Why a call was refused.
 fn why<T>(result: Result<T, RspError>) -> Option<Status> {
@@ -30,6 +30,19 @@ fn events_are_described() -> Result<(), RspError> {
     let dma = Dma { bank: 1, address: 0xf80, rdram: 0x200, length: 8, rows: 2, skip: 24, to_rdram: 1 };
     assert_eq!(event.dma, Some(dma));
     assert_eq!(why(machine.event(0, 0, 0)), Some(Status::OutOfRange));
+    assert_eq!(why(machine.event(1, 0, 2 * STATUS_WRITES)), Some(Status::OutOfRange));
+    Ok(())
+}
+
+#[test]
+fn an_interrupt_ends_a_run() -> Result<(), RspError> {
+    let mut machine = Machine::new(&[0; 64], 0)?;
+    machine.load_words(Bank::Imem, 0, &assemble("ori $1, $0, 0x10\nloop: mtc0 $1, $c4\nj loop\nnop\n", 0)?)?;
+    for (reason, steps) in [(Reason::Interrupt, 2), (Reason::Status, 3)] {
+        let event = machine.event(100, 0, STATUS_WRITES)?;
+        assert!(event.interrupt && matches!(event.at, MoveEnd::Stop(stop) if stop.reason == reason && stop.steps == steps));
+    }
+    assert!(matches!(machine.event(100, 0, 0)?.at, MoveEnd::Stop(stop) if stop.reason == Reason::Limit));
     Ok(())
 }
 

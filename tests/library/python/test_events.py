@@ -51,7 +51,31 @@ def test_pass_dma(machine: rsp.Rsp) -> None:
     assert machine.pass_dma() is rsp.Status.HALTED
 
 
-@pytest.mark.parametrize("given", [(0,), (1000001,), (1, 65536), (1, 0, 65536), (1, -1)])
+def test_an_interrupt() -> None:
+    """It ends a run before the next instruction; other writes of SP_STATUS have another reason; a breakpoint
+    goes before both, and the run's last step may be such a write."""
+    machine = rsp.Rsp()
+    text = "ori $1, $0, 0x10\nloop: mtc0 $1, $c4\nbreaks: mtc0 $0, $c4\nj loop\nnop\nbreak\n"
+    machine.load_words(rsp.IMEM, 0, rsp.assemble(text))
+    asked = 0, rsp.STATUS_WRITES | 1 << 4
+    found = [machine.event(steps, *asked) for steps in (100, 1, 2, 1)]
+    assert [(it.reason, it.steps, it.pc, it.move, it.interrupt) for it in found] == [
+        (rsp.Reason.INTERRUPT, 2, 8, None, True),
+        (rsp.Reason.STATUS, 1, 12, None, True),
+        (rsp.Reason.LIMIT, 2, 4, None, True),
+        (rsp.Reason.STATUS, 1, 8, None, True),
+    ]
+    machine.write(4, 8)
+    machine.add_break(8)
+    stop = machine.event(100, *asked)
+    assert (stop.reason, stop.steps, stop.interrupt) == (rsp.Reason.STATUS, 1, False)
+    stop = machine.event(100, *asked)
+    assert (stop.reason, stop.steps, stop.interrupt) == (rsp.Reason.BREAK, 3, True)
+    assert machine.event(100, 0, 1 << 4).move == rsp.Move(0x40802000, 4, True, 0)
+    assert machine.event(100).reason is rsp.Reason.BREAK
+
+
+@pytest.mark.parametrize("given", [(0,), (1000001,), (1, 65536), (1, 0, 1 << 17), (1, 0, 1 << 18), (1, -1)])
 def test_bad_numbers(given: "tuple[int, ...]", machine: rsp.Rsp) -> None:
     before = machine.get()
     with pytest.raises(rsp.RspError) as found:

@@ -140,7 +140,7 @@ function moves() {
 function events() {
   const text = "start: ori $1, $0, 0x1f80\nmtc0 $1, $c0\nlui $3, 0x0180\nori $3, $3, 0x1007\nend: mtc0 $3, $c3\nbreak\n";
   const machine = loaded(text, 4);
-  for (const given of [[0], [1000001], [1, 65536], [1, 0, -1]]) refused(OUT, () => machine.event(...given));
+  for (const given of [[0], [1000001], [1, 65536], [1, 0, 2 * rsp.STATUS_WRITES], [1, 0, -1]]) refused(OUT, () => machine.event(...given));
   const at = machine.event(4);
   same("the limit", [at.reason, at.steps, at.move, at.dma, at.status, at.interrupt], [Reason.LIMIT, 4, null, null, 0, false]);
   same("its history", machine.history(), 4);
