@@ -1,6 +1,7 @@
 /* calls: sequences of calls on three machines and two sessions. Each status is a documented one, a refused call changes and fills nothing, numbers out of
  * their range are refused and no others, what is set is what is got, a copy is equal, and what is undone is as it was. texts.c has the calls on texts. */
 #include "fuzz.h"
+#include "brsp_savestate.h"
 
 enum { MACHINES = 3, SESSIONS = 2, MOST_CALLS = 64, MOST_STEPS = 20000, SEEN = 8192, FRESH = 0xa5 };
 
@@ -250,8 +251,8 @@ static uint32_t event(attempt *a)
     int is_dma = out->at.stop.reason == BRSP_AT_DMA;
     MUST(is_dma ? out->at.writes && (out->at.number == 2 || out->at.number == 3) && out->at.stop.steps < n : !memcmp(&out->dma, &none, sizeof none));
     MUST(!is_dma || (out->dma.length >= 8 && out->dma.length <= 4096 && out->dma.rows >= 1 && out->dma.rows <= 256 && out->dma.address < 4096));
-    MUST(brsp_peek(a->m, 4, &status_word) == BRSP_OK && out->status == status_word);
     MUST(out->at.stop.reason != BRSP_AT_INTERRUPT || (out->interrupt && !a->before->state.interrupt) || out->at.stop.steps > 1);
+    MUST(brsp_peek(a->m, 4, &status_word) == BRSP_OK && out->status == status_word);
     return status;
 }
 
@@ -334,6 +335,44 @@ static uint32_t listing(attempt *a)
     return ranged(a, is_place(address) && address + 4 * len <= 4096, brsp_listing(a->m, address, fills(a, len * sizeof(brsp_line)), len));
 }
 
+static uint32_t save_state(attempt *a)
+{
+    size_t whole = a->before->is_there ? BRSP_SAVESTATE_BYTES + *a->image : 0, length = whole;
+    size_t capacity = take_number(a->in, 1) % 4 ? whole + take_number(a->in, 1) : take_edge(a->in) % (whole + 1);
+    uint8_t *bytes = fills(a, capacity);
+    uint32_t status = brsp_save_state(a->m, bytes, capacity, &length);
+    MUST(length == whole && (status == BRSP_NO_ROOM) == (capacity < whole));
+    MUST(status != BRSP_OK || (is_fresh(bytes, whole, capacity) && brsp_load_state(a->m, bytes, whole) == BRSP_OK));
+    return status;
+}
+
+/* The savestate of another machine, or of this one, changed a little, cut, or any bytes. It is refused, or it is what is saved then. */
+static uint32_t load_state(attempt *a)
+{
+    size_t len = 0, history = 99;
+    uint32_t fault = 99, kind = take_number(a->in, 1);
+    brsp_machine *from = kind % 2 ? a->other : a->m;
+    uint8_t *bytes = NULL;
+    if (kind % 8 < 7 && brsp_save_state(from, bytes, 0, &len) == BRSP_NO_ROOM) {
+        bytes = a->given[0] = room(len);
+        MUST(brsp_save_state(from, bytes, len, &len) == BRSP_OK);
+        for (uint32_t n = take_number(a->in, 1) % 4; n; n--) bytes[take_number(a->in, 2) % (kind % 4 ? BRSP_SAVESTATE_AT_DMEM : len)] = (uint8_t)take_number(a->in, 1);
+        if (kind >= 192) len = take_edge(a->in) % (len + 1);
+    } else {
+        len = take_edge(a->in) % 10000;
+        bytes = reads(a, len);
+    }
+    uint32_t status = brsp_savestate_check(a->m, bytes, len, &fault);
+    MUST(status == BRSP_NO_MACHINE ? fault == 99 : fault <= BRSP_SAVESTATE_STATE);
+    status = ranged(a, fault == BRSP_SAVESTATE_FINE, brsp_load_state(a->m, bytes, len));
+    if (status != BRSP_OK) return status;
+    uint8_t *saved = room(len);
+    MUST(brsp_save_state(a->m, saved, len, &len) == BRSP_OK && !memcmp(saved, bytes, len));
+    MUST(brsp_history(a->m, &history) == BRSP_OK && history == 0);
+    free(saved);
+    return status;
+}
+
 static uint32_t session_new(attempt *a)
 {
     static const size_t lengths[] = { 0, 8, 64, 65, 72, 4096, 8388616 };
@@ -406,7 +445,8 @@ static const struct {
     { session_take, S(NO_MACHINE) | S(NO_MEMORY) | S(NO_ROOM) | S(ENDED) | S(TOO_LONG), APART },
     { session_end, S(NO_MACHINE) | S(NO_MEMORY) | S(NO_ROOM) | S(ENDED) | S(TOO_LONG), APART },
     { session_memory, S(NO_MACHINE) | S(OUT_OF_RANGE), APART }, { session_free, 0, APART },
-    { event, S(OUT_OF_RANGE), CHANGES }, { history, 0, LOOKS }, { pass_dma, S(HALTED) | S(OTHER_WORD), CHANGES }, { image_length, 0, LOOKS }
+    { event, S(OUT_OF_RANGE), CHANGES }, { history, 0, LOOKS }, { pass_dma, S(HALTED) | S(OTHER_WORD), CHANGES }, { image_length, 0, LOOKS },
+    { save_state, S(NO_ROOM), LOOKS }, { load_state, S(OUT_OF_RANGE), CHANGES }
 };
 
 static brsp_machine machines[MACHINES];

@@ -18,6 +18,7 @@
 #pragma GCC diagnostic ignored "-Wzero-as-null-pointer-constant"
 #endif
 #include "brsp_compare.h"
+#include "brsp_savestate.h"
 #if defined(__GNUC__)
 #pragma GCC diagnostic pop
 #endif
@@ -80,8 +81,8 @@ inline constexpr range place{ 0, 4092, 4, "a multiple of 4 below 4096" };
 inline constexpr range origins{ 0, 4096, 4, "a multiple of 4 up to 4096" };
 inline constexpr range count{ 1, 1000000, 1, "1 to 1000000" };
 inline constexpr range mask{ 0, 65535, 1, "0 to 65535" };
-inline constexpr range registers{ 0, 31, 1, "0 to 31" };
 inline constexpr range event_mask{ 0, 131071, 1, "0 to 131071" };
+inline constexpr range registers{ 0, 31, 1, "0 to 31" };
 inline constexpr range banks{ 0, 2, 1, "BRSP_DMEM, BRSP_IMEM or BRSP_RDRAM" };
 inline constexpr range depths{ 0, 4096, 1, "0 to 4096" };
 inline constexpr range dmem{ 0, 4095, 1, "0 to 4095" };
@@ -443,6 +444,23 @@ public:
         return detail::memory<words>("machine", bank, address, n, [&](uint32_t *to) {
             return brsp_memory_words(&it, bank, address, to, n);
         });
+    }
+
+    /* Savestates, as brsp_savestate.h has them */
+    [[nodiscard]] bytes save_state() const
+    {
+        size_t length = 0;
+        brsp_save_state(&it, nullptr, 0, &length);
+        bytes out(length);
+        detail::done(brsp_save_state(&it, detail::at(out), length, &length), { "save_state", {} });
+        return out;
+    }
+    void load_state(const bytes &data)
+    {
+        uint32_t fault = BRSP_SAVESTATE_FINE;
+        detail::done(brsp_savestate_check(&it, detail::at(data), data.size(), &fault), { "load_state", {} });
+        detail::done(brsp_load_state(&it, detail::at(data), data.size()),
+                     { "load_state", {}, brsp_savestate_fault_text(fault) });
     }
 
     /* Where the machine continues */

@@ -342,6 +342,10 @@ export class Machine {
   memory(bank: Bank, address: number, length: number): Uint8Array;
   /** A copy of words of a memory, the high byte of each first. */
   memory_words(bank: Bank, address: number, count: number): Uint32Array;
+  /** A savestate: all registers and memories as bytes, which are the same in every language. */
+  save_state(): Uint8Array;
+  /** Sets all registers and memories from a savestate, and empties the history. Breakpoints and watches stay. */
+  load_state(data: ArrayBuffer | ArrayBufferView): void;
   /** Starts the task whose structure of 64 bytes is at an address of RDRAM, a multiple of 8, and empties the
    * history. */
   start_task(address: number): void;

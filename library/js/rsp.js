@@ -5,6 +5,7 @@
 import { instantiated } from "./module.js";
 import { Accumulators, Bank, Changes, Divider, FIELDS, Flags, Reason, Scalars, SpWords, State, Status, Traced, layout,
   read } from "./shapes.js";
+import { parts_of, saved } from "./savestate.js";
 import { strict_replies } from "./strict.js";
 import { AssemblyError, RspError, allowed, bytes_of, numbers, refusal, state_refusal, words_of } from "./words.js";
 
@@ -15,8 +16,8 @@ export { first_difference } from "./compare.js";
 
 export const { DMEM, IMEM, RDRAM } = Bank;
 export const VERSION = 1;
-
 export const STATUS_WRITES = 1 << 16;
+
 /** The calls of brsp.h, without their prefix. */
 const CALLS = `version new copy free get set state_fault image_length load load_words memory memory_words start_task set_pc
   step step_changes run run_until_move event trace back history pass_move pass_dma add_break drop_break
@@ -269,6 +270,23 @@ export class Machine {
 
   memory_words(bank, address, count) {
     return new Uint32Array(this.#memory("memory_words", [bank, address, count], 4, 1 << 21).buffer);
+  }
+
+  save_state() {
+    this.#fill("save_state", [], "get");
+    const state = copied(HERE, State.size), lengths = [4096, 4096, this.image_length];
+    return saved(state, lengths.map((length, bank) => this.memory(bank, 0, length)));
+  }
+
+  load_state(data) {
+    const bytes = bytes_of("load_state", "data", data);
+    this.#fill("load_state", [], "image_length");
+    const { why, state, memories } = parts_of(bytes, length_at(HERE));
+    if (why) throw new RspError(Status.OUT_OF_RANGE, `load_state: ${why}`);
+    const found = State.over(state), field = state_fault(found);
+    if (field) throw new RspError(Status.OUT_OF_RANGE, `load_state: ${state_refusal(field, found)}`);
+    this.set(found);
+    memories.forEach((it, bank) => this.load(bank, 0, it));
   }
 
   start_task(address) { this.#call("start_task", [address]); }

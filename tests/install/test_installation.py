@@ -33,6 +33,7 @@ FILES = {
         "include/brsp.h",
         "include/brsp.hpp",
         "include/brsp_compare.h",
+        "include/brsp_savestate.h",
     ),
     *("lib/cmake/brsp/brspConfig.cmake", "lib/cmake/brsp/brspConfigVersion.cmake"),
     *("lib/libbrsp.a", "lib/libbrsp.so", f"lib/{SONAME}"),

@@ -4,6 +4,7 @@ library/c/build builds it first, if it isn't built. It fails at the first file t
 
   PREFIX/include/brsp.h             and brsp.hpp, a class for C++17
   PREFIX/include/brsp_compare.h     the first difference from another emulator
+  PREFIX/include/brsp_savestate.h   savestates
   PREFIX/lib/libbrsp.so.1           and libbrsp.so, a link to it
   PREFIX/lib/libbrsp.a
   PREFIX/lib/pkgconfig/brsp.pc      for cc my.c $(pkg-config --cflags --libs brsp)

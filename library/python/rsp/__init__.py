@@ -42,6 +42,7 @@ from . import arrays as _arrays
 from . import _explain
 from . import fields as _items
 from . import errors as _in_words
+from . import savestate as _savestate
 from .compare import Emulator, FirstDifference, first_difference
 from .script import Ran, ScriptError
 from .script import strict_replies as _strict_replies
@@ -135,13 +136,13 @@ class Reason(enum.IntEnum):
     LIMIT = 4
     MOVE = 5
     DMA = 6
-
     INTERRUPT = 7
     STATUS = 8
 
-DMEM, IMEM, RDRAM = Bank.DMEM, Bank.IMEM, Bank.RDRAM
+
 STATUS_WRITES = 1 << 16  # a bit of the mask `writes` of Machine.event
 
+DMEM, IMEM, RDRAM = Bank.DMEM, Bank.IMEM, Bank.RDRAM
 _REASONS = (*Reason,)  # by their numbers
 _STEP_ENDS = {it.value: it for it in (Status.OK, Status.HALTED, Status.RESERVED)}
 
@@ -665,6 +666,40 @@ class Machine(_Owner):
         self._see_done(status, "memory_words", numbers)
         return held.tolist()
 
+    def save_state(self) -> bytes:
+        """A savestate: all registers and memories as bytes, which are the same in every language."""
+        length = self.image_length
+
+        def read(at: int) -> bytes:
+            state, parts = unset(State), [(ctypes.c_uint8 * it)() for it in (4096, 4096, length)]
+            _ok(_lib.brsp_get(at, byref(state)), "save_state")
+            for bank, part in enumerate(parts):
+                _ok(_lib.brsp_memory(at, bank, 0, part, len(part)), "save_state")
+            return _savestate.saved(bytes(state), *map(bytes, parts))
+
+        return self._alone("save_state", read)
+
+    def load_state(self, data: bytes) -> None:
+        """Sets all registers and memories from a savestate, and empties the history. Breakpoints and watches
+        stay. OUT_OF_RANGE, and nothing is changed, for bytes that aren't a savestate of a machine with an
+        image of this length."""
+        raw = _in_words.bytes_of("load_state", "data", data)
+        why = _savestate.refusal(raw, self.image_length)
+        if why:
+            raise RspError(Status.OUT_OF_RANGE, f"load_state: {why}")
+        state = State.from_buffer_copy(_savestate.state_of(raw))
+        field = state_fault(state)
+        if field or state.zero:
+            told = _in_words.state_fault(field, state) if field else "byte 705 isn't 0"
+            raise RspError(Status.OUT_OF_RANGE, f"load_state: {told}")
+
+        def write(at: int) -> None:
+            _ok(_lib.brsp_set(at, byref(state)), "load_state")
+            for bank, part in enumerate(_savestate.memories_of(raw)):
+                _ok(_lib.brsp_load(at, bank, 0, part, len(part)), "load_state")
+
+        self._alone("load_state", write)
+
     def start_task(self, address: int) -> None:
         """Starts the task whose structure of 64 bytes is at an address of RDRAM, a multiple of 8, and empties
         the history."""
@@ -712,6 +747,9 @@ class Machine(_Owner):
 
         A move or a DMA is an event only if a step is left. Stepping over it, by `pass_move`, `pass_dma` or
         `step`, takes that step.
+
+        With the bit STATUS_WRITES in `writes` it also stops after each MTC0 to SP_STATUS, whose step it
+        makes: with Reason.INTERRUPT if that step raised the interrupt, otherwise with Reason.STATUS.
         """
         out = self._work("brsp_event", _Reached(), steps, reads, writes)
         stop, dma = _move_stop(out.at), out.dma
@@ -747,9 +785,6 @@ class Machine(_Owner):
         Empties the history.
 
         Returns OK, or HALTED if the machine is halted. Refused if another word is at pc.
-
-        With the bit STATUS_WRITES in `writes` it also stops after each MTC0 to SP_STATUS, whose step it
-        makes: with Reason.INTERRUPT if that step raised the interrupt, otherwise with Reason.STATUS.
         """
         (value,) = _numbers("pass_move", value)
         self._see_free("pass_move")

@@ -26,6 +26,7 @@ mod machine;
 mod numbers;
 mod operand;
 mod raw;
+mod savestate;
 mod script;
 mod session;
 mod shapes;

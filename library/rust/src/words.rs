@@ -59,6 +59,7 @@ fn together(call: &str) -> &'static str {
         "set_reg" => "register 0 holds 0, and not {value}",
         "set_sp" => "a word can't be read from its SP register, or interrupt isn't 0 or 1",
         "listing" => "{count} words from {address} on pass the end of IMEM",
+        "load_state" => "the bytes aren't a savestate of a machine with an image of this length",
         "add_watch" => "{length} bytes from {address} on pass the end of DMEM",
         _ => "a number is out of its range",
     }

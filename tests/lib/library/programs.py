@@ -34,7 +34,7 @@ def said_by(folder: Path, text: str, compiler: str = "cc") -> str:
 
 def main_of(lines: str) -> str:
     """The text of a program with these lines in its main."""
-    return f'#include "brsp.h"\n#include <stdio.h>\nint main(void)\n{{\n{lines}\nreturn 0;\n}}\n'
+    return f'#include "brsp_savestate.h"\n#include <stdio.h>\nint main(void)\n{{\n{lines}\nreturn 0;\n}}\n'
 
 
 def passes(program: Path) -> None:

@@ -18,7 +18,7 @@ from lib.processes import run
 ROWS = data("calls")
 # What a name begins with that isn't the call's own: the class, of a machine or of a session.
 OWNERS = ("machine::", "Machine.", "Machine::")
-INTERNAL = "brsp_compare_"
+INTERNAL = "brsp_compare_", "brsp_savestate_"
 
 
 def named(column: str) -> List[str]:
@@ -32,8 +32,9 @@ def body(text: str, form: str) -> str:
 
 
 def test_rows() -> None:
-    compare = re.findall(r"^static inline \w+ (brsp_\w+)\(", page("library/c/brsp_compare.h"), re.M)
-    calls = {name for name, *_ in shapes.exported()} | {it for it in compare if not it.startswith(INTERNAL)}
+    headers = page("library/c/brsp_compare.h") + page("library/c/brsp_savestate.h")
+    inline = re.findall(r"^static inline \w+ (brsp_\w+)\(", headers, re.M)
+    calls = {name for name, *_ in shapes.exported()} | {it for it in inline if not it.startswith(INTERNAL)}
     assert {*named("C")} == calls and len(ROWS) == len(calls)
     for row in ROWS:
         own = row["C"][len("brsp_") :]

@@ -16,6 +16,7 @@ import pytest
 from lib import TESTS, TOP
 from lib.library import FIRST_DIFFERENCE, LOCKSTEP, shapes
 from lib.library.programs import other_version
+from lib.library.savestates import IMAGE, STEPS, TEXT
 from lib.packages import need
 from lib.pages import page
 from lib.processes import Ended, run
@@ -53,6 +54,20 @@ def test_cargo_test(cargo: Cargo) -> None:
     ran = cargo("test", "--offline", "-q")
     counts = [int(it) for it in re.findall(r"test result: ok\. (\d+) passed; 0 failed", ran.stdout)]
     assert ran.returncode == 0 and sum(counts) >= 21 and "warning" not in ran.stdout, ran.stdout
+
+
+@in_crate
+def test_savestates(cargo: Cargo, folder: Path) -> None:
+    """The bytes of a savestate are those of Python."""
+    import rsp
+
+    machine = rsp.Machine(IMAGE, 5)
+    machine.load_words(rsp.IMEM, 0, rsp.assemble(TEXT))
+    machine.run(STEPS)
+    (folder / "text").write_text(TEXT)
+    (folder / "saved").write_bytes(machine.save_state())
+    ran = cargo("test", "--offline", "-q", "--test", "savestates", RSP_SAVESTATE=folder)
+    assert ran.returncode == 0 and "3 passed" in ran.stdout, ran.stdout
 
 
 @in_crate

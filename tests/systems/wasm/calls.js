@@ -31,7 +31,7 @@ function lives() {
   const calls = {
     get: [], step: [], regs: [], acc: [], flags: [], divider: [], sp: [], copy: [], pass_move: [], reg: [4], vreg: [4],
     read: [4], peek: [4], run: [4], back: [4], trace: [4], add_break: [4], drop_break: [4], set_pc: [4],
-    memory: [0, 0, 4], memory_words: [0, 0, 4], load: [0, 0, new Uint8Array(4)], load_words: [0, 0, [1]], write: [0, 8],
+    save_state: [], load_state: [new Uint8Array(9040)], memory: [0, 0, 4], memory_words: [0, 0, 4], load: [0, 0, new Uint8Array(4)], load_words: [0, 0, [1]], write: [0, 8],
     set: [new rsp.State()], set_sp: [new rsp.SpWords()], run_until_move: [1, 0, 0], add_watch: [0, 4], drop_watch: [0],
     event: [4], pass_dma: [], history: [],
     listing: [0, 1], start_task: [8], step_changes: [], set_reg: [1, 1], set_vreg: [1, new Uint16Array(8)],
@@ -154,6 +154,31 @@ function events() {
   same("none that is halted", machine.pass_dma(), Status.HALTED);
   same("labels", rsp.labels(text, 8), { start: 8, end: 24 });
   refused(Status.NO_MEANING, () => rsp.labels("j x"));
+}
+
+function interrupts() {
+  const machine = loaded("ori $1, $0, 0x10\nloop: mtc0 $1, $c4\nj loop\nnop\n"), { INTERRUPT, STATUS } = Reason;
+  for (const [reason, steps] of [[INTERRUPT, 2], [STATUS, 3]]) {
+    const at = machine.event(100, 0, rsp.STATUS_WRITES);
+    same("a write of SP_STATUS", [at.reason, at.steps, at.move, at.interrupt], [reason, steps, null, true]);
+  }
+}
+
+function savestates() {
+  const machine = loaded(TRACED, 4), other = new Machine(new Uint8Array(4096), 4);
+  machine.run(9);
+  const saved = machine.save_state();
+  other.add_break(8);
+  other.load_state(saved);
+  same("a savestate", other.save_state(), saved);
+  see("its registers", other.get().equals(machine.get()));
+  same("no history", other.history(), 0);
+  other.drop_break(8);
+  const changed = (at, it) => saved.map((byte, n) => n === at ? it : byte);
+  refused(OUT, () => other.load_state(changed(713, 1)), "load_state: pc is");
+  refused(OUT, () => other.load_state(changed(0, 1)), "load_state: the bytes don't begin with RSPS");
+  refused(OUT, () => new Machine().load_state(saved), "its image has 4096 bytes, and that of the machine 64");
+  same("nothing is changed", other.save_state(), saved);
 }
 
 function traces() {
@@ -451,7 +476,7 @@ export async function run(library) {
   see = report.see.bind(report);
   same = report.same.bind(report);
   refused = report.refused.bind(report);
-  const parts = [lives, copies, runs, stops, passes, moves, events, traces, changes, sessions, strict_scripts,
+  const parts = [lives, copies, runs, stops, passes, moves, events, interrupts, savestates, traces, changes, sessions, strict_scripts,
     single_registers, sp_registers, states, memories,
     texts, differences];
   parts.forEach((part) => part());

@@ -10,8 +10,8 @@ from rsp_tools.targets import NATIVE, TARGETS
 
 # What vectors and campaigns need of the repository, and the pages that theirs lead to, with their pictures.
 CONFORMANCE = """
-conformance tools/python library/c/brsp.h library/c/brsp_compare.h docs/CAMPAIGN.md docs/INSTRUCTIONS.md
-docs/MACHINE.md docs/pictures CHANGELOG.md
+conformance tools/python library/c/brsp.h library/c/brsp_compare.h library/c/brsp_savestate.h
+docs/CAMPAIGN.md docs/INSTRUCTIONS.md docs/MACHINE.md docs/pictures CHANGELOG.md
 """.split()
 
 

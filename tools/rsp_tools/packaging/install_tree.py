@@ -83,7 +83,7 @@ def soname() -> str:
 def contents(prefix: str, program: Optional[bytes]) -> Iterator[File]:
     """Each file. `prefix` is what brsp.pc says, and `program` the bytes of the program, if there is one."""
     library = TOP / "library/c"
-    for name in "brsp.h", "brsp.hpp", "brsp_compare.h":
+    for name in "brsp.h", "brsp.hpp", "brsp_compare.h", "brsp_savestate.h":
         yield File(f"include/{name}", (library / name).read_bytes())
     yield File("lib/libbrsp.a", (library / "libbrsp.a").read_bytes())
     yield File(f"lib/{soname()}", (library / soname()).read_bytes(), True)

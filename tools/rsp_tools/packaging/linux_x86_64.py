@@ -13,8 +13,8 @@ from rsp_tools.packaging.install_tree import File
 from rsp_tools.targets import NATIVE
 
 PARTS = """
-library/c/brsp.h library/c/brsp.hpp library/c/brsp_compare.h library/python/rsp library/python/README.md
-library/rust docs examples microcode plugin tools/hardening CHANGELOG.md
+library/c/brsp.h library/c/brsp.hpp library/c/brsp_compare.h library/c/brsp_savestate.h library/python/rsp
+library/python/README.md library/rust docs examples microcode plugin tools/hardening CHANGELOG.md
 """.split()
 
 

@@ -13,8 +13,8 @@ from rsp_tools.systems.toolchain import llvm
 
 # What those for C, Python and Rust hold of the repository; and what was run on Linux on x86-64 alone.
 PARTS = """
-library/c/brsp.h library/c/brsp.hpp library/c/brsp_compare.h library/python/rsp library/python/README.md
-library/rust docs examples microcode CHANGELOG.md
+library/c/brsp.h library/c/brsp.hpp library/c/brsp_compare.h library/c/brsp_savestate.h library/python/rsp
+library/python/README.md library/rust docs examples microcode CHANGELOG.md
 """.split()
 NOT_THERE = "docs/PLUGIN.md"
 PARTS_OF_WASM = "docs examples microcode CHANGELOG.md".split()

@@ -17,9 +17,12 @@ TEMPLATES = TOOLS / "packaging"
 
 
 def header(out: Path) -> None:
-    """Puts brsp.h beside a library, its class for C++, and what compares a machine with an emulator."""
+    """Puts brsp.h beside a library, its class for C++, what compares a machine with an emulator, and savestates."""
     (out / "include").mkdir(parents=True)
-    for it in (places.HEADER, *map(places.HEADER.with_name, ("brsp.hpp", "brsp_compare.h"))):
+    for it in (
+        places.HEADER,
+        *map(places.HEADER.with_name, ("brsp.hpp", "brsp_compare.h", "brsp_savestate.h")),
+    ):
         shutil.copyfile(it, out / "include" / it.name)
 
 

@@ -1,0 +1,185 @@
+"""Savestates: the same bytes from C, C++, Python, Rust and JavaScript, and a play of two machines over them.
+
+They fail if a language writes other bytes than C, takes bytes that it should refuse, changes a machine when it
+refuses them, or if two machines differ whose steps are cut differently (savestates.c, whose numbers are the
+table of conformance/FORMS.md).
+"""
+
+import json
+import re
+from pathlib import Path
+
+import pytest
+
+import rsp
+from lib import TOP
+from lib.library.programs import HERE, built, by_both, main_of, passes, said_by
+from lib.library.savestates import IMAGE, STEPS, TEXT
+from lib.pages import page
+from lib.processes import STRICT, compiled, run, succeeds
+
+pytestmark = [pytest.mark.needs("cc"), pytest.mark.usefixtures("library")]
+PLAY = HERE / "savestates.c"
+PROGRAM = """
+static const uint8_t text[] = TEXT;
+static uint8_t image[256], bytes[10000];
+static uint32_t words[1024];
+brsp_machine m = BRSP_NONE;
+brsp_assembled out;
+brsp_stop stop;
+size_t length;
+for (int i = 0; i < 256; i++) image[i] = (uint8_t)i;
+if (brsp_new(&m, image, 256, 5) || brsp_assemble(0, text, sizeof text - 1, words, 1024, &out)) return 1;
+if (brsp_load_words(&m, BRSP_IMEM, 0, words, out.count) || brsp_run(&m, 1000, &stop)) return 1;
+if (brsp_save_state(&m, bytes, sizeof bytes, &length)) return 1;
+for (size_t i = 0; i < length; i++) printf("%02x", bytes[i]);
+brsp_free(&m);
+"""
+IN_CPP = """#include "brsp.hpp"
+#include <cstdio>
+int main()
+{
+    brsp::bytes image(256);
+    for (size_t i = 0; i < 256; i++) image[i] = uint8_t(i);
+    brsp::machine machine(image, 5);
+    machine.load_words(BRSP_IMEM, 0, brsp::assemble(TEXT));
+    machine.run(1000);
+    const brsp::bytes saved = machine.save_state();
+    for (const uint8_t it : saved) std::printf("%02x", it);
+    brsp::machine other(image);
+    other.load_state(saved);
+    if (other.save_state() != saved) return 1;
+    try {
+        other.load_state(brsp::bytes(saved.begin(), saved.end() - 1));
+    } catch (const brsp::rsp_error &error) {
+        std::printf("\\n%s\\n", error.what());
+        return error.status != BRSP_OUT_OF_RANGE || other.save_state() != saved;
+    }
+    return 1;
+}
+"""
+
+
+# What library/js makes of the bytes of a state and of the memories, and the parts that it finds in that.
+IN_JS = f"""import {{ parts_of, saved }} from "{TOP}/library/js/savestate.js";
+import {{ readFileSync, writeFileSync }} from "node:fs";
+const [state, ...memories] = ["state", "0", "1", "2"].map((it) => new Uint8Array(readFileSync(it)));
+const made = saved(state, memories), parts = parts_of(made, 256);
+writeFileSync("saved", made);
+const all = [parts.state, ...parts.memories].map((it) => Buffer.from(it).toString("hex"));
+const wrong = [made.slice(1), made.slice(0, 9), made.slice(0, -1)].map((it) => parts_of(it, 256).why);
+const others = [[4, 1], [11, 8], [705, 1]].map(([at, it]) => parts_of(made.with(at, it), 256).why);
+console.log(JSON.stringify({{ all, wrong, others: [...others, parts_of(made, 264).why] }}));
+"""
+
+
+def quoted(text: str) -> str:
+    return '"' + text.replace("\n", "\\n") + '"'
+
+
+@pytest.fixture(scope="module")
+def machine() -> rsp.Machine:
+    made = rsp.Machine(IMAGE, 5)
+    made.load_words(rsp.IMEM, 0, rsp.assemble(TEXT))
+    made.run(STEPS)
+    return made
+
+
+@by_both
+def test_c(compiler: str, machine: rsp.Machine, folder: Path) -> None:
+    text = main_of(PROGRAM.replace("TEXT", quoted(TEXT)))
+    assert said_by(folder, text, compiler) == machine.save_state().hex()
+
+
+@pytest.mark.needs("c++")
+def test_cpp(machine: rsp.Machine, folder: Path) -> None:
+    source = folder / "saves.cpp"
+    source.write_text(IN_CPP.replace("TEXT", quoted(TEXT)))
+    words = ("-std=c++17", *STRICT, source, TOP / "library/c/libbrsp.a")
+    saved, why = succeeds(compiled(folder / "saves", *words, compiler="c++")).splitlines()
+    assert saved == machine.save_state().hex()
+    assert why == "load_state: there are fewer bytes, or more, than the savestate says"
+
+
+@by_both
+def test_play(compiler: str, folder: Path) -> None:
+    """Two machines over 10,000 slices; and each fault of a savestate in C."""
+    if compiler == "c++":
+        pytest.skip("compound literals are of C alone")
+    passes(built(folder, PLAY, compiler=compiler))
+
+
+@pytest.mark.outside("it takes an hour")
+@pytest.mark.timeout(3 * 3600)
+def test_long_play(folder: Path) -> None:
+    ran = run(built(folder, PLAY), 300_000_000, timeout=3 * 3600)
+    assert re.search(r"(?m)^[1-9]\d* passed, 0 failed\n\Z", ran.stdout), ran.stdout
+
+
+def test_python(machine: rsp.Machine) -> None:
+    saved = machine.save_state()
+    other = rsp.Machine(bytes(256), 5)
+    other.add_break(0x7F0)
+    other.add_watch(0, 8)
+    other.run(3)
+    other.load_state(saved)
+    assert other.save_state() == saved and other.get() == machine.get() and other.history() == 0
+    assert other.memory(rsp.RDRAM, 0, 256) == machine.memory(rsp.RDRAM, 0, 256)
+    other.drop_break(0x7F0)
+    other.drop_watch(0)
+
+
+@pytest.mark.parametrize(
+    "change, why",
+    (
+        (lambda it: b"", "the bytes begin with b'', not b'RSPS'"),
+        (lambda it: b"RSPT" + it[4:], "the bytes begin with b'RSPT', not b'RSPS'"),
+        (lambda it: it[:7] + b"\2" + it[8:], "the savestate has version 2, not 1"),
+        (lambda it: it[:-1], "there are 9231 bytes, not 8976 and those of the image"),
+        (lambda it: it[:10], "there are 10 bytes, not 8976 and those of the image"),
+        (
+            lambda it: it[:10] + b"\1\x08" + it[12:] + bytes(8),
+            "its image has 264 bytes, and that of the machine 256",
+        ),
+        (lambda it: it[:712] + b"\0\2" + it[714:], "pc is 2, not a multiple of 4 below 4096"),
+        (lambda it: it[:705] + b"\1" + it[706:], "byte 705 isn't 0"),
+    ),
+    ids=lambda it: it if isinstance(it, str) else "",
+)
+def test_python_refuses(change: "rsp.Any", why: str, machine: rsp.Machine) -> None:
+    before = machine.save_state()
+    with pytest.raises(rsp.RspError) as found:
+        machine.load_state(change(before))
+    assert str(found.value) == f"load_state: {why}" and found.value.status is rsp.Status.OUT_OF_RANGE
+    assert machine.save_state() == before
+
+
+def test_layout(machine: rsp.Machine) -> None:
+    """The offsets of FORMS.md: the parts of a savestate, and the fields of a state after its twelve bytes."""
+    section = page("conformance/FORMS.md").partition("## A savestate\n")[2].partition("\n## ")[0]
+    rows = re.findall(r"(?m)^\| (\d+) \| (\d+) \|", section)
+    ends = [int(at) + int(size) for at, size in rows]
+    assert [int(at) for at, _ in rows] == [0, *ends[:-1]] and ends[-1] == 8976
+    saved = machine.save_state()
+    assert saved[:12] == b"RSPS" + (1).to_bytes(4, "big") + (256).to_bytes(4, "big")
+    assert saved[8976:] == machine.memory(rsp.RDRAM, 0, 256) and len(saved) == 9232
+
+
+@pytest.mark.needs("node")
+def test_js(machine: rsp.Machine, folder: Path) -> None:
+    """Without the library: what turns the parts into bytes. The calls are tested where the library is."""
+    parts = [
+        bytes(machine.get()),
+        *(machine.memory(it, 0, size) for it, size in enumerate((4096, 4096, 256))),
+    ]
+    for name, part in zip(("state", "0", "1", "2"), parts):
+        (folder / name).write_bytes(part)
+    (folder / "saves.mjs").write_text(IN_JS)
+    said = json.loads(succeeds("node", "saves.mjs", cwd=folder))
+    assert (folder / "saved").read_bytes() == machine.save_state()
+    assert said["all"] == [it.hex() for it in parts]
+    lengths = [f"there are {it} bytes, not 8976 and those of the image" for it in (9, 9231, 9232)]
+    image = "its image has 256 bytes, and that of the machine 264"
+    version = "the savestate has version 16777217, not 1"
+    assert said["wrong"] == ["the bytes don't begin with RSPS", *lengths[:2]]
+    assert said["others"] == [version, lengths[2], "byte 705 isn't 0", image]
