@@ -9,15 +9,16 @@ public:
     uint32_t dpc[8] = {}; // SP registers 8 to 15
     brsp::machine machine{ brsp::machine::bytes(64) }; // with an image that is never used
 
-    // Makes at most `budget` steps, fewer if the machine halts or comes to a reserved word. Returns how many.
+    // Makes at most `budget` steps. Makes fewer if the machine halts or comes to a reserved word, and returns right after a
+    // step that raised the interrupt. Returns how many.
     uint32_t run(uint32_t budget)
     {
         uint32_t left = budget;
         while (left) {
-            brsp_reached event = machine.event(std::min(left, 1000000u), 0xff00, 0xff00);
+            brsp_reached event = machine.event(std::min(left, 1000000u), 0xff00, 0xff00 | BRSP_STATUS_WRITES);
             left -= event.at.stop.steps;
-            if (event.at.stop.reason == BRSP_AT_LIMIT) continue;
-            if (event.at.stop.reason < BRSP_AT_LIMIT) break;
+            if (event.at.stop.reason == BRSP_AT_LIMIT || event.at.stop.reason == BRSP_AT_STATUS) continue;
+            if (event.at.stop.reason != BRSP_AT_DMA && event.at.stop.reason != BRSP_AT_MOVE) break;
             left -= 1; // the step that goes past a move or a DMA, before which the machine stopped
             if (event.at.stop.reason == BRSP_AT_DMA) {
                 machine.pass_dma(); // first, because the bytes may overwrite the word at pc
@@ -28,6 +29,13 @@ public:
             }
         }
         return budget - left;
+    }
+
+    // Whether the RSP's interrupt is raised. The CPU clears it by SP_STATUS.
+    bool interrupt()
+    {
+        brsp_sp_words sp;
+        return brsp_sp(machine.handle(), &sp) == BRSP_OK && sp.interrupt;
     }
 
     // The CPU reads an SP register, 0 to 15.
@@ -43,8 +51,27 @@ public:
             transfer({ sp >> 12, sp & 0xff8, at, (value & 0xff8) + 8, (value >> 12 & 0xff) + 1, value >> 20 & 0xff8, number == 3 });
     }
 
+    // All of the console as bytes: the machine's savestate, dpc, rdram; the same bytes for each Unit.
+    brsp::machine::bytes save()
+    {
+        brsp::machine::bytes out = machine.save_state();
+        size_t begin = out.size();
+        out.resize(begin + sizeof dpc + SIZE);
+        save_from(&rdram[0], SIZE / sizeof(Unit), save_from(dpc, 8, &out[begin]));
+        return out;
+    }
+
+    // Sets all of the console from such bytes. Throws for others, and then nothing is changed.
+    void restore(const brsp::machine::bytes &from)
+    {
+        size_t rest = sizeof dpc + SIZE, begin = from.size() < rest ? 0 : from.size() - rest;
+        machine.load_state(brsp::machine::bytes(from.begin(), from.begin() + std::ptrdiff_t(begin)));
+        restore_to(&rdram[0], SIZE / sizeof(Unit), restore_to(dpc, 8, &from[begin]));
+    }
+
 private:
     static constexpr uint32_t SIZE = 8 << 20, PAST_END = 1 << 24;
+    static constexpr Unit ZEROS[4096 / sizeof(Unit)] = {};
     void put(uint32_t bank, uint32_t sp, const uint8_t *at, uint32_t n) { brsp_load(machine.handle(), bank, sp, at, n); }
     void put(uint32_t bank, uint32_t sp, const uint32_t *at, uint32_t n) { brsp_load_words(machine.handle(), bank, sp, at, n / 4); }
     void get(uint32_t bank, uint32_t sp, uint8_t *at, uint32_t n) { brsp_memory(machine.handle(), bank, sp, at, n); }
@@ -57,10 +84,26 @@ private:
         for (uint32_t row = 0; row < dma.rows; row++, at += dma.skip)
             for (uint32_t left = dma.length; left; left -= n, sp = (sp + n) % 4096, at += n) {
                 at %= PAST_END;
-                Unit nothing[8] = {}, *unit = at < SIZE ? &rdram[at / sizeof(Unit)] : nothing;
-                n = std::min({ left, 4096 - sp, at < SIZE ? SIZE - at : 8 });
-                if (dma.to_rdram) get(dma.bank, sp, unit, n);
-                else put(dma.bank, sp, unit, n);
+                n = std::min({ left, 4096 - sp, (at < SIZE ? SIZE : PAST_END) - at });
+                if (!dma.to_rdram) put(dma.bank, sp, at < SIZE ? &rdram[at / sizeof(Unit)] : ZEROS, n);
+                else if (at < SIZE) get(dma.bank, sp, &rdram[at / sizeof(Unit)], n);
             }
+    }
+
+    // Numbers as bytes, the high byte of each first, and back. Returns what follows the bytes.
+    template <class T> static uint8_t *save_from(const T *numbers, size_t count, uint8_t *to)
+    {
+        for (size_t i = 0; i < count; i++)
+            for (size_t byte = sizeof(T); byte--;) *to++ = uint8_t(numbers[i] >> 8 * byte);
+        return to;
+    }
+    template <class T> static const uint8_t *restore_to(T *numbers, size_t count, const uint8_t *from)
+    {
+        for (size_t i = 0; i < count; i++) {
+            uint32_t number = 0;
+            for (size_t byte = sizeof(T); byte--;) number = number << 8 | *from++;
+            numbers[i] = T(number);
+        }
+        return from;
     }
 };

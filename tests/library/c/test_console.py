@@ -1,0 +1,37 @@
+"""What a DMA of the console in examples/c costs past the end of RDRAM, beside one inside.
+
+It fails if such a DMA takes more than twice the host instructions of one inside, as valgrind's callgrind
+counts them: a host that copied the console would then stand still when microcode wants it.
+"""
+
+import re
+from pathlib import Path
+
+import pytest
+
+from lib import TOP
+from lib.library.programs import HERE, built
+from lib.processes import succeeds
+
+pytestmark = [pytest.mark.needs("c++", "valgrind"), pytest.mark.usefixtures("library")]
+INSIDE, PAST_THE_END, UP_TO_THE_END = 0x100000, 0x800000, 0x7FFFF8
+LENGTHS = {"4 KiB": (0xFFF, 64), "1 MiB": (0xFFFFF, 2)}
+
+
+def instructions(program: Path, *numbers: int) -> int:
+    said = succeeds("valgrind", "--tool=callgrind", "--callgrind-out-file=/dev/null", program, *numbers)
+    return int(re.findall(r"Collected : (\d+)", said)[0])
+
+
+@pytest.mark.parametrize("register", (2, 3), ids=("from RDRAM", "to RDRAM"))
+def test_dma_past_the_end(register: int, folder: Path) -> None:
+    words = "-std=c++17", f"-I{TOP}/examples/c"
+    program = built(folder, HERE / "dma_cost.cpp", *words, compiler="c++")
+    costs = {}
+    for name, (word, count) in LENGTHS.items():
+        start = instructions(program, 5, word, 0, count)  # register 5 keeps nothing, and starts no DMA
+        inside = instructions(program, register, word, INSIDE, count) - start
+        assert inside > 500 * count
+        for address in (PAST_THE_END, UP_TO_THE_END):
+            costs[name, address] = (instructions(program, register, word, address, count) - start) / inside
+    assert {name: it for name, it in costs.items() if it > 2} == {}
