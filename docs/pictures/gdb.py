@@ -1,6 +1,7 @@
 """Draws gdb.svg, GDB's full screen at the end of the session of docs/GDB.md: python3 docs/pictures/gdb.py.
 
-It types the session in tmux, and needs gdb-multiarch and binutils-mips-linux-gnu besides.
+It types the session in tmux, and needs gdb-multiarch and binutils-mips-linux-gnu besides. No test runs it,
+because another GDB draws another screen; the session itself is tested.
 """
 
 import os

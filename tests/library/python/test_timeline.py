@@ -123,6 +123,7 @@ def test_interrupted(way: str) -> None:
     machine = loaded("loop: addiu $1, $1, 1\nj loop\nnop\n")
     line, answers = rsp.Timeline(machine, 1 << 17, 4), iter(4 * [False] + 9 * [True])
     here = line.goto(3000000 if way == "back" else 0)
+    assert line._gap > here >> 4  # so there are few marks
     line.watches = {(0, 4)}
     line.is_interrupted = lambda: next(answers)
     got = getattr(line, way)(*[] if way == "back" else [EVER])
@@ -135,10 +136,3 @@ def test_example(capsys: pytest.CaptureFixture[str]) -> None:
     name = "docs/EMBEDDING.md"
     exec(block_with(name, "import rsp\n\ntext ="))
     assert f"It prints `{capsys.readouterr().out.strip()}`" in page(name)
-
-
-def test_marks() -> None:
-    """They don't grow without end, as they do if the gap stays."""
-    line = rsp.Timeline(loaded("loop: j loop\nnop\n"), 1, 4)
-    line.goto(300)
-    assert len(line._marks) <= 5 and line._gap > 32
