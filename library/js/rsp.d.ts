@@ -104,15 +104,16 @@ export class AssemblyError extends RspError {
 }
 
 /** A reply is a fault. `line` is the number of the line in the script, from 1, `text` is that line, `fault` the number
- * of the fault, and `reply` the whole reply. For a fault of an `asm` block `line` is the line of the block that is at
- * fault. `text` is empty if the script ends before `end`. The message shows at most 80 characters of it, with such escapes
- * too. */
+ * of the fault, `reply` the whole reply, and `replies` all replies up to it, with it. For a fault of an `asm` block `line`
+ * is the line of the block that is at fault. `text` is empty if the script ends before `end`. The message shows at most 80
+ * characters of it, with such escapes too. */
 export class ScriptError extends Error {
-  constructor(line: number, text: string, reply: string);
+  constructor(line: number, text: string, reply: string, replies?: Uint8Array);
   readonly line: number;
   readonly text: string;
   readonly fault: number;
   readonly reply: string;
+  readonly replies: Uint8Array;
 }
 
 /** A part that differs: its name, such as `$3`, its value, the other's value, and the number of hexadecimal digits. The

@@ -6,7 +6,7 @@ import { instantiated } from "./module.js";
 import { Accumulators, Bank, Changes, Divider, FIELDS, Flags, Reason, Scalars, SpWords, State, Status, Traced, layout,
   read } from "./shapes.js";
 import { parts_of, saved } from "./savestate.js";
-import { strict_replies } from "./strict.js";
+import { joined, strict_replies } from "./strict.js";
 import { AssemblyError, RspError, allowed, bytes_of, numbers, refusal, state_refusal, words_of } from "./words.js";
 
 export { Accumulators, Bank, Changes, Difference, Divider, FAULTS, Fault, Flags, Part, Reason, Scalars, SpWords, State,
@@ -435,16 +435,6 @@ function script_of(call, script) {
   return typeof script === "string" ? new TextEncoder().encode(script) : bytes_of(call, "script", script);
 }
 
-function joined(parts) {
-  const made = new Uint8Array(parts.reduce((sum, it) => sum + it.length, 0));
-  let at = 0;
-  for (const it of parts) {
-    made.set(it, at);
-    at += it.length;
-  }
-  return made;
-}
-
 export class Session {
   #at;
   #length;
@@ -505,7 +495,7 @@ export class Session {
 export function run_script(script, image, strict = false) {
   const session = new Session(image), raw = script_of("run_script", script);
   try {
-    return [joined(strict ? strict_replies(session, raw) : [session.feed(raw), session.end()]), session.rdram];
+    return [joined(strict ? [...strict_replies(session, raw)] : [session.feed(raw), session.end()]), session.rdram];
   } finally {
     session.free();
   }

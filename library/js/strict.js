@@ -2,31 +2,49 @@
 
 import { ScriptError } from "./words.js";
 
-function text_of(bytes) { return new TextDecoder("latin1").decode(bytes); }
+const LATIN = new TextDecoder("latin1");
+
+function text_of(bytes) { return LATIN.decode(bytes); }
 
 /** Whether a line is a command `asm`. */
 function opens(line) { return line.split("#")[0].trim().split(/\s/)[0] === "asm"; }
 
-/** The error of the reply to the line of this number. A fault of a block counts from the line `asm`, whose number is
- * `block`. */
-function fault_of(lines, number, block, reply) {
-  const in_block = / line (\d+)$/.exec(reply), line = in_block ? block + Number(in_block[1]) : number;
-  return new ScriptError(line, (lines[line - 1] ?? "").trim(), reply);
+/** Replies one after the other. */
+export function joined(replies) {
+  const made = new Uint8Array(replies.reduce((sum, it) => sum + it.length, 0));
+  let at = 0;
+  for (const it of replies) {
+    made.set(it, at);
+    at += it.length;
+  }
+  return made;
 }
 
-/** The replies of a session to a whole script. A ScriptError at the first one that is a fault. */
-export function strict_replies(session, raw) {
+/** The error of the last reply, to the line of this number. A fault of a block counts from the line `asm`, whose number
+ * is `block`. */
+function fault_of(lines, number, block, told) {
+  const reply = text_of(told.at(-1)).trimEnd(), in_block = / line (\d+)$/.exec(reply);
+  const line = in_block ? block + Number(in_block[1]) : number;
+  return new ScriptError(line, (lines[line - 1] ?? "").trim(), reply, joined(told));
+}
+
+/** Yields the replies of a session to a whole script: to each line, and to the script's end. After the first one that is
+ * a fault it throws a ScriptError. */
+export function * strict_replies(session, raw) {
   const lines = text_of(raw).split("\n"), told = [];
   let block = 0;
-  const keep = (reply, number) => {
-    const text = text_of(reply).trimEnd();
-    if (text.startsWith("fault ")) throw fault_of(lines, number, block, text);
-    if (text) block = 0;
-    else if (!block && opens(lines[number - 1])) block = number;
+  const check = (reply, number) => {
     told.push(reply);
+    if (text_of(reply.subarray(0, 6)) === "fault ") throw fault_of(lines, number, block, told);
+    if (reply.length) block = 0;
+    else if (!block && opens(lines[number - 1])) block = number;
   };
-  for (const reply of session.iter_feed(raw)) keep(reply, told.length + 1);
+  for (const reply of session.iter_feed(raw)) {
+    yield reply;
+    check(reply, told.length + 1);
+  }
   if (!block && opens(lines.at(-1))) block = lines.length;
-  keep(session.end(), lines.length);
-  return told;
+  const last = session.end();
+  yield last;
+  check(last, lines.length);
 }

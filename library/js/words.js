@@ -109,9 +109,9 @@ export class AssemblyError extends RspError {
 export class ScriptError extends Error {
   name = "ScriptError";
 
-  constructor(line, text, reply) {
+  constructor(line, text, reply, replies = new TextEncoder().encode(`${reply}\n`)) {
     super(`line ${line}: ${reply}${text && `: ${printable(text.slice(0, 80))}`}`);
-    Object.assign(this, { line, text, reply, fault: Number(reply.split(" ")[1]) });
+    Object.assign(this, { line, text, reply, replies, fault: Number(reply.split(" ")[1]) });
   }
 }
 

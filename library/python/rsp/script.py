@@ -20,20 +20,20 @@ _SHOWN = 80  # how much of a line a message shows
 
 class ScriptError(Exception):
     """A reply is a fault. `line` is the number of the line in the script, from 1, `text` is that line,
-    `fault` the number of the fault, and `reply` the whole reply.
+    `fault` the number of the fault, `reply` the whole reply, and `replies` all replies up to it, with it.
 
     For a fault of an `asm` block `line` is the line of the block that is at fault. `text` is empty if the
     script ends before `end`.
     """
 
-    def __init__(self, line: int, text: str, reply: str) -> None:
+    def __init__(self, line: int, text: str, reply: str, replies: bytes = b"") -> None:
         shown = _in_words.printable(text[:_SHOWN])
         super().__init__(f"line {line}: {reply}: {shown}".rstrip(": "))
         self.line, self.text, self.reply = line, text, reply
-        self.fault = int(reply.split()[1])
+        self.fault, self.replies = int(reply.split()[1]), replies or f"{reply}\n".encode()
 
     def __reduce__(self) -> Any:
-        return ScriptError, (self.line, self.text, self.reply)
+        return ScriptError, (self.line, self.text, self.reply, self.replies)
 
 
 class Ran:
@@ -80,14 +80,14 @@ def strict_replies(session: "Session", script: Union[str, bytes]) -> bytes:
     lines, told = raw.split(b"\n"), []
     block = 0  # the number of the line `asm` of the block that is open
     for number, reply in enumerate(session.iter_feed(raw), 1):
-        if reply.startswith(_FAULT):
-            raise _fault(lines, number, block, reply)
-        block = 0 if reply else block or _opened(lines, number)
         told.append(reply)
-    last = session.end()
-    if last.startswith(_FAULT):
-        raise _fault(lines, len(lines), block or _opened(lines, len(lines)), last)
-    return b"".join([*told, last])
+        if reply.startswith(_FAULT):
+            raise _fault(lines, number, block, told)
+        block = 0 if reply else block or _opened(lines, number)
+    told.append(session.end())
+    if told[-1].startswith(_FAULT):
+        raise _fault(lines, len(lines), block or _opened(lines, len(lines)), told)
+    return b"".join(told)
 
 
 def machine_of(replies: bytes, rdram: bytes) -> "Machine":
@@ -113,9 +113,10 @@ def _opened(lines: List[bytes], number: int) -> int:
     return number if lines[number - 1].partition(b"#")[0].split()[:1] == [b"asm"] else 0
 
 
-def _fault(lines: List[bytes], number: int, block: int, reply: bytes) -> ScriptError:
-    """The error of the reply to a line. A fault of a block counts from the line after `asm`."""
-    words = reply.decode().split()
+def _fault(lines: List[bytes], number: int, block: int, told: List[bytes]) -> ScriptError:
+    """The error of the last reply, to a line. A fault of a block counts from the line after `asm`."""
+    words = told[-1].decode().split()
     line = block + int(words[-1]) if words[-2] == "line" else number
     text = b"".join(lines[line - 1 : line])
-    return ScriptError(line, text.decode("ascii", "backslashreplace").strip(), " ".join(words))
+    shown = text.decode("ascii", "backslashreplace").strip()
+    return ScriptError(line, shown, " ".join(words), b"".join(told))

@@ -189,8 +189,12 @@ def test_strict(script: str) -> None:
     error = caught.value
     assert (error.line, error.text, error.fault, error.reply) == STRICT[script]
     assert str(error) == f"line {line}: {reply}" + (f": {text}" if text else "")
-    assert str(pickle.loads(pickle.dumps(error))) == str(error)
-    assert reply.encode() in rsp.run_script(script, bytes(64)).replies, "without strict it is a reply"
+    copy = pickle.loads(pickle.dumps(error))
+    assert (str(copy), copy.replies) == (str(error), error.replies)
+    assert rsp.run_script(script, bytes(64)).replies.startswith(
+        error.replies
+    ), "without strict they are replies"
+    assert error.replies.endswith(f"{reply}\n".encode())
 
 
 def test_strict_line_of_a_stranger() -> None:

@@ -265,6 +265,8 @@ function strict_scripts() {
     try { strict(script); } catch (fault) { found = fault; }
     see(`${script} is refused`, found instanceof ScriptError);
     same(script, [found?.line, found?.text, found?.fault, found?.reply], wanted);
+    const replies = new TextDecoder().decode(found?.replies), all = new TextDecoder().decode(run_script(script, small)[0]);
+    see(`the replies up to ${wanted[3]}`, all.startsWith(replies) && replies.endsWith(`${wanted[3]}\n`));
   }
 }
 
