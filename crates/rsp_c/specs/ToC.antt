@@ -93,7 +93,7 @@ c_divider d = record { input = d.input; output = d.output; loaded = bit d.loaded
 abbrev pub c_line : ℕ → ℕ → RspLine
 c_line word address = record {
   word = word;
-  place = address;
+  address = address;
   len = length (disassembly word address);
   text = disassembly word address ++ replicate (68 - length (disassembly word address)) 0;
 }

@@ -147,7 +147,7 @@ pub struct RspLine {
     /// The word.
     pub word: u32,
     /// Its address in IMEM.
-    pub place: u16,
+    pub address: u16,
     /// How many bytes its text has, at most 64.
     pub len: u16,
     /// The text, and zeros after it.

@@ -110,7 +110,7 @@ fn line_of(word: u32, address: u16) -> RspLine
     let text = padded(bytes);
     RspLine {
         word,
-        place: address,
+        address,
         len: bytes.len() as u16,
         text,
     }
