@@ -1,7 +1,7 @@
 """brsp.hpp, the classes of C++17 over brsp.h (machine.cpp), and brsp.h in C++ under strict warnings.
 
-They fail if a method does something else than its call, a machine is lost or freed twice by a move, a refusal
-names another argument or range, or a compiler warns.
+They fail if a method does something else than its call, a machine is lost or freed twice by a move, a
+refusal names another argument or range, or a compiler warns.
 """
 
 from pathlib import Path
