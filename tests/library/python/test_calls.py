@@ -281,7 +281,7 @@ def test_passed_move() -> None:
     assert machine.pass_move() is Status.OK
     assert (machine.reg(3), machine.peek(2)) == (0xFEDCBA98, 0xFF8), "nothing is written"
     assert machine.regs().pc == 8
-    refused(OUT, machine.pass_move)
+    refused(Status.OTHER_WORD, machine.pass_move)
     refused(OUT, machine.pass_move, 1 << 32)
     machine.write(4, 2)
     assert machine.pass_move() is Status.HALTED

@@ -227,7 +227,7 @@ FAULTS = {
     "--port x": "x isn't a number",
     "--port 65536": "bind(): port must be 0-65535.",
     "--task 1": "start_task: 1 isn't a multiple of 8",
-    "--rdram /dev/zero": "Rsp: image has 8388609 bytes, not a multiple of 8 from 64 to 8388608",
+    "--rdram /dev/zero": "Machine: image has 8388609 bytes, not a multiple of 8 from 64 to 8388608",
     "--script wrong": "line 2: fault 30 BadCommand: nonsense",
     "--script open": "line 3: fault 10 BadLine",
     "--script /dev/zero": "the script has more than 1048576 bytes",

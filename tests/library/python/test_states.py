@@ -95,7 +95,7 @@ MESSAGES: Tuple[Refusal, ...] = (
     (ValueError, "released memoryview", lambda it: it.load(rsp.DMEM, 0, released())),
     (ZeroDivisionError, "", lambda it: it.load_words(rsp.DMEM, 0, (1 // n for n in (1, 0)))),
     (ZeroDivisionError, "", lambda it: it.set_vreg(3, (1 // n for n in (1, 0)))),
-    (TypeError, "Rsp: image is of type str", lambda it: ANY.Rsp("image")),
+    (TypeError, "Machine: image is of type str", lambda it: ANY.Rsp("image")),
     (RspError, "from 4095 on pass the end of IMEM", lambda it: it.load(rsp.IMEM, 4095, b"ab")),
     (TypeError, "load_words: words is of type bytes", lambda it: it.load_words(rsp.DMEM, 0, b"ab")),
     (TypeError, "words[1] is of type str", lambda it: it.load_words(rsp.DMEM, 0, [1, "a"])),

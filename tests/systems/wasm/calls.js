@@ -114,7 +114,7 @@ function passes() {
   same("past an mfc0", [machine.pass_move(0xfedcba98), machine.reg(3), machine.peek(7)], [Status.OK, 0xfedcba98, 0]);
   same("past an mtc0", [machine.pass_move(), machine.reg(3), machine.peek(2)], [Status.OK, 0xfedcba98, 0xff8]);
   same("and on", machine.regs().pc, 8);
-  refused(OUT, () => machine.pass_move(), "the word at pc is no MFC0 or MTC0");
+  refused(Status.OTHER_WORD, () => machine.pass_move(), "the word at pc is no MFC0 or MTC0");
   refused(OUT, () => machine.pass_move(2 ** 32), "value is 4294967296");
   machine.write(4, 2);
   same("none that is halted", machine.pass_move(), Status.HALTED);
@@ -149,7 +149,7 @@ function events() {
   const dma = { bank: rsp.IMEM, address: 0xf80, rdram: 0, length: 8, rows: 2, skip: 24, to_rdram: true };
   same("its parts", next.dma, dma);
   same("past it", [machine.pass_dma(), machine.peek(0), machine.peek(1)], [Status.OK, 0x1f90, 40]);
-  refused(OUT, () => machine.pass_dma(), "pass_dma: the word at pc starts no DMA");
+  refused(Status.OTHER_WORD, () => machine.pass_dma(), "pass_dma: the word at pc starts no DMA");
   machine.step();
   same("none that is halted", machine.pass_dma(), Status.HALTED);
   same("labels", rsp.labels(text, 8), { start: 8, end: 24 });
