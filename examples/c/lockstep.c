@@ -51,12 +51,12 @@ static int differs(const emulator *e, const brsp_scalars *now, const brsp_line *
     int n;
     for (n = 0; n < 32; n++) {
         if (e->r[n] == now->words[n]) continue;
-        printf("step %d, %03x: %s\n", steps, line->place, line->text);
+        printf("step %d, %03x: %s\n", steps, line->address, line->text);
         printf("  $%d is %08x on the machine and %08x in the emulator\n", n, now->words[n], e->r[n]);
         return 1;
     }
     if (is_equal(e, now)) return 0;
-    printf("step %d, %03x: %s\n", steps, line->place, line->text);
+    printf("step %d, %03x: %s\n", steps, line->address, line->text);
     printf("  pc, npc are %03x, %03x on the machine and %03x, %03x in the emulator\n", now->pc, now->npc, e->pc, e->npc);
     return 1;
 }

@@ -27,7 +27,7 @@ static void set_comment(const brsp_line *line, char comment[128])
     brsp_line plain;
     uint32_t word = line->word & 0xfc0003ff;
     if ((word >> 26 != 2 && word >> 26 != 3) || word == line->word) return;
-    brsp_text(word, line->place, &plain);
+    brsp_text(word, line->address, &plain);
     snprintf(comment, 128, " # executes as %s, which would be the word 0x%08x", plain.text, (unsigned)word);
 }
 
@@ -35,8 +35,8 @@ static void print_word(const brsp_line *line, bool has_places, bool has_comment)
 {
     char place[8] = "", word[16] = "", comment[128] = "";
     if (has_comment) set_comment(line, comment);
-    if (has_places) snprintf(place, sizeof place, "%03x ", (unsigned)line->place), snprintf(word, sizeof word, "%08x ", (unsigned)line->word);
-    if (is_labelled[line->place / 4]) print("%sL%03x:\n", place, (unsigned)line->place);
+    if (has_places) snprintf(place, sizeof place, "%03x ", (unsigned)line->address), snprintf(word, sizeof word, "%08x ", (unsigned)line->word);
+    if (is_labelled[line->address / 4]) print("%sL%03x:\n", place, (unsigned)line->address);
     print("%s%s%s%s\n", place, word, line->text, comment);
 }
 
