@@ -202,6 +202,8 @@ CHANGES: dict[str, tuple[str, str, Data]] = {
     "an edit": ("program", MIDDLE, edited),
     "an edit that leaves the length": ("program", MIDDLE, of_one_length),
     "a new file": ("program", "crates/rsp_middle/src/new.rt", b""),
+    "a new definition": ("program", "crates/rsp_middle/specs/New.antt", b""),
+    "a new proof": ("program", "crates/rsp_middle/proofs/main/New.antt", b""),
     "a file less": ("program", SIDE, None),
     "another line of crates.txt": ("program", "crates.txt", of_another_line),
     "another program": ("program", "crates/rsp_main/out/rsp_main", b"#!/bin/sh\n"),
@@ -234,12 +236,14 @@ def test_change(tree: Tiny, what: str, name: str, data: Data) -> None:
 @of_program
 def test_mark_of_another_logic(program_tree: Tiny) -> None:
     """A kit of the logic that the mark names has nothing to do, nor has a machine without one; another one
-    builds again."""
+    builds again, and so does one if the proofs want another logic."""
 
     def other(mark: bytes) -> bytes:
         _version, crates, _times, sums = mark.split(b"\n", 3)
         return b"\n".join([b"rattle-kit-0 logic 0", crates, b"", sums])
 
+    with program_tree.changed("tools/logic", b"logic 1\n"):
+        has_something_to_do(program_tree, RSP)
     with program_tree.changed(MARK, other):
         assert program_tree.run(RSP, "other") == NOTHING
         assert program_tree.run(RSP, "none") == NOTHING

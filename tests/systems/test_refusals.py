@@ -9,7 +9,7 @@ import pytest
 from lib import TOP
 from lib.processes import Ended, run
 from lib.systems.kinds import SYSTEMS
-from rsp_tools.systems import places
+from rsp_tools.systems import modules, places
 from rsp_tools.systems.toolchain import Refused, kit
 
 # The packages that are named where there are none.
@@ -40,6 +40,14 @@ def test_missing_package(system: str, package: str, folder: Path) -> None:
     ended = said(system, path=str(folder))
     wanted = f"{system} isn't made: it needs packages of Debian: apt-get install {package}"
     assert ended.returncode == 1 and wanted in ended.stdout
+
+
+def test_sources_that_have_changed(monkeypatch: pytest.MonkeyPatch) -> None:
+    """No library for another system is made of what was built of other sources."""
+    monkeypatch.setattr(modules.Build, "is_built", lambda _: False)
+    for crate in modules.LIBRARY, modules.PROGRAM:
+        with pytest.raises(Refused, match=f"isn't built of the sources as they are: {crate.command} "):
+            modules.mark(crate)
 
 
 @pytest.mark.needs("rt")

@@ -193,6 +193,7 @@ class Tiny:
         """Gives a file these bytes, or removes it. It and its folder get an old time."""
         path = self.at / name
         path.unlink(missing_ok=True)
+        path.parent.mkdir(parents=True, exist_ok=True)
         if data is not None:
             path.write_bytes(data)
             path.chmod(0o755)
