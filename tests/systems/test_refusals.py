@@ -19,7 +19,8 @@ PACKAGES = {"linux-aarch64": "gcc-aarch64-linux-gnu", "windows-x86_64": "gcc-min
 def said(*words: str, path: str = os.environ["PATH"]) -> "Ended[str]":
     """What tools/systems says, which must leave library/systems as it was."""
     before = sorted(places.MADE.glob("*"))
-    env = {**os.environ, "PATH": path, "PYTHONPATH": f"{TOP}/tools"}
+    folders = ":".join(f"{TOP}/{it}" for it in ("tools", "conformance", "library/python"))
+    env = {**os.environ, "PATH": path, "PYTHONPATH": folders}
     ended = run(sys.executable, "-B", "-m", "rsp_tools.systems", *words, env=env)
     assert sorted(places.MADE.glob("*")) == before
     return ended
