@@ -12,6 +12,13 @@ README = places.TOP / "README.md"
 COOKBOOK = places.TOP / "docs" / "COOKBOOK.md"
 FIRST = places.TOP / "examples" / "first.rsp"
 Example = Dict[str, str]
+# The scripts of examples/ by groups, in the order in which the page shows them.
+GROUPS = {
+    "First steps": "words scalar block",
+    "Vectors": "vector fir idct transpose perspective clip vch",
+    "DMA and tasks": "dma copy task yield",
+    "Debugging": "back",
+}
 
 
 def example(group: str, name: str, script: str) -> Example:
@@ -26,7 +33,7 @@ def first(page: str) -> Example:
     found = re.search(r"(?m)^## Example\n\n\*\*([^*]*)\.\*\*", page)
     if not found:
         raise Refused("README.md has no section Example that begins with words in bold")
-    return example("Start here", found[1], FIRST.read_text())
+    return example("First steps", found[1], FIRST.read_text())
 
 
 def named(page: str) -> Dict[str, str]:
@@ -38,14 +45,15 @@ def named(page: str) -> Dict[str, str]:
 
 
 def scripts(page: str) -> Iterator[Example]:
-    """Those of examples/: first those that show `rsp run` itself, then those of the cookbook's table."""
-    said, table = named(page), {*re.findall(r"(?m)^\| \[(\w+)\.rsp\]", page)}
+    """Those of examples/."""
+    said = named(page)
     held = {it.stem: it.read_text() for it in sorted(places.TOP.glob("examples/*.rsp")) if it != FIRST}
     if missing := held.keys() - said.keys():
         raise Refused(f"docs/COOKBOOK.md says nothing of examples/{min(missing)}.rsp")
-    for group, is_of in ("Start here", False), ("Whole programs", True):
-        names = (it for it in said if (it in table) is is_of and it in held)
-        yield from (example(group, f"{it}: {said[it]}", held[it]) for it in names)
+    if missing := held.keys() - {*" ".join(GROUPS.values()).split()}:
+        raise Refused(f"examples/{min(missing)}.rsp is in no group of examples.py")
+    for group, names in GROUPS.items():
+        yield from (example(group, f"{it}: {said[it]}", held[it]) for it in names.split())
 
 
 def idioms(page: str) -> Iterator[Example]:
