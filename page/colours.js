@@ -1,4 +1,3 @@
-// @ts-check
 /** The colours of a script's lines: each part of a line is a span whose class says what it is. */
 import { element } from "./elements.js";
 import { COMMANDS, INSTRUCTIONS, STATEMENTS } from "./names.js";
@@ -46,6 +45,8 @@ export function parts_of(line, is_source) {
 /** An element with a line in its colours. @param {string} name @param {string} line @param {boolean} is_source */
 export function coloured(name, line, is_source) {
   const made = document.createElement(name);
-  for (const [kind, text] of parts_of(line, is_source)) if (text) made.append(kind ? element("span", text, kind) : text);
+  for (const [kind, text] of parts_of(line, is_source)) {
+    if (text) made.append(kind ? element("span", text, kind) : text);
+  }
   return made;
 }

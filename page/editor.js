@@ -1,4 +1,3 @@
-// @ts-check
 /** The text area of a script with colours, numbers of lines and marks of faults: these are drawn below the text area and
  * beside it, whose own letters are transparent. So keys, touch, undo and what reads the page aloud meet a text area. It
  * is as high as its text: what scrolls is the surface, with the replies. */
@@ -26,7 +25,7 @@ export class Editor {
   #is_due = false;
 
   constructor() {
-    this.#area.addEventListener("scroll", () => this.#area.scrollTo(0, 0)); // the surface scrolls in its place
+    this.#area.addEventListener("scroll", () => this.#area.scrollTo(0, 0)); // the surface scrolls instead
     document.addEventListener("selectionchange", () => requestAnimationFrame(() => this.#show_caret()));
     this.draw();
   }
@@ -81,7 +80,7 @@ export class Editor {
 
   /** Draws the text. What isn't in colours, also because drawing fails, has the text area's own letters. */
   #draw() {
-    const { text: { count, longest, widest } } = this, same = (/** @type {number} */ it) => it;
+    const { count, longest, widest } = this.text, same = (/** @type {number} */ it) => it;
     const items = { count, rows: count, begin: same, at: same };
     set("--columns", Math.max(LEAST_COLUMNS, widest));
     set("--digits", String(count).length);

@@ -1,4 +1,3 @@
-// @ts-check
 /** What the page's modules share. */
 
 /** An element of index.html. @param {string} id @returns {any} */
@@ -14,7 +13,7 @@ export function element(name, text, kind = "") {
 export function grouped(count) { return count.toLocaleString("en"); }
 /** So many things. @param {number} count @param {string} thing */
 export function counted(count, thing) { return `${grouped(count)} ${thing}${count === 1 ? "" : "s"}`; }
-/** Where something is among numbers that grow: the number of the last one that isn't above it. The first one isn't.
+/** Where something is among numbers that grow: the index of the last one that isn't above it, 0 if all are.
  * @param {number[]} numbers @param {number} value */
 export function last_below(numbers, value) {
   let low = 0, high = numbers.length;

@@ -1,4 +1,3 @@
-// @ts-check
 /** Where the pages beside this one explain what somebody sees. */
 import { COMMANDS, INSTRUCTIONS } from "./names.js";
 

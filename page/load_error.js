@@ -5,11 +5,13 @@
 globalThis.why_not = async (url) => {
   const name = String(url).split("/").at(-1);
   try {
-    const answer = await fetch(url, { cache: "no-cache" }), type = answer.headers.get("content-type") ?? "no type";
-    if (!answer.ok) return `${name} isn't served: ${answer.status} ${answer.statusText}. A newer page may be there: reload it`;
+    const answer = await fetch(url, { cache: "no-cache" }), { ok, status, statusText } = answer;
+    const type = answer.headers.get("content-type") ?? "no type";
+    if (!ok) return `${name} isn't served: ${status} ${statusText}. A newer page may be there: reload it`;
     if (/^\s*</.test(await answer.text())) return `${name} isn't served: the server has answered with HTML`;
     if (!/^(?:text|application)\/(?:x-)?(?:java|ecma)script\b/.test(type)) {
-      return `${name} is served as ${type}, and browsers take modules as text/javascript: the server needs a type for .js`;
+      const wanted = "browsers take modules as text/javascript: the server needs a type for .js";
+      return `${name} is served as ${type}, and ${wanted}`;
     }
     return `${name} is served, but the browser hasn't taken it, or a module that it imports`;
   } catch {

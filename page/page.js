@@ -1,4 +1,3 @@
-// @ts-check
 /** The page: joins the script, the image of RDRAM, the runs and their replies. */
 import { Choosing } from "./script_source.js";
 import { Editor } from "./editor.js";
@@ -20,7 +19,7 @@ const choosing = new Choosing(script, (is_other) => running.forget(is_other), sa
 const LONGEST_IMAGE = 1 << 23; // bytes
 
 /** Why the library can't begin with an image, or nothing if it can. @param {Uint8Array} [image] */
-async function fault_of(image) { return (await trials.run({ script: new Uint8Array(), image }, () => {})).fault; }
+async function fault_of(image) { return (await trials.run({ script: new Uint8Array(), image })).fault; }
 
 /** Has runs begin with the bytes of a file, or with the library's zeros.
  * @param {Uint8Array} [bytes] @param {string} name */
@@ -45,15 +44,11 @@ function run_strictly() {
   the("run").focus();
 }
 
-function show_script(line = 0) {
-  running.show_replies(false);
-  editor.go_to(line);
-}
-
 /** Ctrl+Enter runs the script. Other keys are left to the browser, unless a script was replaced and its text not changed:
  * then there is no undo of the browser's. @param {KeyboardEvent} event */
 function on_script_key(event) {
-  const { ctrlKey, metaKey, shiftKey } = event, key = event.key.toLowerCase(), is_redo = key === "y" || shiftKey;
+  const { ctrlKey, metaKey, shiftKey } = event, key = event.key.toLowerCase();
+  const is_redo = key === "y" || shiftKey;
   const is_undo = (key === "y" || key === "z") && script.can_undo(is_redo);
   if (!(ctrlKey || metaKey) || !(key === "enter" || is_undo)) return;
   event.preventDefault();
@@ -61,11 +56,15 @@ function on_script_key(event) {
   else run();
 }
 
-/** F1 explains the line of the script that has the caret, else all commands. @param {KeyboardEvent} event */
+/** F1 explains the line of the script that has the caret, else all commands. Ctrl+A in the script takes the script, and
+ * elsewhere all replies. @param {KeyboardEvent} event */
 function on_key(event) {
-  if (event.key !== "F1") return;
+  const { key, ctrlKey, metaKey } = event, is_script = document.activeElement === the("script");
+  const is_all = key === "a" && (ctrlKey || metaKey) && !is_script;
+  if (key !== "F1" && !is_all) return;
   event.preventDefault();
-  open(document.activeElement === the("script") ? editor.help : line_page("", false), "help");
+  if (is_all) getSelection()?.selectAllChildren(the("replies"));
+  else open(is_script ? editor.help : line_page("", false), "help");
 }
 
 /** Has a button ask for a file, by an input. Its bytes are taken, or a sentence says why not.
@@ -77,7 +76,8 @@ function on_file(kind, most, take) {
   input.onchange = async () => {
     const { name, size } = input.files[0];
     try {
-      if (size > most) throw new RangeError(`it has ${grouped(size)} bytes, and at most ${grouped(most)} fit`);
+      const sizes = `it has ${grouped(size)} bytes, and at most ${grouped(most)} fit`;
+      if (size > most) throw new RangeError(sizes);
       await take(new Uint8Array(await input.files[0].arrayBuffer()), name);
     } catch (fault) {
       say(`${name} isn't taken: ${fault.message}.`);
@@ -88,13 +88,13 @@ function on_file(kind, most, take) {
 
 /** Hands a file to the browser, which saves it. @param {string} name @param {Uint8Array[]} parts */
 function save(name, parts) {
-  const link = Object.assign(document.createElement("a"), { href: URL.createObjectURL(new Blob(parts)), download: name });
-  link.click();
-  setTimeout(() => URL.revokeObjectURL(link.href), 10000);
+  const href = URL.createObjectURL(new Blob(parts));
+  Object.assign(document.createElement("a"), { href, download: name }).click();
+  setTimeout(() => URL.revokeObjectURL(href), 10000);
 }
 
 function listen() {
-  the("example").onchange = () => choosing.choose() && run();
+  the("example").onchange = () => choosing.choose() && running.run_instead();
   the("script").oninput = () => choosing.edited();
   the("script").onkeydown = on_script_key;
   the("undo").onclick = () => choosing.undo();
@@ -104,15 +104,20 @@ function listen() {
   the("stop").onclick = () => running.stop();
   the("faults").onclick = () => running.lead_to_fault();
   the("again").onclick = run_strictly;
-  the("view").onclick = () => running.is_read ? show_script() : running.show_replies(true);
-  the("replies").onclick = ({ target: it }) => it.closest("code") && show_script(it.closest("li").dataset.line - 1);
+  the("view").onclick = () => running.is_read ? running.edit(0) : running.show_replies(true);
+  the("replies").onclick = ({ target }) => {
+    if (target.closest("code")) running.edit(target.closest("li").dataset.line - 1);
+  };
   the("zeros").onclick = () => take_image();
   the("whole").onchange = () => (replies.is_whole = the("whole").checked);
   the("save-script").onclick = () => save("script.rsp", [script.bytes]);
   the("save-replies").onclick = () => save("replies.txt", replies.answers.replies);
-  the("save-image").onclick = () => save("rdram.bin", [running.left]);
+  the("save-image").onclick = () => save("rdram.bin", running.left ? [running.left] : []);
   on_file("script", LONGEST, (bytes, name) => choosing.take_file(bytes, name));
   on_file("image", LONGEST_IMAGE, take_image);
+  document.oncopy = (event) => replies.copy(event);
+  window.onbeforeprint = () => running.print(true);
+  window.onafterprint = () => running.print(false);
   window.onkeydown = on_key;
   window.onhashchange = () => choosing.show_linked();
   window.onbeforeunload = (event) => { if (choosing.is_at_stake) event.preventDefault(); };
@@ -124,9 +129,10 @@ async function begin() {
   the("absent").remove();
   the("ran").textContent = "";
   listen();
-  if (document.readyState !== "complete") await new Promise((done) => addEventListener("load", done, { once: true }));
+  if (document.readyState !== "complete") await new Promise((done) => addEventListener("load", done));
   await new Promise((done) => setTimeout(done)); // the browser puts back what it kept of an older visit
-  if (choosing.show_linked(false) || !["", EXAMPLES[0].script].includes(the("script").value)) {
+  const is_first = ["", EXAMPLES[0].script].includes(the("script").value);
+  if (choosing.show_linked(false) || !is_first) {
     const fault = await fault_of();
     if (fault) say(`${fault}.`);
     return;

@@ -1,11 +1,12 @@
-// @ts-check
 /** Shows replies: each beside its line of the script, or below it where there is no room beside. A reply of many lines
  * takes the rows that are free below its line, and folds what would push the next one down. */
+import { advice } from "./advice.js";
+import { Answers } from "./answers.js";
 import { coloured } from "./colours.js";
 import { element, grouped, last_below, the } from "./elements.js";
 import { fault_page } from "./help.js";
 import { FAULTS } from "./names.js";
-import { Rows, go_to, set, view } from "./rows.js";
+import { Rows, go_to, set, show_whole, view } from "./rows.js";
 
 /** How many rows are shown: no browser has a page of many millions. All replies can have hundreds of megabytes. And how
  * many around those in view are in the document: a short text as a whole, so a browser finds its words. */
@@ -13,83 +14,6 @@ const MOST = 400000, AROUND = 200;
 /** The columns of a row: at most so many, and beside the script at least so many, where there is room for so many rem. */
 const WIDEST = 90, LEAST = 46, BESIDE = 44;
 const LF = 10, TEXT = new TextDecoder();
-
-/** How many bytes of a line are shown. Longer lines are refused. */
-const WIDTH = 256;
-
-/** A refusal: the line of the script that is at fault, and the one whose reply says so. Lines count from 0. Its number
- * and name, whether it is the first one of its number, and the text of the block that it is in, with the address.
- * @typedef {{ line: number, answered: number, number: string, name: string, is_first: boolean,
- *   block?: { source: string, origin: number } }} Fault */
-
-class Answers {
-  #script;
-  /** Where the next line begins. */
-  #at = 0;
-  /** Where each answered line begins. @type {number[]} */
-  #begins = [];
-  /** For each line of a block the `asm` line that opened it, else -1. @type {number[]} */
-  #blocks = [];
-  /** The `asm` line of the block that is open, or -1. */
-  #block = -1;
-
-  /** The reply to each line, and the one to the script's end, if there is one. @type {Uint8Array[]} */
-  replies = [];
-  /** How many lines of the script are answered. */
-  count = 0;
-  /** @type {Fault[]} */
-  faults = [];
-  /** The fault of a line that is at fault, or whose reply is one. @type {Map<number, Fault>} */
-  fault_at = new Map();
-  /** The numbers of the faults that came. @type {Set<string>} */
-  #numbers = new Set();
-
-  /** @param {Uint8Array} [script] */
-  constructor(script = new Uint8Array()) { this.#script = script; }
-
-  /** Takes the reply to the next line, or to the script's end. @param {Uint8Array} reply */
-  add(reply) {
-    const begin = this.#at, line = this.count, is_line = begin < this.#script.length;
-    if (!is_line && !reply.length) return; // the script's end has a reply only in a block
-    this.#at = this.#script.indexOf(LF, begin) + 1 || this.#script.length;
-    this.#begins.push(begin);
-    this.#blocks.push(this.#block);
-    this.replies.push(reply);
-    if (is_line) this.count++;
-    this.#find_fault(line);
-    if (reply.length) this.#block = -1; // in a block only the last line has a reply
-    else if (this.#block < 0 && /^[ \t]*asm[ \t]/.test(this.text(line))) this.#block = line;
-  }
-
-  /** Notes a line whose reply is a fault. In a block the reply says which line of it is meant. @param {number} line */
-  #find_fault(line) {
-    const found = TEXT.decode(this.replies[line].subarray(0, 40)).match(/^fault (\d+) (\w+)(?: line (\d+))?/);
-    if (!found) return;
-    const opened = this.#block, [, number, name, at] = found, is_first = !this.#numbers.has(number);
-    const fault = { line, answered: line, number, name, is_first };
-    if (at && opened >= 0) Object.assign(fault, { line: opened + Number(at), block: this.#text_of(opened, line) });
-    this.#numbers.add(number);
-    this.faults.push(fault);
-    this.fault_at.set(line, fault).set(fault.line, fault);
-  }
-
-  /** The text of a block. @param {number} opened @param {number} line the one that ends it */
-  #text_of(opened, line) {
-    const text = this.#script.subarray(this.#begins[opened + 1], this.#begins[line]);
-    return { source: TEXT.decode(text), origin: Number(this.text(opened).trim().split(/\s+/)[1]) };
-  }
-
-  /** Whether a line is source text. @param {number} line */
-  is_source(line) { return this.#blocks[line] >= 0; }
-  /** Whether what is answered is the script's end. @param {number} line */
-  is_end(line) { return line === this.count; }
-
-  /** The text of a line, as much as is shown. @param {number} line */
-  text(line) {
-    const begin = this.#begins[line], end = this.#begins[line + 1] ?? this.#at;
-    return TEXT.decode(this.#script.subarray(begin, Math.min(end, begin + WIDTH))).trimEnd();
-  }
-}
 
 /** The rows of a line of text, which breaks between words if it can.
  * @param {string} text @param {number} columns @returns {string[]} */
@@ -107,19 +31,32 @@ function rows_of(reply, columns) {
   return count;
 }
 
+/** The rows of a line of a reply. A fault leads to what it means. @param {string} text @param {number} columns */
+function reply_rows(text, columns) {
+  const page = fault_page(text);
+  return broken(text, columns).map((it, n) => {
+    const row = element("samp", page ? "" : it, n ? "rest" : "");
+    if (page) Object.assign(row.appendChild(element("a", it)), { href: page, target: "help" });
+    return row;
+  });
+}
+
 export class Replies {
   #list = new Rows(the("replies"), (item) => this.#item(item), AROUND);
   /** The line of each item, how many rows it has, and how many of these are shown; and the row in which each begins.
    * @type {{ line: number, whole: number, shown: number }[]} */
   #items = [];
   #begins = /** @type {number[]} */ ([]);
+  /** The items that have a reply, and the rows in which these begin. @type {number[]} */
+  #told = [];
+  #told_begins = /** @type {number[]} */ ([]);
   /** How many answers are laid out, and the row after them. */
   #laid = 0;
   #end = 0;
   /** The lines whose replies somebody has unfolded. @type {Set<number>} */
   #unfolded = new Set();
   /** What the operands of lines at fault may be. @type {Map<number, string>} */
-  #whys = new Map();
+  #allowed = new Map();
   #columns = LEAST;
   #widest = 0;
   #is_whole = false;
@@ -130,13 +67,18 @@ export class Replies {
   /** Whether the replies are below their lines, which they show too. */
   is_below = false;
 
-  constructor() { for (const it of ["surface", "text", "probe"]) new ResizeObserver(() => this.#fit()).observe(the(it)); }
+  constructor() {
+    const sized = new ResizeObserver(() => this.#fit());
+    for (const it of ["surface", "text", "answers", "probe"]) sized.observe(the(it));
+    the("surface").addEventListener("scroll", () => this.#point());
+    the("replies").addEventListener("click", (/** @type {MouseEvent} */ event) => this.#toggle(event));
+  }
 
   /** Begins with another script. @param {Uint8Array} script */
   begin(script) {
     this.answers = new Answers(script);
     this.#unfolded.clear();
-    this.#whys.clear();
+    this.#allowed.clear();
     this.#row_of = (line) => line;
     the("answers").classList.remove("old");
     this.#again();
@@ -159,27 +101,50 @@ export class Replies {
   add(replies) {
     const { faults } = this.answers, count = faults.length;
     for (const reply of replies) this.answers.add(reply);
-    if (faults.slice(count).some((it) => it.line < it.answered)) this.#again(); // which were laid out without a fault
+    if (faults.slice(count).some((it) => it.line < it.answered)) this.#again(); // laid out without a fault
     else this.#lay();
   }
 
   /** Says at a line what its operand may be. @param {number} line @param {string} allowed */
   explain(line, allowed) {
-    this.#whys.set(line, `${allowed[0].toUpperCase()}${allowed.slice(1)}.`);
+    this.#allowed.set(line, allowed);
     this.#again();
   }
 
   /** Brings the answer to a line into view. @param {number} line */
   go_to(line) { go_to(this.#begins[Math.max(0, this.#items.findIndex((it) => it.line >= line))] ?? 0); }
 
-  /** Takes the room that there is: beside the script, if it is wide enough. */
-  #fit() {
-    const room = view.width / view.letter, rem = parseFloat(getComputedStyle(document.documentElement).fontSize);
-    const is_below = view.width < BESIDE * rem; // the letters are smaller then
-    const rest = room - (the("numbers").offsetWidth + the("text").offsetWidth) / view.letter;
-    const least = Math.floor(is_below ? room - 2 : Math.max(LEAST, rest - String(this.answers.count).length - 4));
-    const columns = Math.max(20, Math.min(WIDEST, least));
-    if (is_below === this.is_below && columns === this.#columns) return;
+  /** Lays out for paper, each line with its whole reply below it; or for the screen again. @param {boolean} is */
+  print(is) {
+    show_whole(is);
+    this.#fit(is);
+  }
+
+  /** Copies replies whole if more than one is chosen, or one that is folded; and no line of the script with them. What
+   * is chosen within a reply the browser copies. @param {ClipboardEvent} event */
+  copy(event) {
+    const chosen = getSelection(), list = the("replies"), { replies } = this.answers;
+    if (!chosen?.rangeCount || !list.contains(chosen.anchorNode)) return;
+    const items = [...chosen.getRangeAt(0).cloneContents().querySelectorAll("li")]
+      .filter((it) => it.querySelector("samp")?.textContent)
+      .map((it) => this.#items[Number(it.getAttribute("aria-posinset")) - 1]);
+    const is_all = chosen.anchorNode === list; // also those that aren't in the document
+    if (!is_all && !(items.length > 1 || items[0]?.shown < items[0]?.whole)) return;
+    const given = is_all ? replies : items.map(({ line }) => replies[line]);
+    event.clipboardData?.setData("text/plain", given.map((it) => TEXT.decode(it)).join(""));
+    event.preventDefault();
+  }
+
+  /** Takes the room that there is: beside the script, if it is wide enough, and not on paper. */
+  #fit(is_paper = view.is_whole) {
+    const { width, letter } = view, rem = parseFloat(getComputedStyle(document.documentElement).fontSize);
+    const is_below = is_paper || width < BESIDE * rem; // the letters are smaller then
+    const text = the("numbers").offsetWidth + the("text").offsetWidth, { offsetWidth } = the("answers");
+    const beside = Math.max(LEAST, (width - text) / letter - String(this.answers.count).length - 4);
+    const room = Math.floor(is_below ? width / letter - 2 : beside);
+    const columns = is_paper ? WIDEST : Math.max(20, Math.min(WIDEST, room));
+    the("answers").classList.toggle("over", text + offsetWidth > width + 1);
+    if (is_below === this.is_below && columns === this.#columns) return this.#point();
     [this.is_below, this.#columns] = [is_below, columns];
     the("surface").classList.toggle("narrow", is_below);
     this.#again();
@@ -187,7 +152,8 @@ export class Replies {
 
   /** Lays out all that is answered. */
   #again() {
-    [this.#items, this.#begins, this.#laid, this.#end, this.#widest] = [[], [], 0, 0, 0];
+    [this.#items, this.#begins, this.#told, this.#told_begins] = [[], [], [], []];
+    [this.#laid, this.#end, this.#widest] = [0, 0, 0];
     this.#lay();
   }
 
@@ -199,7 +165,9 @@ export class Replies {
     the("unshown").textContent = this.#laid < replies.length ? told : "";
     set("--widest", this.#widest);
     const begins = this.#begins, count = begins.length;
-    this.#list.show({ count, rows: this.#end, begin: (it) => begins[it], at: (row) => last_below(begins, row) });
+    const at = (/** @type {number} */ row) => last_below(begins, row);
+    this.#list.show({ count, rows: this.#end, begin: (it) => begins[it], at });
+    this.#point();
   }
 
   /** @param {number} line */
@@ -209,6 +177,10 @@ export class Replies {
     if (!whole) return;
     if (this.#end > row) this.#fold_last(row);
     const begin = Math.max(row, this.#end);
+    if (count + why) {
+      this.#told.push(this.#items.length);
+      this.#told_begins.push(begin);
+    }
     this.#items.push({ line, whole, shown: whole });
     this.#begins.push(begin);
     this.#end = begin + whole;
@@ -225,16 +197,32 @@ export class Replies {
     this.#end = begin + last.shown;
   }
 
-  /** Why a line is at fault, in rows: what its operand may be, else what the fault means, once for each fault.
-   * @param {number} line */
-  #why(line) {
-    const fault = this.answers.fault_at.get(line);
-    if (fault?.line !== line) return [];
-    const why = this.#whys.get(line) ?? (fault.is_first ? FAULTS[fault.number] : fault.block && `${fault.name}.`);
-    return why ? broken(why, this.#columns) : [];
+  /** Leads to the next reply if none is in view, as after a long block. */
+  #point() {
+    const top = view.top / view.row, bottom = top + view.height / view.row - 1, begins = this.#told_begins;
+    const last = last_below(begins, bottom), is_first = begins[last] > bottom, item = this.#told[last];
+    const is_seen = !is_first && begins[last] + this.#items[item]?.shown > top;
+    const next = this.#items[this.#told[is_first ? last : last + 1]], button = the("below").firstElementChild;
+    button.hidden = is_seen || !next;
+    if (button.hidden) return;
+    button.textContent = `Next reply: line ${grouped(this.#row_of(next.line) + 1)} \u2193`;
+    button.onclick = () => this.go_to(next.line);
   }
 
-  /** An item of the list: a reply, with its line where that isn't beside it, and why it is at fault.
+  /** Why a line is at fault, in rows: what its operand may be, else what the fault means, once for each fault; and what
+   * to write, or what helps. @param {number} line */
+  #why(line) {
+    const { answers } = this, fault = answers.fault_at.get(line), allowed = this.#allowed.get(line);
+    if (fault?.line !== line) return [];
+    const [cause, help] = fault.is_first ? FAULTS[fault.number] : [fault.block && `${fault.name}.`];
+    const why = allowed ? `${allowed[0].toUpperCase()}${allowed.slice(1)}.` : cause;
+    const written = answers.is_end(line) ? "" : advice(Number(fault.number), answers.text(line));
+    const rest = written ? `Write: ${written}` : !allowed && help;
+    return [why, rest].flatMap((it) => it ? broken(it, this.#columns) : []);
+  }
+
+  /** An item of the list: a reply, with its line where that isn't beside it, and why it is at fault. What is folded is
+   * there for who hears the page.
    * @param {number} item */
   #item(item) {
     const { line, whole, shown } = this.#items[item], { answers } = this, is_end = answers.is_end(line);
@@ -246,11 +234,14 @@ export class Replies {
       const text = coloured("code", answers.text(line), answers.is_source(line));
       made.append(is_end ? element("em", "the script's end") : text);
     }
-    const lines = TEXT.decode(answers.replies[line]).split("\n").slice(0, -1);
-    const rows = lines.flatMap((it) => reply_rows(it, this.#columns));
+    const rows = answers.lines(line).flatMap((it) => reply_rows(it, this.#columns));
     made.append(...rows.slice(0, shown), ...this.#why(line).map((it) => element("p", it.trimEnd())));
-    if (folded) made.append(this.#fold_button(line, folded, rows.length));
-    else if (this.#unfolded.has(line) && !this.is_below) rows[0].after(this.#fold_button(line, 0, rows.length));
+    if (folded) {
+      const rest = rows.slice(shown).map((it) => it.textContent).join("\n");
+      made.append(this.#fold_button(line, folded, rows.length), element("samp", rest, "folded"));
+    } else if (this.#unfolded.has(line) && !this.is_below) {
+      rows[0].after(this.#fold_button(line, 0, rows.length));
+    }
     return made;
   }
 
@@ -260,21 +251,23 @@ export class Replies {
     const does = folded ? `${folded} more of ${count} lines` : "fold its reply";
     made.setAttribute("aria-label", `Line ${this.#row_of(line) + 1}: ${does}`);
     made.setAttribute("aria-expanded", String(!folded));
-    made.onclick = () => {
-      this.#unfolded[folded ? "add" : "delete"](line);
-      this.#again();
-      the("replies").querySelector(`[data-line="${this.#row_of(line) + 1}"] button`)?.focus({ preventScroll: true });
-    };
     return made;
   }
-}
 
-/** The rows of a line of a reply. A fault leads to what it means. @param {string} text @param {number} columns */
-function reply_rows(text, columns) {
-  const page = fault_page(text);
-  return broken(text, columns).map((it, n) => {
-    const row = element("samp", page ? "" : it, n ? "rest" : "");
-    if (page) Object.assign(row.appendChild(element("a", it)), { href: page, target: "help" });
-    return row;
-  });
+  /** Unfolds a reply, or folds it. A finger that reaches two buttons means the nearer one. @param {MouseEvent} event */
+  #toggle({ target, clientY, detail }) {
+    const pressed = /** @type {Element} */ (target).closest("button");
+    if (!pressed) return;
+    const distance = (/** @type {Element} */ it) => {
+      const { top, bottom } = it.getBoundingClientRect();
+      return Math.abs(top + bottom - 2 * clientY);
+    };
+    const buttons = [...the("replies").querySelectorAll("button")];
+    const nearest = buttons.reduce((a, b) => distance(b) < distance(a) ? b : a);
+    const place = (detail ? nearest : pressed).closest("li").getAttribute("aria-posinset");
+    const { line, whole, shown } = this.#items[place - 1];
+    this.#unfolded[whole > shown ? "add" : "delete"](line);
+    this.#again();
+    the("replies").querySelector(`[aria-posinset="${place}"] button`)?.focus({ preventScroll: true });
+  }
 }

@@ -1,4 +1,3 @@
-// @ts-check
 /** Lists in the page's one scroller, whose rows have one height. Only what is in view and some rows around is in the
  * document, so a million lines cost no more than some hundred: to lay out, and to whatever reads the page aloud. */
 import { the } from "./elements.js";
@@ -7,13 +6,19 @@ import { the } from "./elements.js";
 const LEAST = 8, surface = the("surface");
 /** In pixels: how wide a letter is and how high a row, as they are drawn, and what is in view. A browser that is asked for
  * them lays out the whole text first: so it isn't when a key was pressed. */
-export const view = { letter: 1, row: 1, width: 0, height: 0, top: 0 };
+export const view = { letter: 1, row: 1, width: 0, height: 0, top: 0, is_whole: false };
 const lists = /** @type {Rows[]} */ ([]);
 
 function measure() {
   const { width, height } = the("probe").getBoundingClientRect();
   Object.assign(view, { letter: width / 10 || 1, row: height || 1 });
   [view.width, view.height] = [surface.clientWidth, surface.clientHeight];
+  for (const it of lists) it.show();
+}
+
+/** Has all rows in the document, as paper needs them, or only those around the view. @param {boolean} is */
+export function show_whole(is) {
+  view.is_whole = is;
   for (const it of lists) it.show();
 }
 
@@ -52,9 +57,9 @@ export class Rows {
   /** Puts items into the document, unless so many rows around those in view are there. @param {number} around */
   fill(around = LEAST) {
     const { count, rows, begin, at } = this.#items, bottom = Math.ceil((view.top + view.height) / view.row);
-    const top = Math.min(rows, Math.floor(view.top / view.row));
+    const top = Math.min(rows, Math.floor(view.top / view.row)), most = view.is_whole ? rows : this.#around;
     if (this.#first <= Math.max(0, top - around) && Math.min(rows, bottom + around) <= this.#end) return;
-    [this.#first, this.#end] = [Math.max(0, top - this.#around), Math.min(rows, bottom + this.#around)];
+    [this.#first, this.#end] = [Math.max(0, top - most), Math.min(rows, bottom + most)];
     const made = [];
     for (let it = at(this.#first); it < count && begin(it) < this.#end; it++) {
       const item = this.#make(it);

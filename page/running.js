@@ -1,4 +1,3 @@
-// @ts-check
 /** Runs the script: shows whether a run is under way, how it has ended, and its faults. */
 import { counted, the } from "./elements.js";
 import { Text } from "./text.js";
@@ -6,12 +5,13 @@ import { Text } from "./text.js";
 const WORKER = new URL("worker.js", import.meta.url);
 
 /** What is run: a script with an image, if it isn't the library's zeros; or the text of a block that has a fault.
- * @typedef {{ script: Uint8Array, image?: Uint8Array, is_strict?: boolean } | { source: string, origin: number }} Asked */
+ * @typedef {{ script: Uint8Array, image?: Uint8Array, is_strict?: boolean } |
+ *   { source: string, origin: number }} Asked */
 /** What ended a run: its script's end, with the image that it left; a stop; or a fault, in a sentence. Of a text: what
  * its operand may be.
  * @typedef {{ rdram?: Uint8Array, allowed?: string, is_stopped?: boolean, fault?: string }} Ended */
 
-/** The worker stays for the next run. One that is stopped or fails takes it along, and the bench that is in it. */
+/** The worker stays for the next run. One that is stopped or fails takes it along, and the session that is in it. */
 export class Runs {
   #worker = /** @type {Worker | null} */ (null);
   #last = /** @type {Promise<any>} */ (Promise.resolve());
@@ -20,7 +20,7 @@ export class Runs {
 
   /** Answers what is asked, after the runs before it. `hear` gets the replies as they come.
    * @param {Asked} asked @param {(replies: Uint8Array[]) => void} hear @returns {Promise<Ended>} */
-  run(asked, hear) {
+  run(asked, hear = () => {}) {
     this.#last = this.#last.then(() => this.#answered(asked, hear));
     return this.#last;
   }
@@ -38,7 +38,7 @@ export class Runs {
         if (replies) hear(replies);
         if (ended) end(ended);
       };
-      worker.onerror = async ({ message }) => end({ fault: message || await why_not(WORKER) }); // of load_error.js
+      worker.onerror = async ({ message }) => end({ fault: message || await why_not(WORKER) });
       worker.postMessage(asked);
     });
     const ended = await under_way.catch((fault) => ({ fault: fault.message }));
@@ -60,6 +60,8 @@ export class Running {
   #trials;
   #runs = new Runs();
   #is_running = false;
+  /** Whether the script runs again when the run that is under way has ended. */
+  #is_next = false;
   /** The text that was run, and whether it is still the script. */
   #ran = new Text("");
   #is_as_run = false;
@@ -74,7 +76,8 @@ export class Running {
   is_read = false;
 
   /** @param {import("./script.js").Script} script @param {import("./editor.js").Editor} editor
-   * @param {import("./replies.js").Replies} replies @param {Runs} trials explains faults while a run is under way */
+   * @param {import("./replies.js").Replies} replies
+   * @param {Runs} trials explains faults while a run is under way */
   constructor(script, editor, replies, trials) {
     [this.#script, this.#editor, this.#replies, this.#trials] = [script, editor, replies, trials];
   }
@@ -82,17 +85,26 @@ export class Running {
   /** Runs the script, unless a run is under way. */
   async run() {
     if (this.#is_running) return;
-    const { bytes } = this.#script, replies = this.#replies, is_strict = the("strict").checked;
-    [this.left, this.#led, this.#known, this.#ran, this.#is_as_run] = [undefined, -1, 0, this.#editor.text, true];
+    const script = this.#script.bytes, is_strict = the("strict").checked, { image } = this;
+    [this.left, this.#led, this.#known, this.#is_next] = [undefined, -1, 0, false];
+    [this.#ran, this.#is_as_run] = [this.#editor.text, true];
     this.#set_running(true);
     this.#editor.mark([]);
-    replies.begin(bytes);
+    this.#replies.begin(script);
     this.#tell("Running");
     this.show_replies(true);
-    const ended = await this.#runs.run({ script: bytes, image: this.image, is_strict }, (given) => this.#hear(given));
+    const ended = await this.#runs.run({ script, image, is_strict }, (given) => this.#hear(given));
     this.left = ended.rdram;
     this.#set_running(false);
     this.#tell(this.#end_of(ended, is_strict), is_strict);
+    if (this.#is_next) this.run();
+  }
+
+  /** Runs the script. A run that is under way is stopped before. */
+  run_instead() {
+    this.#is_next = true;
+    if (this.#is_running) this.stop();
+    else this.run();
   }
 
   stop() { this.#runs.stop(); }
@@ -113,10 +125,25 @@ export class Running {
   show_replies(is) {
     this.is_read = is;
     the("surface").classList.toggle("reading", is);
+    if (is) the("surface").scrollLeft = 0;
     the("view").textContent = is ? "Edit" : "Replies";
     the("view").hidden = !this.#is_as_run;
     this.#editor.draw();
     this.#replies.add([]);
+  }
+
+  /** Where there is no room beside: shows the script again, and a line of it. @param {number} line */
+  edit(line) {
+    this.show_replies(false);
+    this.#editor.go_to(line);
+  }
+
+  /** Lays out for paper: each line with its reply, or the script if it was changed since; or for the screen again.
+   * @param {boolean} is */
+  print(is) {
+    const is_read = is ? this.#is_as_run && this.#replies.answers.count > 0 : this.is_read;
+    the("surface").classList.toggle("reading", is_read);
+    this.#replies.print(is);
   }
 
   /** Leads to the next fault: in the script if that is still the one that was run and is shown, else in the replies. */
@@ -137,9 +164,10 @@ export class Running {
     for (const it of faults.slice(known, MOST)) this.#explain(it);
   }
 
-  /** Says what the operand at fault may be, if the library knows. @param {import("./replies.js").Fault} fault */
+  /** Says what the operand at fault may be, if the library knows. @param {import("./answers.js").Fault} fault */
   async #explain({ line, block }) {
-    const { answers } = this.#replies, { allowed } = block ? await this.#trials.run(block, () => {}) : { allowed: "" };
+    if (!block) return;
+    const { answers } = this.#replies, { allowed } = await this.#trials.run(block);
     if (allowed && answers === this.#replies.answers) this.#replies.explain(line, allowed);
   }
 
@@ -158,7 +186,7 @@ export class Running {
     const { count, faults } = this.#replies.answers, lines = counted(count, "line");
     if (is_stopped) return `Stopped after ${lines}. The machine is gone: there is no RDRAM to save.`;
     if (fault) return `${fault}.${count ? ` Answered: ${lines}.` : ""}`;
-    return is_strict && faults.length ? `Stopped at line ${faults[0].line + 1}.` : `Ran ${lines}.`;
+    return is_strict && faults.length ? `Stopped at line ${faults[0].line + 1}.` : `Done: ${lines}.`;
   }
 
   /** Says how it goes, and shows the buttons for faults. @param {string} sentence */

@@ -1,4 +1,3 @@
-// @ts-check
 /** The script: a text that can be changed, and its bytes. */
 
 /** How many bytes a script may have. */
@@ -33,7 +32,8 @@ export class Script {
 
   /** Shows the script again that was replaced last, or the one that undo has replaced. @param {boolean} is_redo */
   undo(is_redo = false) {
-    const [from, to] = is_redo ? [this.#redone, this.#undone] : [this.#undone, this.#redone], last = from.pop();
+    const [from, to] = is_redo ? [this.#redone, this.#undone] : [this.#undone, this.#redone];
+    const last = from.pop();
     if (!last) return;
     to.push(this.bytes);
     this.#put(last);

@@ -1,4 +1,3 @@
-// @ts-check
 /** Where the script is from: an example, a link, a file, or undo. */
 import { element, grouped, the } from "./elements.js";
 import { EXAMPLES } from "./examples.js";
@@ -17,8 +16,8 @@ function fragment_of(script) {
     const most = `a link carries at most ${grouped(LONGEST)}`;
     throw new RangeError(`The script has ${grouped(script.length)} bytes, and ${most}: save it instead.`);
   }
-  const base64 = btoa(String.fromCharCode(...script));
-  return `#bytes=${script.length}&script=${base64.replaceAll("+", "-").replaceAll("/", "_").replaceAll("=", "")}`;
+  const base64 = btoa(String.fromCharCode(...script)).replaceAll("+", "-").replaceAll("/", "_");
+  return `#bytes=${script.length}&script=${base64.replaceAll("=", "")}`;
 }
 
 /** The script that such a part carries, or null if it carries none. @param {string} fragment */

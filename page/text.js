@@ -1,4 +1,3 @@
-// @ts-check
 /** The lines of a script's text. */
 import { last_below } from "./elements.js";
 
@@ -72,9 +71,10 @@ export class Text {
    * within stay as near as they can. @param {Text} older @returns {(line: number) => number} */
   moved_from(older) {
     const [a, b] = [older.all, this.all], most = Math.min(a.length, b.length);
+    const is_same = (/** @type {number} */ at, /** @type {number} */ to) => a.charCodeAt(at) === b.charCodeAt(to);
     let same = 0, rest = 0;
-    while (same < most && a.charCodeAt(same) === b.charCodeAt(same)) same++;
-    while (rest < most - same && a.charCodeAt(a.length - 1 - rest) === b.charCodeAt(b.length - 1 - rest)) rest++;
+    while (same < most && is_same(same, same)) same++;
+    while (rest < most - same && is_same(a.length - 1 - rest, b.length - 1 - rest)) rest++;
     const line = this.line_at(b.length - rest), is_whole = this.range(line).begin === b.length - rest;
     const after = line + (is_whole ? 0 : 1), shift = this.count - older.count;
     return (it) => it + shift >= after ? it + shift : Math.min(it, after);

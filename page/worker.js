@@ -1,4 +1,3 @@
-// @ts-check
 /** Answers scripts by the library: in a worker, so no run freezes the page. It gets a script and an image, and gives
  * replies as they come. Its last message has the image that the script leaves, or says why there is none. It also gets
  * texts of blocks, and says what the operand at fault may be. */
@@ -17,30 +16,22 @@ const library = import("./rsp/rsp.js").catch(async (fault) => {
 });
 library.catch(() => {});
 
-function is_fault(reply) { return String.fromCharCode(...reply.subarray(0, 6)) === "fault "; }
-
-/** The reply to each line, and to the script's end. With `is_strict` a fault is the last one. */
-function * replies_of(session, script, is_strict) {
-  for (const reply of session.iter_feed(script)) {
-    yield reply;
-    if (is_strict && is_fault(reply)) return;
-  }
-  yield session.end();
-}
-
-/** Answers a script. The image as it leaves it. */
+/** Answers a script, with `is_strict` up to the first fault, as the library does. The image as it leaves it. */
 async function answered({ script, image, is_strict }) {
-  const { Session, Status } = await library, session = new Session(image);
+  const { ScriptError, Session, Status } = await library, { strict_replies } = await import("./rsp/strict.js");
+  const session = new Session(image);
   let replies = [], since = performance.now();
   try {
-    for (const reply of replies_of(session, script, is_strict)) {
+    for (const reply of is_strict ? strict_replies(session, script) : session.iter_feed(script)) {
       replies.push(reply);
       if (performance.now() - since < GATHERED) continue;
       postMessage({ replies });
       [replies, since] = [[], performance.now()];
     }
+    if (!is_strict) replies.push(session.end());
     return session.rdram;
   } catch (fault) {
+    if (fault instanceof ScriptError) return session.rdram;
     throw new Error(REFUSED[Status[fault.status]] ?? fault.message);
   } finally {
     postMessage({ replies });
@@ -55,7 +46,8 @@ async function allowed_in({ source, origin }) {
 
 onmessage = async ({ data }) => {
   try {
-    postMessage({ ended: data.script === undefined ? { allowed: await allowed_in(data) } : { rdram: await answered(data) } });
+    const ended = data.script ? { rdram: await answered(data) } : { allowed: await allowed_in(data) };
+    postMessage({ ended });
   } catch (fault) {
     postMessage({ ended: { fault: fault.message } });
   }

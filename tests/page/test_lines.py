@@ -1,10 +1,13 @@
-"""A script's lines as the page draws them below a text area whose letters are transparent, told by Node.
+"""A script's lines as the page draws them below a text area whose letters are transparent, and what it
+says to write in place of one at fault, told by Node; and the types of the page's modules, told by tsc.
 
-They fail if the page shows another line than the one that runs, or if a line takes so long that the page
-stands still.
+They fail if the page shows another line than the one that runs, if a line takes so long that the page
+stands still, or if the page says another thing of a line than `rsp asm --explain`.
 """
 
+import csv
 import json
+import re
 import shutil
 from pathlib import Path
 from typing import Any, Callable
@@ -12,12 +15,11 @@ from typing import Any, Callable
 import pytest
 
 from lib import TOP
-from lib.processes import succeeds
+from lib.processes import run, succeeds
 from rsp_tools.systems import web_page as pages
 
-pytestmark = pytest.mark.needs("node")
 Told = Callable[[str], Any]
-# What ends a line for a browser, though not for the bench, and characters that have no colour.
+# What ends a line for a browser, though not for a session, and characters that have no colour.
 CHARACTERS = "\u2028\u2029\r\v\f\x85\0\x1b\xa0\ufeff\xe9\U0001f600"
 FORMS = ("%s", "add%s $1", "add%s$1, $2", "a%s: add $1", "a: %sadd $1", "add $1%s", "add $1 # x%sy", "%send")
 LONGEST = 2000  # characters of a line that is drawn in colours
@@ -38,21 +40,30 @@ TIMED = """(() => {
 
 
 @pytest.fixture
-def told(folder: Path) -> Told:
-    """What an expression over the modules of the page is, in JSON."""
+def modules(folder: Path) -> Path:
+    """The page's modules, with those that are made."""
     for path in (TOP / "page").glob("*.js"):
         shutil.copy(path, folder)
     (folder / "names.js").write_bytes(pages.names())
+    (folder / "examples.js").write_bytes(pages.scripts())
     (folder / "package.json").write_text('{ "type": "module" }')
+    return folder
+
+
+@pytest.fixture
+def told(modules: Path) -> Told:
+    """What an expression over the modules of the page is, in JSON."""
 
     def tell(expression: str) -> Any:
-        imports = 'import { parts_of } from "./colours.js"; import { line_page } from "./help.js";'
-        (folder / "told.js").write_text(f"{imports}\nconsole.log(JSON.stringify({expression}));\n")
-        return json.loads(succeeds("node", folder / "told.js"))
+        imported = {"parts_of": "colours", "line_page": "help", "advice": "advice"}
+        lines = [f'import {{ {name} }} from "./{module}.js";' for name, module in imported.items()]
+        (modules / "told.js").write_text("\n".join([*lines, f"console.log(JSON.stringify({expression}));\n"]))
+        return json.loads(succeeds("node", modules / "told.js"))
 
     return tell
 
 
+@pytest.mark.needs("node")
 def test_all_characters_are_drawn(told: Told) -> None:
     """The parts of a line are the line, in source text and outside."""
     lines = [form % it for form in FORMS for it in CHARACTERS]
@@ -61,19 +72,66 @@ def test_all_characters_are_drawn(told: Told) -> None:
     assert texts == [it for it in lines for _ in range(2)]
 
 
+@pytest.mark.needs("node")
 def test_colours_beside_such_characters(told: Told) -> None:
     parts = told('parts_of("a:\u2028ADD\u2028$1, 2 # \u2029x", true)')
     kinds = {text: kind for kind, text in parts if kind}
     assert kinds == {"ADD": "mnemonic", "$1": "register", "2": "number", "# \u2029x": "comment"}
 
 
+@pytest.mark.needs("node")
 @pytest.mark.parametrize("line", SLOW.values(), ids=SLOW)
 def test_long_lines_take_no_time(line: str, told: Told) -> None:
     """A browser draws some 50 lines for a key."""
     assert told(TIMED.replace("LINE", json.dumps(line))) < 2000
 
 
+@pytest.mark.needs("node")
 def test_comment_is_not_explained(told: Told) -> None:
     """A comment is a line's whole rest."""
     pages_of = told('["# \u2028add", "lui # \u2028add"].map((it) => line_page(it, true))')
     assert [it.rpartition("/")[2] for it in pages_of] == ["ASSEMBLY.html", "INSTRUCTIONS.html#lui"]
+
+
+@pytest.mark.needs("node")
+def test_advice(told: Told) -> None:
+    """Of lines and names that aren't taken the page says what the program says, and of a command its form."""
+    with (TOP / "tests/program/explanations.tsv").open() as table:
+        rows = [it for it in csv.DictReader(table, delimiter="\t", quoting=csv.QUOTE_NONE)]
+    wanted = {
+        it["line"]: (int(it["fault"][:2]), it["write"].strip("-")) for it in rows if it["operand"] == "-"
+    }
+    wanted.update(
+        {"mem dmem 4": (30, "mem BANK ADDR LEN (ADDR 0 to 16777215, LEN 1 to 256)"), "foo": (30, "")}
+    )
+    wanted["unbreak 010"] = (31, "unbreak ADDR (a multiple of 4 from 0 to 4092)")
+    wanted["break /* the end */"] = (12, "a comment, after # or ;")
+    given = json.dumps([[number, line] for line, (number, _) in wanted.items()])
+    found = told(f'{given}.map(([number, line]) => advice(number, line) ?? "")')
+    assert dict(zip(wanted, found)) == {line: written for line, (_, written) in wanted.items()}
+    assert len(found) > 40
+
+
+OPTIONS = """{
+  "allowJs": true, "checkJs": true, "noEmit": true, "strict": true, "noImplicitAny": false,
+  "useUnknownInCatchVariables": false, "module": "es2022", "moduleResolution": "node",
+  "target": "es2022", "lib": ["es2022", "dom", "dom.iterable"]
+}"""
+GLOBAL = (
+    "declare function why_not(url: URL): Promise<string>; interface HTMLElement { hidePopover(): void }\n"
+)
+
+
+@pytest.mark.needs("tsc")
+def test_types(modules: Path) -> None:
+    """tsc, which takes a tag of a comment only where a line begins, finds no fault in the page's modules, and
+    one that is planted."""
+    for path in modules.glob("*.js"):
+        path.write_text(re.sub(r" (?=@(?:param|returns|type)\b)", "\n * ", path.read_text()))
+    (modules / "global.d.ts").write_text(GLOBAL)
+    given = {"compilerOptions": json.loads(OPTIONS), "files": ["page.js", "global.d.ts"]}
+    (modules / "tsconfig.json").write_text(json.dumps(given))
+    assert run("tsc", "-p", ".", cwd=modules).stdout == ""
+    with (modules / "page.js").open("a") as page:
+        page.write("replies.go_to('1');\n")
+    assert run("tsc", "-p", ".", cwd=modules).stdout.count("error TS") == 1

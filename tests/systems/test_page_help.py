@@ -86,11 +86,8 @@ def test_words(name: str, page: Page, host: Host, pages: Path) -> None:
 def test_nothing_is_cut_off(name: str, width: int, page: Page, host: Host, pages: Path) -> None:
     """The page isn't wider than the screen: tables and code scroll."""
     page.open(f"{host.url}{pages.parent.name}/help/{name}.html")
-    screen = {"width": width, "height": 740, "deviceScaleFactor": 1, "mobile": width < 1000}
-    page.call("Emulation.setDeviceMetricsOverride", **screen)
-    page.settle()
-    wide = page.value("document.documentElement.scrollWidth")
-    page.call("Emulation.clearDeviceMetricsOverride")
+    with page.sized(width, 740, is_mobile=width < 1000):
+        wide = page.value("document.documentElement.scrollWidth")
     assert wide <= width
 
 

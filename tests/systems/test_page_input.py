@@ -66,7 +66,7 @@ def test_link(fragment: str, told: str, page: Page) -> None:
 def test_image(length: int, page: Page) -> None:
     """It isn't taken, and the one that is there stays."""
     page.open_image(bytes(64))
-    why = f"Bench: image has {length} bytes, not a multiple of 8 from 64 to 8388608."
+    why = f"Session: image has {length} bytes, not a multiple of 8 from 64 to 8388608."
     if length > 8388608:
         why = "it has 8,388,616 bytes, and at most 8,388,608 fit."
     assert page.open_file("image-file", bytes(length), "bad.bin") == f"bad.bin isn't taken: {why}"
@@ -184,18 +184,6 @@ def test_wrong_type(name: str, page: Page, lacking: Path) -> None:
         told = f"{name} is served as text/plain, and browsers take modules as text/javascript: the server "
         told += "needs a type for .js."
         page.until(f"document.body.innerText.includes({json.dumps(told)})")
-    finally:
-        server.shutdown()
-        server.server_close()
-
-
-def test_wrong_type_of_the_library(page: Page, lacking: Path) -> None:
-    """rsp.wasm is taken with any type."""
-    server = Server({"page": lacking}, {"rsp.wasm": "text/plain"})
-    try:
-        page.open(f"http://127.0.0.1:{server.server_address[1]}/page/index.html")
-        page.ready()
-        assert page.text("ran") == "Ran 14 lines."
     finally:
         server.shutdown()
         server.server_close()

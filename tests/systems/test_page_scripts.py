@@ -90,7 +90,7 @@ def test_many_replies(page: Page) -> None:
 
 
 def test_stop(page: Page) -> None:
-    """A run is stopped; the page is alive meanwhile, and the next run has a new bench."""
+    """A run is stopped; the page is alive meanwhile, and the next run has a new machine."""
     page.type(ENDLESS)
     page.click("run")
     page.until(f"{SHOWN} > 6")
@@ -107,7 +107,7 @@ def test_stop(page: Page) -> None:
     assert replies == "ok 2 words\n" + (count - 1) * "stop Limit steps 1000000 pc 000\n"
     assert page.run() == "step Done pc 004\n"
     is_new = page.saved("save-image", "rdram.bin") == bytes(1 << 22)
-    assert is_new, "the bench isn't new"
+    assert is_new, "the machine isn't new"
 
 
 @pytest.mark.parametrize("script", (b"step\n", b"step", bytes(range(256)), b"", b"#" * LINKED), ids=len)

@@ -25,9 +25,10 @@ def version(number: int) -> pages.Files:
     files = pages.parts(pages.LIBRARY)
     files["style.css"] += f":root {{ --version: {number}; }}\n".encode()
     files["page.js"] += f'document.documentElement.dataset.version = "{number}";\n'.encode()
-    end = b"yield bench.end();"
+    end = b"replies.push(session.end());"
     assert end in files["worker.js"]
-    files["worker.js"] = files["worker.js"].replace(end, b'yield new TextEncoder().encode("%d\\n");' % number)
+    told = b'replies.push(new TextEncoder().encode("%d\\n"));' % number
+    files["worker.js"] = files["worker.js"].replace(end, told)
     return files
 
 

@@ -6,15 +6,17 @@ import re
 import subprocess
 import sys
 import time
+from contextlib import contextmanager
 from pathlib import Path
-from typing import Any, Callable, List
+from typing import Any, Callable, Iterator, List
 
 LINKED = 24000  # bytes of a script that a link carries
 TYPED = 4000  # bytes that are typed: Chromium takes long for more
-LONGEST = 280  # seconds that the page may take
+LONGEST = 60  # seconds that the page may take
 # What Selenium calls these keys.
 TAB, ENTER, SHIFT, CONTROL, DOWN, F1 = "\ue004", "\ue007", "\ue008", "\ue009", "\ue015", "\ue031"
 FIRST = "Eight sums at once"  # the example that is there at first
+LINES = {"vregs": 32, "regs": 9, "step": 1}  # how many lines a reply has
 
 
 def the(name: str) -> str:
@@ -32,8 +34,8 @@ ALL_SHOWN = f"""(async () => {{
   if (!{the('whole')}.checked) {the('whole')}.click();
   const height = {the('probe')}.getBoundingClientRect().height;
   let count = 0; // a reply may be far below the first line
-  const isDone = () => count && Object.keys(found).length === count;
-  for (let top = 0; top < scroller.scrollHeight && !isDone(); top += 100 * height) {{
+  const is_whole = () => count && Object.keys(found).length === count;
+  for (let top = 0; top < scroller.scrollHeight && !is_whole(); top += 100 * height) {{
     scroller.scrollTo(0, top);
     await painted();
     for (const it of {the('replies')}.children) {{
@@ -259,3 +261,33 @@ class Page:
     def settle(self) -> None:
         """Lets the page do what is under way."""
         self.value("new Promise((done) => setTimeout(done, 100))")
+
+    def painted(self) -> None:
+        """Waits until what was drawn is painted."""
+        self.value("new Promise((done) => requestAnimationFrame(() => requestAnimationFrame(done)))")
+
+    @contextmanager
+    def sized(
+        self, width: int, height: int, *, pixel: float = 1, text: int = 100, is_mobile: bool = False
+    ) -> Iterator[None]:
+        """A screen of another size, with so many pixels for one of the page, and text of so many per cent."""
+        screen = {"width": width, "height": height, "deviceScaleFactor": pixel, "mobile": is_mobile}
+        self.call("Emulation.setDeviceMetricsOverride", **screen)
+        self.value(f"(document.documentElement.style.fontSize = '{text}%')")
+        self.settle()
+        try:
+            yield
+        finally:
+            self.value("(document.documentElement.style.fontSize = '')")
+            self.call("Emulation.clearDeviceMetricsOverride")
+
+    @contextmanager
+    def preferring(self, **features: str) -> Iterator[None]:
+        """A browser whose user or screen has features, as a scheme of colours, by their names in CSS."""
+        given = [{"name": name.replace("_", "-"), "value": value} for name, value in features.items()]
+        self.call("Emulation.setEmulatedMedia", features=given)
+        self.settle()
+        try:
+            yield
+        finally:
+            self.call("Emulation.setEmulatedMedia", features=[])

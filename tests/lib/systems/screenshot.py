@@ -1,4 +1,4 @@
-"""Draws docs/pictures/page.png, the page that answers scripts as a visitor first sees it.
+"""Draws docs/pictures/page.png, the page that answers scripts after a run with a fault and long replies.
 
 It needs what `tools/systems wasm64` has made, and Chromium with its driver and Selenium.
 """
@@ -8,12 +8,29 @@ import tempfile
 from pathlib import Path
 
 from lib.systems import chromium
-from lib.systems.page import Host, Page
+from lib.systems.page import Host, Page, the
 from rsp_tools import TOP
 from rsp_tools.systems import web_page as pages
 
 PICTURE = TOP / "docs/pictures/page.png"
-WIDTH, HEIGHT = 1000, 740
+WIDTH, HEIGHT = 1000, 440
+SCRIPT = """# Eight sums at once, with a fault in the second block.
+load dmem 0  0001000200037fff8000ffff00100064
+load dmem 16 0001fffe00030001ffff000100200064
+asm 0
+  lqv  $v1[0], 0($0)
+  lqv  $v2[0], 16($0)
+  vadd $v3, $v1, $v2
+  break
+end
+run 100
+vregs
+flags
+asm 0x40
+  sqv  $v3[0], 8($0)
+end
+regs
+"""
 
 
 def draw(picture: Path) -> None:
@@ -28,6 +45,12 @@ def draw(picture: Path) -> None:
             page.call("Emulation.setDeviceMetricsOverride", **size)
             page.open(host.url)
             page.ready()
+            page.type(SCRIPT)
+            page.click("run")
+            page.ended()
+            page.until("document.querySelector('#replies p')?.textContent.startsWith('Operand')")
+            page.value(f"({the('surface')}.scrollTo(0, 0), {the('script')}.blur())")
+            page.painted()
             driver.save_screenshot(str(picture))
         finally:
             driver.quit()

@@ -6,7 +6,7 @@ import hashlib
 import json
 import re
 from pathlib import Path
-from typing import Dict
+from typing import Dict, List
 
 from rsp_tools.page_tables import data
 
@@ -17,6 +17,7 @@ SOURCES = places.TOP / "page"
 LIBRARY = places.MADE / "wasm64"
 START = "index.html"
 STATEMENTS = ("nop", ".word")  # what source text has beside instructions
+ADVICE = places.TOP / "crates/rsp_advice/src/advice.rt"
 Files = Dict[str, bytes]
 
 
@@ -32,7 +33,7 @@ def scripts() -> bytes:
     return module("Scripts to choose from", EXAMPLES=f"[\n{lines}]")
 
 
-def faults() -> Dict[str, str]:
+def faults() -> Dict[str, List[str]]:
     """What each fault means, and what helps, by its number."""
     found = {}
     for it in data("faults"):
@@ -40,19 +41,42 @@ def faults() -> Dict[str, str]:
             re.sub(r"`|\[([^]]*)\]\([^)]*\)", r"\1", it[name]) for name in ("Cause", "What helps")
         )
         means = re.sub(r"^[\w, ]*: ", "", means)  # the commands, of which one is in the line
-        found[it["Fault"].split()[0]] = f"{means[0].upper()}{means[1:]}. {helps[0].upper()}{helps[1:]}."
+        found[it["Fault"].split()[0]] = [f"{text[0].upper()}{text[1:]}." for text in (means, helps)]
     return found
 
 
+def commands() -> Dict[str, str]:
+    """The form of each command, with the range of its numbers, by its name."""
+    ranges = {it["Command"].split()[0]: it["Range of its numbers"] for it in data("commands")}
+    found = {}
+    for it in data("commands"):
+        name = it["Command"].split()[0]
+        told = re.sub(r"as `(\w+)`", lambda other: ranges[other[1]], ranges[name])
+        found[name] = it["Command"] + (f" ({told})" if told else "")
+    return found
+
+
+def advice() -> Dict[str, str]:
+    """What to write in place of other assemblers' lines: the program's table of statements, and its sentences
+    for others, by their names."""
+    text = ADVICE.read_text()
+    sentences = dict(re.findall(r'const (\w+): &str =\s*"([^"]*)";', text))
+    table = re.findall(r'\(\s*"([^"]+)",\s*(?:"([^"]*)"|(\w+)),?\s*\)', text)
+    if not table:
+        raise Refused(f"{ADVICE} has no table of statements")
+    return {**sentences, **{name: written or sentences[other] for name, written, other in table}}
+
+
 def names() -> bytes:
-    """The module with the names of commands and of what source text has, and with the faults."""
+    """The module with the names of commands and of what source text has, and with what helps at a fault."""
     found = {
-        "COMMANDS": [it["Command"].split()[0] for it in data("commands")],
         "STATEMENTS": STATEMENTS,
         "INSTRUCTIONS": [it["Instruction"].lower() for it in data("instructions")],
     }
     sets = {name: f"new Set({json.dumps(it)})" for name, it in found.items()}
-    return module("Names in scripts, and faults", **sets, FAULTS=json.dumps(faults()))
+    tables = {"COMMANDS": commands(), "ADVICE": advice()}
+    maps = {name: f"new Map(Object.entries({json.dumps(it)}))" for name, it in tables.items()}
+    return module("Names in scripts, and faults", **sets, **maps, FAULTS=json.dumps(faults()))
 
 
 def parts(library: Path) -> Files:
