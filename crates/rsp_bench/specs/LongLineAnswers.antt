@@ -15,4 +15,4 @@ long_alike line other s h g = ap (λ r. parsed_answer r s) (same_command line ot
 
 pub long_lack_alike : LongLinesLackAlike lacks_memory
 unfolding lacks_memory
-long_lack_alike line other s h g = subst (λ r. ParsedLacksMemory r s) (same_command line other (in_block s) h g)
+long_lack_alike line other s h g p = (p.0, subst (λ r. ParsedLacksMemory r s) (same_command line other (in_block s) h g) p.1)

@@ -5,7 +5,7 @@ use Rattle.rsp_script_io.specs.Replies.{final, written_of}
 use Rattle.rsp_script_io.specs.EarlyEnd.{ScriptRun, NoMemoryLeft}
 use Rattle.rsp_script_io.specs.declared.run.RunFault.{RunFault}
 use Rattle.rsp_script_io.specs.declared.run.RunFault.TheVariants as faults
-use Rattle.rsp_bench.specs.Session.{SessionState, line_answer, end_reply, first_session, in_block, lacks_memory}
+use Rattle.rsp_bench.specs.Session.{SessionState, line_answer, end_reply, first_session, lacks_memory}
 use Rattle.rsp_bench.specs.declared.run.BenchEnd.{BenchEnd}
 use Rattle.rsp_bench.specs.declared.run.BenchEnd.TheVariants.{Finished, ReadFault, WriteFault, ScriptTooLong, OutOfMemory}
 
@@ -37,4 +37,4 @@ IfFinished OutOfMemory p = Unit {0}
 -- why a run is out of memory: there was none for the session, and nothing was read or written; or there was none to answer a line, before
 -- which a block was open
 abbrev pub LacksMemory : ScriptRun SessionState → Type 0
-LacksMemory r = ((r.unread ≡ r.script) × (r.written ≡ r.before)) ⊎ NoMemoryLeft in_block lacks_memory r
+LacksMemory r = ((r.unread ≡ r.script) × (r.written ≡ r.before)) ⊎ NoMemoryLeft lacks_memory r

@@ -1,5 +1,5 @@
 -- The answers to commands and lines.
-use Rattle.std.specs.Prelude.{ℕ, ◌≡◌, ◌+◌, ◌*◌, not, nat_le, nat_lt, List, [], Bool, Option, Some, None, is_some, IfSome, Result, Ok, Err, if◌then◌else◌, length}
+use Rattle.std.specs.Prelude.{ℕ, ◌≡◌, ◌+◌, ◌*◌, not, nat_le, nat_lt, List, [], Bool, true, Option, Some, None, is_some, IfSome, Result, Ok, Err, if◌then◌else◌, length}
 use Rattle.rsp_commands.specs.declared.command.Command.{Command}
 use Rattle.rsp_commands.specs.declared.command.Command.TheVariants.{Nothing, Load, Step, Run, Break, Unbreak, Watch, Unwatch, Back, Read, Write, SetPc, Task, Show, Asm, BlockLine, End}
 use Rattle.rsp_commands.specs.declared.command.Look.{Look}
@@ -208,9 +208,9 @@ abbrev pub ParsedLacksMemory : Result Command LineFault → SessionState → Typ
 ParsedLacksMemory (Ok command) s = CommandLacksMemory command s
 ParsedLacksMemory (Err fault) s = ⊥
 
--- a line for which there was no memory
+-- a line for which there was no memory: a block is open, and the line is one of it, or its end
 unfoldable pub lacks_memory : List ℕ → SessionState → Type 0
-lacks_memory line s = ParsedLacksMemory (command_of line (in_block s)) s
+lacks_memory line s = (in_block s ≡ true) × ParsedLacksMemory (command_of line (in_block s)) s
 
 -- a block that is still open lacks the line that ends it
 abbrev pub end_reply_of : Option OpenBlock → List ℕ

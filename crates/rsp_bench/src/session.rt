@@ -210,7 +210,6 @@ impl Session {
         ensures reply { OnOk result (reply.new ≡ (line_answer line.now self.old).reply) }
         ensures next { OnOk result (self.new ≡ (line_answer line.now self.old).next) }
         ensures err { OnErr result (self.new ≡ self.old) }
-        ensures cause { OnErr result (in_block self.old ≡ true) }
         ensures lacks { OnErr result (lacks_memory line.now self.old) }
     {
         match &parse_line(line, is_open) {
@@ -246,14 +245,12 @@ impl Session {
 }
 
 impl LineHandler for Session {
-    ghost use Rattle.rsp_bench.specs.Session.{line_answer, end_reply, in_block, lacks_memory};
+    ghost use Rattle.rsp_bench.specs.Session.{line_answer, end_reply, lacks_memory};
     ghost use Rattle.rsp_bench.specs.LongLineAnswers.{long_alike, long_lack_alike};
 
     ghost answer_to = { line_answer };
 
     ghost end_reply = { end_reply };
-
-    ghost may_allocate = { in_block };
 
     ghost lacks_memory = { lacks_memory };
 

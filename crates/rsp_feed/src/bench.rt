@@ -69,6 +69,7 @@ impl Bench {
     ///
     /// OutOfMemory changes nothing: the call may be made again. Only a line of an open block and its `end` may need memory. After
     /// ScriptTooLong the bench takes nothing more, and not the end of input either.
+    #[tactic(auto, using(rsp_bench::proofs::Lacks::first_in_block))]
     pub fn take(
         &mut self,
         alloc: Global,
@@ -108,6 +109,7 @@ impl Bench {
 
     /// Meets the end of input: overwrites the first reply with that to the line that no LF ended, if it has any bytes, and the
     /// second one with the fault of a block that is still open. OutOfMemory as of [`Bench::take`].
+    #[tactic(auto, using(rsp_bench::proofs::Lacks::first_in_block))]
     pub fn end(
         &mut self,
         alloc: Global,

@@ -2,7 +2,6 @@
 use Rattle.std.proofs.Common.{◌≡◌, ℕ, ◌+◌, List, [], ◌∷◌, ◌++◌, Option, ◌<◌, length, take, drop, refl, sym, ◌∙◌, ap, arith, append_assoc, subst, length-append, length-take}
 use Rattle.std.proofs.lemmas.List.{append-nil, take_all, take_at, take-append-drop}
 use Rattle.std.specs.List.{position_or_len, before_first, after_first}
-use Rattle.std.specs.Prelude.{Bool, true}
 use Rattle.std.specs.Io.KnownBytes.{append_known}
 use Rattle.std.specs.Str.Lines.{strip_carriage_return}
 use Rattle.rsp_script_io.specs.Pieces.{PieceAnswered, NoMemoryIn}
@@ -184,10 +183,10 @@ module _ {S : Type 0} (answer_to : List ℕ → S → Answer S) (alike : LongLin
       (lacks-like p ended (strip_carriage_return (kept all)) s same like h))
 
   -- and there was no memory for what follows
-  pub done-short : {old now new : Option (List ℕ)} {line mid : List ℕ} {s t : S} {piece rest : List ℕ} (may_allocate : S → Bool) (p : List ℕ → S → Type 0) (n : ℕ)
+  pub done-short : {old now new : Option (List ℕ)} {line mid : List ℕ} {s t : S} {piece rest : List ℕ} (p : List ℕ → S → Type 0) (n : ℕ)
       → LongLinesLackAlike p → Done old now line mid s t piece rest
-      → new ≡ now → may_allocate t ≡ true → OfFirst p (ended_after mid (take n rest)) t → NoMemoryIn answer_to may_allocate p old new line s piece
-  done-short {line = line} {mid = mid} {t = t} {rest = rest} may_allocate p n same h w may lacks =
+      → new ≡ now → OfFirst p (ended_after mid (take n rest)) t → NoMemoryIn answer_to p old new line s piece
+  done-short {line = line} {mid = mid} {t = t} {rest = rest} p n same h w lacks =
       let all : OfFirst p (ended_after mid rest) t =
       subst (λ text. OfFirst p (ended_after mid text) t) (take-append-drop n rest)
       (rw (ended-append mid (take n rest) (drop n rest)) (lacks-append p (ended_after mid (take n rest)) _ t lacks)) in
@@ -196,15 +195,14 @@ module _ {S : Type 0} (answer_to : List ℕ → S → Answer S) (alike : LongLin
         back = rest;
         whole = h.whole;
         written = w ∙ h.answers.written;
-        allocates = ap may_allocate (sym h.answers.session) ∙ may;
         lacks = rw (← h.answers.session) (lacks-kept p same mid (open_after line h.front) rest t h.answers.last all);
       }
 
   -- of two pieces, the first of which was answered
-  pub short-then : {old now new : Option (List ℕ)} {line mid : List ℕ} {s t : S} (a b : List ℕ) (may_allocate : S → Bool) (p : List ℕ → S → Type 0)
+  pub short-then : {old now new : Option (List ℕ)} {line mid : List ℕ} {s t : S} (a b : List ℕ) (p : List ℕ → S → Type 0)
       → LongLinesLackAlike p → PieceAnswered answer_to old now line mid s t a
-      → NoMemoryIn answer_to may_allocate p now new mid t b → NoMemoryIn answer_to may_allocate p old new line s (a ++ b)
-  short-then {old = old} {line = line} {mid = mid} {s = s} {t = t} a b may_allocate p same h f =
+      → NoMemoryIn answer_to p now new mid t b → NoMemoryIn answer_to p old new line s (a ++ b)
+  short-then {old = old} {line = line} {mid = mid} {s = s} {t = t} a b p same h f =
       let ends : final answer_to (ended_after mid f.front) t ≡ final answer_to (ended_after line (a ++ f.front)) s = final-pieces line mid a f.front s t h.last h.session in
       record {
         front = a ++ f.front;
@@ -214,7 +212,6 @@ module _ {S : Type 0} (answer_to : List ℕ → S → Answer S) (alike : LongLin
             f.written ∙ ap (λ w. append_known w (replies answer_to (ended_after mid f.front) t)) h.written
             ∙ append_known-append old (replies answer_to (ended_after line a) s) (replies answer_to (ended_after mid f.front) t)
             ∙ ap (append_known old) (replies-pieces line mid a f.front s t h.last h.session);
-        allocates = ap may_allocate (sym ends) ∙ f.allocates;
         lacks = rw (← ends)
             (lacks-kept p same (open_after mid f.front) (open_after line (a ++ f.front)) f.back _
             (open-kept mid (open_after line a) f.front h.last ∙ ap kept (sym (open-append line a f.front))) f.lacks);

@@ -1,5 +1,5 @@
 -- How far a run came.
-use Rattle.std.proofs.Common.{◌≡◌, ◌≤◌, ◌<◌, ◌+◌, ◌-◌, ℕ, List, [], ◌++◌, min, Option, Some, None, IfSome, Err, Bool, true, length, take, drop, refl, sym, ◌∙◌, ap, inl, inr, arith, append_assoc, length-append, length-take, ◌⊎◌}
+use Rattle.std.proofs.Common.{◌≡◌, ◌≤◌, ◌<◌, ◌+◌, ◌-◌, ℕ, List, [], ◌++◌, min, Option, Some, None, IfSome, Err, length, take, drop, refl, sym, subst, ◌∙◌, ap, inl, inr, arith, append_assoc, length-append, length-take, ◌⊎◌}
 use Rattle.std.proofs.Math.Seq.{take-append-add, drop-append_seam}
 use Rattle.std.proofs.lemmas.List.{append-nil, take_all, take-append-le, take-append-drop, take-take}
 use Rattle.std.proofs.lemmas.Bool.{cases_lt}
@@ -14,7 +14,7 @@ use Rattle.rsp_script_io.specs.Pieces.{PieceAnswered, NoMemoryIn}
 use Rattle.rsp_script_io.specs.EarlyEnd.{WritesPrefix, TakesAtMost, Takes, ScriptRun, EndedLinesWritten, PrefixWritten, LeavesWritten, NoMemoryLeft}
 use Rattle.rsp_script_io.specs.Lines.{ended_lines, ended_after, open_after, last_line, kept}
 use Rattle.rsp_script_io.specs.Replies.{Answer, LongLinesAlike, LongLinesLackAlike, OfFirst, replies, final, written_of}
-use Rattle.rsp_script_io.proofs.LongLineReplies.{SameReplies, alike-last, lacks-append, lacks-last}
+use Rattle.rsp_script_io.proofs.LongLineReplies.{SameReplies, alike-last, lacks-last}
 use Rattle.rsp_script_io.proofs.PieceAnswers.{answers-none, answers-then, answers-front, short-then}
 use Rattle.rsp_script_io.proofs.KnownEnds.{append_known-append, prepend_known-append, prepend_known-nil}
 use Rattle.rsp_script_io.proofs.Prefixes.{prefix-along, prefix-then}
@@ -69,16 +69,21 @@ read_cut read others n k within room h e r =
         let same : within ≡ n = omega arith in
         ap (λ i. take i read) same ∙ sym (take_all k (take n read) (omega (arith, length-take n read)))
 
--- the line after those that ended in a front
-next_lacks : {S : Type 0} (p : List ℕ → S → Type 0) (front back : List ℕ) (s t : S) → s ≡ t
-    → OfFirst p (ended_after (open_after [] front) back ++ last_line (open_after [] (front ++ back))) s
-    → OfFirst p (drop (length (ended_lines front)) (lines (front ++ back))) t
-next_lacks p front back s t same h =
-    let split : lines (front ++ back) ≡ ended_lines front ++ (ended_after (open_after [] front) back ++ last_line (open_after [] (front ++ back))) =
-    lines-ended (front ++ back) ∙ ap (λ ls. ls ++ last_line (open_after [] (front ++ back))) (ended-append [] front back)
-    ∙ append_assoc (ended_after [] front) (ended_after (open_after [] front) back) (last_line (open_after [] (front ++ back)))
-    ∙ ap (λ ls. ls ++ (ended_after (open_after [] front) back ++ last_line (open_after [] (front ++ back)))) (sym (ended_lines-after front)) in
-    rw (split, drop-append_seam (ended_lines front) (ended_after (open_after [] front) back ++ last_line (open_after [] (front ++ back))), ← same) h
+-- the line after those that ended in a front: one that ends in what follows
+next_ended : {S : Type 0} (p : List ℕ → S → Type 0) (front back : List ℕ) (s t : S) → s ≡ t
+    → OfFirst p (ended_after (open_after [] front) back) s → OfFirst p (drop (length (ended_lines front)) (ended_lines (front ++ back))) t
+next_ended p front back s t same h =
+    let split : ended_lines (front ++ back) ≡ ended_lines front ++ ended_after (open_after [] front) back =
+    ended_lines-after (front ++ back) ∙ ended-append [] front back ∙ ap (λ ls. ls ++ ended_after (open_after [] front) back) (sym (ended_lines-after front)) in
+    rw (split, drop-append_seam (ended_lines front) (ended_after (open_after [] front) back), ← same) h
+
+-- or the one that no newline ended
+next_last : {S : Type 0} (p : List ℕ → S → Type 0) (text : List ℕ) (s t : S) → s ≡ t
+    → OfFirst p (last_line (open_after [] text)) s → OfFirst p (drop (length (ended_lines text)) (lines text)) t
+next_last p text s t same h =
+    let split : lines text ≡ ended_lines text ++ last_line (open_after [] text) =
+    lines-ended text ∙ ap (λ ls. ls ++ last_line (open_after [] text)) (sym (ended_lines-after text)) in
+    rw (split, drop-append_seam (ended_lines text) (last_line (open_after [] text)), ← same) h
 
 -- the bytes that the reads of a run gave, and what came of them
 pub record Progress {S : Type 0} (answer_to : List ℕ → S → Answer S) (rest unread old now : Option (List ℕ)) (line : List ℕ) (s t : S) (total : ℕ) : Type 0 where
@@ -211,36 +216,36 @@ module _ {S : Type 0} (answer_to : List ℕ → S → Answer S) (end_reply : S �
       }
 
   -- there was no memory for a line that ended in a piece
-  pub progress-short : {r u v w x y : Option (List ℕ)} {l : List ℕ} {s t : S} {total : ℕ} (may_allocate : S → Bool) (p : List ℕ → S → Type 0) (piece within : List ℕ) → LongLinesLackAlike p → Progress answer_to r u w x l s t total
+  pub progress-short : {r u v w x y : Option (List ℕ)} {l : List ℕ} {s t : S} {total : ℕ} (p : List ℕ → S → Type 0) (piece within : List ℕ) → LongLinesLackAlike p → Progress answer_to r u w x l s t total
       → u ≡ prepend_known piece v → total ≤ script_limit → within ≡ take (script_limit - total) piece
-      → NoMemoryIn answer_to may_allocate p x y l t within
-      → NoMemoryLeft may_allocate p (record { answer_to = answer_to; end_reply = end_reply; session = s; script = r; unread = v; before = w; written = y })
-  progress-short {v = v} {w = w} {y = y} {s = s} {total = total} may_allocate p piece within also h e few cut f =
+      → NoMemoryIn answer_to p x y l t within
+      → NoMemoryLeft p (record { answer_to = answer_to; end_reply = end_reply; session = s; script = r; unread = v; before = w; written = y })
+  progress-short {v = v} {w = w} {y = y} {s = s} {total = total} p piece within also h e few cut f =
       let first : List ℕ = take script_limit h.taken in
       let same : first ≡ h.taken = limit_all h.taken (omega (arith, h.count)) in
-      let k : NoMemoryIn answer_to may_allocate p w y [] s (first ++ within) = short-then answer_to alike first within may_allocate p also h.answers f in
+      let k : NoMemoryIn answer_to p w y [] s (first ++ within) = short-then answer_to alike first within p also h.answers f in
       let rest : List ℕ = drop (script_limit - total) piece in
       let whole : k.front ++ (k.back ++ rest) ≡ h.taken ++ piece =
       sym (append_assoc k.front k.back rest) ∙ ap (λ b. b ++ rest) k.whole ∙ append_assoc first within rest ∙ ap (λ b. b ++ (within ++ rest)) same
       ∙ ap (λ b. h.taken ++ b) (ap (λ b. b ++ rest) cut ∙ take-append-drop (script_limit - total) piece) in
+      let limited : take script_limit (k.front ++ (k.back ++ rest)) ≡ k.front ++ k.back =
+      ap (take script_limit) whole ∙ sym (limit_more h.taken piece within total h.count few cut) ∙ sym k.whole in
       record {
         front = k.front;
         back = k.back ++ rest;
         told = h.told ∙ ap (prepend_known h.taken) e ∙ prepend_known-append _ h.taken piece ∙ ap (λ b. prepend_known b v) (sym whole);
         few = omega (arith, h.count, ap length k.whole, length-append k.front k.back, length-append first within, ap length cut, length-take (script_limit - total) piece, ap length same);
         written = k.written ∙ ap (λ ls. append_known w (replies answer_to ls s)) (sym (ended_lines-after k.front));
-        allocates = ap (λ ls. may_allocate (final answer_to ls s)) (ended_lines-after k.front) ∙ k.allocates;
-        lacks = next_lacks p k.front (k.back ++ rest) (final answer_to (ended_after [] k.front) s) (final answer_to (ended_lines k.front) s)
-            (ap (λ ls. final answer_to ls s) (sym (ended_lines-after k.front)))
-            (rw (ended-append (open_after [] k.front) k.back rest, append_assoc (ended_after (open_after [] k.front) k.back) (ended_after (open_after (open_after [] k.front) k.back) rest) (last_line (open_after [] (k.front ++ (k.back ++ rest)))))
-            (lacks-append p (ended_after (open_after [] k.front) k.back) _ _ k.lacks));
+        lacks = inl (subst (λ text. OfFirst p (drop (length (ended_lines k.front)) (ended_lines text)) (final answer_to (ended_lines k.front) s)) (sym limited)
+            (next_ended p k.front k.back (final answer_to (ended_after [] k.front) s) (final answer_to (ended_lines k.front) s)
+            (ap (λ ls. final answer_to ls s) (sym (ended_lines-after k.front))) k.lacks));
       }
 
   -- or for the last line, which no newline ended
-  pub progress-end_short : {r u v w x y : Option (List ℕ)} {l : List ℕ} {s t : S} {total : ℕ} (may_allocate : S → Bool) (p : List ℕ → S → Type 0) → LongLinesLackAlike p → Progress answer_to r u w x l s t total
-      → u ≡ prepend_known [] v → total ≤ script_limit → (y ≡ x) × (may_allocate t ≡ true) × OfFirst p (last_line l) t
-      → NoMemoryLeft may_allocate p (record { answer_to = answer_to; end_reply = end_reply; session = s; script = r; unread = v; before = w; written = y })
-  progress-end_short {v = v} {w = w} {x = x} {l = l} {s = s} {t = t} may_allocate p also h e few f =
+  pub progress-end_short : {r u v w x y : Option (List ℕ)} {l : List ℕ} {s t : S} {total : ℕ} (p : List ℕ → S → Type 0) → LongLinesLackAlike p → Progress answer_to r u w x l s t total
+      → u ≡ prepend_known [] v → IsAtEnd v → total ≤ script_limit → (y ≡ x) × OfFirst p (last_line l) t
+      → NoMemoryLeft p (record { answer_to = answer_to; end_reply = end_reply; session = s; script = r; unread = v; before = w; written = y })
+  progress-end_short {v = v} {w = w} {x = x} {l = l} {s = s} {t = t} p also h e d few f =
       let a : PieceAnswered answer_to w x [] l s t h.taken = rw (← limit_all h.taken (omega (arith, h.count))) h.answers in
       record {
         front = h.taken;
@@ -248,7 +253,9 @@ module _ {S : Type 0} (answer_to : List ℕ → S → Answer S) (end_reply : S �
         told = h.told ∙ ap (prepend_known h.taken) (e ∙ prepend_known-nil _) ∙ ap (λ b. prepend_known b v) (sym (append-nil h.taken));
         few = omega (arith, h.count);
         written = f.0 ∙ a.written ∙ ap (λ ls. append_known w (replies answer_to ls s)) (sym (ended_lines-after h.taken));
-        allocates = ap (λ ls. may_allocate (final answer_to ls s)) (ended_lines-after h.taken) ∙ ap may_allocate (sym a.session) ∙ f.1;
-        lacks = next_lacks p h.taken [] t (final answer_to (ended_lines h.taken) s) (a.session ∙ ap (λ ls. final answer_to ls s) (sym (ended_lines-after h.taken)))
-            (rw (append-nil h.taken) (lacks-last p also l (open_after [] h.taken) t a.last f.2));
+        lacks = inr (
+          d,
+          rw (append-nil h.taken) (next_last p h.taken t (final answer_to (ended_lines h.taken) s) (a.session ∙ ap (λ ls. final answer_to ls s) (sym (ended_lines-after h.taken)))
+              (lacks-last p also l (open_after [] h.taken) t a.last f.1)),
+        );
       }

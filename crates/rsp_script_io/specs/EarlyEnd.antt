@@ -1,5 +1,5 @@
 -- What was read and written when a run ended early.
-use Rattle.std.specs.Prelude.{◌≡◌, ◌≤◌, ℕ, ◌⊎◌, List, ◌++◌, take, drop, length, Bool, true, Option, IfSome, Result, Ok, Err}
+use Rattle.std.specs.Prelude.{◌≡◌, ◌≤◌, ℕ, ◌⊎◌, List, ◌++◌, take, drop, length, Option, IfSome, Result, Ok, Err}
 use Rattle.std.specs.Io.KnownBytes.{append_known, prepend_known, IsAtEnd}
 use Rattle.std.specs.Str.Lines.{lines}
 use Rattle.rsp_script_io.specs.Feeds.{script_limit}
@@ -55,15 +55,16 @@ abbrev pub LimitWritten : {S : Type 0} → ScriptRun S → Type 0
 LimitWritten r = IfSome r.script (λ script. r.written ≡ append_known r.before (replies r.answer_to (ended_lines (take script_limit script)) r.session))
 
 -- There was no memory to answer a line: the lines that had ended before it, in a front of what was taken, were answered in full, nothing
--- else was written, and what they leave may need memory.
-pub record NoMemoryLeft {S : Type 0} (may_allocate : S → Bool) (lacks_memory : List ℕ → S → Type 0) (r : ScriptRun S) : Type 0 where
+-- else was written, and there was none for the next line. It is one that had ended in what was taken, within the limit of a script; or,
+-- if the end of input was met, it may be the line that no newline ended.
+pub record NoMemoryLeft {S : Type 0} (lacks_memory : List ℕ → S → Type 0) (r : ScriptRun S) : Type 0 where
   pub front : List ℕ
   pub back : List ℕ
   pub told : r.script ≡ prepend_known (front ++ back) r.unread
   pub few : length front ≤ script_limit
   pub written : r.written ≡ append_known r.before (replies r.answer_to (ended_lines front) r.session)
-  pub allocates : may_allocate (final r.answer_to (ended_lines front) r.session) ≡ true
-  pub lacks : OfFirst lacks_memory (drop (length (ended_lines front)) (lines (front ++ back))) (final r.answer_to (ended_lines front) r.session)
+  pub lacks : OfFirst lacks_memory (drop (length (ended_lines front)) (ended_lines (take script_limit (front ++ back)))) (final r.answer_to (ended_lines front) r.session)
+      ⊎ (IsAtEnd r.unread × OfFirst lacks_memory (drop (length (ended_lines front)) (lines (front ++ back))) (final r.answer_to (ended_lines front) r.session))
 
 -- what a run that ended early had written, by its fault
 abbrev pub LeavesWritten : {A S : Type 0} → Result A RunFault → ScriptRun S → Type 0

@@ -1,4 +1,4 @@
-ghost use Rattle.std.specs.Prelude.{◌≡◌, ℕ, ◌+◌, ◌-◌, ◌<◌, ◌≤◌, ◌^◌, ◌++◌, length, true, OnOk, OnErr, IfErr, IsErrOf};
+ghost use Rattle.std.specs.Prelude.{◌≡◌, ℕ, ◌+◌, ◌-◌, ◌<◌, ◌≤◌, ◌^◌, ◌++◌, length, OnOk, OnErr, IfErr, IsErrOf};
 ghost use Rattle.std.specs.Io.KnownBytes.{append_known};
 ghost use Rattle.rsp_script_io.specs.Pieces.{PieceAnswered, NoMemoryIn};
 ghost use Rattle.rsp_script_io.specs.Faults.{failed_writes, IsAnswerFault};
@@ -50,7 +50,7 @@ pub(crate) fn answer_piece<S: LineHandler, W: Sink>(
     ensures prefix { OnErr result (WritesPrefix (W.written sink.old) (W.written sink.new) (replies S.answer_to (ended_after feed.old.line piece.now) session.old)) }
     ensures count { W.fault_count sink.new ≡ W.fault_count sink.old + failed_writes result }
     ensures cause { IfErr result IsAnswerFault }
-    ensures memory { IsErrOf result RunFault.OutOfMemory → NoMemoryIn S.answer_to S.may_allocate S.lacks_memory (W.written sink.old) (W.written sink.new) feed.old.line session.old piece.now }
+    ensures memory { IsErrOf result RunFault.OutOfMemory → NoMemoryIn S.answer_to S.lacks_memory (W.written sink.old) (W.written sink.new) feed.old.line session.old piece.now }
 {
     let mut rest = piece;
     while !rest.is_empty() {
@@ -82,7 +82,7 @@ pub(crate) fn answer_end<S: LineHandler, W: Sink>(
         (replies S.answer_to (last_line feed.now.line) session.old ++ S.end_reply (final S.answer_to (last_line feed.now.line) session.old))) }
     ensures count { W.fault_count sink.new ≡ W.fault_count sink.old + failed_writes result }
     ensures cause { IfErr result IsAnswerFault }
-    ensures memory { IsErrOf result RunFault.OutOfMemory → (W.written sink.new ≡ W.written sink.old) × (S.may_allocate session.old ≡ true) × OfFirst S.lacks_memory (last_line feed.now.line) session.old }
+    ensures memory { IsErrOf result RunFault.OutOfMemory → (W.written sink.new ≡ W.written sink.old) × OfFirst S.lacks_memory (last_line feed.now.line) session.old }
 {
     let Ok(()) = feed.end(alloc, session, reply) else {
         return Err(RunFault::OutOfMemory);

@@ -1,4 +1,4 @@
-ghost use Rattle.std.specs.Prelude.{◌≡◌, ◌+◌, ◌-◌, ◌<◌, ◌≤◌, true, length, take, IfOk, OnOk, OnErr};
+ghost use Rattle.std.specs.Prelude.{◌≡◌, ◌+◌, ◌-◌, ◌<◌, ◌≤◌, length, take, IfOk, OnOk, OnErr};
 ghost use Rattle.rsp_script_io.specs.Lines.{through_newline, ended_after, open_after, kept, last_line};
 ghost use Rattle.rsp_script_io.specs.Replies.{replies, final, OfFirst};
 ghost use Rattle.rsp_script_io.specs.Feeds.{script_limit, no_bytes, bytes_after};
@@ -31,7 +31,6 @@ fn take_line<S: LineHandler>(
     ensures line { IfOk result (λ n. line.new ≡ kept (open_after line.old (take n bytes.now))) }
     ensures same { OnErr result (line.new ≡ line.old) }
     ensures same_session { OnErr result (session.new ≡ session.old) }
-    ensures cause { OnErr result (S.may_allocate session.old ≡ true) }
     ensures lacks { OnErr result (OfFirst S.lacks_memory (ended_after line.old (take (through_newline bytes.now) bytes.now)) session.old) }
 {
     let end = len_before(b'\n', bytes);
@@ -64,7 +63,6 @@ fn answer_last<S: LineHandler>(
     ensures reply { OnOk result (reply.new ≡ replies S.answer_to (last_line line.now) session.old) }
     ensures session { OnOk result (session.new ≡ final S.answer_to (last_line line.now) session.old) }
     ensures same { OnErr result (session.new ≡ session.old) }
-    ensures cause { OnErr result (S.may_allocate session.old ≡ true) }
     ensures lacks { OnErr result (OfFirst S.lacks_memory (last_line line.now) session.old) }
 {
     if line.is_empty() {
@@ -130,7 +128,6 @@ impl Feed {
         ensures fed { IfOk result (λ n. self.new ≡ bytes_after (take n bytes.now) self.old) }
         ensures same { OnErr result (self.new ≡ self.old) }
         ensures same_session { OnErr result (session.new ≡ session.old) }
-        ensures cause { OnErr result (S.may_allocate session.old ≡ true) }
         ensures lacks { OnErr result (OfFirst S.lacks_memory (ended_after self.old.line (take (through_newline bytes.now) bytes.now)) session.old) }
     {
         let n = take_line(alloc, session, &mut self.line, bytes, reply)?;
@@ -149,7 +146,6 @@ impl Feed {
         ensures reply { OnOk result (reply.new ≡ replies S.answer_to (last_line self.now.line) session.old) }
         ensures session { OnOk result (session.new ≡ final S.answer_to (last_line self.now.line) session.old) }
         ensures same { OnErr result (session.new ≡ session.old) }
-        ensures cause { OnErr result (S.may_allocate session.old ≡ true) }
         ensures lacks { OnErr result (OfFirst S.lacks_memory (last_line self.now.line) session.old) }
     {
         answer_last(alloc, session, self.line.last(), reply)

@@ -1,4 +1,4 @@
-ghost use Rattle.std.specs.Prelude.{◌≡◌, ℕ, List, Bool, true, OnOk, OnErr};
+ghost use Rattle.std.specs.Prelude.{◌≡◌, ℕ, List, OnOk, OnErr};
 ghost use Rattle.rsp_script_io.specs.Replies.{Answer, LongLinesAlike, LongLinesLackAlike};
 
 use crate::reply::Reply;
@@ -13,9 +13,6 @@ pub trait LineHandler {
     /// else nothing.
     ghost end_reply: { Self → List ℕ };
 
-    /// Whether there may be no memory for the answer to the next line.
-    ghost may_allocate: { Self → Bool };
-
     /// What is known of a line and of what answers it, if there was no memory for the answer.
     ghost lacks_memory: { List ℕ → Self → Type 0 };
 
@@ -26,7 +23,6 @@ pub trait LineHandler {
         ensures reply { OnOk result (reply.new ≡ (answer_to line.now self.old).reply) }
         ensures next { OnOk result (self.new ≡ (answer_to line.now self.old).next) }
         ensures same { OnErr result (self.new ≡ self.old) }
-        ensures cause { OnErr result (may_allocate self.old ≡ true) }
         ensures lacks { OnErr result (lacks_memory line.now self.old) };
 
     /// Overwrites the reply with what is written at the end of a script.

@@ -68,8 +68,8 @@ pub fn answer_script<S: LineHandler, R: Source, W: Sink>(
       written = W.written sink.new;
     }) }
 
-    // Out of memory comes only at a line that may need some.
-    ensures memory { IsErrOf result RunFault.OutOfMemory → NoMemoryLeft S.may_allocate S.lacks_memory (record {
+    // Out of memory comes only at a line that may need some, and after all lines before it are answered.
+    ensures memory { IsErrOf result RunFault.OutOfMemory → NoMemoryLeft S.lacks_memory (record {
       answer_to = S.answer_to;
       end_reply = S.end_reply;
       session = session.old;

@@ -11,8 +11,8 @@ returns-in_default-clause-prefix g c =
 
 pub returns-in-Err-clause-memory : goal.returns-in-Err-clause-memory
 returns-in-Err-clause-memory g c _ =
-    done-short g.S.LineHandler.answer_to g.met.S.LineHandler.alike g.S.LineHandler.may_allocate g.S.LineHandler.lacks_memory _ g.met.S.LineHandler.lack_alike c.loop-rest.invariant.done refl
-    c.in-Err.ensures.cause c.in-Err.ensures.lacks
+    done-short g.S.LineHandler.answer_to g.met.S.LineHandler.alike g.S.LineHandler.lacks_memory _ g.met.S.LineHandler.lack_alike c.loop-rest.invariant.done refl
+    c.in-Err.ensures.lacks
 
 pub loop-rest-preserved : goal.loop-rest-preserved
 loop-rest-preserved g c = record {

@@ -32,8 +32,10 @@ returns-in_err-answer_end-clause-left g c =
 pub returns-in_err-answer_end-clause-memory : goal.returns-in_err-answer_end-clause-memory
 returns-in_err-answer_end-clause-memory g c =
     let told : g.R.Source.rest c.loop-n.source ≡ prepend_known [] (g.R.Source.rest c.read.new.self) = rw c.if-n-eq0.true at c.in-Ok.ensures.told in
+    let ended : IsAtEnd (g.R.Source.rest c.read.new.self) = c.in-Ok.ensures.end c.if-n-eq0.true
+    (omega (arith, c.read.auto.buf, length-take c.min-most.result c.loop-n.buffer)) in
     let p = err_from_is_err_and c.from_residual.result c.from_residual.ensures.1 in
-    rw (p.1, p.2) (λ short. progress-end_short g.S.LineHandler.answer_to g.S.LineHandler.end_reply g.met.S.LineHandler.alike g.S.LineHandler.may_allocate g.S.LineHandler.lacks_memory g.met.S.LineHandler.lack_alike c.loop-n.invariant.progress told (omega arith)
+    rw (p.1, p.2) (λ short. progress-end_short g.S.LineHandler.answer_to g.S.LineHandler.end_reply g.met.S.LineHandler.alike g.S.LineHandler.lacks_memory g.met.S.LineHandler.lack_alike c.loop-n.invariant.progress told ended (omega arith)
     (c.in_err-answer_end.ensures.memory short))
 
 pub returns-then-n-eq0-clause-written : goal.returns-then-n-eq0-clause-written
@@ -74,7 +76,7 @@ returns-in_err-answer_piece-clause-left g c =
 pub returns-in_err-answer_piece-clause-memory : goal.returns-in_err-answer_piece-clause-memory
 returns-in_err-answer_piece-clause-memory g c =
     let p = err_from_is_err_and c.from_residual-in_err-answer_piece.result c.from_residual-in_err-answer_piece.ensures.1 in
-    rw (p.1, p.2) (λ short. progress-short g.S.LineHandler.answer_to g.S.LineHandler.end_reply g.met.S.LineHandler.alike g.S.LineHandler.may_allocate g.S.LineHandler.lacks_memory _ _ g.met.S.LineHandler.lack_alike c.loop-n.invariant.progress c.in-Ok.ensures.told c.room-room.ensures.limit
+    rw (p.1, p.2) (λ short. progress-short g.S.LineHandler.answer_to g.S.LineHandler.end_reply g.met.S.LineHandler.alike g.S.LineHandler.lacks_memory _ _ g.met.S.LineHandler.lack_alike c.loop-n.invariant.progress c.in-Ok.ensures.told c.room-room.ensures.limit
     (read_cut c.read.new.buf _ c.in-Ok.n _ c.min-within.result _ (omega (arith, c.in-Ok.ensures.bound, c.read.auto.buf)) c.min-within.ensures c.room-room.ensures.value)
     (c.in_err-answer_piece.ensures.memory short))
 
