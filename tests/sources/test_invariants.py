@@ -1,8 +1,7 @@
 """Those invariants of docs/ARCHITECTURE.md that a search of the sources can find broken.
 
-One private loop makes all steps; `std::simd` and `unsafe` are where the page says; the vectors hold nothing
-else; three matches inspect an instruction while a step executes it; no definition of the main theorem is
-called scaffolding.
+One private loop makes all steps; `std::simd` and `unsafe` are where the page says; three matches inspect an
+instruction while a step executes it; no definition of the main theorem is called scaffolding.
 """
 
 import re
@@ -21,14 +20,6 @@ UNSAFE = [
     "crates/rsp_c/src/handle.rt: unsafe impl Send for Handle {}",
     "crates/rsp_c/src/handle.rt: unsafe impl Send for BenchHandle {}",
 ]
-PLANES = "high: u16x8, middle: u16x8, low: u16x8,"
-# All fields of what the vector unit computes with.
-FIELDS = {
-    "rsp_lanes/src/vreg.rt: VReg": "lanes: u16x8,",
-    "rsp_lanes/src/mask.rt: Mask8": "lanes: mask16x8,",
-    "rsp_acc/src/addends.rt: Addends": PLANES,
-    "rsp_acc/src/planes.rt: PlaneAcc": PLANES,
-}
 # What matches on an instruction, in each crate. While a step executes, these are called, except `stored_at`,
 # the encoder's `canonical_word` and the debugger's `take`.
 MATCHES = {
@@ -57,13 +48,6 @@ def test_simd(texts: Texts) -> None:
     assert {path.split("/")[1] for path, it in texts.items() if re.search(r"\bstd::simd\b", it)} == {
         "rsp_lanes"
     }
-
-
-@pytest.mark.parametrize("struct", FIELDS)
-def test_fields(texts: Texts, struct: str) -> None:
-    path, name = struct.split(": ")
-    found = re.search(rf"^pub struct {name} {{\n(.*?)\n}}", texts[f"crates/{path}"], re.M | re.S)
-    assert found and " ".join(found[1].split()) == FIELDS[struct]
 
 
 def test_unsafe(texts: Texts) -> None:

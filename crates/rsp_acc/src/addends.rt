@@ -102,3 +102,24 @@ impl Addends {
         Addends::from_planes(&high, &middle, &low)
     }
 }
+
+#[cfg(test)]
+mod tests {
+    use super::*;
+
+    // compiles only if the struct has exactly these fields
+    #[test]
+    fn holds_three_planes(rt: HostRuntime) {
+        let addends = Addends {
+            high: u16x8::splat(1),
+            middle: u16x8::splat(2),
+            low: u16x8::splat(3),
+        };
+        let Addends { high, middle, low } = addends;
+        let planes: (u16x8, u16x8, u16x8) = (high, middle, low);
+        let (high, middle, low) = planes;
+        assert_eq!(rt; high.to_array(), [1; 8]);
+        assert_eq!(rt; middle.to_array(), [2; 8]);
+        assert_eq!(rt; low.to_array(), [3; 8]);
+    }
+}

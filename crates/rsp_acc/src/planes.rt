@@ -124,3 +124,28 @@ impl Acc for PlaneAcc {
         }
     }
 }
+
+#[cfg(test)]
+mod tests {
+    use super::*;
+
+    // compiles only if the struct has exactly these fields
+    #[test]
+    fn holds_three_planes(rt: HostRuntime) {
+        let acc = PlaneAcc {
+            high: u16x8::splat(1),
+            middle: u16x8::splat(2),
+            low: u16x8::splat(3),
+        };
+        let PlaneAcc { high, middle, low } = acc;
+        let planes: (u16x8, u16x8, u16x8) = (high, middle, low);
+        let (high, middle, low) = planes;
+        assert_eq!(rt; high.to_array(), [1; 8]);
+        assert_eq!(rt; middle.to_array(), [2; 8]);
+        assert_eq!(rt; low.to_array(), [3; 8]);
+        assert_eq!(rt;
+            acc.planes(),
+            [VReg::splat(1), VReg::splat(2), VReg::splat(3)]
+        );
+    }
+}

@@ -133,3 +133,20 @@ impl Mask8 {
         Mask8::from_simd((u16x8::splat(u16::from(bits)) & powers).simd_ne(u16x8::splat(0)))
     }
 }
+
+#[cfg(test)]
+mod tests {
+    use super::*;
+
+    // compiles only if the struct has exactly this field
+    #[test]
+    fn holds_one_mask(rt: HostRuntime) {
+        let m = Mask8 {
+            lanes: mask16x8::splat(true),
+        };
+        let Mask8 { lanes: taken } = m;
+        let again: mask16x8 = taken;
+        assert!(rt; again.all());
+        assert_eq!(rt; m.bits(), 255);
+    }
+}

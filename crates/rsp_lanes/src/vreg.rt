@@ -283,3 +283,20 @@ impl VReg {
         )
     }
 }
+
+#[cfg(test)]
+mod tests {
+    use super::*;
+
+    // compiles only if the struct has exactly this field
+    #[test]
+    fn holds_one_vector(rt: HostRuntime) {
+        let v = VReg {
+            lanes: u16x8::splat(7),
+        };
+        let VReg { lanes: taken } = v;
+        let again: u16x8 = taken;
+        assert_eq!(rt; again.to_array(), [7; 8]);
+        assert_eq!(rt; v, VReg::splat(7));
+    }
+}
