@@ -1,9 +1,9 @@
-// Runs over sources and sinks that fail, that move few bytes, and that never end.
+// Runs over sources and sinks in memory, and over some that fail, that move few bytes, and that never end.
 
 ghost use Rattle.std.specs.Prelude.{◌≡◌, ◌<◌, IfOk};
 
 use crate::fakes::{FakeSink, FakeSource};
-use rsp_bench::{BenchEnd, MemSink, Sink, Source, run_bench};
+use rsp_bench::{BenchEnd, MemSink, MemSource, Sink, Source, run_bench};
 use rsp_memory::Rdram;
 use rsp_script_io::RunFault;
 use std::test::Fail;
@@ -15,6 +15,14 @@ const TASK: &[u8] =
 /// Its replies: a line for each of its lines.
 const REPLIES: &[u8] =
     b"ok\nok\nfault 4 TaskPlace\nfault 5 TaskSize\nok\nstop Halted steps 2 pc 008\nc4 00000043\n000fc8: 0000004000000008\n";
+
+/// A script that steps through three words, and past the last.
+const STEPS: &[u8] =
+    b"load imem 0 34021234ac0200000000000d\nstep\nstep\nstep\r\nmem dmem 0 4\nstep";
+
+/// Its replies.
+const STEPS_REPLIES: &[u8] =
+    b"ok\nstep Done pc 004\nstep Done pc 008\nstep Done pc 00c\n000000: 00001234\nstep Halted pc 00c\n";
 
 fn line_count(text: &[u8]) -> usize {
     text.iter().filter(|byte| **byte == b'\n').count()
@@ -61,12 +69,30 @@ pub(crate) fn run(
     }
 }
 
-/// An image of 128 zeros.
-fn zeros(rt: &HostRuntime) -> Result<Rdram, Fail> {
-    match Rdram::from_bytes(vec![in rt.alloc(); 0; 128]?) {
+/// An image of so many zeros.
+fn zeros(rt: &HostRuntime, length: usize) -> Result<Rdram, Fail> {
+    match Rdram::from_bytes(vec![in rt.alloc(); 0; length]?) {
         Ok(image) => Ok(image),
         Err(_) => Err(Fail::new("the image is refused")),
     }
+}
+
+/// Whether a script in memory finishes, with these replies in memory. There is memory for the run and for the sink.
+fn gives(rt: &HostRuntime, script: &[u8], replies: &[u8]) -> Result<bool, Fail> {
+    let mut source = MemSource::new(script);
+    let mut sink = MemSink::new(rt.alloc(), 4096)?;
+    let end = run_bench(rt.alloc(), zeros(rt, 64)?, &mut source, &mut sink);
+    Ok(matches!(end, BenchEnd::Finished(_)) && sink.bytes() == replies)
+}
+
+#[test]
+fn streams_in_memory_serve_a_run(rt: HostRuntime) -> Result<(), Fail> {
+    let cases = [(b"".as_slice(), b"".as_slice()), (STEPS, STEPS_REPLIES)];
+    for (script, replies) in cases {
+        let is_right = gives(&rt, script, replies)?;
+        assert!(rt; is_right);
+    }
+    Ok(())
 }
 
 /// Whether a script is answered as far as so many reads of so many bytes go, after which a read fails.
@@ -77,7 +103,7 @@ fn is_answered(rt: &HostRuntime, step: usize, reads: usize) -> Result<bool, Fail
     source.step = step;
     source.reads_left = reads as u64;
     let mut sink = sink(rt)?;
-    let end = run(rt, zeros(rt)?, &mut source, &mut sink);
+    let end = run(rt, zeros(rt, 128)?, &mut source, &mut sink);
     // The read after the last byte meets the end.
     let fault = if reads > TASK.len().div_ceil(step) {
         None
@@ -112,7 +138,7 @@ fn is_written(
     sink.step = step;
     sink.writes_left = writes as u64;
     sink.takes_nothing = takes_nothing;
-    let end = run(rt, zeros(rt)?, &mut FakeSource::new(TASK), &mut sink);
+    let end = run(rt, zeros(rt, 128)?, &mut FakeSource::new(TASK), &mut sink);
     let replies = if step == 1 {
         REPLIES.get(..writes).unwrap_or_default()
     } else {
@@ -146,7 +172,7 @@ fn a_reader_need_not_end(rt: HostRuntime) -> Result<(), Fail> {
         source.endless = Some(byte);
         source.step = step;
         let mut sink = sink(&rt)?;
-        let end = run(&rt, zeros(&rt)?, &mut source, &mut sink);
+        let end = run(&rt, zeros(&rt, 128)?, &mut source, &mut sink);
         let is_right = end == Some(RunFault::ScriptTooLong) && sink.bytes().is_empty();
         assert!(rt; is_right && source.given == 1_048_577, "{byte} without end");
     }
