@@ -100,7 +100,7 @@ fn absolute(a: &VReg, b: &VReg, flags: &mut Flags) -> (VReg, VReg)
     let signed = negative.merge(&b.negate(), b);
     let low = a.is_zero().merge(&VReg::new(), &signed);
     let passes = negative.and(b.is_equal(&VReg::splat(0x8000)));
-    // VABS keeps the flags, which are those of eight lanes: the contract of `vco` says so.
+    // For the prover: VABS keeps the flags, and the contract of `vco` says that they are those of eight lanes.
     let _ = flags.vco();
     (passes.merge(&VReg::splat(0x7fff), &low), low)
 }

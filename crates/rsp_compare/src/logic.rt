@@ -34,7 +34,7 @@ pub fn logic_op<A: Acc>(op: LogicOp, a: &VReg, b: &VReg, flags: &mut Flags, acc:
     ensures accumulator { A.numbers acc.new ≡ with_low (A.numbers acc.old) (lows_of (logic_rule op) a.now b.now flags.old) }
 {
     let result = bits(op, a, b);
-    // The flags are kept. They are those of eight lanes: the contract of `vco` says so.
+    // For the prover: the flags are kept, and the contract of `vco` says that they are those of eight lanes.
     let _ = flags.vco();
     acc.set_low(&result);
     result

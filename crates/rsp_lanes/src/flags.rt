@@ -117,7 +117,7 @@ impl Flags {
         self.clip = clip.read();
     }
 
-    /// Reads the five masks, so that the prover knows that the flags are those of eight lanes. LLVM removes it.
+    /// For the prover: reads the five masks, whose contracts say that the flags are those of eight lanes. LLVM removes the reads.
     #[inline(always)]
     fn read_lanes(&self)
         ensures { self.now ≡ all_flags (flags_at self.now) }

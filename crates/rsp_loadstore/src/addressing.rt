@@ -18,7 +18,8 @@ pub fn address(inst: &Inst, base: u32) -> u32
     }
 }
 
-/// The seven bits of an offset as a signed value. A decoded offset is below 128, so the compiler drops the test.
+/// The seven bits of an offset as a signed value. For the prover it tests that they are seven: a decoded offset is below 128, so LLVM removes
+/// the test.
 #[inline(always)]
 fn signed_offset(offset: u8) -> i64
     ensures value { result ≡ signed_offset offset }

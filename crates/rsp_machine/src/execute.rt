@@ -39,7 +39,7 @@ struct Executor<'a, 'b, A: Acc, K: Recorder, U: Until> {
 }
 
 impl<'a, 'b, A: Acc, K: Recorder, U: Until> Executor<'a, 'b, A, K, U> {
-    /// pc and npc after the instruction. The proof of `execute` needs a call here, and not the field.
+    /// For the prover: pc and npc after the instruction, because the proof of `execute` needs a call here, and not the field.
     #[inline(always)]
     fn counters(&self) -> ProgramCounters
         ensures { result ≡ self.now.counters }
