@@ -30,7 +30,7 @@ pytestmark = pytest.mark.timeout(900)  # conformance/check takes all processors,
 PLUGIN = "plugin/mupen64plus-rsp-proved.so"
 PLUGIN_CALLS = "DoRspCycles InitiateRSP PluginGetVersion PluginShutdown PluginStartup RomClosed".split()
 DESCRIBED = TOP / "library/python/README.md"  # which the wheel's METADATA has
-VERSION = r"rsp [\d.]+ \([\d-]+\), commit [0-9a-f]{40}\nproved and built by \S+"
+VERSION = r"rsp [\d.]+ \([\w-]+\), commit [0-9a-f]{40}\nproved and built by \S+"
 
 
 KINDS = ("linux-x86_64", "conformance", "source")
@@ -98,7 +98,7 @@ def test_source(released: Path, folder: Path) -> None:
         it for it in listed if os.access(top / it, os.X_OK)
     }
     told = succeeds("./rsp", "--version", cwd=top, env=BARE)
-    assert re.fullmatch(r"rsp [\d.]+ \([\d-]+\), commit [0-9a-f]{40}\nnot built yet\n", told)
+    assert re.fullmatch(r"rsp [\d.]+ \([\w-]+\), commit [0-9a-f]{40}\nnot built yet\n", told)
     succeeds("git", "init", "-q", folder)
     succeeds("git", *IDENTITY, "commit", "-q", "--allow-empty", "-m", "another", cwd=folder)
     assert succeeds("./rsp", "--version", cwd=top) == told, "it is the commit of the repository around it"

@@ -10,9 +10,8 @@ use clap::{Arg, ArgAction, ArgMatches, Command, Error};
 pub use escaped::Escaped;
 use std::alloc::{AllocError, Global};
 
-/// The version of everything in this repository, and its day. They are given here alone: the script `rsp` at the top reads them
-/// from this line.
-const VERSION: &str = "1.0.0 (2026-11-23)";
+/// The version of everything in this repository, with its day or `unreleased`: what the file VERSION at the top says.
+const VERSION: &str = "0.9.0 (unreleased)";
 
 /// The files of a run, and how it ends.
 #[derive(Drop)]

@@ -51,7 +51,7 @@ from .state import Accumulators, Changes, Divider, Flags, Scalars, SpWords, Stat
 from .state import alike as _alike
 from .errors import FAULTS
 
-__version__ = "1.0.0"
+__version__ = "0.9.0"
 __all__ = [
     "DMEM", "FAULTS", "IMEM", "RDRAM", "VERSION", "Accumulators", "AssemblyError", "Bank", "Session",
     "Changes", "Difference", "Divider", "Dma", "Emulator", "Fault", "FirstDifference", "Flags", "Found",

@@ -81,7 +81,7 @@ MY_C_PRINTS = "..\n2 steps, $2 is 1234"
 CMAKE = """
 cmake_minimum_required(VERSION 3.10)
 project(mine C)
-find_package(brsp 1.0 REQUIRED)
+find_package(brsp 0.9 REQUIRED)
 add_executable(mine my.c)
 target_link_libraries(mine brsp::brsp)
 """
