@@ -225,6 +225,7 @@ CHANGES: dict[str, tuple[str, str, Data]] = {
 def test_change(tree: Tiny, what: str, name: str, data: Data) -> None:
     """Each thing that a mark holds is changed: the next run proves again, but not once it is as it was."""
     command = RSP if what == "program" else C
+    assert tree.run(command, "broken") == NOTHING
     with tree.changed(name, data):
         has_something_to_do(tree, command)
         if what == "program":
@@ -242,6 +243,7 @@ def test_mark_of_another_logic(program_tree: Tiny) -> None:
         _version, crates, _times, sums = mark.split(b"\n", 3)
         return b"\n".join([b"rattle-kit-0 logic 0", crates, b"", sums])
 
+    assert program_tree.run(RSP, "broken") == NOTHING
     with program_tree.changed("tools/logic", b"logic 1\n"):
         has_something_to_do(program_tree, RSP)
     with program_tree.changed(MARK, other):

@@ -1,7 +1,7 @@
 """What `run --save` and `asm` leave of a file, whatever happens meanwhile.
 
-They fail if a write that fails, or a run that is killed in mid-write, doesn't leave the old bytes whole, if a
-link becomes a file, if permissions change, or if what no new file can replace isn't written in place.
+They fail if a write that fails, or a run that is killed while it saves, doesn't leave the old bytes whole, if
+a link becomes a file, if permissions change, or if what no new file can replace isn't written in place.
 """
 
 import os
@@ -13,7 +13,6 @@ import stat
 import subprocess
 import tempfile
 import threading
-from contextlib import suppress
 from pathlib import Path
 from typing import Any, Callable, Iterator, List, NamedTuple, Optional, Tuple
 
@@ -438,7 +437,7 @@ def test_folder_is_synced(is_new: bool, is_far: bool, new: New, folder: Path) ->
         assert told.read() == b"file synced, renamed, folder %d synced, " % it.folder.stat().st_ino
 
 
-# Runs at once, and runs that are killed while they write eight megabytes.
+# Runs at once, and runs that are killed while they save.
 
 
 def start(number: int, words: List[object]) -> "subprocess.Popen[bytes]":
@@ -465,44 +464,19 @@ def test_four_at_once(turn: int, binary: Path, folder: Path) -> None:
     assert os.listdir(own) == ["file"]
 
 
-def kill_once(words: List[object], folder: Path, sent: signal.Signals) -> int:
-    """Starts a run that saves, and sends the signal once something in the folder changes. Its status."""
-
-    def state() -> List[Tuple[str, int]]:
-        with suppress(FileNotFoundError):
-            return sorted((entry.name, entry.stat().st_size) for entry in os.scandir(folder))
-        return before
-
-    before = state()
-    run = subprocess.Popen([*map(str, words)], stdin=subprocess.PIPE, stdout=subprocess.DEVNULL)
-    assert run.stdin
-    run.stdin.write(b"load rdram 0 ff\n")
-    run.stdin.close()
-    while run.poll() is None:
-        if state() != before:
-            run.send_signal(sent)
-            break
-    return run.wait(60)
-
-
-@pytest.mark.parametrize("sent", (signal.SIGTERM, signal.SIGKILL), ids=lambda it: it.name)
-def test_killed_in_mid_write(sent: signal.Signals, binary: Path, folder: Path) -> None:
-    old, own, partial = bytes(8388608), folder / "own", 0
+@pytest.mark.needs("strace")
+@pytest.mark.parametrize("sent", ("SIGTERM", "SIGKILL"))
+@pytest.mark.parametrize("call, number", (("write", 2), ("fsync", 1)))
+def test_killed_while_it_saves(call: str, number: int, sent: str, binary: Path, folder: Path) -> None:
+    """The file is as it was, whether nothing or all of the new one is beside it."""
+    own, image = folder / "own", folder / "image"
     own.mkdir()
-    big, file = folder / "big", own / "file"
-    big.write_bytes(old)
-    for _ in range(100):
-        file.write_bytes(old)
-        status = kill_once([binary, "run", "--rdram", big, "--save", file], own, sent)
-        got = file.read_bytes()
-        is_whole = got in (old, b"\xff" + old[1:])
-        assert is_whole, f"the file has {len(got)} bytes, neither the old nor the new"
-        beside = [path for path in own.iterdir() if path != file]
-        assert [it.name for it in beside if not re.fullmatch(r"\.file\.rsp-save-\d+", it.name)] == []
-        assert len(beside) <= 1
-        partial += status == -sent and got == old and len(beside) == 1
-        for it in beside:
-            it.unlink()
-        if partial == 3:
-            break
-    assert partial, "no run was killed in mid-write"
+    image.write_bytes(bytes(8388608))
+    (own / "file").write_bytes(OLD)
+    if ran("strace", ["-o", os.devnull, "true"], b"").status:
+        pytest.skip("strace may not trace a process here")
+    when = f"inject={call}:signal={sent}:when={number}"
+    killed = ["-f", "-o", os.devnull, "-e", f"trace={call}", "-e", when, binary, "run", "--rdram", image]
+    assert ran("strace", [*killed, "--save", own / "file"], b"load rdram 0 ff\n").status != 0
+    assert (own / "file").read_bytes() == OLD
+    assert sorted(os.listdir(own)) == [".file.rsp-save-0", "file"]
