@@ -1,5 +1,4 @@
 /** What a run has answered: the reply to each line, the lines that are source text, and the faults. */
-
 const LF = 10, TEXT = new TextDecoder();
 /** How many bytes of a line are shown. Longer lines are refused. */
 const WIDTH = 256;

@@ -33,6 +33,7 @@ async function take_image(bytes, name = "zeros") {
 }
 
 function run() {
+  say("");
   the("menu").hidePopover();
   running.run();
 }

@@ -222,8 +222,7 @@ export class Replies {
   }
 
   /** An item of the list: a reply, with its line where that isn't beside it, and why it is at fault. What is folded is
-   * there for who hears the page.
-   * @param {number} item */
+   * there for who hears the page. @param {number} item */
   #item(item) {
     const { line, whole, shown } = this.#items[item], { answers } = this, is_end = answers.is_end(line);
     const folded = whole - shown, made = element("li", "", answers.fault_at.has(line) ? "fault" : "");

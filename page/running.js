@@ -5,8 +5,7 @@ import { Text } from "./text.js";
 const WORKER = new URL("worker.js", import.meta.url);
 
 /** What is run: a script with an image, if it isn't the library's zeros; or the text of a block that has a fault.
- * @typedef {{ script: Uint8Array, image?: Uint8Array, is_strict?: boolean } |
- *   { source: string, origin: number }} Asked */
+ * @typedef {{ script: Uint8Array, image?: Uint8Array, is_strict?: boolean } | { source: string, origin: number }} Asked */
 /** What ended a run: its script's end, with the image that it left; a stop; or a fault, in a sentence. Of a text: what
  * its operand may be.
  * @typedef {{ rdram?: Uint8Array, allowed?: string, is_stopped?: boolean, fault?: string }} Ended */
@@ -52,7 +51,6 @@ export class Runs {
 }
 
 const MOST = 50; // faults that the library explains
-
 export class Running {
   #script;
   #editor;

@@ -6,7 +6,6 @@ const KEPT = "This script has bytes that its text can't hold, as CR. It keeps th
 
 /** A link carries a script after the # of an address: its length, and its bytes in base64, with - and _ for + and /. By
  * the length one sees that a link was cut off on its way. */
-
 /** How many bytes of a script a link carries, and how many characters they become. */
 const LONGEST = 24000, MOST = LONGEST / 3 * 4;
 

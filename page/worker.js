@@ -5,7 +5,6 @@ import "./load_error.js";
 
 /** How long replies are gathered, in milliseconds. */
 const GATHERED = 50;
-
 /** What `rsp run` says where it refuses a script. */
 const REFUSED = { TOO_LONG: "rsp: fault 42 ScriptTooLong", NO_MEMORY: "rsp: fault 43 OutOfMemory" };
 
@@ -16,7 +15,7 @@ const library = import("./rsp/rsp.js").catch(async (fault) => {
 });
 library.catch(() => {});
 
-/** Answers a script, with `is_strict` up to the first fault, as the library does. The image as it leaves it. */
+/** Answers a script, with `is_strict` up to the first fault, by the library. The image as it leaves it. */
 async function answered({ script, image, is_strict }) {
   const { ScriptError, Session, Status } = await library, { strict_replies } = await import("./rsp/strict.js");
   const session = new Session(image);

@@ -124,6 +124,7 @@ def test_link(script: bytes, page: Page) -> None:
     assert page.text("ran") == "" and page.text("replies") == ""
     assert page.saved("save-script", "script.rsp") == script
     assert page.run() == replies_to(script)
+    assert page.text("said") == ""
     page.type("step\n")
     assert page.address == top
 
