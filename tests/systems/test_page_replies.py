@@ -196,6 +196,7 @@ def test_folded_replies_are_heard(page: Page) -> None:
     assert page.value(FOLDS) == ["+31"]
     assert all(re.search(rf"\bv{n:02} 0000", heard) for n in range(32))
     assert page.value("getComputedStyle(document.querySelector('.folded')).clipPath") == "inset(50%)"
+    assert page.value(f"{the('surface')}.scrollHeight <= {the('surface')}.clientHeight")
 
 
 def copied(page: Page) -> str:

@@ -14,7 +14,7 @@ from rsp_tools.systems import web_page as pages
 
 PICTURE = TOP / "docs/pictures/page.png"
 WIDTH, HEIGHT = 1000, 440
-SCRIPT = """# Eight sums at once, with a fault in the second block.
+SCRIPT = """# Eight sums at once, and a mistake
 load dmem 0  0001000200037fff8000ffff00100064
 load dmem 16 0001fffe00030001ffff000100200064
 asm 0
@@ -25,11 +25,10 @@ asm 0
 end
 run 100
 vregs
-flags
 asm 0x40
   sqv  $v3[0], 8($0)
 end
-regs
+step
 """
 
 
