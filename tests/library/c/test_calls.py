@@ -53,7 +53,7 @@ def test_page(compiler: str, folder: Path) -> None:
 def test_console(folder: Path) -> None:
     """The console of the examples, which owns RDRAM, beside a machine that has all inside. EMBEDDING.md says
     how long it is."""
-    (lines,) = re.findall(r"(\d+) lines of C\+\+17", page("docs/EMBEDDING.md"))
+    (lines,) = re.findall(r"(\d+) lines of\sC\+\+17", page("docs/EMBEDDING.md"))
     assert len(CONSOLE.read_text().splitlines()) == int(lines) <= 120
     passes(built(folder, HERE / "host.cpp", *BY_CONSOLE, compiler="c++"))
 
