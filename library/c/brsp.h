@@ -93,8 +93,7 @@ enum brsp_fault {
 enum brsp_bank { BRSP_DMEM = 0, BRSP_IMEM = 1, BRSP_RDRAM = 2 };
 
 /* Why a run stopped. If several reasons hold, the first of this list counts, except that a move comes before
- * the limit. (In brsp_event the limit comes before a move, and after
- * BRSP_AT_INTERRUPT and BRSP_AT_STATUS.) */
+ * the limit. (In brsp_event the limit comes before a move, and after the last two reasons.) */
 enum brsp_reason {
     BRSP_AT_RESERVED = 0, /* the machine isn't halted, and the word at pc is reserved */
     BRSP_AT_HALT = 1,     /* it is halted, whatever the word is */
@@ -103,11 +102,11 @@ enum brsp_reason {
     BRSP_AT_LIMIT = 4,    /* all steps are made */
     BRSP_AT_MOVE = 5,     /* brsp_run_until_move, brsp_event: such a move is next */
     BRSP_AT_DMA = 6,      /* brsp_event: a DMA is next */
-    BRSP_AT_INTERRUPT = 7, /* brsp_event with BRSP_STATUS_WRITES: the last step raised the interrupt by an MTC0 */
-    BRSP_AT_STATUS = 8    /* the same: the last step was another MTC0 to SP_STATUS */
+    BRSP_AT_INTERRUPT = 7, /* brsp_event, if asked: the last step raised the interrupt by an MTC0 */
+    BRSP_AT_STATUS = 8    /* brsp_event, if asked: the last step was another MTC0 to SP_STATUS */
 };
 
-/* Bit 16 of brsp_event's mask `writes`. */
+/* Bit 16 of brsp_event's mask `writes`, which asks for BRSP_AT_INTERRUPT and BRSP_AT_STATUS. */
 #define BRSP_STATUS_WRITES 65536
 
 typedef struct brsp_stop {

@@ -1,6 +1,7 @@
-/* brsp_savestate.h: a whole machine as one string of bytes: its registers, its memories and its image of RDRAM, but
- * not its history, its breakpoints and its watches. For C and C++. It needs only this header and the library.
- * conformance/FORMS.md lists the bytes, which are the same on every computer and in every language.
+/* brsp_savestate.h: a whole machine as one string of bytes: its registers, its memories and its image of
+ * RDRAM, but not its history, its breakpoints and its watches. For C and C++. It needs only this header and
+ * the library. conformance/FORMS.md lists the bytes, which are the same on every computer and in every
+ * language.
  *
  *     size_t length;
  *     uint8_t *bytes;
@@ -49,7 +50,7 @@ static inline const char *brsp_savestate_fault_text(uint32_t fault)
 /* Internal: where the parts of a savestate begin. */
 enum { BRSP_SAVESTATE_AT_STATE = 12, BRSP_SAVESTATE_AT_DMEM = 784, BRSP_SAVESTATE_AT_IMEM = 4880 };
 
-/* Internal: a number of the host whose bytes in memory are those of `n` in big-endian order, and the other way round. */
+/* Internal: a number of the host whose bytes in memory are those of `n` in big-endian order, and back. */
 static inline uint32_t brsp_savestate_u32(uint32_t n)
 {
     const uint8_t bytes[4] = { (uint8_t)(n >> 24), (uint8_t)(n >> 16), (uint8_t)(n >> 8), (uint8_t)n };
@@ -101,9 +102,9 @@ static inline uint32_t brsp_savestate_number(const uint8_t *bytes)
     return brsp_savestate_u32(n);
 }
 
-/* Writes the savestate of a machine, and changes nothing in it. `length` gets the number of its bytes. Returns
- * BRSP_NO_ROOM if there are more than `capacity`: `length` then has their number all the same, and no byte is written.
- * With a capacity of 0 `bytes` may be null. */
+/* Writes the savestate of a machine, and changes nothing in it. `length` gets the number of its bytes.
+ * Returns BRSP_NO_ROOM if there are more than `capacity`: `length` then has their number all the same, and no
+ * byte is written. With a capacity of 0 `bytes` may be null. */
 static inline uint32_t brsp_save_state(brsp_machine *m, uint8_t *bytes, size_t capacity, size_t *length)
 {
     size_t image;
@@ -125,29 +126,36 @@ static inline uint32_t brsp_save_state(brsp_machine *m, uint8_t *bytes, size_t c
     return brsp_memory(m, BRSP_RDRAM, 0, bytes + BRSP_SAVESTATE_BYTES, image);
 }
 
-/* Gives the first brsp_savestate_fault for which brsp_load_state refuses bytes, or BRSP_SAVESTATE_FINE if it takes
- * them. */
-static inline uint32_t brsp_savestate_check(brsp_machine *m, const uint8_t *bytes, size_t length, uint32_t *fault)
+/* Internal: what is wrong with bytes for a machine with an image of this length. */
+static inline uint32_t brsp_savestate_fault_in(const uint8_t *bytes, size_t length, size_t image)
 {
-    size_t image;
-    uint32_t status = brsp_image_length(m, &image), field = BRSP_FIELD_NONE;
     brsp_state state;
-    if (status != BRSP_OK) return status;
-    if (length < 4 || memcmp(bytes, "RSPS", 4)) *fault = BRSP_SAVESTATE_MAGIC;
-    else if (length >= 8 && brsp_savestate_number(bytes + 4) != BRSP_SAVESTATE_VERSION) *fault = BRSP_SAVESTATE_OTHER_VERSION;
-    else if (length < BRSP_SAVESTATE_BYTES || length - BRSP_SAVESTATE_BYTES != brsp_savestate_number(bytes + 8)) *fault = BRSP_SAVESTATE_LENGTH;
-    else if (length - BRSP_SAVESTATE_BYTES != image) *fault = BRSP_SAVESTATE_IMAGE;
-    else {
-        brsp_savestate_state(bytes, &state);
-        brsp_state_fault(&state, &field);
-        *fault = field != BRSP_FIELD_NONE || state.zero ? BRSP_SAVESTATE_STATE : BRSP_SAVESTATE_FINE;
-    }
-    return BRSP_OK;
+    uint32_t field = BRSP_FIELD_NONE;
+    if (length < 4 || memcmp(bytes, "RSPS", 4)) return BRSP_SAVESTATE_MAGIC;
+    if (length < 8) return BRSP_SAVESTATE_LENGTH;
+    if (brsp_savestate_number(bytes + 4) != BRSP_SAVESTATE_VERSION) return BRSP_SAVESTATE_OTHER_VERSION;
+    if (length < BRSP_SAVESTATE_BYTES) return BRSP_SAVESTATE_LENGTH;
+    if (length - BRSP_SAVESTATE_BYTES != brsp_savestate_number(bytes + 8)) return BRSP_SAVESTATE_LENGTH;
+    if (length - BRSP_SAVESTATE_BYTES != image) return BRSP_SAVESTATE_IMAGE;
+    brsp_savestate_state(bytes, &state);
+    brsp_state_fault(&state, &field);
+    return field != BRSP_FIELD_NONE || state.zero ? BRSP_SAVESTATE_STATE : BRSP_SAVESTATE_FINE;
 }
 
-/* Sets all registers and memories from a savestate, and empties the history. Breakpoints and watches stay. Afterwards
- * brsp_save_state gives the same bytes. Returns BRSP_OUT_OF_RANGE, and changes nothing, if brsp_savestate_check finds a
- * fault. */
+/* Gives the first brsp_savestate_fault for which brsp_load_state refuses bytes, or BRSP_SAVESTATE_FINE if it
+ * takes them. */
+static inline uint32_t brsp_savestate_check(brsp_machine *m, const uint8_t *bytes, size_t length,
+                                            uint32_t *fault)
+{
+    size_t image;
+    uint32_t status = brsp_image_length(m, &image);
+    if (status == BRSP_OK) *fault = brsp_savestate_fault_in(bytes, length, image);
+    return status;
+}
+
+/* Sets all registers and memories from a savestate, and empties the history. Breakpoints and watches stay.
+ * Afterwards brsp_save_state gives the same bytes. Returns BRSP_OUT_OF_RANGE, and changes nothing, if
+ * brsp_savestate_check finds a fault. */
 static inline uint32_t brsp_load_state(brsp_machine *m, const uint8_t *bytes, size_t length)
 {
     brsp_state state;

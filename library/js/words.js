@@ -7,7 +7,8 @@ const range = (low, high, step = 1) => ({
   has: (n) => n >= low && n <= high && (n - low) % step === 0,
   text: step === 1 ? `${low} to ${high}` : high === 4096 ? "a multiple of 4 up to 4096" : "a multiple of 4 below 4096",
 });
-const WORD = range(0, 0xffffffff), PLACE = range(0, 4092, 4), COUNT = range(1, 1000000), MASK = range(0, 65535), EVENT_MASK = range(0, 131071);
+const WORD = range(0, 0xffffffff), PLACE = range(0, 4092, 4), COUNT = range(1, 1000000), MASK = range(0, 65535);
+const EVENT_MASK = range(0, 131071);
 const REGISTER = range(0, 31), BANK = { ...range(0, 2), text: "DMEM, IMEM or RDRAM" };
 
 /** The arguments of each call, in order. */

@@ -1,8 +1,8 @@
 """Savestates: the same bytes from C, C++, Python, Rust and JavaScript, and a play of two machines over them.
 
-They fail if a language writes other bytes than C, takes bytes that it should refuse, changes a machine when it
-refuses them, or if two machines differ whose steps are cut differently (savestates.c, whose numbers are the
-table of conformance/FORMS.md).
+They fail if a language writes other bytes than C, takes bytes that it should refuse, changes a machine when
+it refuses them, or if two machines differ whose steps are cut differently (savestates.c, whose numbers are
+the table of conformance/FORMS.md).
 """
 
 import json

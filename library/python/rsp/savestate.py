@@ -1,4 +1,4 @@
-"""A whole machine as one string of bytes, which is the same in every language: conformance/FORMS.md lists it."""
+"""A whole machine as a string of bytes, the same in each language: conformance/FORMS.md lists them."""
 
 import struct
 from typing import Optional

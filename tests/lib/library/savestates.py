@@ -1,4 +1,4 @@
-"""A machine whose savestate has all kinds of registers and memories that aren't 0, for each language to make."""
+"""A machine whose savestate has all kinds of registers and memories that aren't 0, for each language."""
 
 IMAGE, STEPS = bytes(range(256)), 1000
 TEXT = "\n".join(
