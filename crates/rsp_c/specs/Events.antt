@@ -52,11 +52,11 @@ is_status_write (end.Move steps pc r writes value) = writes && r == 4
 abbrev pub status_reason : Reason → ℕ → Bool → Bool → ℕ
 status_reason why number before now = if is_limit why then (if now && not before then 7 else 8) else number
 
--- what a run of k steps reaches by the step that writes SP_STATUS
+-- what a run of k steps reaches by the step that writes SP_STATUS, which the machine can make
 abbrev pub c_after_status : ℕ → Debugging → RspReached
 c_after_status k d =
     let stop = stop_in 1 d in let t = (after_run 1 d).state in
-    let r = c_reached (end.Stop (record stop { steps = k + stop.steps })) t in
+    let r = c_reached (end.Stop (record stop { steps = k + 1 })) t in
     record r { at = record r.at { stop = record r.at.stop { reason = status_reason stop.reason r.at.stop.reason d.state.sp.interrupt t.sp.interrupt } } }
 
 -- where a run ends before the next event, and the debugger there

@@ -99,7 +99,7 @@ fn step_status<A: Acc>(debugger: &mut Debugger<A>, steps: u32) -> RspReached
         unreachable!()
     };
     let machine = debugger.machine();
-    let steps = steps + stop.steps;
+    let steps = steps + 1;
     let mut reached = c_reached(MoveEnd::Stop(Stop { steps, ..stop }), machine);
     if matches!(stop.reason, Reason::Limit) {
         let raised = machine.sp_regs().interrupt() && !before;
@@ -122,7 +122,7 @@ pub extern "C" fn brsp_event(
 ) -> u32
     ensures range { IsDoneIf (λ d. (1 ≤ n) × (n ≤ 1000000) × (reads < 65536) × (writes < 131072)) handle.old.debugger result }
     ensures event { IsFilled result (event_of n reads writes) handle.old.debugger out.old out.new }
-    ensures counted { result ≡ OK → 5 ≤ out.new.at.stop.reason → out.new.at.stop.reason ≤ 6 → out.new.at.stop.steps < n }
+    ensures counted { result ≡ OK → writes < 65536 → 5 ≤ out.new.at.stop.reason → out.new.at.stop.steps < n }
     ensures next { IsNext result (after_event n reads writes) handle.old.debugger handle.new.debugger }
 {
     with_held!(handle, alloc, |debugger| if reads <= 0xffff && writes <= 0x1_ffff => {
