@@ -86,8 +86,8 @@ CALLS: Dict[str, Tuple[Any, ...]] = {
     "flags": (), "divider": (), "read": (7,), "peek": (7,), "write": (4, 2), "sp": (),
     "set_sp": (rsp.SpWords(),), "listing": (0, 1), "event": (1,), "pass_dma": (), "history": (), "close": (),
 }  # fmt: skip
-OF_A_BENCH: Dict[str, Tuple[Any, ...]] = {"feed": ("step\n",), "end": (), "close": ()}
-NO_CALL = {"iter_trace", "memory_array", "iter_feed"}  # these are made of other calls
+OF_A_SESSION: Dict[str, Tuple[Any, ...]] = {"feed": ("step\n",), "end": (), "close": ()}
+NO_CALL = {"iter_trace", "memory_array", "iter_feed", "save_state", "load_state"}  # these are made of other calls
 
 
 def names_of(kind: type) -> Set[str]:
@@ -98,17 +98,19 @@ def names_of(kind: type) -> Set[str]:
 def test_calls_at_work() -> None:
     """While another call is at work, each one is refused, and the library isn't reached."""
     assert names_of(rsp.Rsp) == {*CALLS} | NO_CALL - {"iter_feed"}
-    assert names_of(rsp.Session) == {*OF_A_BENCH, "iter_feed"}
+    assert names_of(rsp.Session) == {*OF_A_SESSION, "iter_feed"}
     machine, session = loaded("nop\nbreak\n", 4), rsp.Session(bytes(64))
     before, dmem = machine.get(), machine.memory(rsp.DMEM, 0, 4096)
     with machine._lock, session._lock, mock.patch.multiple(rsp, _lib=mock.DEFAULT, _quick=mock.DEFAULT):
         for name, given in CALLS.items():
             told = f"{name}: another call is using the machine"
             raised(rsp.RspError, told, getattr(machine, name), *given)
-        for name, given in OF_A_BENCH.items():
+        for name, given in OF_A_SESSION.items():
             raised(rsp.RspError, f"{name}: another call is using the session", getattr(session, name), *given)
         raised(rsp.RspError, "feed: another call is using the session", list, session.iter_feed("step\n"))
         raised(rsp.RspError, "rdram: another call is using the session", lambda: session.rdram)
+        busy = "image_length: another call is using the machine"
+        raised(rsp.RspError, busy, lambda: machine.image_length)
         refused(Status.NO_MACHINE, machine.step)
     assert machine.get() == before and machine.memory(rsp.DMEM, 0, 4096) == dmem
     assert machine.step() is Status.OK and session.feed("step\n") == b"step Done pc 004\n"
