@@ -27,7 +27,7 @@ from lib.install.unpacked import (
 from lib.install.ways import LOOP_CODE, LOOP_TEXT, LOOP_WORDS
 from lib.library import LOCKSTEP
 from lib.library.typescript import OPTIONS, USE
-from lib.links import broken_everywhere
+from lib.links import broken_everywhere, elsewhere
 from lib.packages import need
 from lib.pages import page
 from lib.processes import Ended, bytes_of, run, succeeds
@@ -85,7 +85,7 @@ def check_files(top: Path, system: str) -> None:
     text = (top / "README.md").read_text()
     assert text.startswith(f"# rsp {install_tree.version()[0]} for ")
     folders = "bin|lib|include|share|python|library|examples|conformance"
-    named = re.findall(rf"(?<![\w/\\~-])(?:{folders})[/\\][\w./\\*-]+", text)
+    named = re.findall(rf"(?<![\w/\\~-])(?:{folders})[/\\][\w./\\*-]+", text.replace(elsewhere(top), ""))
     paths = [it.replace("\\", "/") for it in named]
     assert [it for it in paths if not [*top.glob(it), *top.glob(f"{it}.exe")]] == []
 

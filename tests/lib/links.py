@@ -51,11 +51,16 @@ def broken(root: Path, least: int = 1) -> List[str]:
     return [it for page in pages for it in broken_in(page)]
 
 
+def elsewhere(archive: Path) -> str:
+    """What an archive's README says of files that aren't there."""
+    (told,) = re.findall(r"files that aren't here: (.*)\. All", (archive / "README.md").read_text())
+    return str(told)
+
+
 def broken_everywhere(archive: Path, least: int) -> List[str]:
     """The links of an archive's pages that lead nowhere, except to what the README names and the repository
     has at that place."""
-    (told,) = re.findall(r"files that aren't here: (.*)\. All", (archive / "README.md").read_text())
-    named = tuple(re.findall("`(.*?)`", told))
+    named = tuple(re.findall("`(.*?)`", elsewhere(archive)))
     assert not [it for it in named if (archive / it).exists()]
     lost = []
     for page, _, link in (it.partition(": ") for it in broken(archive, least)):
