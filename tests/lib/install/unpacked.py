@@ -44,7 +44,9 @@ def check_pack(archive: Path) -> None:
     else:
         with tarfile.open(archive) as tar:
             names = tar.getnames()
-            about = {str((it.mtime, it.uid, it.gid, it.uname, it.gname)) for it in tar.getmembers()}
+            about = {str(it.mtime) for it in tar.getmembers()}
+            owners = {(it.uid, it.gid, it.uname, it.gname) for it in tar.getmembers()}
+            assert owners == {(0, 0, "", "")}
             check_members(tar.getmembers())
     assert names == sorted(names)
     assert len(about) == 1
