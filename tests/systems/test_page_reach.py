@@ -340,7 +340,8 @@ REFUSED = """(async () => {
   await fetch("http://localhost:1/").catch(() => {});
   try { new Worker("data:text/javascript,1"); } catch {}
   put("form", { action: "http://localhost:1/" }).submit();
-  await new Promise((done) => setTimeout(done, 300));
+  const end = Date.now() + 20000; // the form's refusal comes some time later
+  while (new Set(refused).size < 8 && Date.now() < end) await new Promise((done) => setTimeout(done, 50));
   return [document.title, [...new Set(refused)].sort()];
 })()"""
 WANTED = """
