@@ -244,7 +244,6 @@ def test_nothing_is_cut_off(width: int, text: int, filled: Page) -> None:
     """Each reply's last letter can be reached, all other texts are painted whole, and the page itself isn't
     wider than the screen."""
     height = {320: 568, 360: 740, 412: 915, 768: 1024}.get(width, 800)
-    filled.click("whole")
     with filled.sized(width, height, text=text, is_mobile=width < 900):
         wide, cut = filled.value("document.documentElement.scrollWidth"), filled.value(CUT_OFF)
         hidden = filled.value(HIDDEN)

@@ -309,8 +309,11 @@ def test_faults(page: Page) -> None:
         lines.append(page.value(SELECTED))
         assert page.value("document.activeElement.id") == "script"
     assert lines == ["load rom 0 00", "li $1, 5", "", "load rom 0 00"]
+    page.type("step\n")
+    page.painted()
+    assert page.value(MARKED) == []
     answered(page, "step\n")
-    assert page.value(MARKED) == [] and page.value(f"{the('faults')}.offsetHeight") == 0
+    assert page.value(f"{the('faults')}.offsetHeight") == 0
 
 
 def test_fault_far_below(page: Page) -> None:
