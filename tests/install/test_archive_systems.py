@@ -42,8 +42,9 @@ from rsp_tools.targets import TARGETS
 
 # What an archive for C, Python and Rust has on each system.
 COMMON = """
-README.md CHANGELOG.md SHA256SUMS include/brsp.h include/brsp.hpp include/brsp_compare.h include/brsp_savestate.h
-lib/cmake/brsp/brspConfig.cmake lib/cmake/brsp/brspConfigVersion.cmake library/python/rsp/__init__.py
+README.md CHANGELOG.md SHA256SUMS include/brsp.h include/brsp.hpp include/brsp_compare.h
+include/brsp_savestate.h lib/cmake/brsp/brspConfig.cmake
+lib/cmake/brsp/brspConfigVersion.cmake library/python/rsp/__init__.py
 library/rust/Cargo.toml library/rust/build.rs library/rust/src/lib.rs library/c/brsp.h docs/README.md
 docs/SYSTEMS.md examples/first.rsp examples/c/lockstep.c microcode/README.md microcode/copy.s
 """

@@ -90,8 +90,8 @@ class Missing(NamedTuple):
         return self.told({})
 
     def told(self, labels: Mapping[str, int]) -> str:
-        """The sentence, with the last label up to the address beside it, as in `230 (mix+8): lqv ..`. `labels`
-        are those of a text (`Words.labels`)."""
+        """The sentence, with the last label up to the address beside it, as in `230 (mix+8): lqv ..`.
+        `labels` are those of a text (`Words.labels`)."""
         when = "" if self.read is None else f" if it is under way at the read of {self.read:03x}"
         before = [(at, name) for name, at in labels.items() if at <= self.place]
         at, name = max(before, default=(0, ""))
@@ -211,7 +211,7 @@ class _Walk:
 
 
 def causes(machine: Machine, limit: int = 1000000, at_end: bool = False) -> Iterator[Missing]:
-    """As `missing`, but of all instructions that do the same before the end of one transfer only the first."""
+    """As `missing`, but only the first of all instructions that do the same before a transfer's end."""
     known: Set[Tuple[int, str]] = set()
     for it in missing(machine, limit, at_end):
         if (it.transfer.place, it.what) not in known:

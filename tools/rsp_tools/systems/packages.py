@@ -17,7 +17,7 @@ TEMPLATES = TOOLS / "packaging"
 
 
 def header(out: Path) -> None:
-    """Puts brsp.h beside a library, its class for C++, what compares a machine with an emulator, and savestates."""
+    """Puts brsp.h beside a library, its class for C++, what compares machines, and savestates."""
     (out / "include").mkdir(parents=True)
     for it in (
         places.HEADER,
