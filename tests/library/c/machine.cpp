@@ -64,7 +64,7 @@ static void test_events()
     refuses(BRSP_OTHER_WORD, "pass_dma: the word at pc starts no DMA", [&] { m.pass_dma(); });
     refuses(BRSP_OTHER_WORD, "pass_move: the word at pc is no MFC0 or MTC0", [&] { m.pass_move(); });
     refuses(BRSP_OUT_OF_RANGE, "event: steps is 0, not 1 to 1000000", [&] { m.event(0); });
-    refuses(BRSP_OUT_OF_RANGE, "event: writes is 65536, not 0 to 65535", [&] { m.event(1, 0, 65536); });
+    refuses(BRSP_OUT_OF_RANGE, "event: writes is 131072, not 0 to 131071", [&] { m.event(1, 0, 131072); });
     event = m.event(100);
     see("the halt", event.at.stop.reason == BRSP_AT_HALT && event.status == 3 && m.step() == BRSP_HALTED && m.pass_dma() == BRSP_HALTED);
 }
