@@ -34,7 +34,7 @@ export class Rows {
   #list;
   #make;
   #around;
-  #items = { count: 0, rows: 0, begin: (/** @type {number} */ it) => it, at: (/** @type {number} */ row) => row };
+  #items = { count: 0, rows: 0, begin: (/** @type {number} */ n) => n, at: (/** @type {number} */ n) => n };
   /** The rows that are in the document: the first one, and the one after the last. */
   #first = 0;
   #end = 0;

@@ -71,7 +71,7 @@ export class Text {
    * within stay as near as they can. @param {Text} older @returns {(line: number) => number} */
   moved_from(older) {
     const [a, b] = [older.all, this.all], most = Math.min(a.length, b.length);
-    const is_same = (/** @type {number} */ at, /** @type {number} */ to) => a.charCodeAt(at) === b.charCodeAt(to);
+    const is_same = (/** @type {number} */ n, /** @type {number} */ m) => a.charCodeAt(n) === b.charCodeAt(m);
     let same = 0, rest = 0;
     while (same < most && is_same(same, same)) same++;
     while (rest < most - same && is_same(a.length - 1 - rest, b.length - 1 - rest)) rest++;

@@ -17,8 +17,8 @@ library.catch(() => {});
 
 /** Answers a script, with `is_strict` up to the first fault, by the library. The image as it leaves it. */
 async function answered({ script, image, is_strict }) {
-  const { ScriptError, Session, Status } = await library, { strict_replies } = await import("./rsp/strict.js");
-  const session = new Session(image);
+  const { ScriptError, Session, Status } = await library, session = new Session(image);
+  const { strict_replies } = await import("./rsp/strict.js");
   let replies = [], since = performance.now();
   try {
     for (const reply of is_strict ? strict_replies(session, script) : session.iter_feed(script)) {
