@@ -9,11 +9,12 @@ import itertools
 from collections import namedtuple
 from typing import Any, Callable, Dict, Iterable, Iterator, List, Sequence, Tuple
 
-from rsp_conformance.outcomes import Kind, signed
-from rsp_conformance.table import FORMS, SCALE, Row, destination, uses_memory
+from rsp_conformance.outcomes import Kind, selected, signed
+from rsp_conformance.states import lanes_of
+from rsp_conformance.table import FORMS, SCALE, Row, destination, reads_other_lanes, uses_memory
 
-# A case: its instruction, its fields, and the whole state before it, of texts.
-Whole = namedtuple("Whole", "row fields before")
+# A case: its instruction, its fields, the whole state before it, of texts, and what has changed after it.
+Whole = namedtuple("Whole", "row fields before after")
 TOP = 1 << 32
 
 
@@ -126,9 +127,11 @@ EITHER = {
 
 ONE_BYTE, ONE_QUADWORD = "it is one byte", "its bytes are in one quadword"
 PASSES = "passes the end of DMEM"
+CHANGING = "vt is vd, a lane takes one that changes"
 IMPOSSIBLE = {
     **{(name, PASSES): ONE_BYTE for name in ("lb", "lbu", "sb", "lbv", "sbv")},
     **{(name, PASSES): ONE_QUADWORD for name in ("lqv", "sqv", "lrv", "srv")},
+    **{("veq", f"element {e}, {CHANGING}"): "a lane that takes itself keeps its value" for e in range(2, 16)},
 }
 
 
@@ -172,6 +175,13 @@ def are_equal(one: str, other: str) -> Rule:
     return lambda it: it.fields[one] == it.fields[other]
 
 
+def takes_changing(it: Whole) -> bool:
+    """Whether vt is vd, and a lane takes another lane, which has changed after the case."""
+    key, taken = f"v{it.fields['vt']}", {selected(it.fields["e"], at) for at in range(8)}
+    before, after = (lanes_of(state.get(key, it.before[key])) for state in (it.before, it.after))
+    return it.fields["vt"] == it.fields["vd"] and any(before[at] != after[at] for at in taken)
+
+
 def pairs_of(row: Row) -> Iterator[Tuple[str, Rule]]:
     """What an instruction meets with each element, and whether it holds: registers that are equal, a base $0,
     the lane that is read and written, and the divider's state.
@@ -189,15 +199,18 @@ def pairs_of(row: Row) -> Iterator[Tuple[str, Rule]]:
 
 
 def pair_kinds(row: Row) -> List[Kind]:
-    """Those pairs as outcomes."""
+    """Those pairs as outcomes, and the lanes that change while others take them."""
+    pairs = [(elements_of(row), *it) for it in pairs_of(row)]
+    if reads_other_lanes(row):
+        pairs.append((range(2, 16), CHANGING, takes_changing))
     return [
         Kind(
             f"element {e}, {text}",
             lambda it, holds=holds, e=e: element_of(it) == e and holds(it),
             group=f"each element, {text}",
         )
-        for text, holds in pairs_of(row)
-        for e in elements_of(row)
+        for elements, text, holds in pairs
+        for e in elements
     ]
 
 

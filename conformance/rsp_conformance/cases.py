@@ -7,9 +7,10 @@ from typing import Any, Callable, Dict, Iterator, List, Optional, Sequence, Tupl
 
 from rsp_conformance.wanted_lanes import TRIES, aim, near
 from rsp_conformance.random import LANES, Random
-from rsp_conformance.outcomes import possible, selected, signed
+from rsp_conformance.outcomes import lanes_of, possible, result_of, selected, signed
 from rsp_conformance.states import Texts
-from rsp_conformance.table import FORMS, MPEG, SCALE, Row, destination, ignored_bits, uses_memory, word_of
+from rsp_conformance.table import FORMS, MPEG, SCALE, Row, destination, ignored_bits, reads_other_lanes
+from rsp_conformance.table import uses_memory, word_of
 from rsp_conformance.case_outcomes import DIVIDENDS, elements_of, zeros
 
 Fields = Dict[str, int]
@@ -133,7 +134,25 @@ def make_equal(row: Row, random: Random, element: int) -> Made:
     return {"e": element, "vs": register, "vt": register, "vd": register}, before
 
 
+def make_changing(row: Row, random: Random, element: int) -> Made:
+    """A case with vt = vd of a computing instruction: each lane of vt that another lane takes changes."""
+    vs, vt = random.some(2, 32)
+    fields = {"e": element, "vs": vs, "vt": vt, "vd": vt}
+    for _ in range(TRIES):
+        a, b, before = random.lanes(), random.lanes(), vector_state(random)
+        if not row.name.startswith("vm"):
+            relate(random, a, b, element)
+        before.update({f"v{vs}": text_of_lanes(a), f"v{vt}": text_of_lanes(b)})
+        lanes = [*lanes_of(fields, before)]
+        taken = [lanes[selected(element, at)] for at in range(8)]  # each takes itself
+        if all(result_of(row.name, lane) != lane.b for lane in taken):
+            break
+    return fields, before
+
+
 def make_vector(row: Row, random: Random, number: int, window: int) -> Made:
+    if number in (changing := changing_numbers(row)):
+        return make_changing(row, random, CHANGING[number - changing[0]])
     if (element := paired_element(row, number)) is not None:
         return make_equal(row, random, element)
     fields = {"e": element_of(row, number)}
@@ -174,6 +193,15 @@ def dividend(random: Random, number: int, is_long: bool) -> int:
     return int(x)
 
 
+# The numbers of the cases that meet each entry of a divide table, beside the others: the first is of entry 0.
+ENTRIES = range(1 << 20, (1 << 20) + 512)
+
+
+def dividend_of(row: Row, entry: int) -> int:
+    """A number whose nine bits below the leading one, and leading zeros, select an entry of the table."""
+    return 2 * (512 + entry - 1) if row.name == "vrsq" and entry % 2 else 512 + entry
+
+
 def make_lane(row: Row, random: Random, number: int, window: int) -> Made:
     fields = {"e": (number * 3 + number // 8) % 16, "de": number % 8}
     fields["vt"], fields["vd"] = random.some(2, 32)
@@ -186,6 +214,8 @@ def make_lane(row: Row, random: Random, number: int, window: int) -> Made:
     before = {**vector_state(random), **divider(random, loaded)}
     is_long = row.name[-1] == "l" and before["loaded"] == "1"
     whole = dividend(random, number, is_long)
+    if number in ENTRIES:
+        whole = dividend_of(row, ENTRIES.index(number))
     if is_long:
         before["in"] = f"{whole >> 16 & 0xFFFF:04x}"
     vt = random.lanes()
@@ -365,10 +395,20 @@ MAKERS: Dict[str, Callable[[Row, Random, int, int], Made]] = {
 }
 
 
+# The elements of the cases in which a lane takes another lane of vt, which the instruction changes.
+CHANGING = range(2, 16)
+
+
+def changing_numbers(row: Row) -> range:
+    """The numbers of these cases, after those of the pairs. VEQ keeps each lane that takes itself."""
+    given = (number + 1 for name, number in GIVEN if name == row.name)
+    first = max((unpaired(row) + len(paired_elements(row)), *given))
+    return range(first, first + len(CHANGING) * (reads_other_lanes(row) and row.name != "veq"))
+
+
 def small_count(row: Row) -> int:
     """How many cases of an instruction the small set has."""
-    given = (number + 1 for name, number in GIVEN if name == row.name)
-    return max((unpaired(row) + len(paired_elements(row)), *given))
+    return changing_numbers(row).stop
 
 
 def reached_windows(row: Row) -> List[int]:
@@ -431,4 +471,5 @@ def make_case(row: Row, seed: str, number: int, window: Optional[int] = None) ->
     made = word_of(row, {name: fields[name] for name in FORMS[row.form]})
     if number % 10 == 9:
         made |= random.below(1 << 32) & ignored_bits(row)
-    return Case(f"{row.name.upper()}-{number:03d}", row, fields, before, made)
+    text = f"entry-{ENTRIES.index(number):03d}" if number in ENTRIES else f"{number:03d}"
+    return Case(f"{row.name.upper()}-{text}", row, fields, before, made)

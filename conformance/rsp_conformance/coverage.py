@@ -65,9 +65,8 @@ def shown(row: Row, entries: List[Entry]) -> Found:
     found: Found = {kind: {lane: [] for lane in LANES} for kind in in_lanes}
     found.update({kind: {None: []} for kind in as_wholes})
     for entry in entries:
-        it = case_outcomes.Whole(
-            row, fields_of(row, int(entry["word"], 16)), {**bench.DEFAULT, **entry["before"]}
-        )
+        fields, before = fields_of(row, int(entry["word"], 16)), {**bench.DEFAULT, **entry["before"]}
+        it = case_outcomes.Whole(row, fields, before, entry["after"])
         read = [(kind, lane, lanes) for lane, lanes in lanes_in(row, it).items() for kind in in_lanes]
         for kind, lane, numbers in [*read, *((kind, None, it) for kind in as_wholes)]:
             if kind.when(numbers):

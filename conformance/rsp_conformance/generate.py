@@ -1,17 +1,18 @@
-"""conformance/generate [--full] [--flat] [--cases N] [--seed S] [--program PROGRAM] OUT [NAME..]: makes test
-vectors of instructions. It fails if the program doesn't know one of them.
-conformance/generate [--full] [--flat] --of FOLDER OUT [NAME..]: makes these two forms of the cases of `steps`
-that FOLDER has, such as conformance/vectors. It needs no program.
+"""conformance/generate [--full] [--flat] [--cases N | --entries] [--seed S] [--program PROGRAM] OUT
+[NAME..]: makes test vectors of instructions. It fails if the program doesn't know one of them.
+conformance/generate [--full] [--flat] --of FOLDER OUT [NAME..]: makes these forms of the vectors that
+FOLDER has, such as conformance/vectors. It needs no program.
 
 NAME is an instruction; without one all instructions are meant. It makes N cases of each (as many as the small
-set has: 20 to 56), from the seed S (1), on the program rsp (./rsp):
+set has: 20 to 63), from the seed S (1), on the program rsp (./rsp). With --entries it makes a case of VRCP or
+VRSQ for each of the 1,024 entries of the divide tables:
   OUT/steps/NAME.jsonl                 one instruction a case: state before, state after
   OUT/programs/NAME.json, NAME-K.imem, NAME-K.dmem, NAME-K.after   whole programs, with what they leave in
                                                                    DMEM
   OUT/full/NAME.json                   with --full: the cases of steps/, whole states of numbers before and
                                        after
   OUT/flat/NAME.bin                    with --flat: the cases of steps/, as brsp_state of brsp.h and bytes
-README.md beside this command says how they are read. The same N and S give the same files.
+README.md beside this command says how they are read. The same words give the same files.
 """
 
 import argparse
@@ -21,13 +22,14 @@ from pathlib import Path
 from typing import Callable, Dict, Iterator, List, Optional, Sequence, Tuple
 
 from rsp_conformance import bench, flat, full, run_programs, steps
-from rsp_conformance.cases import small_count
+from rsp_conformance.cases import ENTRIES, small_count
 from rsp_conformance.commands import PROGRAM, printable, reader, say
 from rsp_conformance.files import FileFault, make_folder, write
 from rsp_conformance.table import ROWS, Row
 from rsp_conformance.vectors import VectorsFault, entries_in, names_in
 
 SEED = "1"
+DIVIDES = ("vrcp", "vrsq")  # the instructions whose cases meet all entries of a table
 
 # Forms that are made of `steps`: the suffix of a file, and what it holds.
 MORE: Dict[str, Tuple[str, Callable[[List[steps.Entry]], bytes]]] = {
@@ -36,28 +38,33 @@ MORE: Dict[str, Tuple[str, Callable[[List[steps.Entry]], bytes]]] = {
 }
 
 
-def write_row(program: str, row: Row, seed: str, count: int, out: Path, more: Sequence[str]) -> None:
-    """Writes the files of an instruction."""
-    text, name = steps.row_text(program, row, seed, count), row.name.upper()
-    write(out / "steps" / f"{name}.jsonl", text)
+def write_forms(name: str, entries: List[steps.Entry], of: Path, out: Path, more: Sequence[str]) -> None:
+    """Writes more forms of an instruction's vectors, whose programs are in the folder `of`."""
     for form in more:
         suffix, made = MORE[form]
-        write(out / form / f"{name}.{suffix}", made(steps.read_row(text)))
-    for file, content in run_programs.row_files(program, row, seed, count).items():
+        write(out / form / f"{name}.{suffix}", made(entries))
+
+
+def write_row(program: str, row: Row, seed: str, numbers: range, out: Path, more: Sequence[str]) -> None:
+    """Writes the files of an instruction."""
+    text, name = steps.row_text(program, row, seed, numbers), row.name.upper()
+    write(out / "steps" / f"{name}.jsonl", text)
+    for file, content in run_programs.row_files(program, row, seed, numbers).items():
         write(out / "programs" / file, content)
+    write_forms(name, steps.read_row(text), out, out, more)
 
 
 def generate(
-    program: str, rows: List[Row], seed: str, count: Optional[int], out: Path, more: Sequence[str] = ()
+    program: str, rows: List[Row], seed: str, numbers: Optional[range], out: Path, more: Sequence[str] = ()
 ) -> Iterator[str]:
-    """Writes the files of these instructions, of the small set if no count is given.
+    """Writes the files of these instructions, of the small set if no numbers of cases are given.
 
     Yields a line for each instruction that the program doesn't know.
     """
     for name in ("steps", "programs", *more):
         make_folder(out / name)
     with ThreadPoolExecutor() as workers:
-        todo = [(program, row, seed, count or small_count(row), out, more) for row in rows]
+        todo = [(program, row, seed, numbers or range(small_count(row)), out, more) for row in rows]
         made = [(it[1], workers.submit(write_row, *it)) for it in todo]
         for row, task in made:
             try:
@@ -69,22 +76,23 @@ def generate(
 def formed(of: Path, names: Sequence[str], out: Path, more: Sequence[str]) -> int:
     """Writes forms of the cases of `steps` in a folder. Returns the number of instructions."""
     found = names_in(of, names)
+    for form in more:
+        make_folder(out / form)
     for name in found:
-        for form in more:
-            suffix, made = MORE[form]
-            make_folder(out / form)
-            write(out / form / f"{name}.{suffix}", made(entries_in(of, name)))
+        write_forms(name, entries_in(of, name), of, out, more)
     return len(found)
 
 
 def refusal_of(args: argparse.Namespace) -> Optional[str]:
     """Why these words give nothing, as a sentence."""
-    if args.of and (args.cases is not None or not args.more):
-        return "--of is for --full or --flat, without --cases"
+    if args.of and (args.cases is not None or args.entries or not args.more):
+        return "--of is for --full or --flat, without --cases and --entries"
     if unknown := [name for name in args.names if name.lower() not in ROWS]:
         return f"the instruction table has no {unknown[0]}"
     if args.cases is not None and args.cases < 1:
         return "--cases is 1 or more"
+    if args.entries and (args.cases is not None or {it.lower() for it in args.names} - {*DIVIDES}):
+        return "--entries is for VRCP and VRSQ, without --cases"
     if args.out.lower() in ROWS:
         how = f"write ./{args.out} for a folder of that name"
         return f"{args.out} is an instruction, and the first word is the folder OUT ({how})"
@@ -96,6 +104,7 @@ def main() -> None:
     words.add_argument("--full", action="append_const", const="full", dest="more", default=[])
     words.add_argument("--flat", action="append_const", const="flat", dest="more")
     words.add_argument("--cases", type=int)
+    words.add_argument("--entries", action="store_true")
     words.add_argument("--seed", default=SEED)
     words.add_argument("--program", default=PROGRAM)
     words.add_argument("--of", type=Path, metavar="FOLDER")
@@ -104,18 +113,20 @@ def main() -> None:
     args = words.parse_args()
     if refusal := refusal_of(args):
         sys.exit(printable(f"generate: {refusal}"))
-    rows = [ROWS[name.lower()] for name in args.names] or list(ROWS.values())
+    rows = [ROWS[name.lower()] for name in args.names or (DIVIDES if args.entries else ROWS)]
+    numbers = ENTRIES if args.entries else args.cases and range(args.cases)
     try:
         if args.of:
             say(f"{formed(args.of, args.names, Path(args.out), args.more)} instructions\n")
             return
-        errors = list(generate(args.program, rows, args.seed, args.cases, Path(args.out), args.more))
+        errors = list(generate(args.program, rows, args.seed, numbers, Path(args.out), args.more))
     except OSError as fault:
         sys.exit(printable(f"generate: {fault.filename or args.out} can't be written: {fault.strerror}"))
     except (FileFault, VectorsFault) as fault:
         sys.exit(printable(f"generate: {fault}"))
     say("".join(f"{printable(it)}\n" for it in errors))
-    say(f"{len(rows) - len(errors)} of {len(rows)} instructions, {args.cases or '20 to 56'} cases each\n")
+    count = len(numbers) if numbers else "20 to 63"
+    say(f"{len(rows) - len(errors)} of {len(rows)} instructions, {count} cases each\n")
     sys.exit(1 if errors else 0)
 
 

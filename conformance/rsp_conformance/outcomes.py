@@ -389,6 +389,12 @@ def possible(name: str) -> List[Kind]:
     return [kind for kind in KINDS.get(name, ()) if (name, kind.text) not in IMPOSSIBLE]
 
 
+def result_of(name: str, lane: Lane) -> int:
+    """The lane's result by its outcome."""
+    results = (kind.result(lane) for kind in KINDS[name] if kind.result and kind.when(lane))
+    return int(next(results)) % 65536
+
+
 def lanes_of(fields: Dict[str, int], before: Texts) -> Iterator[Lane]:
     """What each lane of a case reads: `before` is a whole state, of texts."""
     vs, vt = (before[f"v{fields[name]}"] for name in ("vs", "vt"))

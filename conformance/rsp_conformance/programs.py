@@ -9,7 +9,8 @@ from typing import Any, Callable, Dict, Iterator, List, Sequence, Tuple
 
 from rsp_conformance import bench
 from rsp_conformance.bench import ONES_DATA, accumulator_data, accumulator_program
-from rsp_conformance.cases import WINDOW_LENGTH, WRAPPING, Case, make_case, paired_element, reached_windows
+from rsp_conformance.cases import WINDOW_LENGTH, WRAPPING, Case, changing_numbers, make_case, paired_element
+from rsp_conformance.cases import reached_windows
 from rsp_conformance.random import Random
 from rsp_conformance.table import Row, uses_memory, word_of
 
@@ -342,12 +343,12 @@ def begun_program(row: Row) -> Program:
     return Program(reached_windows(row)[:REACHED]) if "vector" in row.form and uses_memory(row) else Program()
 
 
-def programs_of(row: Row, seed: str, count: int) -> Iterator[Program]:
-    """The programs that hold the cases of an instruction. A BREAK ends its own."""
+def programs_of(row: Row, seed: str, numbers: range) -> Iterator[Program]:
+    """The programs that hold these cases. A BREAK ends its own; cases of changing_numbers begin new ones."""
     program = begun_program(row)
-    for number in range(min(count, 2) if row.form == "break" else count):
+    for number in numbers[:2] if row.form == "break" else numbers:
         try:
-            if row.form == "break" and program.cases:
+            if row.form == "break" and program.cases or number in changing_numbers(row)[:1]:
                 raise Full
             program = with_case(program, row, seed, number)
         except Full:

@@ -60,9 +60,9 @@ def played(program: str, script: Script, count: int) -> Iterator[Dict[str, Any]]
         yield one
 
 
-def row_files(program: str, row: Row, seed: str, count: int) -> Dict[str, bytes]:
+def row_files(program: str, row: Row, seed: str, numbers: range) -> Dict[str, bytes]:
     """The files of an instruction, by their names."""
-    made, capitals = list(programs_of(row, seed, count)), row.name.upper()
+    made, capitals = list(programs_of(row, seed, numbers)), row.name.upper()
     files: Dict[str, bytes] = {}
     entries = []
     for number, (one, found) in enumerate(zip(made, play(program, made)), 1):

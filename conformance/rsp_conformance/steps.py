@@ -37,9 +37,9 @@ def entry_of(case: Case, found: Looks) -> Entry:
     return {**entry, "before": before, "after": after}
 
 
-def row_text(program: str, row: Row, seed: str, count: int) -> str:
-    """The file of an instruction. An RspError if the machine doesn't know it."""
-    cases = [make_case(row, seed, number) for number in range(count)]
+def row_text(program: str, row: Row, seed: str, numbers: range) -> str:
+    """The file of an instruction: the cases of these numbers. An RspError if the machine doesn't know it."""
+    cases = [make_case(row, seed, number) for number in numbers]
     found = bench.observe(program, [(row, case.word, {**bench.DEFAULT, **case.before}) for case in cases])
     lines = []
     for case, looks in zip(cases, found):

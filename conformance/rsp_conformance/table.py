@@ -138,6 +138,11 @@ def row_of(word: int) -> Optional[Row]:
     return next((row for row in ROWS.values() if word & row.mask == row.value), None)
 
 
+def reads_other_lanes(row: Row) -> bool:
+    """Whether a lane of the result depends on a lane of vt that the element selects."""
+    return row.form == "vector" and row.name not in ("vsar", "vmacq")
+
+
 def destination(row: Row) -> Optional[str]:
     """The field that names the scalar register which an instruction writes, or None."""
     if row.form in ("shift", "three", "link register"):

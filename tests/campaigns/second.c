@@ -245,6 +245,7 @@ static uint32_t answer(int64_t x, int is_root, int is_low) {
         entry = b / 2 & 0xFFFF;
         shift /= 2;
     }
+    if (is_root ? BUG(98) && k == 301 : BUG(97) && k == 300) entry ^= 16;
     uint32_t found = (uint32_t)((65536 + entry) << 14 >> shift);
     return x < 0 ? ~found : found;
 }
@@ -278,8 +279,9 @@ static int compute(core *m, uint32_t w) {
     uint16_t *d = m->s.vectors[vd], a[8], b[8], *plane[] = {m->s.accumulators.high, m->s.accumulators.middle, m->s.accumulators.low};
     int is_plain = (BUG(56) && f == 0x2A && vs == vt), part = (BUG(57) && (e == 1 || e == 2)) || (BUG(58) && e > 11) ? e & 3 : e - 8;
     for (int i = 0; i < 8; i++) a[i] = m->s.vectors[vs][i], b[i] = m->s.vectors[vt][is_plain ? i : lane_of(e, i)];
-    for (int i = 0; i < 8; i++) {
-        if (BUG(59) && f == 0x0F) b[i] = m->s.vectors[vt][lane_of(e, i)];
+    for (int j = 0; j < 8; j++) {
+        int i = BUG(96) ? 7 - j : j;
+        if (BUG(95) || BUG(96) || (BUG(59) && f == 0x0F)) b[i] = m->s.vectors[vt][lane_of(e, i)];
         if (f == 0x1D) d[i] = part >= 0 && part < 3 ? plane[part][i] : 0;
         else if (f < 16 && (f & 6) == 2) d[i] = mpeg(m, f, i, (int16_t)a[i], (int16_t)b[i], vs);
         else if (f < 16) d[i] = multiply(m, f, i, (int16_t)a[i], (int16_t)b[i]);

@@ -20,8 +20,9 @@ import pytest
 import rsp
 from lib import TESTS, TOP
 from lib.processes import compiled
-from rsp_conformance import HERE as CONFORMANCE, bench, library_states, states
+from rsp_conformance import HERE as CONFORMANCE, bench, generate, library_states, states
 from rsp_conformance.campaign.supervise import check
+from rsp_conformance.cases import ENTRIES
 from rsp_conformance.steps import Entry
 from rsp_conformance.table import ROWS
 from rsp_conformance.vectors import VECTORS, entries_in
@@ -44,8 +45,8 @@ def table(name: str) -> Dict[int, List[str]]:
 BUGS = {0: [*ROWS], **{bug: names.split(",") for bug, (_, names, _) in table("bugs.tsv").items()}}
 MISSED = {
     "cases": {2},
-    "programs": {4, 11, 12, 24, 64},
-    "vectors": {2, 14, 25, 61, 64},
+    "programs": {4, 11, 12, 24, 64, 97},
+    "vectors": {2, 14, 25, 61, 64, 97, 98},
 }
 
 
@@ -99,14 +100,14 @@ def core_of(case: Entry, *parts: str) -> Core:
     return core
 
 
-def vectors_of(name: str, lib: ctypes.CDLL) -> Iterator[Tuple[str, bool]]:
+def vectors_of(name: str, lib: ctypes.CDLL, folder: Path = VECTORS) -> Iterator[Tuple[str, bool]]:
     """Each case and each program of an instruction, and whether the core does as it says."""
-    for case in entries_in(VECTORS, name):
+    for case in entries_in(folder, name):
         core, after = core_of(case, "before"), core_of(case, "before", "after")
         lib.core_step(ctypes.byref(core))
         same = bytes(core.memory) == bytes(after.memory) and bytes(core.rdram) == bytes(after.rdram)
         yield case["name"], same and core.state == after.state
-    for path in sorted((VECTORS / "programs").glob(f"{name}-*.imem")):
+    for path in sorted((folder / "programs").glob(f"{name}-*.imem")):
         core = Core(rdram_length=1 << 17)
         core.state.npc = 4
         core.state.sp = [0xFF8 if n in (2, 3) else 0 for n in range(16)]
@@ -128,6 +129,31 @@ def test_tables_have_the_bugs_of_the_core() -> None:
     assert {name for names in BUGS.values() for name in names} <= ROWS.keys()
 
 
+def core_with(bug: int, folder: Path) -> Path:
+    """The core with a bug."""
+    words = ["-std=c11", "-Wall", "-Wextra", "-Werror", "-O2", "-march=x86-64-v2", "-shared", "-fPIC"]
+    folders = [f"-I{TOP}/library/c", f"-I{CONFORMANCE}/campaigns"]
+    return compiled(folder / "second.so", *words, *folders, f"-DPLANTED={bug}", CORE)
+
+
+@pytest.mark.parametrize("bug", (95, 96))
+def test_lanes_written_one_after_the_other(bug: int, folder: Path) -> None:
+    """Cases and programs of each instruction whose lanes can show it find it."""
+    lib = ctypes.CDLL(str(core_with(bug, folder)))
+    for name in BUGS[bug]:
+        found = [vector for vector, is_same in vectors_of(name.upper(), lib) if not is_same]
+        assert {bool(re.search(r"-\d{3}$", it)) for it in found} == {True, False}, (name, found)
+
+
+@pytest.mark.parametrize("bug, name, entry", [(97, "VRCP", 300), (98, "VRSQ", 301)])
+def test_wrong_entry(bug: int, name: str, entry: int, program: Path, folder: Path) -> None:
+    """The vectors that meet each entry of a divide table find one that is wrong."""
+    assert not [*generate.generate(str(program), [ROWS[name.lower()]], "1", ENTRIES, folder)]
+    lib = ctypes.CDLL(str(core_with(bug, folder)))
+    case, whole = [vector for vector, is_same in vectors_of(name, lib, folder) if not is_same]
+    assert case == f"{name}-entry-{entry}" and whole.startswith(f"{name}-")
+
+
 LONG = pytest.mark.outside("all of them take twenty minutes of processor")
 
 
@@ -135,10 +161,7 @@ LONG = pytest.mark.outside("all of them take twenty minutes of processor")
 @pytest.mark.parametrize("bug", [pytest.param(it, marks=() if it == 36 else LONG) for it in BUGS])
 def test_bug(bug: int, folder: Path) -> None:
     """In the gate is 36, VADD that keeps the not-equal flags."""
-    words = ["-std=c11", "-Wall", "-Wextra", "-Werror", "-O2", "-march=x86-64-v2", "-shared", "-fPIC"]
-    folders = [f"-I{TOP}/library/c", f"-I{CONFORMANCE}/campaigns"]
-    core = compiled(folder / "second.so", *words, *folders, f"-DPLANTED={bug}", CORE)
-    names = BUGS[bug]
+    core, names = core_with(bug, folder), BUGS[bug]
     found = {
         "cases": in_cases(core, names),
         "programs": in_programs(core),

@@ -1,7 +1,7 @@
 """The rules that docs/INSTRUCTIONS.md has as Python, against the program on random values, and its examples.
 
-It fails if VCH, VCL, VCR, VMULQ, VMACQ, or the answers of the long divides differ from the function of the
-page, or if the program makes something else of an example in its tables.
+It fails if VCH, VCL, VCR, VMULQ, VMACQ, the entries of the divide tables, or the answers of the long divides
+differ from the function of the page, or if the program makes something else of an example in its tables.
 """
 
 import re
@@ -13,7 +13,7 @@ import pytest
 
 from lib.lanes import CLEAR, FLAGS, Flags, accumulators_of, after, case
 from lib.numbers import edged, packed, signed
-from lib.pages import blocks, tables
+from lib.pages import blocks, page, tables
 from rsp_conformance import bench
 from rsp_conformance.table import ROWS, word_of
 
@@ -99,6 +99,15 @@ def test_divide(name: str, program: Path) -> None:
     for x, look in zip(numbers, bench.observe(str(program), cases)):
         left = int(look["after"]["out"], 16) << 16 | lane(look["after"], "v3", 0)
         assert left == answer(x, name == "vrsql"), f"of {x}"
+
+
+@pytest.mark.parametrize("name, constant", [("reciprocal", "RECIPROCALS"), ("root", "ROOTS")])
+def test_divide_tables(name: str, constant: str) -> None:
+    """The files of docs/data have the entries of the page's formula, which are those of the proved table."""
+    entry, source = page_rules()[f"{name}_entry"], page("crates/rsp_divide/src/tables.rt")
+    proved = re.findall(r"0x(\w{4})", source.partition(f" {constant}:")[2].partition("];")[0])
+    assert proved == [f"{entry(index):04x}" for index in range(512)]
+    assert page(f"docs/data/{name}.hex").splitlines() == proved
 
 
 # The examples of the page, each in all lanes.
