@@ -8,17 +8,18 @@ typedef struct { const uint8_t *at, *end; } rest;                   /* the bytes
 
 enum { RDRAM_LENGTH = 1 << 17, LONGEST_FILE = 1 << 24 };
 static uint8_t expected[8192 + RDRAM_LENGTH], found[8192 + RDRAM_LENGTH];
+static char text[128]; /* of the case's instruction: bank 3 */
 
-static uint32_t length_of(uint32_t bank) { return bank < 2 ? 4096 : RDRAM_LENGTH; }
+static uint32_t length_of(uint32_t bank) { return bank < 2 ? 4096 : bank == 2 ? RDRAM_LENGTH : sizeof text - 1; }
 
 /* The first bytes of a name. What isn't printable ASCII is shown as `\x` and two digits, so that a terminal obeys no file. */
 static const char *shown(const char *name, size_t most)
 {
-    static char text[1 << 14];
+    static char told[1 << 14];
     size_t at = 0;
-    for (; most-- && *name && at < sizeof text - 5; name++) at += (size_t)sprintf(text + at, *name < ' ' || *name > '~' ? "\\x%02x" : "%c", (unsigned char)*name);
-    text[at] = 0;
-    return text;
+    for (; most-- && *name && at < sizeof told - 5; name++) at += (size_t)sprintf(told + at, *name < ' ' || *name > '~' ? "\\x%02x" : "%c", (unsigned char)*name);
+    told[at] = 0;
+    return told;
 }
 
 /* Takes the next bytes. Returns 0 if there aren't so many. */
@@ -30,16 +31,33 @@ static int take(rest *r, void *to, size_t length)
     return 1;
 }
 
-/* Puts the pieces before a case, or those after it, into `expected`. Returns 0 if a piece passes the end of its memory, or if they don't fill the case. */
+/* Puts the pieces before a case, or those after it, into `expected`, and its text into `text`. Returns 0 if a piece passes the end of its memory, or
+ * if they don't fill the case. */
 static int put_pieces(rest from, uint32_t count, uint32_t is_after)
 {
     static uint8_t unused[RDRAM_LENGTH];
     while (count--) {
         piece p;
-        if (!take(&from, &p, sizeof p) || p.is_after > 1 || p.bank > 2 || p.address > length_of(p.bank) || p.length > length_of(p.bank) - p.address) return 0;
-        if (!take(&from, p.is_after == is_after ? expected + 4096 * p.bank + p.address : unused, p.length) || !take(&from, unused, -p.length & 3)) return 0;
+        if (!take(&from, &p, sizeof p) || p.is_after > 1 || p.bank > 3 || p.address > length_of(p.bank) || p.length > length_of(p.bank) - p.address) return 0;
+        uint8_t *to = p.bank == 3 ? (uint8_t *)text : expected + 4096 * p.bank;
+        if (!take(&from, p.is_after == is_after ? to + p.address : unused, p.length) || !take(&from, unused, -p.length & 3)) return 0;
     }
     return from.at == from.end;
+}
+
+/* Prints the operands of a computing instruction: of its lane that differs, for flags the lowest; of a divide instruction its source. */
+static void print_operands(uint32_t word, const brsp_state *before, const brsp_part *part)
+{
+    unsigned e = word >> 21 & 15, lane = 0, bits = (unsigned)(part->value[1] ^ part->other[1]);
+    const uint16_t *vs = before->vectors[word >> 11 & 31], *vt = before->vectors[word >> 16 & 31];
+    if (word >> 25 != 0x25 || (word & 63) > 0x36) return;
+    if ((word & 63) >= 0x30) {
+        printf("; source %04x", vt[e & 7]);
+        return;
+    }
+    if (*part->name == 'v') while (!((bits | bits >> 8) >> lane & 1)) lane++;
+    else if (sscanf(part->name, "$v%*u lane %u", &lane) != 1 && sscanf(part->name, "accumulator %u", &lane) != 1) return;
+    printf("; lane %u, a %04x, b %04x", lane, vs[lane], vt[e < 2 ? lane : e < 4 ? (lane & 6) + e - 2 : e < 8 ? (lane & 4) + e - 4 : e - 8]);
 }
 
 /* Runs the case that comes next, and takes it. Returns 1 if it differs, -1 if it isn't a case. */
@@ -54,6 +72,7 @@ static int run(brsp_machine *m, rest *file)
     file->at = r.end = file->at + h.size;
     if (!take(&r, &before, sizeof before) || !take(&r, &after.state, sizeof before)) return -1;
     memset(expected, 0, sizeof expected);
+    memset(text, 0, sizeof text);
     if (!put_pieces(r, h.pieces, 0)) return -1;
     for (uint32_t bank = 0; bank < 3; bank++) brsp_load(m, bank, 0, expected + 4096 * bank, length_of(bank));
     put_pieces(r, h.pieces, 1);
@@ -61,11 +80,13 @@ static int run(brsp_machine *m, rest *file)
     for (uint32_t bank = 0; bank < 3; bank++) brsp_memory(m, bank, 0, found + 4096 * bank, length_of(bank));
     size_t count = brsp_compare_parts(&after, &got, sizeof found, parts);
     if (is_made && !count) return 0;
-    printf("%s (word %08x%s), ", shown(h.name, sizeof h.name), h.word, h.has_choice ? ", choice" : "");
+    printf("%s (", shown(h.name, sizeof h.name));
+    printf("%s%s", shown(text, sizeof text), h.has_choice ? ", choice" : "");
+    if (is_made) print_operands(h.word, &before, parts);
     int high = parts->digits > 16 ? 16 : 0, low = high ? 16 : (int)parts->digits; /* the digits of a value's two halves */
     unsigned long long a = parts->value[0], b = parts->value[1], c = parts->other[0], d = parts->other[1];
-    if (is_made) printf("%.23s: expected %.*llx%0*llx, got %.*llx%0*llx%s\n", parts->name, high, a, low, b, high, c, low, d, count > 1 ? ", and more" : "");
-    else printf("isn't executed\n");
+    if (is_made) printf("), %.23s: expected %.*llx%0*llx, got %.*llx%0*llx%s\n", parts->name, high, a, low, b, high, c, low, d, count > 1 ? ", and more" : "");
+    else printf("), isn't executed\n");
     return 1;
 }
 
@@ -80,7 +101,7 @@ static int run_file(brsp_machine *m, const char *path, uint32_t *cases, uint32_t
     uint32_t number;
     if (file) fclose(file);
     if (is_longer) return fprintf(stderr, "%s has more than %d bytes\n", shown(path, strlen(path)), LONGEST_FILE), 0;
-    if (!take(&r, magic, sizeof magic) || memcmp(magic, "RSPCASES\1\0\0", sizeof magic) != 0 || !take(&r, &number, sizeof number))
+    if (!take(&r, magic, sizeof magic) || memcmp(magic, "RSPCASES\2\0\0", sizeof magic) != 0 || !take(&r, &number, sizeof number))
         return fprintf(stderr, "%s has no flat vectors\n", shown(path, strlen(path))), 0;
     for (uint32_t k = 1; k <= number; k++, ++*cases) {
         int is_wrong = run(m, &r);

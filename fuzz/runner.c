@@ -30,7 +30,7 @@ static size_t make_file(input *in, uint8_t *file)
 {
     static const brsp_state state = { .npc = 4 };
     head h = { .name = "ADD", .pieces = take_number(in, 1) % (MOST_PIECES + 1) };
-    uint8_t *start = put(put(file, "RSPCASES\1\0\0", 12), "\1\0\0", 4), *at = put(put(start + sizeof h, &state, sizeof state), &state, sizeof state);
+    uint8_t *start = put(put(file, "RSPCASES\2\0\0", 12), "\1\0\0", 4), *at = put(put(start + sizeof h, &state, sizeof state), &state, sizeof state);
     for (uint32_t i = 0; i < h.pieces; i++) {
         piece p;
         p.is_after = take_number(in, 1) % 2;

@@ -9,7 +9,7 @@
     outcome the runner names the lane of a result, or of a flag, that is planted wrong.
   - The runner finds no difference in them.
   - No program has a divide instruction but those of the divide instructions, VNOP and VNULL.
-  - The cases of `full` and `flat` are those of `steps`.
+  - The cases of `full` are those of `steps`.
   - The runners of README.md pass cases and programs on the program, and name those that are spoilt.
   - One digit of an expected state that is changed, and one byte that is dropped, is found and named, in
     `steps` and `programs` of each instruction.
@@ -29,7 +29,7 @@ from types import ModuleType
 from typing import Any, Dict, Iterator, List, NamedTuple
 from unittest.mock import patch
 
-from rsp_conformance import HERE, bench, coverage, flat, full, generate, planted_faults, run_programs, steps
+from rsp_conformance import HERE, bench, coverage, full, generate, planted_faults, run_programs, steps
 from rsp_conformance.commands import PROGRAM, Complaints, counted, reader, unless
 from rsp_conformance.random import Random
 from rsp_conformance.programs import DIVIDING
@@ -177,7 +177,7 @@ def refusals(program: str) -> Iterator[Complaints]:
             (["run", blank, "SUB"], "has no test vectors of SUB"),
             (["generate", empty, "vfoo"], "the instruction table has no vfoo"),
             (["generate", "--cases", "0", empty], "--cases is 1 or more"),
-            (["generate", "--of", VECTORS, empty], "--of is for --full or --flat"),
+            (["generate", "--of", VECTORS, empty], "--of is for --full, --flat or --hex"),
             (["generate", "--of", empty, "--flat", blank], "has no test vectors"),
         ):
             command = [HERE / str(words[0]), "--program", program, *words[1:]]
@@ -212,31 +212,6 @@ def full_is_the_same(name: str) -> Complaints:
                 pieces = (before.get(bank, {}), code if bank == "imem" else {}, changed.get(bank, {}))
                 wrong += bytes_that_differ(state[memory], start, end, *pieces)
     return unless(not wrong, f"{name}: full differs from steps in {wrong[:4]}")
-
-
-def flat_is_the_same(name: str) -> Complaints:
-    """That the cases of `flat` are those of `steps`."""
-    entries = entries_in(VECTORS, name)
-    cases = [*flat.cases_in(flat.flat_bytes(entries))]
-    wrong: List[str] = [] if len(cases) == len(entries) else ["a case is missing"]
-    for entry, case in zip(entries, cases):
-        whole = {**bench.DEFAULT, **entry["before"]}
-        code = {whole["pc"]: entry["word"]}
-        pieces: Dict[Any, Dict[str, str]] = {}
-        for when, bank, at, data in case["pieces"]:
-            key = f"{at:0{6 if bank == 2 else 3}x}"
-            pieces.setdefault((when, flat.BANKS[bank]), {})[key] = data.hex()
-        for when, part in (
-            (0, {**entry["before"], "imem": {**entry["before"].get("imem", {}), **code}}),
-            (1, entry["after"]),
-        ):
-            whole.update({key: text for key, text in part.items() if isinstance(text, str)})
-            state = texts_of(case[("before", "after")[when]])
-            wrong += [f"{entry['name']} {key}" for key, text in state.items() if text != whole[key]]
-            wrong += [it for it in flat.BANKS if pieces.get((when, it), {}) != part.get(it, {})]
-        is_same = (case["name"], case["word"]) == (entry["name"], int(entry["word"], 16))
-        wrong += [] if is_same else [entry["name"]]
-    return unless(not wrong, f"{name}: flat differs from steps in {wrong[:4]}")
 
 
 def machine_on(program: str, name: str) -> Any:
@@ -344,7 +319,6 @@ def checks(program: str) -> Iterator[Complaints]:
     yield from (unless(name in names, f"{name}: it has no cases") for name in NAMES)
     yield from outcomes_shown(names)
     yield from map(full_is_the_same, names)
-    yield from map(flat_is_the_same, names)
     yield from map(divides_where_it_may, names)
     for name in ("VADDC", "SQV", "MTC0", "BEQ", "STV"):
         yield from runners_find(program, name)

@@ -61,7 +61,6 @@ def checks_of(name: str, program: str) -> Iterator[Complaints]:
     yield check.unless(told == [*coverage.lines(ROWS[name.lower()], outcomes)], "coverage.tsv differs")
     yield from check.faults_found(name, outcomes)
     yield check.full_is_the_same(name)
-    yield check.flat_is_the_same(name)
     yield check.divides_where_it_may(name)
     yield from check.spoilt_steps_found(program, [name])
     yield from check.runs_true(program, name)

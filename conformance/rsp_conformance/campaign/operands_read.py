@@ -1,5 +1,6 @@
 """What an instruction reads of a state, in the words of its rule. It tells why two sides can differ."""
 
+import re
 from typing import Dict, Iterator, List, Tuple
 
 import rsp
@@ -88,8 +89,14 @@ def reads_of(name: str, word: int, state: rsp.State, memories: bytes) -> Reads:
         yield "npc", f"{state.npc:03x}"
 
 
+FLAG = re.compile(r"vc[oce]: expected (\w+), got (\w+)")
+
+
 def lane_in(line: str) -> int:
-    """The lane that a difference is in, -1 if it names none."""
+    """The lane that a difference is in, of flags the lowest one; -1 if it names none."""
+    if found := FLAG.match(line):
+        wrong = int(found[1], 16) ^ int(found[2], 16)
+        return next(lane for lane in range(8) if (wrong | wrong >> 8) >> lane & 1)
     words = line.split(":")[0].split()
     named = [words[at + 1] for at, word in enumerate(words[:-1]) if word in ("lane", "accumulator")]
     return int(named[0]) if named else -1
@@ -100,7 +107,8 @@ def in_brief(name: str, word: int, state: rsp.State, line: str) -> str:
     row, fields = ROWS[name], fields_of(ROWS[name], word)
     lane = lane_in(line)
     if row.form == "vector":
-        found = [*lane_reads(row, state, fields, max(lane, 0))]
+        found = [("lane", str(lane))] if FLAG.match(line) else []
+        found += lane_reads(row, state, fields, max(lane, 0))
     elif row.form == "lane":
         found = [*dividing(state, fields)]
     else:

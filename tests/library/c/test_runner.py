@@ -69,7 +69,7 @@ NUMBERS: Dict[str, Tuple[int, int]] = {
     "too many pieces": (16 + 28, 0xFFFFFFFF),
     "is_after 2": (PIECE, 2),
     "greatest is_after": (PIECE, 0xFFFFFFFF),
-    "bank 3": (PIECE + 4, 3),
+    "bank 4": (PIECE + 4, 4),
     "greatest bank": (PIECE + 4, 0xFFFFFFFF),
     "address past the end": (PIECE + 8, 4097),
     "greatest address": (PIECE + 8, 0xFFFFFFFC),
@@ -107,7 +107,7 @@ def test_changed(
     (folder / "changed.bin").write_bytes(false)
     (folder / "choice.bin").write_bytes(with_number(false, 16 + 8, 1))
     ran = run(runner, folder / "changed.bin", folder / "choice.bin")
-    form = rf"SW-000 \(word (\w{{8}})%s\), {re.escape(name)}: expected (\w{{{digits}}}), got (\w{{{digits}}})"
+    form = rf"SW-000 \((sw .*\(.*\))%s\), {re.escape(name)}: expected (\w{{{digits}}}), got (\w{{{digits}}})"
     found = re.fullmatch(rf"{form % ''}\n{form % ', choice'}\n38 passed, 2 failed\n", ran.stdout)
     assert ran.returncode == 1 and found, ran.stdout
     assert found.groups()[:3] == found.groups()[3:]
@@ -126,14 +126,12 @@ def test_changed_memory(runner: Path, vectors: bytes, folder: Path) -> None:
     (folder / "changed.bin").write_bytes(vectors[:at] + bytes([vectors[at] ^ 1]) + vectors[at + 1 :])
     ran = run(runner, folder / "changed.bin")
     name = f"{('DMEM', 'IMEM')[bank]} {address // 16 * 16:03x}"
-    assert re.match(
-        rf"SW-000 \(word \w+\), {name}: expected \w{{32}}, got \w{{32}}\n", ran.stdout
-    ), ran.stdout
+    assert re.match(rf"SW-000 \(sw .*\), {name}: expected \w{{32}}, got \w{{32}}\n", ran.stdout), ran.stdout
 
 
 def test_line_of_page(runner: Path, program: Path, folder: Path) -> None:
     """The line that the page shows: a case of a choice, with the value that CFC2 doesn't give."""
-    (shown,) = [it for it in blocks("conformance/README.md") if re.match(r"\w+-\d+ \(word ", it)]
+    (shown,) = [it for it in blocks("conformance/README.md") if re.match(r"\w+-\d+ \(.*, choice\), ", it)]
     form = r"(\w+-\d+) .*, (\$\d+): expected (\w+), got (\w+)\n"
     name, register, expected, got = re.findall(form, shown)[0]
     succeeds("conformance/generate", "--flat", "--of", TOP / "conformance/vectors", folder, "CFC2")
@@ -164,7 +162,7 @@ def test_emulator_of_page(folder: Path, vectors: bytes, library: Path) -> None:
     made = compiled(folder / "mine", f"-I{library}", TOP / "conformance/runner.c", folder / "mine.c")
     (folder / "SW.bin").write_bytes(vectors)
     ran = run(made, folder / "SW.bin")
-    assert ran.returncode == 1 and ran.stdout.startswith("SW-000 (word ")
+    assert ran.returncode == 1 and ran.stdout.startswith("SW-000 (sw ")
     assert ran.stdout.endswith("\n0 passed, 20 failed\n")
 
 
@@ -180,7 +178,7 @@ def test_name_with_control_characters(runner: Path, vectors: bytes, folder: Path
     ran = run(runner, folder / "right.bin", folder / "b\x1b[2J\n")
     assert ran.returncode == 2 and ran.stdout.count("\n") == 2, ran.stdout
     assert ran.stdout.startswith(f"{folder}/b\\x1b[2J\\x0a has no flat vectors\n"), ran.stdout
-    assert "\na\\x1b[2J\\x0d\\x9b\\xc2\\x9b (word" in ran.stdout
+    assert "\na\\x1b[2J\\x0d\\x9b\\xc2\\x9b (sw " in ran.stdout
 
 
 def test_longest(runner: Path, vectors: bytes, folder: Path) -> None:
