@@ -27,6 +27,7 @@ void cases_get(void *at, brsp_state *state);
 void cases_load(void *at, const uint8_t *memories);
 void cases_look(void *at, uint8_t *memories);
 void cases_step(void *at, uint32_t steps);
+uint32_t cases_steps(void *at, uint32_t steps); /* optional, in place of cases_step: without a pause, and it returns how many steps are done */
 
 static inline uint64_t digest(const uint8_t *before, const uint8_t *after, size_t n) /* of (address, byte) for each byte that has changed */
 {

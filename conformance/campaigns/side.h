@@ -7,7 +7,11 @@
  *   static void get(machine *m, brsp_state *s);
  *   static void put(machine *m, uint32_t pc, uint32_t word);           a word of IMEM
  *   static void load(machine *m, const uint8_t *memories, size_t to);  the memories up to `to`, which is RDRAM or MEMORIES
- *   static void look(machine *m, uint8_t *memories, size_t to); */
+ *   static void look(machine *m, uint8_t *memories, size_t to);
+ * A core with a pipeline also defines SIDE_STEPS as the name of a function
+ *   static uint32_t SIDE_STEPS(machine *m, uint32_t n);
+ * which executes n instructions of a program without a pause, and returns how many are done. It stops after the first one that doesn't end as done.
+ * Only then the pipeline is empty: after each instruction, as `step` leaves it, no hazard between two instructions can show. */
 #include <stdlib.h>
 #ifdef __cplusplus
 extern "C" {
@@ -53,7 +57,12 @@ void cases_set(void *at, const brsp_state *state) { set(&((side *)at)->m, state)
 void cases_get(void *at, brsp_state *state) { get(&((side *)at)->m, state); }
 void cases_load(void *at, const uint8_t *memories) { load(&((side *)at)->m, memories, MEMORIES); }
 void cases_look(void *at, uint8_t *memories) { look(&((side *)at)->m, memories, MEMORIES); }
+#ifdef SIDE_STEPS
+uint32_t cases_steps(void *at, uint32_t n) { return SIDE_STEPS(&((side *)at)->m, n); }
+void cases_step(void *at, uint32_t n) { SIDE_STEPS(&((side *)at)->m, n); }
+#else
 void cases_step(void *at, uint32_t steps) { while (steps-- && step(&((side *)at)->m) == BRSP_OK) {} }
+#endif
 #ifdef __cplusplus
 }
 #endif

@@ -176,7 +176,18 @@ def misbehave(how: str) -> None:
         say({**numbers_of(rsp.State()), "ram": [], "rdram": [], "stat": 5})
 
 
+def answer_hex() -> None:
+    """Lines `word state`, each answered by `status state`."""
+    machine = Machine(bytes(24576))
+    for word, state in map(str.split, sys.stdin):
+        machine.set(rsp.State.from_buffer_copy(bytes.fromhex(state)[::-1]))
+        machine.load_words(rsp.IMEM, machine.get().pc, [int(word, 16)])
+        print(f"{machine.one():x}", bytes(machine.get())[::-1].hex())
+
+
 def main(how: str = "", word: str = "0") -> None:
+    if how == "hex":
+        return answer_hex()
     machine: Optional[Machine] = None
     last = 0
     for line in sys.stdin:

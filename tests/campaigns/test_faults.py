@@ -5,7 +5,7 @@ from pathlib import Path
 
 import pytest
 
-from lib.campaigns import EMULATOR, campaign, counts_of, faulty, said_of
+from lib.campaigns import EMULATOR, agreed, campaign, counts_of, faulty, said_of
 from lib.packages import is_here
 from rsp_conformance.campaign import CampaignFault
 from rsp_conformance.campaign.protocol import name_of
@@ -89,6 +89,20 @@ def test_lost_register(folder: Path) -> None:
     assert re.search(r"(?m)PROGRAM-g2-1-000000: step 0, .*: \$5: expected [0-9a-f]{8}, got 0{8}$", said), said
 
 
-def test_too_few_answers(folder: Path) -> None:
-    said = campaign("python:emulator:Few", "--instructions", "vadd", "--cases", 3, "--here", folder).stdout
-    assert f"{name_of('vadd', '1', 0)}: ValueError: could not broadcast" in said
+def test_array_of_another_shape(folder: Path) -> None:
+    """One sentence, after the first task."""
+    words = ("python:emulator:Few", "--instructions", "vadd,vsub", "--cases", 3)
+    ended = campaign(*words, "--here", folder)
+    assert (ended.returncode, ended.stdout, ended.stderr.count("\n")) == (1, "", 1)
+    assert re.match(
+        r"campaign: python:emulator:Few: `ends` returned an array .* and \(2,\), not END ", ended.stderr
+    )
+
+
+def test_command_of_hexadecimal_lines(folder: Path) -> None:
+    """It agrees. Cases of memories are none for it, and of one that ends early the first case is named."""
+    said = said_of(folder / "all", f"hex:{EMULATOR} hex", "--instructions", "vrcpl,beq,sqv", "--cases", 1100)
+    assert counts_of(folder / "all") == agreed("vrcpl,beq,sqv", 1100), said
+    assert re.search(r"(?m)^SQV +0 +1100 +0 ", said), said
+    said = said_of(folder / "few", "hex:true", "--instructions", "vadd", "--cases", 1)
+    assert f"{name_of('vadd', '1', 0)}: the command ended with status 0, without this answer" in said

@@ -71,10 +71,3 @@ def assert_replays(program: Path, folder: Path, it: Dict[str, Any]) -> None:
     assert expected
     last = [line for line in ended.stdout.splitlines() if line.startswith(f"v{int(expected[1]):02d}")][-1]
     assert last.split()[1] == f"{int(expected[2], 16):04x}"
-
-
-def test_hidden_state(folder: Path) -> None:
-    """A CTC2 that spoils a VLT, unless registers are read between them, is named, and not where it shows."""
-    said = said_of(folder, faulty(4), "--cases", 0, "--programs", 60)
-    lines = [line for line in said.splitlines() if line.startswith("PROGRAM")]
-    assert re.search(r", ctc2 \$.*, which shows at vlt ", "".join(lines)), said

@@ -1,5 +1,6 @@
 """Campaigns in C and C++: the headers, a wrapper in C++, brsp_compare.h, and the runner of flat vectors."""
 
+import json
 import re
 from pathlib import Path
 from typing import Any, List
@@ -77,20 +78,21 @@ def test_first_difference(fault: int, every: int, limit: int, folder: Path) -> N
     assert differ > 3 or fault == 3  # which no program meets without its word
 
 
-def test_runner_of_flat_vectors(program: Path, folder: Path) -> None:
-    """The runner in C passes the flat vectors, names each case that is spoilt, and has at most 105 lines."""
-    source, names = TOP / "conformance/runner.c", ["VADD", "SQV", "MTC0", "BEQ", "VRCPL", "LTV"]
-    assert source.read_text().count("\n") <= 105
+def test_runner_of_flat_vectors(folder: Path) -> None:
+    """On the library all pass, and one that is spoilt is named, with the flag's lane and its operands."""
+    source, vectors = TOP / "conformance/runner.c", TOP / "conformance/vectors"
     runner = compiled(folder / "runner", "-std=c11", *STRICT, source, LIBRARY)
-    words = ("--flat", "--program", program, "--cases", 12, folder / "out")
-    succeeds(TOP / "conformance/generate", *words, *names)
-    files = [folder / f"out/flat/{name}.bin" for name in names]
-    assert succeeds(runner, *files) == f"{12 * len(names)} passed, 0 failed\n"
-    spoilt = bytearray(files[0].read_bytes())
-    spoilt[16 + 32 + 772 + 128] ^= 1  # a lane of the first case's state after
-    files[0].write_bytes(spoilt)
-    ended = run(runner, files[0])
-    assert ended.returncode == 1 and ended.stdout.startswith("VADD-000 (word ")
-    assert ended.stdout.count(", $v0 lane 0: expected ") == 1
-    assert "11 passed, 1 failed" in ended.stdout
+    succeeds(TOP / "conformance/generate", "--flat", "--hex", "--of", vectors, folder)
+    count = sum(it.read_text().count("\n") for it in vectors.glob("steps/*"))
+    assert succeeds(runner, *(folder / "flat").iterdir()) == f"{count} passed, 0 failed\n"
+    spoilt = bytearray((folder / "flat/VCH.bin").read_bytes())
+    line = (folder / "hex/VCH.hex").read_text().partition("\n")[0]
+    assert len(line) == 3129 and bytes.fromhex(line[-1544:])[::-1] == spoilt[16 + 32 + 772 :][:772]
+    spoilt[16 + 32 + 772 + 690] ^= 0xF8  # compare of lanes 3 to 7 after the first case
+    (folder / "spoilt").write_bytes(spoilt)
+    case = json.loads((vectors / "steps/VCH.jsonl").read_text().splitlines()[0])
+    vs, vt = (case["before"][f"v{int(case['word'], 16) >> low & 31}"] for low in (11, 16))
+    operands = f"lane 3, a {vs[12:16]}, b {vt[12:16]}"
+    told = run(runner, folder / "spoilt").stdout
+    assert told.startswith(f"VCH-000 ({case['text']}; {operands}), vcc: expected "), told
     assert "has no flat vectors" in run(runner, source).stdout

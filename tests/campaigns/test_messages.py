@@ -8,6 +8,7 @@ from pathlib import Path
 
 import pytest
 
+import rsp
 from lib.campaigns import agreed, campaign, counts_of, faulty, results_of, said_of
 from lib.packages import is_here
 from rsp_conformance.campaign import __main__ as command
@@ -19,6 +20,7 @@ from rsp_conformance.table import ROWS, ignored_bits, row_of
 if is_here("python:numpy"):
     from rsp_conformance.campaign.generator import cases_of
     from rsp_conformance.campaign.compare import named
+    from rsp_conformance.campaign.operands_read import in_brief
 
 pytestmark = [pytest.mark.needs("cc", "python:numpy"), pytest.mark.usefixtures("library")]
 
@@ -57,6 +59,13 @@ def test_difference_of_a_word_with_ignored_bits(folder: Path) -> None:
     shown = campaign(*words, "--case", "PROGRAM-g2-1-000000", folder).stdout
     pattern = rf"PROGRAM-g2-1-000000 is cut down to 1 step from address \w+:\n\w+: {IGNORED}\n"
     assert re.search(pattern, shown), shown
+
+
+def test_operands_of_flags() -> None:
+    """They are those of the lowest lane whose bit differs."""
+    state = rsp.State(vectors=[[16 * register + lane for lane in range(8)] for register in range(32)])
+    (word,) = rsp.assemble("vch $v3, $v1, $v2[2h]\n")
+    assert in_brief("vch", word, state, "vcc: expected 0a00, got 0000") == "; lane 1, a 0011, b 0022"
 
 
 def test_instruction_that_is_not_there(folder: Path) -> None:

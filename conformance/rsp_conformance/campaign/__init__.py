@@ -8,6 +8,10 @@ class CampaignFault(Exception):
     """Why a campaign, or an emulator, can't begin or go on, as a sentence."""
 
 
+class Unusable(CampaignFault):
+    """Why no case can be run on an emulator, which isn't about a case: a task ends at once."""
+
+
 def words_of(command: str) -> List[str]:
     """The words of an emulator's command, as a shell cuts them."""
     try:

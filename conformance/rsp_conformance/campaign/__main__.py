@@ -4,8 +4,8 @@ EMULATOR is FILE.so, plugin:FILE.so, python:MODULE:CLASS, or a command; docs/CAM
 to be. OUT is the campaign's folder: a file for each task, table.txt, table.html, and in programs/ what
 differs, cut down. A campaign that was stopped continues when it is started again: what OUT holds isn't done
 again, as long as the emulator's files have the same contents. They are the files that EMULATOR names, and
-those of --files. With --case, OUT gives the instructions of a program. What an emulator writes to standard
-error is shown with its fault. It fails if a task isn't done, or with a sentence if it can't begin.
+those of --files. With --case, OUT gives the instructions of a program. What an emulator writes is shown with
+its fault: the last 20 lines. It fails if a task isn't done, or with a sentence if it can't begin.
 """
 
 import argparse

@@ -4,7 +4,8 @@
                        in memory
   python:MODULE:CLASS  a class; CLASS(memories) has `step(case)` -> (state, status, {address: byte}), or
                        `ends(cases)` -> an array of END, and, for programs, what rsp.first_difference calls of
-                       an emulator
+                       an emulator, with `steps(n)` or else `run(n)`
+  hex:COMMAND          a command that answers lines `word state` by lines `status state`
   anything else        a command that answers each line of JSON by one: docs/CAMPAIGN.md has them
 """
 
@@ -14,17 +15,20 @@ import functools
 import importlib
 import json
 import os
+import re
 import subprocess
+import sys
 from typing import Any, Dict, Iterable, Optional, Tuple
 
 import numpy as np
 import rsp
 from rsp_conformance.library_states import numbers_of, state_of
 
-from . import CampaignFault, words_of
+from . import CampaignFault, Unusable, words_of
 from .build import built, microcode
 from .generator import BANKS, END, IMEM, MEMORIES, RDRAM, STATE, Array
 from .hashes import find_module
+from .protocol import UNSHOWN
 from .supervise import end_with_parent
 
 Changed = Dict[int, int]  # the bytes of memories that differ, by their addresses
@@ -41,7 +45,9 @@ class Emulator:
 
     def for_programs(self, compared: rsp.Machine) -> Any:
         """The emulator for rsp.first_difference, beside the machine that it is compared with."""
-        return self
+        if not hasattr(self, "load"):
+            raise CampaignFault(f"{type(self).__name__} takes no programs")
+        return for_programs(self, compared)
 
     def memories_after(self, case: Array, memories: bytes, compared: rsp.Machine) -> Optional[bytes]:
         """All memories after a case, which is run as a program of one step; None if it takes no programs.
@@ -58,6 +64,31 @@ class Emulator:
         found = memories_in(machine)
         load_all(machine, memories)
         return found
+
+
+class Counted:
+    """An emulator for rsp.first_difference whose `steps` returns how many steps are done."""
+
+    def __init__(self, emulator: Any, compared: rsp.Rsp) -> None:
+        self.emulator, self.compared, self.asked, self.done = emulator, compared, 0, 0
+
+    def __getattr__(self, name: str) -> Any:
+        return getattr(self.emulator, name)
+
+    def run(self, steps: int) -> None:
+        self.asked, self.done = steps, self.emulator.steps(steps)
+
+    def get(self) -> rsp.State:
+        """The state. With fewer steps it can't be that of the machine, which has made all."""
+        state: rsp.State = self.emulator.get()
+        if self.done > self.asked or self.done < self.asked and state == self.compared.get():
+            raise CampaignFault(f"of {self.asked} steps it returned that {self.done} are done")
+        return state
+
+
+def for_programs(emulator: Any, compared: rsp.Rsp) -> Any:
+    """What rsp.first_difference calls of an emulator."""
+    return Counted(emulator, compared) if hasattr(emulator, "steps") else emulator
 
 
 class Object(Emulator):
@@ -82,7 +113,7 @@ class Object(Emulator):
         if not hasattr(self.lib, "cases_step"):
             raise CampaignFault(f"{self.what} takes no programs")
         self.compared = compared
-        return self
+        return for_programs(self, compared) if hasattr(self.lib, "cases_steps") else self
 
     def set(self, state: rsp.State) -> None:
         self.lib.cases_set(self.at, bytes(state))
@@ -106,6 +137,9 @@ class Object(Emulator):
 
     def run(self, steps: int) -> None:
         self.lib.cases_step(self.at, steps)
+
+    def steps(self, steps: int) -> int:
+        return int(self.lib.cases_steps(self.at, steps))
 
 
 def load_all(machine: Any, memories: bytes) -> None:
@@ -174,13 +208,19 @@ class Python(Single):
         self.machine = getattr(importlib.import_module(module), name)(self.memories)
 
     def fill(self, cases: Array, ends: Array) -> None:
-        if hasattr(self.machine, "ends"):
-            ends[:] = self.machine.ends(cases)
-        else:
-            super().fill(cases, ends)
+        if not hasattr(self.machine, "ends"):
+            return super().fill(cases, ends)
+        found = self.machine.ends(cases)
+        kind, shape = getattr(found, "dtype", type(found).__name__), getattr(found, "shape", "none")
+        if (kind, shape) != (END, ends.shape):
+            wanted = f"END of rsp_conformance.campaign.generator and {ends.shape}"
+            raise Unusable(f"`ends` returned an array of dtype and shape {kind} and {shape}, not {wanted}")
+        ends[:] = found
 
     def step(self, case: Array) -> End:
         end: End = self.machine.step(case)
+        if not isinstance(end, tuple) or len(end) != 3 or not isinstance(end[0], rsp.State):
+            raise Unusable(f"`step` returned {end!r:.60}, not an rsp.State, the status and the bytes")
         return end
 
     def memories_after(self, case: Array, memories: bytes, compared: rsp.Machine) -> Optional[bytes]:
@@ -191,11 +231,11 @@ class Python(Single):
     def for_programs(self, compared: rsp.Machine) -> Any:
         if not hasattr(self.machine, "load"):
             raise CampaignFault(f"{type(self.machine).__name__} takes no programs: it has no `load`")
-        return self.machine
+        return for_programs(self.machine, compared)
 
 
 # The keys of an answer's state.
-FINAL = {*numbers_of(rsp.State()), "ram", "rdram", "status"}
+FINAL = {*numbers_of(rsp.State()), "ram", "rdram", "status", "steps"}
 
 
 def final_in(answer: Any) -> Dict[str, Any]:
@@ -255,6 +295,7 @@ class Command(Single):
             changed.update({RDRAM + at: byte for at, byte in final["rdram"]})
             if not all(0 <= at < MEMORIES and 0 <= byte < 256 for at, byte in changed.items()):
                 raise ValueError("no byte of a memory")
+            self.done = int(final.get("steps", question.get("steps", 1)))
             return state_of(final), final.get("status", 0), changed
         except (ValueError, KeyError, TypeError, IndexError, OverflowError) as fault:
             said = f"{type(fault).__name__} {fault}"
@@ -278,11 +319,35 @@ class Command(Single):
     def memory(self, bank: int, address: int, length: int) -> bytes:
         return self.after[bank * IMEM + address :][:length]
 
-    def run(self, steps: int) -> None:
+    def steps(self, steps: int) -> int:
         if self.question:
             self.say_memories()
         self.state, _, changed = self.ask({**self.question, "steps": steps})
         self.after, self.question = patched(self.memories, changed), {}
+        return self.done
+
+
+class Hex(Emulator):
+    """A command over lines of hexadecimal digits, started for each batch: its input ends after the batch."""
+
+    def __init__(self, command: str) -> None:
+        self.words = words_of(command)
+
+    def fill(self, cases: Array, ends: Array) -> None:
+        """No case that may read or write a memory is given."""
+        hidden = (cases["word"] >> 31 == 1) | (cases["word"] & 0xFFE07000 == 0x40801000)
+        given, ends["changed"] = np.nonzero(~hidden)[0], 0
+        lines = (f"{case['word']:08x} {case['state'].tobytes()[::-1].hex()}\n" for case in cases[given])
+        how: Dict[str, Any] = {"input": "".join(lines), "stdout": subprocess.PIPE, "env": without_ours()}
+        ended = subprocess.run(self.words, text=True, errors="replace", **how)
+        answers = re.findall("(?m)^([0-9a-f]{1,8}) ([0-9a-f]{1544})$", ended.stdout)
+        for at, (status, state) in zip(given, answers):
+            ends["state"][at] = np.frombuffer(bytes.fromhex(state)[::-1], STATE)[0]
+            ends["status"][at] = int(status, 16)
+        if len(answers) < len(given):
+            print(re.sub("(?m)^[0-9a-f ]+$\n", "", ended.stdout), file=sys.stderr, flush=True)
+            raise CampaignFault(f"the command ended with status {ended.returncode}, without this answer")
+        ends["status"][hidden] = UNSHOWN
 
 
 def emulator_of(spec: str, memories: bytes) -> Emulator:
@@ -293,6 +358,8 @@ def emulator_of(spec: str, memories: bytes) -> Emulator:
     kind, _, rest = spec.partition(":")
     if kind == "python":
         return Python(rest, memories)
+    if kind == "hex":
+        return Hex(rest)
     if kind != "plugin":
         return Object(spec, memories) if spec.endswith(".so") else Command(spec, memories)
     with contextlib.suppress(CampaignFault):

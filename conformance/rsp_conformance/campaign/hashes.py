@@ -57,7 +57,8 @@ def named_by(spec: str) -> List[str]:
         return [module.origin] if module and module.origin else []
     if kind == "plugin" or spec.endswith(".so"):
         return [rest or spec]
-    found = (word if Path(word).is_file() else shutil.which(word) for word in words_of(spec))
+    words = words_of(rest if kind == "hex" else spec)
+    found = (word if Path(word).is_file() else shutil.which(word) for word in words)
     return [it for it in found if it]
 
 

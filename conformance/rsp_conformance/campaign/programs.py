@@ -19,6 +19,7 @@ from .compare import Program, Sides, in_brief, in_words, named
 
 EVERY, LENGTH, WORDS = 100, 1024, 1024
 NEVER = ("break",)
+HIDDEN = "hidden state"  # in place of an instruction: no more programs that no step alone shows are cut down
 NOT_CUT_DOWN = "; not cut down, because it depends on what the emulator ran before"
 
 
@@ -87,18 +88,22 @@ def where(found: rsp.FirstDifference) -> str:
 
 
 def result_of(sides: Sides, name: str, program: Program, found: rsp.FirstDifference, cut: Set[str]) -> Result:
-    """The result of a program that differs. It is cut down if `cut` has no program of its instruction."""
-    at, what = where(found), name_in(named(found.word, found.address))
+    """The result of a program that differs. It is cut down if `cut` has no program of its instruction; if no
+    step alone differs, only the cut says which one that is, and the first that `cut` has is the last.
+    """
+    at, what, is_hidden = where(found), name_in(named(found.word, found.address)), found.steps > 1
     made: Result = {}
-    if is_to_cut := found.step and len(cut) < SHOWN and (found.steps > 1 or what not in cut):
-        made = cut_down(sides, program, found.step, found.steps > 1)
+    if is_to_cut := found.step and len(cut) < SHOWN and (HIDDEN if is_hidden else what) not in cut:
+        made = cut_down(sides, program, found.step, is_hidden)
     if made:
         text = at_fault(made["texts"], found)
         at, what = f"step {found.step}, {text}", name_in(text)
-    cut.add(what)
+    is_again = bool(made) and what in cut
+    if is_to_cut:
+        cut.add(HIDDEN if is_again else what)
     more = NOT_CUT_DOWN if is_to_cut and not made else ""
     shown = f"{name}: {at}: {in_brief(in_words(found.parts))}{more}"
-    programs = [{"name": name, "shown": shown, **made}] if made else []
+    programs = [{"name": name, "shown": shown, **made}] if made and not is_again else []
     return {"count": 1, "differ": 1, "parts": {what: 1}, "shown": [shown], "programs": programs}
 
 

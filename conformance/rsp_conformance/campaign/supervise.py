@@ -43,9 +43,9 @@ KEEP = {
     "OMP_NUM_THREADS": "1",
 }
 FAULTS, SEARCH_SECONDS, BEGIN_SECONDS = 8, 60, 60
-# So many of the first bytes that an emulator wrote to standard error are shown with its fault, and as many of
-# the last ones: a panic's message comes before a long backtrace, but perhaps after a log.
-WRITTEN = 500
+# So many of the first bytes that an emulator wrote are shown with its fault, and so many of the last lines: a
+# panic's message comes before a long backtrace, but perhaps after a log. Lines count up to so many bytes.
+WRITTEN, LAST_LINES, LAST = 500, 20, 4000
 PYTHON = TOP / "tools/python"
 NUMBERS = ("count", "unshown", "missing", "differ", "choices", "processor")
 LISTS = ("shown", "faults", "programs", "unseen")
@@ -81,14 +81,18 @@ class Written(threading.Thread):
             while some := pipe.read(1 << 16):
                 room = WRITTEN - len(self.first)
                 self.first += some[:room]
-                self.last = (self.last + some[room:])[-WRITTEN:]
+                self.last = (self.last + some[room:])[-LAST:]
                 self.length += len(some)
 
     def lines(self) -> str:
         """The lines, when the process is dead."""
         self.join(1)  # another process may still have the pipe
-        gap = b"\n..\n" if self.length > 2 * WRITTEN else b""
-        lines = (self.first + gap + self.last).decode(errors="backslashreplace").splitlines()
+        first, last = (it.decode(errors="backslashreplace").splitlines() for it in (self.first, self.last))
+        if self.length <= WRITTEN + LAST and len(last) <= LAST_LINES:
+            first, last = (self.first + self.last).decode(errors="backslashreplace").splitlines(), []
+        elif last:
+            first.append("..")
+        lines = [*first, *last[-LAST_LINES:]]
         return " / ".join(printable(it.strip()) for it in lines if it.strip())
 
 
@@ -99,7 +103,7 @@ class Child:
     """
 
     def __init__(self, task: Task, options: Options) -> None:
-        self.limit, self.is_begun, self.fault = options["limit"], False, ""
+        self.limit, self.is_begun, self.is_unusable, self.fault = options["limit"], False, False, ""
         shared = os.memfd_create("ends")
         os.truncate(shared, BATCH * END_BYTES)
         self.statuses = memoryview(mmap.mmap(shared, 0)).cast("I")[STATUS_AT // 4 :: END_BYTES // 4]
@@ -111,7 +115,7 @@ class Child:
         self.written = Written(pipe)
         self.process = subprocess.Popen(
             [PYTHON, "rsp_conformance.campaign.worker_process", *map(str, numbers)],
-            stdout=subprocess.DEVNULL,
+            stdout=errors,  # where Verilator writes what an assertion says
             stderr=errors,
             pass_fds=numbers[1:],
             start_new_session=True,
@@ -145,7 +149,7 @@ class Child:
             self.is_begun = True
             yield answer
         self.process.kill()
-        written = self.written.lines()
+        written, self.is_unusable = self.written.lines(), answer.get("is_unusable", False)
         self.fault = printable(answer["fault"]) + (f"; it wrote: {written}" if written else "")
 
     def close(self) -> None:
@@ -191,7 +195,7 @@ def done_by_children(task: Task, options: Options) -> Result:
                 at += batch["count"]
         if at == end:
             continue
-        if not child.is_begun or len(result["faults"]) >= FAULTS:
+        if not child.is_begun or child.is_unusable or len(result["faults"]) >= FAULTS:
             return {**result, "given up": child.fault}
         number = at + min(child.done(), BATCH - 1, end - at - 1)  # it may end after the last case of a batch
         cause = cause_of(task, number, first, options)

@@ -14,7 +14,7 @@ from typing import Iterator, List
 import numpy as np
 import rsp
 
-from . import CampaignFault, operands_read
+from . import CampaignFault, Unusable, operands_read
 from .generator import END, Array, cases_of, memories_of
 from .programs import check_programs
 from .protocol import BATCH, PROGRAM, RESERVED, SHOWN, UNDONE, UNSHOWN, Result, name_of
@@ -112,7 +112,7 @@ def main(parent: int, shared: int, answers: int) -> None:
             connection.send({**result, "processor": used - before})
     except Exception as fault:  # of an emulator in Python, too
         said = str(fault) if isinstance(fault, CampaignFault) else f"{type(fault).__name__}: {fault}"
-        connection.send({"fault": said})
+        connection.send({"fault": said, "is_unusable": isinstance(fault, Unusable)})
 
 
 if __name__ == "__main__":

@@ -142,8 +142,8 @@ pub unsafe fn look<E: Emulator>(side: *mut Side<E>, memories: *mut u8) {
 }
 
 #[doc(hidden)]
-pub unsafe fn step<E: Emulator>(side: *mut Side<E>, steps: u32) {
-    guarded(|| (*side).emulator.run(steps));
+pub unsafe fn steps<E: Emulator>(side: *mut Side<E>, steps: u32) -> u32 {
+    guarded(|| (*side).emulator.steps(steps))
 }
 
 /// Makes a shared object that `conformance/campaign` checks, of an [`Emulator`](crate::Emulator) with a `Default`.
@@ -218,7 +218,13 @@ macro_rules! cases {
         /// Makes steps.
         #[no_mangle]
         pub unsafe extern "C" fn cases_step(side: *mut $crate::cases::Side<$emulator>, steps: u32) {
-            $crate::cases::step(side, steps)
+            $crate::cases::steps(side, steps);
+        }
+
+        /// Makes steps without a pause, and returns how many are done.
+        #[no_mangle]
+        pub unsafe extern "C" fn cases_steps(side: *mut $crate::cases::Side<$emulator>, steps: u32) -> u32 {
+            $crate::cases::steps(side, steps)
         }
     };
 }

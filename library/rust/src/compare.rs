@@ -17,6 +17,12 @@ pub trait Emulator {
     fn memory(&self, bank: Bank, bytes: &mut [u8]);
     /// Writes a memory from its beginning.
     fn load(&mut self, bank: Bank, bytes: &[u8]);
+    /// Makes this many steps of a campaign's program, and returns how many are done. A core with a pipeline makes them without a pause, and empties
+    /// the pipeline only afterwards. This default calls `run`, and returns that all are done.
+    fn steps(&mut self, steps: u32) -> u32 {
+        self.run(steps);
+        steps
+    }
     /// Executes the instruction of a campaign's case, and returns how that ended. This default makes a step, and returns that it was done. No
     /// case has a reserved word, so an emulator returns [`StepEnd::Reserved`] for an instruction that it lacks.
     fn case(&mut self) -> StepEnd {
