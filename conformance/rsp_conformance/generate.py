@@ -1,6 +1,6 @@
-"""conformance/generate [--full] [--flat] [--cases N | --entries] [--seed S] [--program PROGRAM] OUT
+"""conformance/generate [--full] [--flat] [--hex] [--cases N | --entries] [--seed S] [--program PROGRAM] OUT
 [NAME..]: makes test vectors of instructions. It fails if the program doesn't know one of them.
-conformance/generate [--full] [--flat] --of FOLDER OUT [NAME..]: makes these forms of the vectors that
+conformance/generate [--full] [--flat] [--hex] --of FOLDER OUT [NAME..]: makes these forms of the vectors that
 FOLDER has, such as conformance/vectors. It needs no program.
 
 NAME is an instruction; without one all instructions are meant. It makes N cases of each (as many as the small
@@ -12,6 +12,8 @@ VRSQ for each of the 1,024 entries of the divide tables:
   OUT/full/NAME.json                   with --full: the cases of steps/, whole states of numbers before and
                                        after
   OUT/flat/NAME.bin                    with --flat: the cases of steps/, as brsp_state of brsp.h and bytes
+  OUT/hex/NAME.hex, NAME-K.imem.hex .. with --hex: the cases of steps/ without memories, a line each, and the
+                                       memories of programs/; with brsp_state.svh and brsp_state.vhd
 README.md beside this command says how they are read. The same words give the same files.
 """
 
@@ -21,7 +23,7 @@ from concurrent.futures import ThreadPoolExecutor
 from pathlib import Path
 from typing import Callable, Dict, Iterator, List, Optional, Sequence, Tuple
 
-from rsp_conformance import bench, flat, full, run_programs, steps
+from rsp_conformance import bench, flat, full, hexadecimal, run_programs, steps
 from rsp_conformance.cases import ENTRIES, small_count
 from rsp_conformance.commands import PROGRAM, printable, reader, say
 from rsp_conformance.files import FileFault, make_folder, write
@@ -35,6 +37,7 @@ DIVIDES = ("vrcp", "vrsq")  # the instructions whose cases meet all entries of a
 MORE: Dict[str, Tuple[str, Callable[[List[steps.Entry]], bytes]]] = {
     "full": ("json", lambda entries: full.full_text(entries).encode()),
     "flat": ("bin", flat.flat_bytes),
+    "hex": ("hex", hexadecimal.hex_bytes),
 }
 
 
@@ -43,6 +46,9 @@ def write_forms(name: str, entries: List[steps.Entry], of: Path, out: Path, more
     for form in more:
         suffix, made = MORE[form]
         write(out / form / f"{name}.{suffix}", made(entries))
+    if "hex" in more:
+        hexadecimal.write_programs(of / "programs", name, out / "hex")
+        hexadecimal.write_places(out / "hex")
 
 
 def write_row(program: str, row: Row, seed: str, numbers: range, out: Path, more: Sequence[str]) -> None:
@@ -86,7 +92,7 @@ def formed(of: Path, names: Sequence[str], out: Path, more: Sequence[str]) -> in
 def refusal_of(args: argparse.Namespace) -> Optional[str]:
     """Why these words give nothing, as a sentence."""
     if args.of and (args.cases is not None or args.entries or not args.more):
-        return "--of is for --full or --flat, without --cases and --entries"
+        return "--of is for --full, --flat or --hex, without --cases and --entries"
     if unknown := [name for name in args.names if name.lower() not in ROWS]:
         return f"the instruction table has no {unknown[0]}"
     if args.cases is not None and args.cases < 1:
@@ -103,6 +109,7 @@ def main() -> None:
     words = reader("generate", __doc__)
     words.add_argument("--full", action="append_const", const="full", dest="more", default=[])
     words.add_argument("--flat", action="append_const", const="flat", dest="more")
+    words.add_argument("--hex", action="append_const", const="hex", dest="more")
     words.add_argument("--cases", type=int)
     words.add_argument("--entries", action="store_true")
     words.add_argument("--seed", default=SEED)
