@@ -462,7 +462,7 @@ static void events(void)
     memset(&event, 0xa5, sizeof event);
     memcpy(&kept, &event, sizeof event);
     SEE(brsp_event(&m, 0, 0, 0, &event) == BRSP_OUT_OF_RANGE && brsp_event(&m, 1000001, 0, 0, &event) == BRSP_OUT_OF_RANGE);
-    SEE(brsp_event(&m, 1, 65536, 0, &event) == BRSP_OUT_OF_RANGE && brsp_event(&m, 1, 0, 65536, &event) == BRSP_OUT_OF_RANGE);
+    SEE(brsp_event(&m, 1, 65536, 0, &event) == BRSP_OUT_OF_RANGE && brsp_event(&m, 1, 0, 131072, &event) == BRSP_OUT_OF_RANGE);
     SEE(brsp_event(&m, ANY, ANY, ANY, &event) == BRSP_OUT_OF_RANGE && !memcmp(&event, &kept, sizeof event));
     SEE(brsp_pass_dma(&m) == BRSP_OTHER_WORD && brsp_history(&m, &number) == BRSP_OK && number == 0);
     SEE(brsp_event(&m, 7, 0, 0, &event) == BRSP_OK && event.at.stop.reason == BRSP_AT_LIMIT && event.at.stop.steps == 7 && event.at.stop.pc == 28); /* a DMA is next */
