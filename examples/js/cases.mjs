@@ -4,7 +4,7 @@
 
 import { createInterface } from "node:readline";
 
-const IMEM = 4096, RDRAM = 8192, DONE = 0, RESERVED = 5;
+const IMEM = 4096, RDRAM = 8192, DONE = 0, RESERVED = 105;
 
 /** In place of your emulator: executes the word at pc, and returns the status. */
 function step(state, memories) {
