@@ -277,7 +277,7 @@ def test_vectors(top: Path, runner: Runner, suite: Path, system: str, name: str)
 @of("windows-x86_64")
 def test_first_line_of_windows(top: Path, runner: Runner) -> None:
     """The README's, by the command interpreter."""
-    line = r"bin\rsp run < examples\first.rsp"
+    line = r"bin\rsp run examples\first.rsp"
     assert f"`{line}`" in (top / "README.md").read_text()
     assert of_archive(runner, "cmd", "/c", line).stdout == page("examples/first.out").encode()
 

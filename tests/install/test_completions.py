@@ -127,8 +127,8 @@ def test_first_word(prefix: Path, program: Path, shell: str) -> None:
 
 @in_shells
 def test_files(prefix: Path, shell: str) -> None:
-    """A source text is a file, and so is what follows a redirection; an address isn't."""
-    wanted = {"rsp asm ": True, "rsp asm --at ": False, "rsp run < ": True, "rsp run --strict > ": True}
+    """A source text is a file, and so are a script and what follows a redirection; an address isn't."""
+    wanted = {"rsp asm ": True, "rsp asm --at ": False, "rsp run ": True, "rsp run --strict > ": True}
     is_listed = {line: "text.s" in SHELLS[shell](prefix, line) for line in wanted}
     if shell == "bash":  # bash completes files itself, where the function offers nothing
         is_listed.update({it: SHELLS[shell](prefix, it) == set() for it in wanted if wanted[it]})

@@ -208,7 +208,7 @@ def test_man_page_has_all_words(prefix: Path) -> None:
 def test_man_shows_the_page(prefix: Path) -> None:
     where = {**os.environ, "MANPAGER": "cat", "MANWIDTH": "100", "LC_ALL": "C.UTF-8"}
     told = succeeds("man", "--warnings", "-l", prefix / "share/man/man1/rsp.1", env=where)
-    assert "warning" not in told and "rsp run [OPTIONS] < SCRIPT" in told
+    assert "warning" not in told and "rsp run [OPTIONS] [SCRIPT]" in told
 
 
 # Rust: as a path the crate finds what library/c/build has made, as a package it has its library in lib/, and

@@ -50,6 +50,8 @@ def test_stored(script: Stored, rsp: Any, folder: Path) -> None:
         assert is_kept, f"{how}: the saved image isn't the one that was read"
 
     see("as a whole", rsp(*words, script=script.script))
+    (folder / "script").write_bytes(script.script)
+    see("from a file", rsp(*words, "script", script=STEP))
     for size in (1, 2, 3, 7):
         with packets(script.script, size) as pipe:
             see(f"{size} bytes a read", rsp(*words, stdin=pipe))
@@ -88,6 +90,9 @@ GIVEN = {
     "half": bytes(6),
     "many": bytes(4100),
     "branch": bytes.fromhex("1000fffe00000000"),
+    "script": b"load rdram 0x3ffffe 0102\nfoo\nunbreak 0",
+    "long": b"step\n" + b"#" * (LONGEST_SCRIPT - 4),
+    "-x": STEP,
     "code": bytes.fromhex("1000fffe1000fffe002000480020000800000000"),
 }
 LISTING = b"""ok 5 words
@@ -153,6 +158,19 @@ ROWS = {
     "script of a line too long": Asked("run --save saved", b"", LINE_ALONE, NO_SCRIPT, {"saved": None}),
     "script too long": Asked("run --save saved", STEPPED, TOO_LONG, NO_SCRIPT, {"saved": None}),
     "longest script": Asked("run", STEPPED + b"fault 32 LineTooLong\n", TOO_LONG[:-1]),
+    # Scripts in files, which are read before the image, while standard input isn't.
+    "script in a file": Asked("run script --save saved", REFUSED_TWICE, left=SAVED),
+    "script with the name of an option": Asked("run -- -x", STEPPED),
+    "script and image": fails("run none --rdram missing", b"cannot read none"),
+    "script and no image": fails("run script --rdram missing", b"cannot read missing"),
+    "script is a folder": fails("run .", b"cannot read ."),
+    "script without end": fails("run /dev/zero", b"fault 42 ScriptTooLong"),
+    "script in a file too long": fails(
+        "run long --rdram missing --save saved", b"fault 42 ScriptTooLong", left={"saved": None}
+    ),
+    "strict run of a file": fails(
+        "run script --strict --save saved", strict(2, LAST_LINE), output=REFUSED_TWICE, left=SAVED
+    ),
     # Runs that end with a fault if a reply is one, after the image is saved.
     "strict run": fails(
         "run --strict --save saved", strict(2, LAST_LINE), script=FAULTY, output=REFUSED_TWICE, left=SAVED
@@ -244,7 +262,7 @@ def test_text(source: bytes, made: Any, rsp: Any, folder: Path) -> None:
 NO_COMMANDS = """
 walk|asm|asm a|asm a b c|asm a b --at|asm a b --at=|asm a b --at 0 --at 0|asm a b --places
 asm a b --listing --listing|asm a b --listing=yes|asm --help|dis|dis a b|dis a --places --places
-run a|run --fast|run --rdram|run --rdram=|run --rdram a --rdram b|run --save a --save b|run --at 0
+run a b|run a --strict b|run -x|run --fast|run --rdram|run --rdram=|run --rdram a --rdram b|run --save a --save b|run --at 0
 run --version|run --help|--help|help|help run|run --labels|run --strict --strict|run --strict=yes
 asm a b --strict|dis a --strict|asm a b --labels|asm a b --explain --explain|asm a b --explain=yes
 dis a --labels --labels|dis a --labels=1|dis a --explain
@@ -255,10 +273,10 @@ REFUSED += [f"{verb} --at={it}" for it in NO_ADDRESSES for verb in ("asm a b", "
 
 
 @pytest.mark.parametrize(
-    "line", [*map(str.encode, REFUSED), b"run --save \xff"], ids=lambda it: it.decode(errors="replace")
+    "line", [*map(str.encode, REFUSED), b"run --save \xff", b"run ''"], ids=lambda it: it.decode(errors="replace")
 )
 def test_refused(line: bytes, rsp: Any) -> None:
-    ran = rsp(*line.split(), script=STEP)
+    ran = rsp(*[it.replace(b"''", b"") for it in line.split()], script=STEP)
     assert (ran.status, ran.output) == (2, b"") and ran.errors
     assert ran.errors.startswith(b"error: ") == (b"help" not in line)
 

@@ -16,6 +16,10 @@ use std::alloc::Global;
 pub struct MachineRunner;
 
 impl ScriptRunner for MachineRunner {
+    ghost out_of = { out_of };
+
+    ghost image_of = { λ script image. (session_of script image).debugging.state.rdram };
+
     fn run_script<R: Source, W: Sink>(
         &self,
         alloc: Global,

@@ -1,2 +1,3 @@
 -- What a strict run counts.
 pub mod Faults
+pub mod Scripts

@@ -7,6 +7,7 @@
 
 mod faults;
 mod program;
+mod script;
 mod status;
 
 pub use program::{refuse_arguments, work};

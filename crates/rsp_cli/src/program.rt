@@ -1,14 +1,16 @@
-ghost use Rattle.std.specs.Prelude.{◌≡◌, OnOk, IfErr};
+ghost use Rattle.std.specs.Prelude.{◌≡◌, ◌≤◌, length, OnOk, IfOk, IfErr};
+ghost use Rattle.rsp_script_io.specs.Feeds.{script_limit};
 ghost use Rattle.rsp_cli.specs.Faults.{IsRefusal};
 
 use crate::faults::{CountingWriter, Faults};
+use crate::script::{Script, answer};
 use crate::status::Status;
 use clap::Error;
 use clap::error::ErrorKind;
 use rsp_cli_args::{Request, RunFiles, read_arguments};
 use rsp_cli_files::{Fault, FileStore, assemble_file, disassemble_file, read_file, write_file};
 use rsp_memory::Rdram;
-use rsp_script_io::{FromRead, RunFault, ScriptRunner, ToWrite};
+use rsp_script_io::{RunFault, SCRIPT_LIMIT, ScriptRunner};
 use std::alloc::Global;
 use std::io::{self, Read, Write};
 
@@ -18,8 +20,11 @@ const DEFAULT_LENGTH: usize = 4_194_304;
 /// One byte more than the longest image, since a file of which so many were read is too long.
 const IMAGE_READ_LIMIT: u64 = 8_388_609;
 
-/// Does what the arguments ask for; the first of them is the program's name. `input` is the script of a run, which `runner`
-/// answers, `output` takes replies and listings. A fault, or why the arguments are refused, is written to `errors`.
+/// The same of a script.
+const SCRIPT_READ_LIMIT: u64 = 1_048_577;
+
+/// Does what the arguments ask for; the first of them is the program's name. `runner` answers the script of a run, which is `input`
+/// if no file is named, `output` takes replies and listings. A fault, or why the arguments are refused, is written to `errors`.
 pub fn work<S: ScriptRunner, F: FileStore, R: Read + Drop, W: Write + Drop, E: Write>(
     alloc: Global,
     args: &[String],
@@ -91,7 +96,7 @@ fn faulted<E: Write>(fault: Fault, errors: &mut E) -> Status {
     Status::Faulted
 }
 
-/// Answers a script. The image of the RDRAM is read before the script, and saved after a run that finished.
+/// Answers a script. Its file is read first, if one is named, and then that of the image.
 fn run<'a, S: ScriptRunner, F: FileStore, R: Read + Drop, W: Write + Drop>(
     alloc: Global,
     asked: &RunFiles<'a>,
@@ -100,12 +105,39 @@ fn run<'a, S: ScriptRunner, F: FileStore, R: Read + Drop, W: Write + Drop>(
     input: R,
     output: W,
 ) -> Result<(), Fault<'a>> {
+    let Some(name) = asked.script else {
+        let image = read_image(alloc, files, asked.rdram)?;
+        return run_over(
+            alloc,
+            asked,
+            image,
+            runner,
+            files,
+            Script::Input(input),
+            output,
+        );
+    };
+    let bytes = read_script(alloc, files, name)?;
     let image = read_image(alloc, files, asked.rdram)?;
+    let script: Script<R> = Script::Whole(bytes.as_slice());
+    run_over(alloc, asked, image, runner, files, script, output)
+}
+
+/// Answers a script over an image, which is saved after a run that finished.
+fn run_over<'a, S: ScriptRunner, F: FileStore, R: Read + Drop, W: Write + Drop>(
+    alloc: Global,
+    asked: &RunFiles<'a>,
+    image: Rdram,
+    runner: &S,
+    files: &mut F,
+    script: Script<'_, R>,
+    output: W,
+) -> Result<(), Fault<'a>> {
     if asked.is_strict {
         let mut output = CountingWriter::new(output);
-        return run_strictly(alloc, image, asked.save, runner, files, input, &mut output);
+        return run_strictly(alloc, image, asked.save, runner, files, script, &mut output);
     }
-    let image = answer(alloc, image, runner, input, output)?;
+    let image = finished(answer(alloc, image, runner, script, output))?;
     save_image(files, asked.save, image)
 }
 
@@ -116,12 +148,12 @@ fn run_strictly<'a, S: ScriptRunner, F: FileStore, R: Read + Drop, W: Write + Dr
     saved: Option<&'a str>,
     runner: &S,
     files: &mut F,
-    input: R,
+    script: Script<'_, R>,
     output: &mut CountingWriter<W>,
 ) -> Result<(), Fault<'a>>
     ensures strict { OnOk result (output.new.faults.count ≡ 0) }
 {
-    let image = answer(alloc, image, runner, input, &mut *output)?;
+    let image = finished(answer(alloc, image, runner, script, &mut *output))?;
     save_image(files, saved, image)?;
     refuse_faults(alloc, output.faults())
 }
@@ -153,6 +185,21 @@ fn refuse_faults<'a>(alloc: Global, faults: &Faults) -> Result<(), Fault<'a>>
     }
 }
 
+/// The bytes of a script's file. ScriptTooLong if they are too many.
+fn read_script<'a, F: FileStore>(
+    alloc: Global,
+    files: &mut F,
+    name: &'a str,
+) -> Result<Vec<u8>, Fault<'a>>
+    ensures { IfOk result (λ script. length script.items ≤ script_limit) }
+{
+    let script = read_file(alloc, files, name, SCRIPT_READ_LIMIT)?;
+    if script.len() > SCRIPT_LIMIT {
+        return Err(Fault::ScriptTooLong);
+    }
+    Ok(script)
+}
+
 /// The image of the RDRAM: the bytes of the file, or zeros if none is named.
 fn read_image<'a, F: FileStore>(
     alloc: Global,
@@ -176,23 +223,12 @@ fn zeros<'a>(alloc: Global) -> Result<Vec<u8>, Fault<'a>> {
     }
 }
 
-/// Answers a script, and returns the image that it leaves.
-fn answer<'a, S: ScriptRunner, R: Read + Drop, W: Write + Drop>(
-    alloc: Global,
-    image: Rdram,
-    runner: &S,
-    input: R,
-    output: W,
-) -> Result<Rdram, Fault<'a>> {
-    let mut source = FromRead::new(input);
-    let mut sink = ToWrite::new(output);
-    match runner.run_script(alloc, image, &mut source, &mut sink) {
-        Ok(image) => Ok(image),
-        Err(fault) => Err(match fault {
-            RunFault::ReadFault => Fault::RunRead,
-            RunFault::WriteFault => Fault::RunWrite,
-            RunFault::ScriptTooLong => Fault::ScriptTooLong,
-            RunFault::OutOfMemory => Fault::RunOutOfMemory,
-        }),
-    }
+/// The image that a run left, or the fault of one that ended early.
+fn finished<'a>(run: Result<Rdram, RunFault>) -> Result<Rdram, Fault<'a>> {
+    run.map_err(|fault| match fault {
+        RunFault::ReadFault => Fault::RunRead,
+        RunFault::WriteFault => Fault::RunWrite,
+        RunFault::ScriptTooLong => Fault::ScriptTooLong,
+        RunFault::OutOfMemory => Fault::RunOutOfMemory,
+    })
 }

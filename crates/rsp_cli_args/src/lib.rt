@@ -16,6 +16,8 @@ const VERSION: &str = "0.9.0 (unreleased)";
 /// The files of a run, and how it ends.
 #[derive(Drop)]
 pub struct RunFiles<'a> {
+    /// The file of the script; without one it is standard input.
+    pub script: Option<&'a str>,
     /// The file with the bytes of the RDRAM before the run; without one they are zeros.
     pub rdram: Option<&'a str>,
     /// The file that the bytes of the RDRAM are written to after the run.
@@ -55,7 +57,7 @@ pub struct DisassembleFiles<'a> {
 /// What the command line requests.
 #[derive(Drop)]
 pub enum Request<'a> {
-    /// `rsp run`: answering the script on standard input.
+    /// `rsp run`: answering a script.
     Run(RunFiles<'a>),
     /// `rsp asm`: assembling a file of source text into a file of words.
     Assemble(AssembleFiles<'a>),
@@ -68,6 +70,8 @@ pub enum Request<'a> {
 enum Kind {
     /// A file that must be named, by its position.
     File,
+    /// A file that may be named, by its position.
+    OptionalFile,
     /// An option with a value, which the help calls by this name.
     Value(&'static str),
     /// An option without a value.
@@ -80,33 +84,33 @@ type ArgumentForm = (&'static str, Kind, &'static str);
 struct SubcommandForm {
     name: &'static str,
     about: &'static str,
-    /// The line of its usage, if its arguments don't show that.
-    usage: Option<&'static str>,
     arguments: &'static [ArgumentForm],
 }
 
 const SUBCOMMANDS: [SubcommandForm; 3] = [
     SubcommandForm {
         name: "run",
-        about: "Reads a script from standard input, and prints a reply to each command",
-        usage: Some("rsp run [OPTIONS] < SCRIPT"),
+        about: "Reads a script, and prints a reply to each command",
         arguments: &RUN,
     },
     SubcommandForm {
         name: "asm",
         about: "Assembles source text into a file of words, each with the high byte first",
-        usage: None,
         arguments: &ASM,
     },
     SubcommandForm {
         name: "dis",
         about: "Prints a file of words, each with the high byte first, as assembly text",
-        usage: None,
         arguments: &DIS,
     },
 ];
 
-const RUN: [ArgumentForm; 3] = [
+const RUN: [ArgumentForm; 4] = [
+    (
+        "SCRIPT",
+        Kind::OptionalFile,
+        "The script; without it standard input",
+    ),
     (
         "rdram",
         Kind::Value("FILE"),
@@ -167,6 +171,7 @@ fn argument<'a>(alloc: Global, form: ArgumentForm) -> Arg<'a> {
     let argument = Arg::new(alloc, name).help(about);
     match kind {
         Kind::File => with_value(argument.required(true)),
+        Kind::OptionalFile => with_value(argument),
         Kind::Value(value) => with_value(argument.long(name).value_name(value)),
         Kind::Flag => argument.long(name).action(ArgAction::SetTrue),
     }
@@ -179,9 +184,6 @@ fn with_value(argument: Arg<'_>) -> Arg<'_> {
 
 fn subcommand<'a>(alloc: Global, given: &SubcommandForm) -> Result<Command<'a>, AllocError> {
     let mut command = Command::new(alloc, given.name).about(given.about);
-    if let Some(usage) = given.usage {
-        command = command.override_usage(usage);
-    }
     for &form in given.arguments {
         command = command.arg(argument(alloc, form))?;
     }
@@ -230,6 +232,7 @@ fn disassembly<'a>(given: &ArgMatches<'a>) -> Option<Request<'a>> {
 
 fn run<'a>(given: &ArgMatches<'a>) -> Request<'a> {
     Request::Run(RunFiles {
+        script: given.get_str("SCRIPT"),
         rdram: given.get_str("rdram"),
         save: given.get_str("save"),
         is_strict: given.get_flag("strict"),

@@ -2,7 +2,7 @@ use crate::fault::Fault;
 use crate::save::save;
 use std::alloc::{AllocGlobal, Global};
 use std::fs::File;
-use std::io::{self, ErrorKind, Read};
+use std::io::{self, ErrorKind, IsTerminal, Read};
 use std::rt::Files;
 
 /// Why a file wasn't read or written, as the messages distinguish it.
@@ -14,25 +14,29 @@ pub enum FileFault {
     OutOfMemory,
 }
 
-/// The files that the program reads and writes.
+/// The files that the program reads and writes, and what it asks of its standard input.
 pub trait FileStore {
     /// The first bytes of a file, at most `limit`. No more are read.
     fn read(&mut self, alloc: Global, name: &str, limit: u64) -> Result<Vec<u8>, FileFault>;
 
     /// Makes a file of these bytes. It replaces a file of that name.
     fn write(&mut self, name: &str, bytes: &[u8]) -> Result<(), FileFault>;
+
+    /// Whether standard input is a terminal.
+    fn is_typed(&self) -> bool;
 }
 
 /// The files of the system. One that is written keeps its old bytes until the new ones are whole, unless no new file can replace it.
 #[derive(Drop)]
-pub struct SystemFiles<'a, R> {
+pub struct SystemFiles<'a, R, I> {
     runtime: &'a R,
+    input: I,
 }
 
-impl<'a, R> SystemFiles<'a, R> {
-    /// The files that this runtime reaches.
-    pub fn new(runtime: &'a R) -> Self {
-        SystemFiles { runtime }
+impl<'a, R, I> SystemFiles<'a, R, I> {
+    /// The files that this runtime reaches, beside this standard input.
+    pub fn new(runtime: &'a R, input: I) -> Self {
+        SystemFiles { runtime, input }
     }
 }
 
@@ -72,7 +76,7 @@ impl From<io::Error> for FileFault {
     }
 }
 
-impl<R: Files + AllocGlobal> FileStore for SystemFiles<'_, R> {
+impl<R: Files + AllocGlobal, I: IsTerminal> FileStore for SystemFiles<'_, R, I> {
     fn read(&mut self, alloc: Global, name: &str, limit: u64) -> Result<Vec<u8>, FileFault> {
         let mut bytes = Vec::new(alloc);
         File::open(self.runtime, name)?
@@ -83,5 +87,9 @@ impl<R: Files + AllocGlobal> FileStore for SystemFiles<'_, R> {
 
     fn write(&mut self, name: &str, bytes: &[u8]) -> Result<(), FileFault> {
         Ok(save(self.runtime, name, bytes)?)
+    }
+
+    fn is_typed(&self) -> bool {
+        self.input.is_terminal()
     }
 }

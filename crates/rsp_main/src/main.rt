@@ -17,7 +17,7 @@ fn main(rt: HostRuntime) -> ExitCode {
             rt.alloc(),
             words.as_slice(),
             &MachineRunner,
-            &mut SystemFiles::new(&rt),
+            &mut SystemFiles::new(&rt, rt.stdin()),
             rt.reader(),
             io::writer(&rt),
             &mut errors,

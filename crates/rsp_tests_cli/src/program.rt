@@ -21,7 +21,7 @@ const REFUSED: Case = Case {
     ..RUN
 };
 
-static REFUSALS: [Case; 5] = [
+static REFUSALS: [Case; 6] = [
     Case {
         line: "rsp",
         ..REFUSED
@@ -32,6 +32,10 @@ static REFUSALS: [Case; 5] = [
     },
     Case {
         line: "rsp dis words more",
+        ..REFUSED
+    },
+    Case {
+        line: "rsp run image image",
         ..REFUSED
     },
     Case {

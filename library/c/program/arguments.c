@@ -2,9 +2,9 @@
 #include "program.h"
 #include <string.h>
 
-/* How an argument is shown, and the commands that have it. An option begins with `--`, a file that has to be named with `<`. */
+/* How an argument is shown, and the commands that have it. An option begins with `--`, a file that has to be named with `<`, one that may be with `[`. */
 static const struct { const char *shown; unsigned commands; } arguments[ARGUMENTS] = {
-    [RDRAM] = { "--rdram <FILE>", 1 << RUN }, [SAVE] = { "--save <FILE>", 1 << RUN }, [STRICT] = { "--strict", 1 << RUN },
+    [SCRIPT] = { "[SCRIPT]", 1 << RUN }, [RDRAM] = { "--rdram <FILE>", 1 << RUN }, [SAVE] = { "--save <FILE>", 1 << RUN }, [STRICT] = { "--strict", 1 << RUN },
     [SOURCE] = { "<SRC>", 1 << ASM }, [OUT] = { "<OUT>", 1 << ASM }, [WORDS] = { "<FILE>", 1 << DIS },
     [AT] = { "--at <ADDR>", 1 << ASM | 1 << DIS }, [LISTING] = { "--listing", 1 << ASM }, [EXPLAIN] = { "--explain", 1 << ASM },
     [PLACES] = { "--places", 1 << DIS }, [LABELS] = { "--labels", 1 << DIS },
@@ -35,13 +35,13 @@ static void settle(reading *at)
     at->asked.given[it] = at->value;
 }
 
-/* The first argument of the command, from one on, that begins with a character and, if it is an option, has this name; ARGUMENTS if it has none. */
-static enum argument find(const reading *at, enum argument it, char first, const char *name, size_t len)
+/* The first argument of the command, from one on, that is the option of a name or, without a name, a file; ARGUMENTS if it has none. */
+static enum argument find(const reading *at, enum argument it, const char *name, size_t len)
 {
     for (; it < ARGUMENTS; it++) {
         const char *shown = arguments[it].shown;
-        if (!(arguments[it].commands >> at->asked.command & 1) || *shown != first) continue;
-        if (first == '<' || (strcspn(shown, " ") == len && !memcmp(shown, name, len))) break;
+        if (!(arguments[it].commands >> at->asked.command & 1)) continue;
+        if (name ? strcspn(shown, " ") == len && !memcmp(shown, name, len) : *shown != '-') break;
     }
     return it;
 }
@@ -51,7 +51,7 @@ static void take_long(reading *at, const char *word)
 {
     size_t len = strcspn(word, "=");
     const char *value = word[len] ? word + len + 1 : NULL;
-    enum argument it = find(at, 0, '-', word, len);
+    enum argument it = find(at, 0, word, len);
     if (it == ARGUMENTS) refuse("unexpected argument '%.*s' found", (int)len, word);
     bool takes_value = strchr(arguments[it].shown, '<');
     if (value && !takes_value) refuse("unexpected value '%s' for '%s' found; no more were expected", value, arguments[it].shown);
@@ -76,7 +76,7 @@ static void take_short(reading *at, const char *word)
 /* A word in the place of a file. */
 static void take_file(reading *at, const char *word)
 {
-    enum argument it = find(at, at->next, '<', NULL, 0);
+    enum argument it = find(at, at->next, NULL, 0);
     if (it == ARGUMENTS) refuse("unexpected argument '%s' found", word);
     settle(at);
     at->waiting = it;
@@ -116,8 +116,8 @@ request read_arguments(char **words)
     for (; *words; words++) take_word(&at, words);
     settle(&at);
     if (at.asked.command == NONE) refuse("'rsp' requires a subcommand but one was not provided");
-    for (enum argument it = 0; (it = find(&at, it, '<', NULL, 0)) < ARGUMENTS; it++) {
-        if (!at.asked.given[it]) strcat(strcat(missing, "\n  "), arguments[it].shown);
+    for (enum argument it = 0; (it = find(&at, it, NULL, 0)) < ARGUMENTS; it++) {
+        if (*arguments[it].shown == '<' && !at.asked.given[it]) strcat(strcat(missing, "\n  "), arguments[it].shown);
     }
     if (*missing) refuse("the following required arguments were not provided:%s", missing);
     return at.asked;

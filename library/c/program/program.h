@@ -30,7 +30,7 @@ char *escaped(const char *text);
 
 /* arguments.c */
 enum command { NONE, RUN, ASM, DIS };
-enum argument { RDRAM, SAVE, STRICT, SOURCE, OUT, WORDS, AT, LISTING, EXPLAIN, PLACES, LABELS, HELP, WHICH_VERSION, ARGUMENTS };
+enum argument { SCRIPT, RDRAM, SAVE, STRICT, SOURCE, OUT, WORDS, AT, LISTING, EXPLAIN, PLACES, LABELS, HELP, WHICH_VERSION, ARGUMENTS };
 typedef struct request {
     enum command command;
     const char *given[ARGUMENTS]; /* the value of each argument, of a flag its name; NULL if it isn't given */

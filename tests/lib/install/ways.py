@@ -105,7 +105,7 @@ WAYS = (
     # In a clone all tests follow, which are a test of their own there.
     Way(
         "README.md",
-        "./rsp run < ",
+        "./rsp run examples",
         instead=(("\ntests/all ", "\n# tests/all "),),
         prints=page("examples/first.out"),
     ),

@@ -19,6 +19,8 @@ pub(super) struct Case {
     pub(super) read_fault: Option<FileFault>,
     /// What each write of a file ends with.
     pub(super) write_fault: Option<FileFault>,
+    /// Whether standard input is a terminal.
+    pub(super) is_typed: bool,
     pub(super) script: &'static [u8],
     pub(super) after_script: AfterBytes,
     /// How many bytes standard output has room for.
@@ -29,7 +31,7 @@ pub(super) struct Case {
     /// What it writes to standard error.
     pub(super) message: Option<&'static [u8]>,
     pub(super) output: Option<&'static [u8]>,
-    /// Whether it reads from the script.
+    /// Whether it reads from standard input.
     pub(super) is_script_read: bool,
     /// How many bytes it asks of the file that it reads; 0 if it reads none.
     pub(super) limit: u64,
@@ -45,6 +47,7 @@ pub(super) const RUN: Case = Case {
     image: b"",
     read_fault: None,
     write_fault: None,
+    is_typed: false,
     script: b"",
     after_script: AfterBytes::End,
     room: ROOM,
@@ -94,7 +97,13 @@ impl Case {
         errors: &mut FakeWriter,
     ) -> Outcome<'a> {
         let alloc = rt.alloc();
-        let mut files = FakeFiles::new(alloc, image, self.read_fault, self.write_fault);
+        let mut files = FakeFiles::new(
+            alloc,
+            image,
+            self.read_fault,
+            self.write_fault,
+            self.is_typed,
+        );
         let mut script = FakeReader::new(self.script, self.after_script);
         let status = work(
             alloc,

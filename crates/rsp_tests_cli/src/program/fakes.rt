@@ -8,6 +8,8 @@ pub(super) struct FakeFiles<'a> {
     image: &'a [u8],
     read_fault: Option<FileFault>,
     write_fault: Option<FileFault>,
+    /// Whether standard input is a terminal.
+    is_typed: bool,
     /// How many bytes the last read asked for.
     pub(super) limit: u64,
     /// How many files were written.
@@ -23,11 +25,13 @@ impl<'a> FakeFiles<'a> {
         image: &'a [u8],
         read_fault: Option<FileFault>,
         write_fault: Option<FileFault>,
+        is_typed: bool,
     ) -> FakeFiles<'a> {
         FakeFiles {
             image,
             read_fault,
             write_fault,
+            is_typed,
             limit: 0,
             written: 0,
             saved: Vec::new(alloc),
@@ -59,6 +63,10 @@ impl FileStore for FakeFiles<'_> {
         self.saved
             .extend_from_slice(bytes)
             .map_err(|_| FileFault::OutOfMemory)
+    }
+
+    fn is_typed(&self) -> bool {
+        self.is_typed
     }
 }
 

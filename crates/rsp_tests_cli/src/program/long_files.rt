@@ -1,10 +1,10 @@
 use super::case::{ASSEMBLY, Case, LISTING, RUN, is_as_wanted};
-use super::run::IMAGE_LIMIT;
+use super::run::{IMAGE_LIMIT, SCRIPT_LIMIT};
 use rsp_cli::Status;
 use std::test::Fail;
 
 /// How long the file `image` is. Its bytes are no text, so a source that isn't too long is refused for that.
-static CASES: [(usize, Case); 5] = [
+static CASES: [(usize, Case); 7] = [
     (
         8_388_608,
         Case {
@@ -21,6 +21,27 @@ static CASES: [(usize, Case); 5] = [
             status: Status::Faulted,
             message: Some(b"rsp: fault 7 SizeFault\n"),
             is_script_read: false,
+            ..RUN
+        },
+    ),
+    (
+        1_048_576,
+        Case {
+            line: "rsp run image",
+            output: Some(b"fault 32 LineTooLong\n"),
+            is_script_read: false,
+            limit: SCRIPT_LIMIT,
+            ..RUN
+        },
+    ),
+    (
+        1_048_577,
+        Case {
+            line: "rsp run --save saved image --rdram missing",
+            status: Status::Faulted,
+            message: Some(b"rsp: fault 42 ScriptTooLong\n"),
+            is_script_read: false,
+            limit: SCRIPT_LIMIT,
             ..RUN
         },
     ),

@@ -101,7 +101,7 @@ fn arguments_are_read_when_memory_is_there(rt: HostRuntime) -> Result<(), Fail> 
 #[test]
 fn a_file_is_read_when_memory_is_there(rt: HostRuntime) -> Result<(), Fail> {
     for _ in 0..2 {
-        match SystemFiles::new(&rt).read(rt.alloc(), "/dev/zero", 100) {
+        match SystemFiles::new(&rt, rt.stdin()).read(rt.alloc(), "/dev/zero", 100) {
             Ok(bytes) => assert!(rt; bytes.as_slice() == [0u8; 100].as_slice()),
             Err(fault) => {
                 assert!(rt; matches!(fault, FileFault::OutOfMemory));

@@ -6,6 +6,9 @@ use std::test::Fail;
 /// The most bytes of an image that the program reads: one more than the longest has.
 pub(super) const IMAGE_LIMIT: u64 = 8_388_609;
 
+/// The same of a script in a file.
+pub(super) const SCRIPT_LIMIT: u64 = 1_048_577;
+
 /// 64 bytes of zeros after the script of the first case.
 const SAVED: [u8; 64] = [
     0, 0, 0, 0, 0, 0, 0, 0, 1, 2, 0, 0, 0, 0, 0, 0, 0, 0, 0, 0, 0, 0, 0, 0, 0, 0, 0, 0, 0, 0, 0, 0,
@@ -32,6 +35,17 @@ const BROKEN_OFF: Case = Case {
     ..RUN
 };
 
+/// A run of the script in the file `image`. Standard input isn't read.
+const FILE: Case = Case {
+    line: "rsp run image",
+    image: b"step\nfoo",
+    script: b"regs\n",
+    output: Some(b"step Done pc 004\nfault 30 BadCommand\n"),
+    is_script_read: false,
+    limit: SCRIPT_LIMIT,
+    ..RUN
+};
+
 /// A run in which replies come byte by byte. It saves 4 MB.
 const STRICT: Case = Case {
     line: "rsp run --strict --save saved",
@@ -43,7 +57,7 @@ const STRICT: Case = Case {
     ..RUN
 };
 
-static CASES: [Case; 15] = [
+static CASES: [Case; 20] = [
     // The image is saved after a run, and is zeros where no file is named.
     Case {
         line: "rsp run --rdram image --save=saved",
@@ -112,6 +126,38 @@ static CASES: [Case; 15] = [
         write_fault: Some(FileFault::OutOfMemory),
         message: Some(b"rsp: fault 17 OutOfMemory\n"),
         ..BROKEN_OFF
+    },
+    // A script in a file. It is read before the image, as the limit of the last read shows.
+    FILE,
+    Case {
+        line: "rsp run --strict --save saved -- image",
+        status: Status::Faulted,
+        message: Some(b"rsp: faults in replies: 1, the first: fault 30 BadCommand\n"),
+        written: 1,
+        saved: None,
+        ..FILE
+    },
+    Case {
+        line: "rsp run missing --rdram image",
+        status: Status::Faulted,
+        message: Some(b"rsp: cannot read missing\n"),
+        output: Some(b""),
+        ..FILE
+    },
+    Case {
+        line: "rsp run image --rdram image",
+        status: Status::Faulted,
+        message: Some(b"rsp: fault 7 SizeFault\n"),
+        output: Some(b""),
+        limit: IMAGE_LIMIT,
+        ..FILE
+    },
+    Case {
+        room: 20,
+        status: Status::Faulted,
+        message: Some(b"rsp: fault 41 WriteFault\n"),
+        output: Some(b"step Done pc 004\nfau"),
+        ..FILE
     },
     // A strict run counts faults, and none of them twice.
     Case {

@@ -1,6 +1,6 @@
 # The completion of rsp for fish, with the options that --help names.
 complete -c rsp -f
-complete -c rsp -n __fish_use_subcommand -a run -d 'Reads a script from standard input, and prints a reply to each command'
+complete -c rsp -n __fish_use_subcommand -a run -d 'Reads a script, and prints a reply to each command'
 complete -c rsp -n __fish_use_subcommand -a asm -d 'Assembles source text into a file of words, each with the high byte first'
 complete -c rsp -n __fish_use_subcommand -a dis -d 'Prints a file of words, each with the high byte first, as assembly text'
 complete -c rsp -n __fish_use_subcommand -a help -d 'Print this message or the help of the given subcommand(s)'
@@ -10,6 +10,7 @@ complete -c rsp -n '__fish_seen_subcommand_from run' -l rdram -r -F -d 'The cont
 complete -c rsp -n '__fish_seen_subcommand_from run' -l save -r -F -d 'Where the contents of RDRAM are written after the run'
 complete -c rsp -n '__fish_seen_subcommand_from run' -l strict -d 'Ends with status 1 if a reply is a fault'
 complete -c rsp -n '__fish_seen_subcommand_from run' -s h -l help -d 'Print help'
+complete -c rsp -n '__fish_seen_subcommand_from run' -F
 complete -c rsp -n '__fish_seen_subcommand_from asm' -l at -x -d 'The address of the first word in IMEM, a multiple of 4 up to 4092; without it 0'
 complete -c rsp -n '__fish_seen_subcommand_from asm' -l listing -d 'Prints the labels, and the address, the word and the source line of each word'
 complete -c rsp -n '__fish_seen_subcommand_from asm' -l explain -d 'Shows the line of a fault, its operand, and what the operand may be'
