@@ -1,6 +1,7 @@
 /* program: library/c/program, the program in C, on command lines and files of an input. The first line is the words; what follows is the standard input,
  * and the file `in`. The program's calls of the system come here (fuzz/build names them), so no file of the machine is touched. A run ends with
- * status 0, 1 or 2, it says something on standard error unless that is 0, and it replies, assembles and disassembles as the library does. */
+ * status 0, 1 or 2, it says something on standard error unless that is 0, and nothing if it is 0 and no `--explain` is there, and it replies, assembles
+ * and disassembles as the library does. */
 #include "fuzz.h"
 #include <errno.h>
 #include <fcntl.h>
@@ -9,7 +10,7 @@
 #include <sys/stat.h>
 #include <sys/types.h>
 
-enum { MOST_WORDS = 16, MOST_KEPT = 64, FILE_IN = 100, FILE_OUT = 101, FOLDER = 102 };
+enum { MOST_WORDS = 16, MOST_KEPT = 128, FILE_IN = 100, FILE_OUT = 101, FOLDER = 102 };
 
 /* Bytes that the program wrote, or may read. */
 typedef struct stream {
@@ -29,6 +30,7 @@ ssize_t caught_write(int file, const void *from, size_t len);
 int caught_open(const char *path, int flags, ...);
 int caught_close(int file);
 int caught_fsync(int file);
+int caught_isatty(int file);
 int caught_lstat(const char *path, struct stat *to);
 int caught_access(const char *path, int mode);
 int caught_fchown(int file, uid_t user, gid_t group);
@@ -42,6 +44,7 @@ uint32_t caught_brsp_session_new(brsp_session *b, const uint8_t *image, size_t l
 _Noreturn void caught_exit(int status) { longjmp(end, 1 + status); }
 int caught_close(int file) { return (void)file, 0; }
 int caught_fsync(int file) { return (void)file, 0; }
+int caught_isatty(int file) { return (void)file, 0; }
 int caught_access(const char *path, int mode) { return (void)path, (void)mode, 0; }
 int caught_fchown(int file, uid_t user, gid_t group) { return (void)file, (void)user, (void)group, 0; }
 int caught_fchmod(int file, mode_t mode) { return (void)file, (void)mode, 0; }
@@ -155,11 +158,13 @@ int LLVMFuzzerTestOneInput(const uint8_t *data, size_t size)
     char *line = (char *)copy_of(data, len + 1);
     line[len] = 0;
     uint8_t *bytes = copy_of(lf + 1, rest);
-    int is_run = !strcmp(line, "run"), is_asm = !strcmp(line, "asm in out"), is_dis = !strcmp(line, "dis in");
+    int is_run = !strcmp(line, "run") || !strcmp(line, "run in") || !strcmp(line, "run --explain"), may_explain = strstr(line, "--explain") != NULL;
+    int is_asm = !strcmp(line, "asm in out"), is_dis = !strcmp(line, "dis in");
     given[0] = given[1] = (stream){ bytes, rest, 0 };
     int status = run(line);
     MUST(status == 0 || status == 1 || status == 2);
-    MUST((status == 0) == (written[1].len == 0) && (status == 0 || written[1].at[written[1].len - 1] == '\n'));
+    MUST(status == 0 ? may_explain || !written[1].len : written[1].len > 0);
+    MUST(!written[1].len || written[1].at[written[1].len - 1] == '\n');
     if (is_run) see_replies(bytes, rest);
     if (is_asm) see_words(status, bytes, rest);
     if (is_dis) see_text(status, bytes, rest);

@@ -43,7 +43,9 @@ def test_cells(name: str) -> None:
     assert lines and {len(cells) for cells in lines} == {len(head)}
 
 
-@pytest.mark.parametrize("name", [*page_tables.TABLES.values(), page_tables.LAYERS, OF_VECTORS])
+@pytest.mark.parametrize(
+    "name", [*page_tables.TABLES.values(), page_tables.ADVICE, page_tables.LAYERS, OF_VECTORS]
+)
 def test_made_pages(name: str) -> None:
     """Each page that is made is the one that is made again."""
     made = unified_diff(
@@ -177,9 +179,9 @@ def test_messages() -> None:
     """FAULTS lists the program's messages."""
     source = page("crates/rsp_cli_files/src/fault.rt")
     messages = {*re.findall(r'"((?:cannot|bad|faults?) [^"\\]*)', source)}
-    shown = {"{}": "FILE", "{count}": "N", "{first}": "fault .."}
+    shown = {"{}": "FILE", "{count}": "N", "{line}": "K", "{first}": "fault .."}
     cells = [it[1] for it in tables("docs/FAULTS.md", "## Exit statuses and messages")]
     listed = [text for it in cells for text in re.findall("`(.*?)`", it)]
-    assert len(messages) == 11
+    assert len(messages) == 12
     for it in messages:
         assert f"rsp: {re.sub('{.*?}', lambda found: shown[str(found[0])], it)}" in listed

@@ -9,8 +9,9 @@ theorems. NAME.script is what `rsp run` reads, NAME.expected what it must print.
 Of the examples and of microcode/, NAME.rsp must print NAME.out.
 """
 
+import re
 from pathlib import Path
-from typing import List, Optional
+from typing import Iterator, List, Optional, Tuple
 
 from lib import TESTS, TOP
 from lib.program import Ran, content
@@ -44,6 +45,42 @@ class Stored:
             (folder / "image").write_bytes(image)
             words += ["--rdram", "image"]
         return words
+
+
+# How many lines a reply has that isn't a fault, if not one.
+REPLY_LINES = {b"regs": 9, b"vregs": 32, b"acc": 8, b"sp": 17}
+OPENING = re.compile(rb"[ \t]*asm[ \t]+(\d{1,10}|0x[0-9A-Fa-f]{1,8})[ \t]*(#.*)?")
+
+
+def lines_of(words: List[bytes]) -> int:
+    """How many lines the reply to a command has."""
+    if words[0] == b"mem":
+        return (int(words[3], 0) + 15) // 16
+    return int(words[2], 0) if words[0] == b"dis" else REPLY_LINES.get(words[0], 1)
+
+
+def faults_in(script: bytes, output: bytes) -> Iterator[Tuple[int, bytes]]:
+    """The faults among the replies, each after the number of its line in the script, as SCRIPT.md says.
+
+    A fault of a block counts from the line after `asm`.
+    """
+    told, block = output.splitlines(), 0
+    lines = re.split(rb"\r?\n", script)
+    for number, line in enumerate(lines, 1):
+        words = line.partition(b"#")[0].split()
+        is_text = len(line) <= 256 and not re.search(rb"[^\t -~]", line)
+        opening = OPENING.fullmatch(line) if is_text else None
+        if block and line.strip(b" \t") != b"end" or is_text and not words:
+            continue
+        if opening and not block and int(opening[1], 16 if b"x" in opening[1] else 10) in range(0, 4096, 4):
+            block = number
+            continue
+        if told[0].startswith(b"fault "):
+            yield (block + int(told[0].split()[-1]) if block else number), told[0]
+        told = told[1 if block or told[0].startswith(b"fault ") else lines_of(words) :]
+        block = 0
+    for reply in told:
+        yield block + int(reply.split()[-1]), reply
 
 
 def stored() -> List[Stored]:

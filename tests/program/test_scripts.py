@@ -5,6 +5,7 @@ They fail if a reply, an exit status or a file that is written differs from what
 """
 
 import os
+import re
 import subprocess
 import sys
 import threading
@@ -17,7 +18,7 @@ import pytest
 from lib import TOP
 from lib.processes import run
 from lib.program import Ran, content
-from lib.script_cases import Stored, stored
+from lib.script_cases import Stored, faults_in, stored
 
 LONGEST_IMAGE = 8388608
 LONGEST_SCRIPT = 1048576
@@ -61,10 +62,25 @@ def test_stored(script: Stored, rsp: Any, folder: Path) -> None:
 def test_strict(script: Stored, rsp: Any, folder: Path) -> None:
     """`--strict` changes the status and standard error, if a stored reply is a fault, and nothing else."""
     wanted = script.wanted
-    faults = [it for it in wanted.output.splitlines() if it.startswith(b"fault ")]
+    faults = [*faults_in(script.script, wanted.output)]
+    assert len(faults) == wanted.output.count(b"\nfault ") + wanted.output.startswith(b"fault ")
     if faults and not wanted.status:
-        wanted = Ran(1, wanted.output, b"rsp: %s\n" % strict(len(faults), faults[0]))
+        wanted = Ran(1, wanted.output, b"rsp: %s\n" % strict(len(faults), *faults[0]))
     assert rsp(*script.words(folder), "--strict", script=script.script) == wanted
+    assert not script.is_saved or content(folder / "saved") == script.image()
+
+
+@pytest.mark.parametrize("script", stored(), ids=str)
+def test_explained(script: Stored, rsp: Any, folder: Path) -> None:
+    """`--explain` names the line of each fault among the replies, at most 20, and changes nothing else."""
+    words, faults = script.words(folder), [*faults_in(script.script, script.wanted.output)]
+    (folder / "script").write_bytes(script.script)
+    by_file, by_pipe = rsp(*words, "--explain", "script"), rsp(*words, "--explain", script=script.script)
+    assert by_file[:2] == by_pipe[:2] == script.wanted[:2]
+    for said, head in ((by_file.errors, rb"script:"), (by_pipe.errors, rb"line ")):
+        found = re.findall(rb"(?m)^%s(\d+): (fault .*)$" % head, said)
+        assert dict((int(line), reply) for line, reply in found).items() >= dict(faults[:20]).items()
+        assert (b".. and %d more\n" % (len(faults) - 20) in said) == (len(faults) > 20)
     assert not script.is_saved or content(folder / "saved") == script.image()
 
 
@@ -122,9 +138,9 @@ NO_SCRIPT = b"rsp: fault 42 ScriptTooLong\n"
 NOBODY_HEARS = b"rsp: fault 41 WriteFault\n"
 
 
-def strict(count: int, first: bytes) -> bytes:
-    """What a strict run says of so many faults among its replies."""
-    return b"faults in replies: %d, the first: %s" % (count, first)
+def strict(count: int, line: int, first: bytes) -> bytes:
+    """What a strict run says of so many faults among its replies, the first in this line."""
+    return b"faults in replies: %d, the first in line %d: %s" % (count, line, first)
 
 
 class Asked(NamedTuple):
@@ -169,20 +185,20 @@ ROWS = {
         "run long --rdram missing --save saved", b"fault 42 ScriptTooLong", left={"saved": None}
     ),
     "strict run of a file": fails(
-        "run script --strict --save saved", strict(2, LAST_LINE), output=REFUSED_TWICE, left=SAVED
+        "run script --strict --save saved", strict(2, 2, LAST_LINE), output=REFUSED_TWICE, left=SAVED
     ),
     # Runs that end with a fault if a reply is one, after the image is saved.
     "strict run": fails(
-        "run --strict --save saved", strict(2, LAST_LINE), script=FAULTY, output=REFUSED_TWICE, left=SAVED
+        "run --strict --save saved", strict(2, 2, LAST_LINE), script=FAULTY, output=REFUSED_TWICE, left=SAVED
     ),
     "strict run can't save": fails(
         "run --save no/saved --strict", b"cannot write no/saved", script=FAULTY, output=REFUSED_TWICE
     ),
     "strict run of an open block": fails(
-        "run --strict", strict(1, OPEN_BLOCK), script=b"asm 0\nnop", output=OPEN_BLOCK + b"\n"
+        "run --strict", strict(1, 3, OPEN_BLOCK), script=b"asm 0\nnop", output=OPEN_BLOCK + b"\n"
     ),
     "strict run of a line without LF": fails(
-        "run --strict", strict(1, LAST_LINE), script=STEP + b"foo", output=STEPPED + LAST_LINE + b"\n"
+        "run --strict", strict(1, 2, LAST_LINE), script=STEP + b"foo", output=STEPPED + LAST_LINE + b"\n"
     ),
     # Source texts, and their files.
     "text at an address": Asked("asm --at 0x80 jump words", b"ok 3 words\n", left=AT_80),
@@ -262,7 +278,8 @@ def test_text(source: bytes, made: Any, rsp: Any, folder: Path) -> None:
 NO_COMMANDS = """
 walk|asm|asm a|asm a b c|asm a b --at|asm a b --at=|asm a b --at 0 --at 0|asm a b --places
 asm a b --listing --listing|asm a b --listing=yes|asm --help|dis|dis a b|dis a --places --places
-run a b|run a --strict b|run -x|run --fast|run --rdram|run --rdram=|run --rdram a --rdram b|run --save a --save b|run --at 0
+run a b|run a --strict b|run -x|run --fast|run --rdram|run --rdram=|run --rdram a --rdram b
+run --save a --save b|run --at 0|run --explain --explain|run --explain=yes
 run --version|run --help|--help|help|help run|run --labels|run --strict --strict|run --strict=yes
 asm a b --strict|dis a --strict|asm a b --labels|asm a b --explain --explain|asm a b --explain=yes
 dis a --labels --labels|dis a --labels=1|dis a --explain
@@ -273,7 +290,9 @@ REFUSED += [f"{verb} --at={it}" for it in NO_ADDRESSES for verb in ("asm a b", "
 
 
 @pytest.mark.parametrize(
-    "line", [*map(str.encode, REFUSED), b"run --save \xff", b"run ''"], ids=lambda it: it.decode(errors="replace")
+    "line",
+    [*map(str.encode, REFUSED), b"run --save \xff", b"run ''"],
+    ids=lambda it: it.decode(errors="replace"),
 )
 def test_refused(line: bytes, rsp: Any) -> None:
     ran = rsp(*[it.replace(b"''", b"") for it in line.split()], script=STEP)

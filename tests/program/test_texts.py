@@ -11,6 +11,7 @@ import subprocess
 import sys
 from pathlib import Path
 from typing import Any, Callable, Dict, List, Optional, Sequence, Tuple
+from unittest import mock
 
 import pytest
 
@@ -218,9 +219,11 @@ def test_linked_elsewhere(base: int, at: int, files: Files) -> None:
     see_edited(files, cleared, at)
 
 
-# `asm --explain`: lines that are refused, their faults, and the number and text of the operand with what may
-# be there and what to write, as docs/ASSEMBLY.md says. Of a name that is unknown, the text; `-` is nothing.
+# `asm --explain`: lines that are refused, their faults, and the number and text of the first operand with
+# what may be there and what to write, as docs/ASSEMBLY.md says. Of an unknown name, the text; `-` is nothing.
 REFUSED = [it.split("\t") for it in page("tests/program/explanations.tsv").splitlines()[1:]]
+# What follows of a line whose other operands are at fault, too.
+OTHER_OPERANDS = r"(  operand \d: .*\n  may be: .*\n(  write: .*\n)?)*"
 SCALES = {
     1: "lbv sbv",
     2: "lsv ssv",
@@ -254,13 +257,67 @@ def test_explanation(refusal: List[str], rsp: Any, folder: Path) -> None:
     first = "x: nop\n" if fault.startswith("14") else "nop # a comment\n"
     (folder / "text").write_text(first + f"\t{line}  # why not\r\n" + "nop\n")
     at = ["--at", "4000"] if fault.startswith("16") else []
-    told = f"rsp: fault {fault} line 2\n"
-    assert rsp("asm", "text", "made", *at) == (1, b"", told.encode())
-    told += f"  line: {line}  # why not\n"
+    assert rsp("asm", "text", "made", *at) == (1, b"", f"rsp: fault {fault} line 2\n".encode())
+    told = f"text:2: fault {fault} line 2\n  line: {line}  # why not\n"
     told += f"  operand {number}: {text}\n  may be: {allowed}\n" if number != "-" else ""
     told += f"  name: {text}\n" if number == "-" != text else ""
     told += f"  write: {written}\n" if written != "-" else ""
-    assert rsp("asm", "text", "made", *at, "--explain") == (1, b"", told.encode())
+    ended = rsp("asm", "text", "made", *at, "--explain")
+    assert ended[:2] == (1, b"") and ended.errors.startswith(told.encode())
+    assert re.fullmatch(OTHER_OPERANDS, ended.errors[len(told) :].decode())
+
+
+# Of the lines of SEVERAL those that `--explain` names, each with the head of its fault, the numbers of its
+# operands at fault, and what to write.
+SEVERAL = """
+x: vadd $v1 , $5, v3
+nop
+    .word 1 2, 99999999999, x   # a comment
+x: j 4096
+lw $1, 4, $2
+nop 1, 2
+jalr $99
+.text
+1x: nop
+addu
+j nowhere
+"""
+EXPLAINED = (
+    ("2: fault 12 BadOperand line 2", [2, 3], ["$v3"]),
+    ("4: fault 12 BadOperand line 4", [1, 2], ["a number, a label, or a label + or - a number"]),
+    ("5: fault 14 LabelTwice line 5", [], []),
+    ("6: fault 12 BadOperand line 6", [2], ["4($2)"]),
+    ("7: fault 12 BadOperand line 7", [1], ["nop"]),
+    ("8: fault 12 BadOperand line 8", [1], [mock.ANY]),
+    ("9: fault 11 UnknownName line 9", [], ["nothing: leave it out"]),
+    ("10: fault 10 BadLine line 10", [], [mock.ANY]),
+    ("11: fault 12 BadOperand line 11", [1, 2, 3], [mock.ANY] * 3),
+)
+
+
+def test_several_faults(rsp: Any, folder: Path) -> None:
+    """All faults of the first pass are said, those of the second only without them."""
+    (folder / "text").write_text(SEVERAL)
+    said = rsp("asm", "text", "made", "--explain").errors.decode()
+    heads = re.findall(r"(?m)^text:(.*)\n((?:  .*\n)+)", said)
+    found = [
+        (head, *(re.findall(it, rest) for it in (r"operand (\d+):", r"write: (.*)"))) for head, rest in heads
+    ]
+    assert [(head, [*map(int, numbers)], written) for head, numbers, written in found] == [*EXPLAINED]
+    assert not (folder / "made").exists()
+
+
+def test_more_than_twenty_faults(rsp: Any, folder: Path) -> None:
+    (folder / "text").write_text("foo\n" * 23)
+    said = rsp("asm", "text", "made", "--explain").errors.decode()
+    assert said.count("fault 11 UnknownName") == 20 and said.endswith("\n.. and 3 more\n")
+
+
+def test_words_past_the_end(rsp: Any, folder: Path) -> None:
+    """Only the first of them is a fault."""
+    (folder / "text").write_text("nop\n" * 1030 + "foo\n")
+    said = rsp("asm", "text", "made", "--explain").errors.decode()
+    assert re.findall(r"(?m)^text:(\d+): fault (\d+)", said) == [("1025", "16"), ("1031", "11")]
 
 
 @pytest.mark.needs("/usr/include/mupen64plus")
@@ -301,7 +358,7 @@ BAD_LINE = "a line of at most 256 bytes, each a tab or 20 to 7e hexadecimal"
 )
 def test_explanation_of_no_line(line: bytes, shown: str, written: str, rsp: Any, folder: Path) -> None:
     (folder / "text").write_bytes(line + b"\n")
-    told = f"rsp: fault 10 BadLine line 1\n  line: {shown}\n  write: {written}\n"
+    told = f"text:1: fault 10 BadLine line 1\n  line: {shown}\n  write: {written}\n"
     assert rsp("asm", "text", "made", "--explain").errors == told.encode()
 
 
@@ -327,7 +384,7 @@ def test_labels_of_page(files: Files) -> None:
 
 def test_explanation_of_page(rsp: Any, folder: Path) -> None:
     told = block_with(ASSEMBLY, "rsp asm theirs.s theirs.bin --explain", 1)
-    assert told.count("\n") == 5
+    assert told.count("\n") == 8
     (folder / "theirs.s").write_text("vmov $v07.e1, $v08.e3\n")
     assert rsp("asm", "theirs.s", "theirs.bin", "--explain").errors.decode() == told
 
@@ -383,12 +440,15 @@ def loads(files: Files) -> str:
 
 @pytest.mark.needs("mips-linux-gnu-gcc")
 def test_elf_of_page(overlay: Files) -> None:
-    """The text of the code has labels, and is its bytes; and the code runs."""
+    """The text of the code has labels, by the ELF's names too, and is its bytes; and the code runs."""
     linked, code = ((overlay.folder / f"{it}.bin").read_bytes() for it in ("linked", "ucode"))
     assert ".word 0x0d000405" in overlay.text_of(unpacked(linked))
     told = overlay.shell(block_with(ASSEMBLY, "rsp dis ucode.bin --labels > ucode.s"))
     assert told == f"ok {len(code) // 4} words\n" and (overlay.folder / "ucode.bin").read_bytes() == code
     assert "\njal L014\n" in (overlay.folder / "ucode.s").read_text()
+    overlay.shell(block_with(ASSEMBLY, "mips-linux-gnu-nm"))
+    named = (overlay.folder / "ucode.s").read_text().splitlines()
+    assert "jal add" in named and "add:" in named and overlay.words_of(named) == unpacked(code)
     assert (overlay.folder / "data.bin").read_bytes() == packed([30, 12, 0, 0])
     told = overlay.shell(block_with(ASSEMBLY, "loads() {"))
     assert told.endswith("stop Halted steps 7 pc 014\n000000: 0000001e0000000c0000002a00000000\n")
@@ -452,7 +512,7 @@ CHECKS = {
         "command.rsp",
         "jal ",
         "jalx ",
-        "rsp: faults in replies: 1, the first: fault 11 UnknownName line 3",
+        ": fault 11 UnknownName line 3",
     ),
     "a missing wait": (
         "overlay",

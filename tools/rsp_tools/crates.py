@@ -19,7 +19,7 @@ SECONDS = """
 rsp_numbers 8 rsp_memory 29 rsp_decode 165 rsp_scalar 26 rsp_lanes 41 rsp_acc 39 rsp_multiply 32
 rsp_compare 30 rsp_divide 21 rsp_loadstore 60 rsp_regs 43 rsp_machine 190 rsp_syntax 61 rsp_operands 54
 rsp_asm 97 rsp_dis 54 rsp_debug 175 rsp_script_io 75 rsp_commands 74 rsp_bench 155 rsp_feed 78
-rsp_advice 63 rsp_cli_args 69 rsp_cli_files 138 rsp_cli 56 rsp_main 130 rsp_c 280
+rsp_advice 63 rsp_explain 120 rsp_cli_args 69 rsp_cli_files 138 rsp_cli 56 rsp_main 130 rsp_c 280
 """
 
 

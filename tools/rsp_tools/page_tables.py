@@ -1,8 +1,9 @@
-"""Writes what pages have of tables, of crates.txt and of the test vectors.
+"""Writes what pages and the program have of tables, and pages of crates.txt and of the test vectors.
 
 `tools/python rsp_tools.page_tables` writes
 
   docs/SCRIPT.md, docs/FAULTS.md   the table of docs/data: the columns that the head names
+  crates/rsp_advice/src/tables.rt  of the same tables what `--explain` says
   docs/ARCHITECTURE.md             the list of crates, from the top
   conformance/README.md            the example of a manifest
 
@@ -11,8 +12,9 @@ page differs from what this writes.
 """
 
 import argparse
+import json
 import re
-from typing import Dict, Iterator, List, Tuple
+from typing import Any, Dict, Iterator, List, Sequence, Tuple
 
 from rsp_conformance import programs
 from rsp_conformance.run_programs import short
@@ -22,6 +24,9 @@ from rsp_tools import TOP
 DATA = TOP / "docs/data"
 TABLES = {"commands": "docs/SCRIPT.md", "faults": "docs/FAULTS.md"}
 ANCHOR = re.compile(r'<a id="([\w-]+)"></a>')  # by which a link leads to a place that isn't a heading
+ADVICE = "crates/rsp_advice/src/tables.rt"
+# The faults of replies, but for those of assembly text.
+REPLIED = {*range(4, 7), *range(20, 28), *range(30, 34)}
 LAYERS, OF_VECTORS = "docs/ARCHITECTURE.md", "conformance/README.md"
 EXAMPLE = "VCH-003"  # the case of `programs` that OF_VECTORS shows
 
@@ -78,6 +83,44 @@ def with_table(text: str, name: str) -> str:
     return replaced(text, rf"{re.escape(head)}\n\|[-|]+\|\n((?:\|.*\n)+)", wanted)
 
 
+def plain(cell: str) -> str:
+    """A cell without the marks and the links of Markdown, and without the commands at its beginning."""
+    text = re.sub(r"\[([^]]*)\]\([^)]*\)", r"\1", cell)
+    return re.sub(r"^(`\w+`(, )?)+: ", "", text).replace("`", "")
+
+
+def command_forms() -> List[Tuple[str, str, str]]:
+    """Each command of scripts but `end`: its name, its form, the range of its numbers."""
+    lines = {line["Command"].split()[0]: line for line in data("commands")}
+    ranges = {name: line["Range of its numbers"] for name, line in lines.items()}
+    same = {name: ranges.get(it.partition("as `")[2].rstrip("`"), it) for name, it in ranges.items()}
+    return [(name, line["Command"], plain(same[name])) for name, line in lines.items() if name != "end"]
+
+
+def fault_texts() -> List[Tuple[int, str, str]]:
+    """Each fault of a reply: its number, its cause, and what helps."""
+    lines = [(int(line["Fault"].split()[0]), line) for line in data("faults")]
+    return [(n, plain(line["Cause"]), plain(line["What helps"])) for n, line in lines if n in REPLIED]
+
+
+def static(name: str, of: str, fields: Sequence[str], items: Sequence[Tuple[Any, ...]]) -> str:
+    """A table of the program, in the layout of `rt fmt`."""
+    rows = ""
+    for item in items:
+        values = "".join(f"        {field}: {json.dumps(it)},\n" for field, it in zip(fields, item))
+        rows += f"    {of} {{\n{values}    }},\n"
+    return f"pub(crate) static {name}: &[{of}] = &[\n{rows}];\n"
+
+
+def advice() -> str:
+    """The tables of the program."""
+    head = "// Made by `tools/python rsp_tools.page_tables` of docs/data.\n\n"
+    head += "use crate::commands::{CommandForm, FaultText};\n\n"
+    forms = static("COMMANDS", "CommandForm", ("name", "form", "range"), command_forms())
+    faults = static("FAULTS", "FaultText", ("number", "cause", "help"), fault_texts())
+    return f"{head}{forms}\n{faults}"
+
+
 def manifest_shown() -> Iterator[Tuple[str, str]]:
     """A block and a line on EXAMPLE: each as a pattern, and as its manifest has it."""
     manifest = manifest_in(VECTORS, EXAMPLE.partition("-")[0])
@@ -104,6 +147,7 @@ def made() -> Dict[str, str]:
     pages = {at: with_table(page(at), name) for name, at in TABLES.items()}
     layers = "".join(f"{name:19} {words}\n" for name, (words, _) in reversed(crates().items()))
     pages[LAYERS] = replaced(page(LAYERS), r"(?ms)^## Layers\n.*?^```text\n(.*?)^```$", layers)
+    pages[ADVICE] = advice()
     pages[OF_VECTORS] = page(OF_VECTORS)
     for pattern, wanted in manifest_shown():
         pages[OF_VECTORS] = replaced(pages[OF_VECTORS], pattern, wanted)

@@ -1,11 +1,17 @@
 // What to write here in place of what a text of another assembler says. Each function returns an empty text if there is nothing to
 // say.
 
+use crate::nearest::is_instruction;
 use rsp_decode::Operand;
 
 const COMMENT: &str = "a comment, after # or ;";
 
 const DATA: &str = ".word in IMEM; data goes to DMEM by load or by a DMA";
+
+const ELEMENT: &str =
+    "the name without what follows its dot; an element follows a register, as $v3[0]";
+
+const END: &str = "end alone on its line: so it closes a block of a script";
 
 const ITSELF: &str = "the number or the register itself";
 
@@ -15,11 +21,11 @@ const LINE: &str = "a line of at most 256 bytes, each a tab or 20 to 7e hexadeci
 
 const MEMORY: &str = "a number, a label, or a label + or - a number, and ($r) after it";
 
-const NO_LINE: &str = "no such line";
+const LEFT_OUT: &str = "nothing: leave it out";
 
 const NO_MARK: &str = "no byte-order mark before the first line";
 
-const ORIGIN: &str = "no such line, but rsp asm SRC OUT --at 0x080";
+const ORIGIN: &str = "nothing: leave it out, and type rsp asm SRC OUT --at 0x080";
 
 const ONE_LABEL: &str = "one label a line";
 
@@ -51,20 +57,30 @@ const STATEMENTS: &[(&str, &str)] = &[
         "vsll",
         "vmudn $v1, $v2, $v3[0], with 8 in lane 0 of $v3 for 3",
     ),
+    (
+        "vsll8",
+        "vmudn $v1, $v2, $v3[0], with 2048 in lane 0 of $v3 for 11",
+    ),
+    ("jal_and_j", "j x, and addiu $31, $0, y in its delay slot"),
     ("constant", ITSELF),
     (".definelabel", ITSELF),
+    ("end", END),
     (".org", ORIGIN),
     ("origin", ORIGIN),
     (".data", DATA),
+    (".bss", DATA),
+    (".ds.b", DATA),
+    (".ds.h", DATA),
+    (".ds.w", DATA),
     (".half", DATA),
     (".byte", DATA),
     (".dh", DATA),
     (".db", DATA),
     (".dw", DATA),
     ("dw", DATA),
-    (".set", NO_LINE),
-    (".text", NO_LINE),
-    (".align", NO_LINE),
+    (".set", LEFT_OUT),
+    (".text", LEFT_OUT),
+    (".align", LEFT_OUT),
 ];
 
 /// What to write in place of another assembler's comment; empty if the text has none.
@@ -74,6 +90,11 @@ pub fn of_comment(text: &str) -> &'static str {
     } else {
         ""
     }
+}
+
+/// The names of other assemblers' statements for which there is something to say.
+pub(crate) fn other_names() -> &'static [(&'static str, &'static str)] {
+    STATEMENTS
 }
 
 /// What to write in place of a statement whose name is unknown. `operand` is its first operand.
@@ -89,11 +110,21 @@ pub fn of_statement(name: &str, operand: &str) -> &'static str {
     } else if name.ends_with(':') {
         ONE_LABEL
     } else if name.starts_with("emux_") || name.starts_with("assert") {
-        NO_LINE
+        LEFT_OUT
     } else if operand.starts_with("equ ") {
         ITSELF
+    } else if has_element(name) {
+        ELEMENT
     } else {
         ""
+    }
+}
+
+/// Whether a name is that of a vector instruction with an element after it, as `vadd.e`.
+fn has_element(name: &str) -> bool {
+    match name.split_once('.') {
+        Some((instruction, _)) => { instruction.starts_with('v') && is_instruction(instruction) }
+        None => false,
     }
 }
 

@@ -1,15 +1,20 @@
-//! What `rsp asm --explain` says in words: what may be in the place of an operand, and what to write in place of a text of another
-//! assembler.
+//! What `--explain` says in words: what may be in the place of an operand, what to write in place of a text of another assembler, the
+//! forms of the commands of scripts, and what helps after a fault.
 //!
 //! It knows the kinds of operands and no source text, so it is proved beside the assembler and not after it.
 #![tactic(auto)]
 
 mod advice;
 mod allowed;
+mod commands;
+mod nearest;
 mod spelling;
+mod tables;
 mod visible;
 
 pub use advice::{of_comment, of_line, of_operand, of_statement};
 pub use allowed::form_of;
+pub use commands::{CommandForm, FaultText, command_forms, command_named, fault_numbered};
+pub use nearest::{is_instruction, nearest_command, nearest_statement};
 pub use spelling::{Spelling, respelled, respelled_in_range};
 pub use visible::{Advice, Visible};

@@ -1,5 +1,5 @@
 -- The faults among the replies of a run.
-use Rattle.std.specs.Prelude.{◌≡◌, ℕ, ◌<◌, List, Bool, slice_index, nat_lt, ◌&&◌, ◌+◌, ◌-◌, ◌^◌, ◌==◌, min, length, take, codes, if◌then◌else◌, string_bytes}
+use Rattle.std.specs.Prelude.{◌≡◌, ℕ, ◌<◌, List, Bool, slice_index, nat_lt, ◌&&◌, ◌+◌, ◌-◌, ◌^◌, ◌==◌, min, length, take, codes, if◌then◌else◌, string_bytes, Option}
 use Rattle.std.specs.Str.{bytes_eq, IsTrimAsciiEnd}
 use Rattle.std.specs.Str.Lossy.{utf8_lossy}
 use Rattle.rsp_cli_files.specs.declared.fault.Fault.{Fault}
@@ -33,8 +33,9 @@ starts_line bytes n is_line_start = if n == 0 then is_line_start else slice_inde
 abbrev pub IsFirst : List ℕ → List ℕ → Type 0
 IsFirst text first = (line : List ℕ) × IsTrimAsciiEnd first line × (text ≡ utf8_lossy line)
 
--- why a strict run with these faults is refused: by their number and the text of the first one, or for want of memory for this text
-abbrev pub IsRefusal : NotedFaults → Fault → Type 0
-IsRefusal n (Replies count first) = (0 < n.count) × (count ≡ n.count) × IsFirst (string_bytes first) n.first
-IsRefusal n OutOfMemory = 0 < n.count
-IsRefusal n fault = ⊥
+-- why a strict run with these faults is refused: by their number, the line of the first one, if it is known, and its text, or for want
+-- of memory for this text
+abbrev pub IsRefusal : NotedFaults → Option ℕ → Fault → Type 0
+IsRefusal n at (Replies count line first) = (0 < n.count) × (count ≡ n.count) × (line ≡ at) × IsFirst (string_bytes first) n.first
+IsRefusal n at OutOfMemory = 0 < n.count
+IsRefusal n at fault = ⊥

@@ -96,6 +96,13 @@ impl<W> CountingWriter<W> {
         }
     }
 
+    /// The other writer.
+    pub(crate) fn writer(&mut self) -> &mut W
+        ensures { self.new.faults ≡ self.old.faults }
+    {
+        &mut self.writer
+    }
+
     /// The faults among the replies that were written.
     pub(crate) fn faults(&self) -> &Faults
         ensures { result.now ≡ self.now.faults }

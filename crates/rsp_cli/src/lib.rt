@@ -7,8 +7,10 @@
 
 mod faults;
 mod program;
+mod run;
 mod script;
 mod status;
+mod watch;
 
 pub use program::{refuse_arguments, work};
 pub use rsp_cli_files::{FileFault, FileStore, SystemFiles};

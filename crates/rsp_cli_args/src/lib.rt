@@ -24,6 +24,8 @@ pub struct RunFiles<'a> {
     pub save: Option<&'a str>,
     /// Whether a fault in a reply makes the run end with status 1.
     pub is_strict: bool,
+    /// Whether each fault in a reply is explained.
+    pub with_explanation: bool,
 }
 
 /// The files of an assembly, and what is printed of it.
@@ -105,7 +107,7 @@ const SUBCOMMANDS: [SubcommandForm; 3] = [
     },
 ];
 
-const RUN: [ArgumentForm; 4] = [
+const RUN: [ArgumentForm; 5] = [
     (
         "SCRIPT",
         Kind::OptionalFile,
@@ -126,6 +128,11 @@ const RUN: [ArgumentForm; 4] = [
         Kind::Flag,
         "Ends with status 1 if a reply is a fault",
     ),
+    (
+        "explain",
+        Kind::Flag,
+        "Shows the line of each fault, and what may be there",
+    ),
 ];
 
 const ASM: [ArgumentForm; 5] = [
@@ -140,7 +147,7 @@ const ASM: [ArgumentForm; 5] = [
     (
         "explain",
         Kind::Flag,
-        "Shows the line of a fault, its operand, and what the operand may be",
+        "Shows the line of each fault, its operands, and what they may be",
     ),
 ];
 
@@ -236,6 +243,7 @@ fn run<'a>(given: &ArgMatches<'a>) -> Request<'a> {
         rdram: given.get_str("rdram"),
         save: given.get_str("save"),
         is_strict: given.get_flag("strict"),
+        with_explanation: given.get_flag("explain"),
     })
 }
 

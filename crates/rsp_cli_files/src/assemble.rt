@@ -1,14 +1,14 @@
 ghost use Rattle.std.specs.Prelude.{◌≤◌};
 
-use crate::explanation::explanation;
 use crate::fault::Fault;
 use crate::files::{FileStore, read_file, write_file};
 use crate::listing::print_listing;
 use crate::origin::origin_of;
 use byteorder::{BigEndian, ByteOrder};
 use rsp_asm::{AsmFaultKind, Words, assemble};
-use rsp_cli_args::AssembleFiles;
-use std::alloc::Global;
+use rsp_cli_args::{AssembleFiles, Escaped};
+use rsp_explain::{Head, explain_text};
+use std::alloc::{AllocError, Global};
 use std::io::{self, Write};
 use std::str;
 
@@ -29,7 +29,7 @@ pub fn assemble_file<'a, F: FileStore, W: Write + Drop>(
     let origin = origin_of(asked.at)?;
     let bytes = read_file(alloc, files, asked.source, SOURCE_READ_LIMIT)?;
     let text = text_in(bytes.as_slice(), asked.with_explanation)?;
-    let words = assembled(alloc, origin, text, asked.with_explanation)?;
+    let words = assembled(alloc, origin, text, asked)?;
     let words = words.as_slice();
     write_words(alloc, files, asked.out, words)?;
     match report(alloc, origin, text, words, asked.with_listing, &mut output) {
@@ -85,12 +85,12 @@ fn text_in<'a>(bytes: &[u8], with_explanation: bool) -> Result<&str, Fault<'a>> 
     }
 }
 
-/// The words of a source text. A fault is explained if that is asked for and there is memory for it.
+/// The words of a source text. Its faults are explained if that is asked for and there is memory for it.
 fn assembled<'a>(
     alloc: Global,
     origin: u16,
     text: &str,
-    with_explanation: bool,
+    asked: &AssembleFiles<'a>,
 ) -> Result<Words, Fault<'a>>
     requires { origin ≤ 4092 }
 {
@@ -98,14 +98,28 @@ fn assembled<'a>(
         Ok(words) => Ok(words),
         Err(fault) => match fault.kind {
             AsmFaultKind::OutOfMemory => Err(Fault::OutOfMemory),
-            _ => {
-                let explanation = if with_explanation {
-                    explanation(alloc, origin, text, fault).unwrap_or(String::new(alloc))
-                } else {
-                    String::new(alloc)
-                };
-                Err(Fault::Source { fault, explanation })
-            }
+            _ => Err(match explanation(alloc, origin, text, asked) {
+                Ok(Some(said)) => Fault::Explained(said),
+                _ => Fault::Source(fault),
+            }),
         },
     }
+}
+
+/// What explains the faults of a source text, if that is asked for.
+fn explanation(
+    alloc: Global,
+    origin: u16,
+    text: &str,
+    asked: &AssembleFiles<'_>,
+) -> Result<Option<String>, AllocError>
+    requires { origin ≤ 4092 }
+{
+    if !asked.with_explanation {
+        return Ok(None);
+    }
+    let shown = Escaped(asked.source);
+    let name = format!(in alloc; "{shown}")?;
+    let said = explain_text(alloc, Head::File(name.as_str()), 0, origin, text)?;
+    Ok(if said.is_empty() { None } else { Some(said) })
 }

@@ -15,13 +15,10 @@ pub enum Fault<'a> {
     ImageSize,
     /// The length of a file of words is no multiple of 4, or the words don't fit into IMEM from their address on.
     WordsSize,
-    /// The source text has a fault. Its explanation is empty if none is asked for.
-    Source {
-        /// The fault.
-        fault: AsmFault,
-        /// What is added to its line.
-        explanation: String,
-    },
+    /// The source text has a fault.
+    Source(AsmFault),
+    /// The source text has faults, which are explained: a message of several lines.
+    Explained(String),
     /// The source text isn't UTF-8.
     NotText,
     /// There was no memory, outside the run of a script.
@@ -40,6 +37,8 @@ pub enum Fault<'a> {
     Replies {
         /// How many replies are faults.
         count: u64,
+        /// The line of the first of them, if it is known.
+        line: Option<usize>,
         /// The first of them.
         first: String,
     },
@@ -57,10 +56,17 @@ impl Display for Fault<'_> {
             }
             Fault::CannotRead(name) => return write!(f, "cannot read {}", Escaped(name)),
             Fault::CannotWrite(name) => return write!(f, "cannot write {}", Escaped(name)),
-            Fault::Replies { count, first } => {
-                return write!(f, "faults in replies: {count}, the first: {first}");
+            Fault::Replies { count, line, first } => {
+                return match line {
+                    Some(line) => write!(
+                        f,
+                        "faults in replies: {count}, the first in line {line}: {first}"
+                    ),
+                    None => write!(f, "faults in replies: {count}, the first: {first}"),
+                };
             }
-            Fault::Source { fault, explanation } => return write!(f, "{fault}{explanation}"),
+            Fault::Source(fault) => return write!(f, "{fault}"),
+            Fault::Explained(said) => return f.write_str(said.as_str()),
             Fault::ImageSize => "fault 7 SizeFault",
             Fault::WordsSize => "bad size",
             Fault::NotText => "fault 33 NotText",

@@ -3,11 +3,9 @@
 //! It is apart from `rsp_cli` since it doesn't wait for the machine.
 #![tactic(auto)]
 
-mod allowed;
 mod assemble;
 mod beside;
 mod dis;
-mod explanation;
 mod fault;
 mod files;
 mod listing;

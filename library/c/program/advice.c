@@ -7,13 +7,15 @@
 
 #define COMMENT "a comment, after # or ;"
 #define DATA ".word in IMEM; data goes to DMEM by load or by a DMA"
+#define ELEMENT "the name without what follows its dot; an element follows a register, as $v3[0]"
+#define END "end alone on its line: so it closes a block of a script"
 #define ITSELF "the number or the register itself"
 #define LABEL "a label of letters, digits and _, with no digit first and at most 32 bytes"
 #define LINE "a line of at most 256 bytes, each a tab or 20 to 7e hexadecimal"
 #define MEMORY "a number, a label, or a label + or - a number, and ($r) after it"
-#define NO_LINE "no such line"
+#define LEFT_OUT "nothing: leave it out"
 #define NO_MARK "no byte-order mark before the first line"
-#define ORIGIN "no such line, but rsp asm SRC OUT --at 0x080"
+#define ORIGIN "nothing: leave it out, and type rsp asm SRC OUT --at 0x080"
 #define ONE_LABEL "one label a line"
 #define REGISTERS "each operand, here a register; addiu, andi, ori and xori take a number last"
 #define SUM "a number, a label, or a label + or - a number"
@@ -34,20 +36,27 @@ static const struct {
     { "vzero", "vxor $v1, $v1, $v1" },
     { "vcopy", "vor $v1, $v2, $v2" },
     { "vsll", "vmudn $v1, $v2, $v3[0], with 8 in lane 0 of $v3 for 3" },
+    { "vsll8", "vmudn $v1, $v2, $v3[0], with 2048 in lane 0 of $v3 for 11" },
+    { "jal_and_j", "j x, and addiu $31, $0, y in its delay slot" },
     { "constant", ITSELF },
     { ".definelabel", ITSELF },
+    { "end", END },
     { ".org", ORIGIN },
     { "origin", ORIGIN },
     { ".data", DATA },
+    { ".bss", DATA },
+    { ".ds.b", DATA },
+    { ".ds.h", DATA },
+    { ".ds.w", DATA },
     { ".half", DATA },
     { ".byte", DATA },
     { ".dh", DATA },
     { ".db", DATA },
     { ".dw", DATA },
     { "dw", DATA },
-    { ".set", NO_LINE },
-    { ".text", NO_LINE },
-    { ".align", NO_LINE },
+    { ".set", LEFT_OUT },
+    { ".text", LEFT_OUT },
+    { ".align", LEFT_OUT },
 };
 
 bool has_comment(const char *text)
@@ -60,6 +69,15 @@ static bool begins(const char *text, const char *with)
     return !strncmp(text, with, strlen(with));
 }
 
+/* Whether a name is that of a vector instruction with an element after it, as `vadd.e`. */
+static bool has_element(const char *name)
+{
+    char before[TEXT_ROOM];
+    size_t len = strcspn(name, ".");
+    snprintf(before, sizeof before, "%.*s", (int)len, name);
+    return name[len] && *name == 'v' && is_instruction(before);
+}
+
 const char *advice_of_statement(const char *name, const char *operand)
 {
     for (size_t i = 0; i < sizeof statements / sizeof *statements; i++) {
@@ -68,8 +86,17 @@ const char *advice_of_statement(const char *name, const char *operand)
     size_t len = strlen(name);
     if (has_comment(name)) return COMMENT;
     if (len && name[len - 1] == ':') return ONE_LABEL;
-    if (begins(name, "emux_") || begins(name, "assert")) return NO_LINE;
-    return begins(operand, "equ ") ? ITSELF : "";
+    if (begins(name, "emux_") || begins(name, "assert")) return LEFT_OUT;
+    if (begins(operand, "equ ")) return ITSELF;
+    return has_element(name) ? ELEMENT : "";
+}
+
+const char *const *advised_names(size_t *count)
+{
+    static const char *names[sizeof statements / sizeof *statements];
+    *count = sizeof statements / sizeof *statements;
+    for (size_t i = 0; i < *count; i++) names[i] = statements[i].name;
+    return names;
 }
 
 const char *advice_of_line(span line)

@@ -6,13 +6,13 @@
 static const struct { const char *shown; unsigned commands; } arguments[ARGUMENTS] = {
     [SCRIPT] = { "[SCRIPT]", 1 << RUN }, [RDRAM] = { "--rdram <FILE>", 1 << RUN }, [SAVE] = { "--save <FILE>", 1 << RUN }, [STRICT] = { "--strict", 1 << RUN },
     [SOURCE] = { "<SRC>", 1 << ASM }, [OUT] = { "<OUT>", 1 << ASM }, [WORDS] = { "<FILE>", 1 << DIS },
-    [AT] = { "--at <ADDR>", 1 << ASM | 1 << DIS }, [LISTING] = { "--listing", 1 << ASM }, [EXPLAIN] = { "--explain", 1 << ASM },
+    [AT] = { "--at <ADDR>", 1 << ASM | 1 << DIS }, [LISTING] = { "--listing", 1 << ASM }, [EXPLAIN] = { "--explain", 1 << RUN | 1 << ASM },
     [PLACES] = { "--places", 1 << DIS }, [LABELS] = { "--labels", 1 << DIS },
     [HELP] = { "--help", 1 << NONE | 1 << RUN | 1 << ASM | 1 << DIS }, [WHICH_VERSION] = { "--version", 1 << NONE }
 };
 
 /* The names of the commands, and the texts of docs/help, which the build gives. */
-static const char *const commands[] = { "", "run", "asm", "dis" }, *const helps[] = { HELP_RSP, HELP_RUN, HELP_ASM, HELP_DIS };
+static const char *const names[] = { "", "run", "asm", "dis" }, *const helps[] = { HELP_RSP, HELP_RUN, HELP_ASM, HELP_DIS };
 static const char help_of_help[] = "Print this message or the help of the given subcommand(s)\n";
 
 /* Where the reading is. */
@@ -89,7 +89,7 @@ static void take_command(reading *at, char **words, bool is_for_help)
 {
     enum command it = DIS;
     bool is_help = !strcmp(*words, "help");
-    while (it != NONE && strcmp(commands[it], *words)) it--;
+    while (it != NONE && strcmp(names[it], *words)) it--;
     if (at->has_ended && (is_help || it != NONE)) refuse("unexpected argument '%s' found", *words);
     if (it == NONE && !is_help) refuse("unrecognized subcommand '%s'", *words);
     if (is_for_help && words[1]) refuse("unrecognized subcommand '%s'", words[1]);

@@ -25,6 +25,11 @@ bool make_alike(int file, const char *path, const target *old)
     return !fchown(file, (uid_t)-1, getegid()) && !fchmod(file, old->mode & 07777);
 }
 
+bool is_typed(void)
+{
+    return isatty(STANDARD_INPUT);
+}
+
 bool flush(int file)
 {
     return !fsync(file);

@@ -47,9 +47,24 @@ void run(const request *asked);
 void assemble(const request *asked);
 void disassemble(const request *asked);
 
+enum { TEXT_ROOM = 260 };
+
+/* statement.c: a source line as the assembler cuts it; the bytes before the first of some characters, or all; a text without whitespace at both ends;
+ * the next line of a text; whether a name is one, in either case. */
+typedef struct statement {
+    span label, name, operands;
+} statement;
+statement cut(span line);
+span before(span text, const char *characters);
+span trimmed(span text);
+bool next_line(span *text, span *line);
+bool is_name(span name, const char *wanted);
+
+/* How many operands a statement has before this number, or in all. `found` gets the one of this number. */
+size_t count_operands(span operands, size_t number, span *found);
+
 /* spelling.c: how an operand that can't be read, or is out of its range, is written here, if its text is one of another assembler's. `after` has the next
  * two operands, "" if the line has fewer; `has_halves` is whether only the bytes 0 and 8 may be there. */
-enum { TEXT_ROOM = 260 };
 bool spell_operand(const brsp_operand *found, const char *text, const char *const after[2], bool has_halves, char to[TEXT_ROOM]);
 bool spell_in_range(const brsp_operand *found, const char *text, char to[TEXT_ROOM]);
 
@@ -59,6 +74,44 @@ const char *advice_of_statement(const char *name, const char *operand);
 const char *advice_of_line(span line);
 const char *advice_of_operand(const brsp_operand *found, const char *text);
 bool has_comment(const char *text); /* of another assembler */
+
+/* nearest.c: the name of an instruction, or one for which there is advice, that is nearest to an unknown one; the command of scripts; NULL if none is near. */
+const char *nearest_statement(const char *name);
+const char *nearest_command(const char *name);
+bool is_instruction(const char *name);
+const char *const *advised_names(size_t *count);
+
+/* explain.c: says on standard error what is wrong with a text whose first word is at an address: each fault of the first pass, at most 20 of them, else
+ * that of the second. `name` is that of the file, or NULL; `before` lines are before the text. False if nothing was said. */
+bool explain_text(const char *name, size_t before, uint32_t origin, span text);
+void visible(span text, char to[TEXT_ROOM]);
+
+/* replies.c: what a run says of the faults among its replies. The commands of scripts, and what is known of the faults of a line, are from docs/data. */
+typedef struct command_form {
+    const char *name, *form, *range;
+} command_form;
+extern const command_form commands[];
+typedef struct fault_text {
+    unsigned number;
+    const char *cause, *help;
+} fault_text;
+enum { REPLY_ROOM = 64 };
+typedef struct watch {
+    const char *name;   /* of the script's file; NULL of standard input */
+    bool is_explained;  /* whether faults are explained */
+    span script;        /* as far as it was read */
+    size_t next, lines; /* how many bytes and lines were answered */
+    bool is_block;      /* whether a block is open; of the last one, the line of its `asm`, where its text begins, and its address */
+    size_t block_line, block_start;
+    uint32_t origin;
+    unsigned faults; /* how many there were, the line of the first, and its reply */
+    size_t first_line;
+    char first[REPLY_ROOM];
+} watch;
+
+/* Takes note of the reply to the next line, which ends here; of what was written at the end of the script, after its lines. */
+void watch_line(watch *at, size_t end, span reply);
+void watch_end(watch *at, span reply);
 
 /* files.c. A path in UTF-8 with its 0 has at most PATH_ROOM bytes on each system. */
 enum { PATH_ROOM = 131072, STANDARD_INPUT = 0, STANDARD_OUTPUT = 1, STANDARD_ERROR = 2 };
@@ -96,6 +149,7 @@ int open_path(const char *path, enum opening how);
 /* Gives a new file, which is open and has this path, what the old one has. False if it can't have that. */
 bool make_alike(int file, const char *path, const target *old);
 bool flush(int file);
+bool is_typed(void); /* whether standard input is a terminal */
 bool move(const char *from, const char *to);
 void drop(const char *path);
 

@@ -51,6 +51,12 @@ bool make_alike(int file, const char *path, const target *old)
     return SetFileAttributesW(wide(path, 0), old->mode);
 }
 
+bool is_typed(void)
+{
+    DWORD mode;
+    return GetConsoleMode(GetStdHandle(STD_INPUT_HANDLE), &mode);
+}
+
 bool flush(int file)
 {
     return !_commit(file);

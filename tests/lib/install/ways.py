@@ -97,7 +97,6 @@ uint32_t brsp_get(brsp_machine *, brsp_state *) { return BRSP_OK; }
 uint32_t brsp_step(brsp_machine *) { return BRSP_OK; }
 """
 FLAT_SW = "conformance/generate --flat --of conformance/vectors ~/flat SW"
-FAULTY = "start: ori $1, $0, 1\nfoo $2\nj start\nori $1, $99, 1\nbreak\n"
 LOST_JUMP = "j 0x7f0\nnop\n"
 
 # Those of the archive, and where a clone has the same block, of a clone.
@@ -142,13 +141,6 @@ WAYS = (
     ),
     Way("README.md", "sha256sum -c", prints="..\nrsp: OK\n.."),
     Way("README.md", "./rsp --version"),
-    Way(
-        "docs/ASSEMBLY.md",
-        "cp text.s copy.s",
-        first=file_of("text.s", FAULTY),
-        then="rsp asm copy.s copy.bin",
-        prints="..\nok 3 words",
-    ),
     Way(
         "docs/ASSEMBLY.md",
         "rsp asm theirs.s",

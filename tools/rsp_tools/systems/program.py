@@ -3,7 +3,9 @@ for."""
 
 import json
 from pathlib import Path
-from typing import List
+from typing import List, Sequence
+
+from rsp_tools import page_tables
 
 from . import header, places
 from .toolchain import Word, call
@@ -12,12 +14,21 @@ from .toolchain import Word, call
 KINDS = {"posix.c", "windows.c"}
 
 
+def initializers(lines: Sequence[Sequence[object]]) -> str:
+    """The lines of a table as C initializes them, each with a comma after it."""
+    return "".join(f"{{{','.join(map(json.dumps, line))}}}," for line in lines)
+
+
 def definitions() -> List[str]:
-    """The version and the texts of --help: those of the proved program, each in its one place."""
+    """The version, the texts of --help and the tables of --explain: those of the proved program, each in its
+    one place."""
     given = {"VERSION": header.dated_version()}
     for it in ("rsp", "run", "asm", "dis"):
         given[f"HELP_{it.upper()}"] = (places.HELP / f"{it}.txt").read_text()
-    return [f"-D{name}={json.dumps(text)}" for name, text in given.items()]
+    given["INSTRUCTIONS"] = " ".join(it["Instruction"].lower() for it in page_tables.data("instructions"))
+    words = [f"-D{name}={json.dumps(text)}" for name, text in given.items()]
+    tables = {"COMMAND_FORMS": page_tables.command_forms(), "FAULT_TEXTS": page_tables.fault_texts()}
+    return words + [f"-D{name}={initializers(lines)}" for name, lines in tables.items()]
 
 
 def link(compiler: str, kind: str, to: Path, *words: Word) -> None:

@@ -8,7 +8,7 @@ const FAULTED: Case = Case {
     ..ASSEMBLY
 };
 
-static CASES: [Case; 9] = [
+static CASES: [Case; 10] = [
     // A text with a carriage return, and a loop of three instructions and a `break`; their words by hand.
     Case {
         image: b"j x\r\nnop\nx: break",
@@ -32,6 +32,14 @@ static CASES: [Case; 9] = [
     Case {
         image: b"nop\nfoo\n",
         message: Some(b"rsp: fault 11 UnknownName line 2\n"),
+        ..FAULTED
+    },
+    Case {
+        line: "rsp asm --explain image words",
+        image: b"lvq $v1, 0($2)\nnop\nx: jr 5\n",
+        message: Some(
+            b"image:1: fault 11 UnknownName line 1\n  line: lvq $v1, 0($2)\n  name: lvq\n  write: lqv, the nearest name\nimage:3: fault 12 BadOperand line 3\n  line: x: jr 5\n  operand 1: 5\n  may be: a scalar register, $0 to $31 or as $t0, but not $v0 and $v1\n  write: each operand, here a register; addiu, andi, ori and xori take a number last\n",
+        ),
         ..FAULTED
     },
     Case {

@@ -57,7 +57,7 @@ const STRICT: Case = Case {
     ..RUN
 };
 
-static CASES: [Case; 20] = [
+static CASES: [Case; 26] = [
     // The image is saved after a run, and is zeros where no file is named.
     Case {
         line: "rsp run --rdram image --save=saved",
@@ -132,7 +132,7 @@ static CASES: [Case; 20] = [
     Case {
         line: "rsp run --strict --save saved -- image",
         status: Status::Faulted,
-        message: Some(b"rsp: faults in replies: 1, the first: fault 30 BadCommand\n"),
+        message: Some(b"rsp: faults in replies: 1, the first in line 2: fault 30 BadCommand\n"),
         written: 1,
         saved: None,
         ..FILE
@@ -159,20 +159,65 @@ static CASES: [Case; 20] = [
         output: Some(b"step Done pc 004\nfau"),
         ..FILE
     },
+    // Whoever types a script is greeted, but not if the script is in a file, or if the run doesn't begin.
+    Case {
+        is_typed: true,
+        script: b"step\n",
+        output: Some(b"step Done pc 004\n"),
+        message: None,
+        ..RUN
+    },
+    Case {
+        is_typed: true,
+        ..FILE
+    },
+    Case {
+        is_typed: true,
+        message: Some(b"rsp: fault 7 SizeFault\n"),
+        ..UNREAD
+    },
+    // Faults are explained, whatever the pieces of the reply.
+    Case {
+        line: "rsp run --explain",
+        script: b"step\nregs 1\n",
+        width: 7,
+        message: Some(b"line 2: fault 30 BadCommand\n  line: regs 1\n  may be: regs\n"),
+        output: Some(b"step Done pc 004\nfault 30 BadCommand\n"),
+        ..RUN
+    },
+    Case {
+        line: "rsp run --explain image",
+        image: b"asm 0\n# nothing\n  nop 1\n end",
+        message: Some(
+            b"image:3: fault 12 BadOperand line 2\n  line: nop 1\n  operand 1: 1\n  may be: nothing\n  write: nop\n",
+        ),
+        output: Some(b"fault 12 BadOperand line 2\n"),
+        ..FILE
+    },
+    Case {
+        line: "rsp run --strict --explain image",
+        image: b"asm 0\nend 1",
+        status: Status::Faulted,
+        message: Some(
+            b"image:3: fault 10 BadLine line 2\n  line: (none)\n  may be: end, for the block of line 1\n  write: end alone in line 2, which is: end 1\nrsp: faults in replies: 1, the first in line 3: fault 10 BadLine line 2\n",
+        ),
+        output: Some(b"fault 10 BadLine line 2\n"),
+        ..FILE
+    },
     // A strict run counts faults, and none of them twice.
     Case {
         script: b"step\nfoo # no command\n",
-        message: Some(b"rsp: faults in replies: 1, the first: fault 30 BadCommand\n"),
+        message: Some(b"rsp: faults in replies: 1, the first in line 2: fault 30 BadCommand\n"),
         ..STRICT
     },
     Case {
         script: b"pc 2\nregs\nfoo",
-        message: Some(b"rsp: faults in replies: 2, the first: fault 31 BadNumber\n"),
+        message: Some(b"rsp: faults in replies: 2, the first in line 1: fault 31 BadNumber\n"),
         ..STRICT
     },
     Case {
         script: b"asm 0\nnop",
-        message: Some(b"rsp: faults in replies: 1, the first: fault 10 BadLine line 2\n"),
+        message: Some(b"rsp: faults in replies: 1, the first in line 3: fault 10 BadLine line 2\n"),
         ..STRICT
     },
     Case {

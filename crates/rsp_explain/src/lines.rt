@@ -1,43 +1,49 @@
-ghost use Rattle.std.specs.Prelude.{◌≤◌};
+// What is said of a line that has a fault.
 
 use crate::allowed::{Allowed, kind_of};
+use crate::operands::{OPERANDS, RefusedOperands};
 use rsp_advice::{
-    Advice, Visible, of_comment, of_line, of_operand, of_statement, respelled, respelled_in_range,
+    Advice, Visible, nearest_statement, of_comment, of_line, of_operand, of_statement, respelled,
+    respelled_in_range,
 };
-use rsp_asm::{AsmFault, AsmFaultKind, FaultyOperand, explain, operand_text, statement_name};
+use rsp_asm::{AsmFaultKind, FaultyOperand, operand_text, statement_name};
 use std::alloc::{AllocError, Global};
 use std::str;
 
-/// What `--explain` adds to the line of a fault: the line's text, and what is wrong in it. For an operand that is its number, its
-/// text, and what may be there; for a statement whose name is unknown, the name. Then what to write, where the text is one of
-/// another assembler.
-pub(crate) fn explanation(
+/// What `--explain` says of a line that the first pass refuses: its text, and what is wrong in it. For an operand that is its number,
+/// its text, and what may be there, each time; for a statement whose name is unknown, the name. Then what to write, where the text is
+/// one of another assembler.
+pub(crate) fn refused_line(
     alloc: Global,
-    origin: u16,
-    text: &str,
-    fault: AsmFault,
-) -> Result<String, AllocError>
-    requires { origin ≤ 4096 }
-{
-    let line = numbered_line(text, fault.line);
-    let shown = Visible(line.trim());
-    let reason = match explain(alloc, origin, text)? {
-        Some(faulty) => operand_reason(alloc, line, faulty, fault.kind)?,
-        None => statement_reason(alloc, line, fault.kind)?,
+    line: &str,
+    fault: AsmFaultKind,
+) -> Result<String, AllocError> {
+    let mut said = line_text(alloc, line)?;
+    let reason = match fault {
+        AsmFaultKind::BadOperand | AsmFaultKind::OutOfRange => operand_reasons(alloc, line)?,
+        _ => statement_reason(alloc, line, fault)?,
     };
-    format!(in alloc; "\n  line: {shown}{reason}")
+    said.push_str(reason.as_str())?;
+    Ok(said)
 }
 
-/// The line with this number, from 1.
-fn numbered_line(text: &str, number: usize) -> &str {
-    let mut left = number;
-    for line in text.lines() {
-        if left <= 1 {
-            return line;
-        }
-        left -= 1;
-    }
-    ""
+/// The same of a line that the second pass refuses, for this operand.
+pub(crate) fn refused_operand(
+    alloc: Global,
+    line: &str,
+    faulty: FaultyOperand,
+    fault: AsmFaultKind,
+) -> Result<String, AllocError> {
+    let mut said = line_text(alloc, line)?;
+    let reason = operand_reason(alloc, line, faulty, fault)?;
+    said.push_str(reason.as_str())?;
+    Ok(said)
+}
+
+/// The text of a line.
+pub(crate) fn line_text(alloc: Global, line: &str) -> Result<String, AllocError> {
+    let shown = Visible(line.trim());
+    format!(in alloc; "\n  line: {shown}")
 }
 
 /// The operand of a line with this number, from 1. None if the line has fewer.
@@ -61,12 +67,44 @@ fn statement_reason(alloc: Global, line: &str, fault: AsmFaultKind) -> Result<St
     let name = name_of(line);
     match fault {
         AsmFaultKind::UnknownName => {
-            let advice = Advice(of_statement(name, operand(line, 1)));
+            let written = meant(alloc, name, operand(line, 1))?;
+            let advice = Advice(written.as_str());
             format!(in alloc; "\n  name: {}{advice}", Visible(name))
         }
         AsmFaultKind::BadLine => format!(in alloc; "{}", Advice(of_line(line))),
         _ => Ok(String::new(alloc)),
     }
+}
+
+/// What to write in place of a statement whose name is unknown: what is known of the name, else the nearest name.
+fn meant(alloc: Global, name: &str, operand: &str) -> Result<String, AllocError> {
+    let advice = of_statement(name, operand);
+    if !advice.is_empty() {
+        return String::from_str(alloc, advice);
+    }
+    let Some(nearest) = nearest_statement(alloc, name)? else {
+        return Ok(String::new(alloc));
+    };
+    match of_statement(nearest, operand) {
+        "" => format!(in alloc; "{nearest}, the nearest name"),
+        advice => format!(in alloc; "{advice}, if {nearest} is meant"),
+    }
+}
+
+/// What is wrong with each operand of a line that is refused.
+fn operand_reasons(alloc: Global, line: &str) -> Result<String, AllocError> {
+    let mut said = String::new(alloc);
+    let Some(mut refused) = RefusedOperands::of(line, name_of(line)) else {
+        return Ok(said);
+    };
+    for _ in 0..OPERANDS {
+        let Some((faulty, fault)) = refused.next() else {
+            break;
+        };
+        let reason = operand_reason(alloc, line, faulty, fault)?;
+        said.push_str(reason.as_str())?;
+    }
+    Ok(said)
 }
 
 /// An operand that is at fault, what may be there, and what to write.

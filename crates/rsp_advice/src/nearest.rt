@@ -1,0 +1,107 @@
+// The name that was probably meant by one that is unknown.
+
+use crate::advice::other_names;
+use crate::commands::{CommandForm, command_forms, command_named};
+use rsp_decode::table;
+use std::alloc::{AllocError, Global};
+use strsim::osa_distance;
+
+/// The longest name with which another one is compared. No name that is known has half as many bytes.
+const LONGEST: usize = 20;
+
+/// The search for the nearest name. An edit changes, adds or drops a character, or exchanges two that follow each other.
+#[derive(Drop)]
+struct Search<'a> {
+    alloc: Global,
+    name: &'a str,
+    /// The nearest one so far.
+    found: Option<&'static str>,
+    /// How far it is. A name that is farther isn't meant.
+    distance: usize,
+}
+
+impl<'a> Search<'a> {
+    /// The search for a name in lower case. One edit may lead to what is meant; two, if the name has more than four letters; none, if it
+    /// has at most two.
+    fn new(alloc: Global, name: &'a str) -> Search<'a> {
+        let edits = match name.len() {
+            0..=2 => 0,
+            3..=4 => 1,
+            _ => 2,
+        };
+        Search {
+            alloc,
+            name,
+            found: None,
+            distance: 2 * edits + 2,
+        }
+    }
+
+    /// Takes another name if it is nearer. Of two with as few edits the one of the same length is, and else the first in the order of the
+    /// alphabet.
+    fn see(&mut self, other: &'static str) -> Result<(), AllocError> {
+        let edits = osa_distance(self.alloc, self.name, other)?;
+        let is_longer = usize::from(other.len() != self.name.len());
+        let distance = edits.saturating_mul(2).saturating_add(is_longer);
+        let is_nearer = match self.found {
+            Some(found) if distance == self.distance => other < found,
+            _ => distance < self.distance,
+        };
+        if is_nearer {
+            self.distance = distance;
+            self.found = Some(other);
+        }
+        Ok(())
+    }
+}
+
+/// Whether an instruction has this name, in either case.
+pub fn is_instruction(name: &str) -> bool {
+    for row in table() {
+        if name.eq_ignore_ascii_case(row.name) {
+            return true;
+        }
+    }
+    false
+}
+
+/// The name of an instruction, or one for which [`of_statement`](crate::of_statement) has something to say, that is nearest to an
+/// unknown one. None if none is near.
+pub fn nearest_statement(alloc: Global, name: &str) -> Result<Option<&'static str>, AllocError> {
+    if name.len() > LONGEST {
+        return Ok(None);
+    }
+    let name = name.to_ascii_lowercase(alloc)?;
+    let mut search = Search::new(alloc, name.as_str());
+    for row in table() {
+        search.see(row.name)?;
+    }
+    see_others(&mut search)?;
+    Ok(search.found)
+}
+
+/// The names that aren't those of instructions.
+fn see_others(search: &mut Search<'_>) -> Result<(), AllocError> {
+    search.see("nop")?;
+    search.see(".word")?;
+    for (other, _) in other_names() {
+        search.see(other)?;
+    }
+    Ok(())
+}
+
+/// The command whose name is nearest to an unknown one. None if none is near.
+pub fn nearest_command(alloc: Global, name: &str) -> Result<Option<CommandForm>, AllocError> {
+    if name.len() > LONGEST {
+        return Ok(None);
+    }
+    let name = name.to_ascii_lowercase(alloc)?;
+    let mut search = Search::new(alloc, name.as_str());
+    for command in command_forms() {
+        search.see(command.name)?;
+    }
+    Ok(match search.found {
+        Some(found) => command_named(found),
+        None => None,
+    })
+}

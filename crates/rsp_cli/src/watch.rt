@@ -1,0 +1,229 @@
+// What a run says of its replies on standard error.
+
+use rsp_explain::{Head, Place, Places, explain_reply};
+use std::alloc::Global;
+use std::cell::RefCell;
+use std::io::{self, Read, Write};
+
+/// The most faults that are explained.
+const EXPLAINED: u64 = 20;
+
+/// The bytes of a script that were read so far.
+#[derive(Drop)]
+pub(crate) struct Heard {
+    bytes: Vec<u8>,
+    /// Whether there was memory for all of them.
+    is_whole: bool,
+}
+
+impl Heard {
+    /// None so far.
+    pub(crate) fn new(alloc: Global) -> Heard {
+        Heard {
+            bytes: Vec::new(alloc),
+            is_whole: true,
+        }
+    }
+
+    fn hear(&mut self, bytes: &[u8]) {
+        self.is_whole = self.is_whole && self.bytes.extend_from_slice(bytes).is_ok();
+    }
+}
+
+/// A reader that passes on what another one gives, and keeps it.
+#[derive(Drop)]
+pub(crate) struct Listener<'a, R> {
+    reader: R,
+    heard: &'a RefCell<Heard>,
+}
+
+impl<'a, R> Listener<'a, R> {
+    pub(crate) fn new(reader: R, heard: &'a RefCell<Heard>) -> Listener<'a, R> {
+        Listener { reader, heard }
+    }
+}
+
+impl<R: Read> Read for Listener<'_, R> {
+    /// The bytes that the other reader has left.
+    ghost remaining = { λ s. R.remaining s.reader };
+
+    fn read(&mut self, buf: &mut [u8]) -> io::Result<usize> {
+        let count = self.reader.read(buf)?;
+        if let Ok(mut heard) = self.heard.try_borrow_mut() {
+            heard.hear(&buf[..count]);
+        }
+        Ok(count)
+    }
+}
+
+/// The bytes of the script whose replies are watched.
+#[derive(Clone, Copy)]
+pub(crate) enum Text<'a> {
+    /// All of them.
+    Whole(&'a [u8]),
+    /// Those that were read so far.
+    Heard(&'a RefCell<Heard>),
+}
+
+/// The most bytes of a reply that are kept. No fault has more.
+const LONGEST: usize = 64;
+
+/// The replies to a script as they are written: which line each answers, and what is said of those that are faults.
+#[derive(Drop)]
+pub(crate) struct Watch<'a, E> {
+    alloc: Global,
+    text: Text<'a>,
+    places: Places,
+    /// How the reply at work begins.
+    reply: [u8; LONGEST],
+    length: usize,
+    /// How many of its bytes are still to be taken.
+    left: usize,
+    /// The line of the first fault, if it is known.
+    first: Option<usize>,
+    /// How a line is named, and where the explanations go, if they are asked for.
+    explained: Option<(Head<'a>, &'a mut E)>,
+    /// How many faults were to be explained.
+    count: u64,
+}
+
+impl<'a, E: Write> Watch<'a, E> {
+    /// Before the first reply.
+    pub(crate) fn new(
+        alloc: Global,
+        text: Text<'a>,
+        explained: Option<(Head<'a>, &'a mut E)>,
+    ) -> Watch<'a, E> {
+        Watch {
+            alloc,
+            text,
+            places: Places::new(),
+            reply: [0; LONGEST],
+            length: 0,
+            left: 0,
+            first: None,
+            explained,
+            count: 0,
+        }
+    }
+
+    /// The line of the first fault, if it is known.
+    pub(crate) fn first(&self) -> Option<usize> {
+        self.first
+    }
+
+    /// How the reply at work begins.
+    fn reply(&self) -> &[u8] {
+        &self.reply[..self.length.min(LONGEST)]
+    }
+
+    /// Takes note of a write, of which so many bytes were taken. The first write of a reply offers the whole of it. Whether the reply is
+    /// now written.
+    fn note(&mut self, bytes: &[u8], taken: usize) -> bool {
+        if self.left == 0 {
+            let length = bytes.len().min(LONGEST);
+            self.reply[..length].copy_from_slice(&bytes[..length]);
+            self.length = length;
+            self.left = bytes.len();
+        }
+        self.left -= taken.min(self.left);
+        self.left == 0
+    }
+
+    /// Takes note of what a reply answers that is written, and explains a fault.
+    fn settle(&mut self) {
+        match self.text {
+            Text::Whole(script) => self.place(script),
+            Text::Heard(cell) => {
+                if let Ok(heard) = cell.try_borrow() {
+                    if heard.is_whole {
+                        self.place(heard.bytes.as_slice());
+                    }
+                }
+            }
+        }
+    }
+
+    /// The same, of a script that was read so far.
+    fn place(&mut self, script: &[u8]) {
+        let Some(place) = self.places.next(script) else {
+            return;
+        };
+        if !self.reply().starts_with(b"fault ") {
+            return;
+        }
+        if self.first.is_none() {
+            self.first = Some(place.line(self.reply()));
+        }
+        self.explain(place);
+    }
+
+    /// Explains a fault, if that is asked for.
+    fn explain(&mut self, place: Place<'_>) {
+        let alloc = self.alloc;
+        let reply = &self.reply[..self.length.min(LONGEST)];
+        let Some((head, errors)) = &mut self.explained else {
+            return;
+        };
+        self.count = self.count.saturating_add(1);
+        if self.count > EXPLAINED {
+            return;
+        }
+        if let Ok(said) = explain_reply(alloc, *head, place, reply) {
+            let _ = errors.write_all(said.as_str().as_bytes());
+        }
+    }
+
+    /// Says how many faults aren't explained.
+    fn end(&mut self) {
+        let more = self.count.saturating_sub(EXPLAINED);
+        if let Some((_, errors)) = &mut self.explained {
+            if more > 0 {
+                let _ = writeln!(errors, ".. and {more} more");
+            }
+        }
+    }
+}
+
+/// A writer that passes replies on to another one, and watches them.
+#[derive(Drop)]
+pub(crate) struct Watcher<'a, W, E> {
+    writer: W,
+    watch: Watch<'a, E>,
+}
+
+impl<'a, W: Write, E: Write> Watcher<'a, W, E> {
+    /// A writer before its first reply.
+    pub(crate) fn new(writer: W, watch: Watch<'a, E>) -> Watcher<'a, W, E> {
+        Watcher { writer, watch }
+    }
+
+    /// The line of the first fault, if it is known.
+    pub(crate) fn first(&self) -> Option<usize> {
+        self.watch.first()
+    }
+
+    /// Says how many faults aren't explained, after the last reply.
+    pub(crate) fn end(&mut self) {
+        self.watch.end();
+    }
+}
+
+impl<W: Write, E: Write> Write for Watcher<'_, W, E> {
+    /// The bytes that the other writer holds.
+    ghost contents = { λ s. W.contents s.writer };
+
+    /// Passes the bytes on in one write. A reply is flushed before a fault is explained.
+    fn write(&mut self, bytes: &[u8]) -> io::Result<usize> {
+        let taken = self.writer.write(bytes)?;
+        if self.watch.note(bytes, taken) {
+            let _ = self.writer.flush();
+            self.watch.settle();
+        }
+        Ok(taken)
+    }
+
+    fn flush(&mut self) -> io::Result<()> {
+        self.writer.flush()
+    }
+}

@@ -1,0 +1,18 @@
+//! What `--explain` says: of the faults of a source text, and of the replies to a script that are faults.
+//!
+//! `rsp_advice` has the words, and knows neither texts nor scripts. Here a text is read again to find each fault of its lines, and a
+//! script to find the line that a reply answers.
+#![tactic(auto)]
+
+mod allowed;
+mod head;
+mod lines;
+mod operands;
+mod places;
+mod replies;
+mod texts;
+
+pub use head::Head;
+pub use places::{Place, Places};
+pub use replies::explain_reply;
+pub use texts::explain_text;
