@@ -97,10 +97,17 @@ impl<W> CountingWriter<W> {
     }
 
     /// The other writer.
-    pub(crate) fn writer(&mut self) -> &mut W
-        ensures { self.new.faults ≡ self.old.faults }
+    pub(crate) fn writer(&self) -> &W
+        ensures { result.now ≡ self.now.writer }
     {
-        &mut self.writer
+        &self.writer
+    }
+
+    /// The other writer, when all is written.
+    pub(crate) fn into_writer(self) -> W
+        ensures { result ≡ self.writer }
+    {
+        self.writer
     }
 
     /// The faults among the replies that were written.

@@ -77,20 +77,22 @@ pub fn refuse_arguments<E: Write>(error: &io::Error, errors: &mut E) -> Status {
 }
 
 /// Writes a fault to `errors`, on a line of its own; a fault of the command line in the form of the other refusals, and what explains
-/// the faults of a text as it is. If the line
-/// can't be written, the status still reports the fault.
+/// the faults of a text as it is. If the line can't be written, the status still reports the fault.
 fn faulted<E: Write>(fault: Fault, errors: &mut E) -> Status {
-    if let Fault::NoAddress(_) = fault {
-        let _ = writeln!(
-            errors,
-            "error: {fault}\n\nFor more information, try '--help'."
-        );
-        return Status::Refused;
+    match &fault {
+        Fault::NoAddress(_) => {
+            let _ = writeln!(
+                errors,
+                "error: {fault}\n\nFor more information, try '--help'."
+            );
+            return Status::Refused;
+        }
+        Fault::Explained(said) => {
+            let _ = errors.write_all(said.as_str().as_bytes());
+        }
+        _ => {
+            let _ = writeln!(errors, "rsp: {fault}");
+        }
     }
-    if let Fault::Explained(said) = fault {
-        let _ = errors.write_all(said.as_str().as_bytes());
-        return Status::Faulted;
-    }
-    let _ = writeln!(errors, "rsp: {fault}");
     Status::Faulted
 }

@@ -64,15 +64,28 @@ fn run_over<'a, S: ScriptRunner, F: FileStore, R: Read + Drop, W: Write + Drop, 
     output: W,
     errors: &mut E,
 ) -> Result<(), Fault<'a>> {
-    if asked.is_strict || asked.with_explanation {
+    if asked.with_explanation {
+        let errors = Some(&mut *errors);
         return run_watched(alloc, asked, image, runner, files, script, output, errors);
+    }
+    if asked.is_strict {
+        return run_watched(
+            alloc,
+            asked,
+            image,
+            runner,
+            files,
+            script,
+            output,
+            None::<&mut E>,
+        );
     }
     run_plainly(alloc, image, asked.save, runner, files, script, output)
 }
 
-/// The same, while the replies are watched: a strict run ends with a fault if one was a fault, and faults are explained if that is
-/// asked for.
-fn run_watched<'a, S: ScriptRunner, F: FileStore, R: Read + Drop, W: Write + Drop, E: Write>(
+/// The same, while the replies are watched: a strict run ends with a fault if one was a fault, and faults are explained on `errors`, if
+/// that is asked for.
+fn run_watched<'a, S: ScriptRunner, F: FileStore, R: Read + Drop, W: Write + Drop, E: Write + Drop>(
     alloc: Global,
     asked: &RunFiles<'a>,
     image: Rdram,
@@ -80,32 +93,44 @@ fn run_watched<'a, S: ScriptRunner, F: FileStore, R: Read + Drop, W: Write + Dro
     files: &mut F,
     script: Script<'_, R>,
     output: W,
-    errors: &mut E,
+    errors: Option<E>,
 ) -> Result<(), Fault<'a>> {
-    let heard = RefCell::new(Heard::new(alloc));
     let name = escaped(alloc, asked.script)?;
-    let (text, script) = match script {
-        Script::Whole(bytes) => (Text::Whole(bytes), Script::Whole(bytes)),
-        Script::Input(reader) => {
-            (
-                Text::Heard(&heard),
-                Script::Input(Listener::new(reader, &heard)),
-            )
+    let head = head_of(asked.script, name.as_str());
+    match script {
+        Script::Whole(bytes) => {
+            let script: Script<R> = Script::Whole(bytes);
+            let watch = Watch::new(alloc, Text::Whole(bytes), head, errors);
+            run_under(alloc, asked, image, runner, files, script, output, watch)
         }
-    };
-    let explained = if asked.with_explanation {
-        Some((head_of(asked.script, name.as_str()), errors))
-    } else {
-        None
-    };
-    let watcher = Watcher::new(output, Watch::new(alloc, text, explained));
-    let mut output = CountingWriter::new(watcher);
+        Script::Input(reader) => {
+            let heard = RefCell::new(Heard::new(alloc));
+            let script = Script::Input(Listener::new(reader, &heard));
+            let watch = Watch::new(alloc, Text::Heard(&heard), head, errors);
+            run_under(alloc, asked, image, runner, files, script, output, watch)
+        }
+    }
+}
+
+/// The same, under a watch that is made.
+fn run_under<'a, S: ScriptRunner, F: FileStore, R: Read + Drop, W: Write + Drop, E: Write + Drop>(
+    alloc: Global,
+    asked: &RunFiles<'a>,
+    image: Rdram,
+    runner: &S,
+    files: &mut F,
+    script: Script<'_, R>,
+    output: W,
+    watch: Watch<'_, E>,
+) -> Result<(), Fault<'a>> {
+    let mut output = CountingWriter::new(Watcher::new(output, watch));
     let ended = if asked.is_strict {
         run_strictly(alloc, image, asked.save, runner, files, script, &mut output)
     } else {
         run_plainly(alloc, image, asked.save, runner, files, script, &mut output)
     };
-    output.writer().end();
+    let mut watcher = output.into_writer();
+    watcher.end();
     ended
 }
 

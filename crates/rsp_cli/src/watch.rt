@@ -81,8 +81,10 @@ pub(crate) struct Watch<'a, E> {
     left: usize,
     /// The line of the first fault, if it is known.
     first: Option<usize>,
-    /// How a line is named, and where the explanations go, if they are asked for.
-    explained: Option<(Head<'a>, &'a mut E)>,
+    /// How a line is named.
+    head: Head<'a>,
+    /// Where the explanations go, if they are asked for.
+    errors: Option<E>,
     /// How many faults were to be explained.
     count: u64,
 }
@@ -92,7 +94,8 @@ impl<'a, E: Write> Watch<'a, E> {
     pub(crate) fn new(
         alloc: Global,
         text: Text<'a>,
-        explained: Option<(Head<'a>, &'a mut E)>,
+        head: Head<'a>,
+        errors: Option<E>,
     ) -> Watch<'a, E> {
         Watch {
             alloc,
@@ -102,7 +105,8 @@ impl<'a, E: Write> Watch<'a, E> {
             length: 0,
             left: 0,
             first: None,
-            explained,
+            head,
+            errors,
             count: 0,
         }
     }
@@ -160,16 +164,17 @@ impl<'a, E: Write> Watch<'a, E> {
 
     /// Explains a fault, if that is asked for.
     fn explain(&mut self, place: Place<'_>) {
-        let alloc = self.alloc;
-        let reply = &self.reply[..self.length.min(LONGEST)];
-        let Some((head, errors)) = &mut self.explained else {
+        if self.errors.is_none() {
             return;
-        };
+        }
         self.count = self.count.saturating_add(1);
         if self.count > EXPLAINED {
             return;
         }
-        if let Ok(said) = explain_reply(alloc, *head, place, reply) {
+        let Ok(said) = explain_reply(self.alloc, self.head, place, self.reply()) else {
+            return;
+        };
+        if let Some(errors) = &mut self.errors {
             let _ = errors.write_all(said.as_str().as_bytes());
         }
     }
@@ -177,7 +182,7 @@ impl<'a, E: Write> Watch<'a, E> {
     /// Says how many faults aren't explained.
     fn end(&mut self) {
         let more = self.count.saturating_sub(EXPLAINED);
-        if let Some((_, errors)) = &mut self.explained {
+        if let Some(errors) = &mut self.errors {
             if more > 0 {
                 let _ = writeln!(errors, ".. and {more} more");
             }
