@@ -79,7 +79,7 @@ def test_instruction_that_is_not_there(folder: Path) -> None:
     wanted = f"120 cases and 0 programs: {counts['sra'][1]} differ, 0 of them by faults, 60 not there; "
     assert last.startswith(wanted)
     assert first in (folder / "table.html").read_text()
-    assert re.search(r"(?m)^SRA .*: status: expected 0, got 5", said), said
+    assert re.search(r"(?m)^SRA .*: status: expected 0, got 105", said), said
     assert re.search(r"(?m)^VADD +0 +0 +0 +0 +0$", said), said
     shown = campaign("python:emulator:Without", "--case", "VADD-g2-1-000003..000009").stdout
     assert shown == "7 done, 0 differ, 0 not shown, 7 not there\n"

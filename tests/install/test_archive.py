@@ -300,7 +300,7 @@ def write_crate(archive: Path, mine: Path) -> None:
     lines, code = re.findall(r"(?ms)^```toml\n(\[dependencies\]\n.*?)^```\n+```rust\n(.*?)\n```$", text)[0]
     (mine / "src").mkdir(parents=True)
     (mine / "Cargo.toml").write_text(CRATE + lines.replace("../rsp/", f"../{archive.name}/"))
-    (mine / "src/main.rs").write_text(f"fn main() -> Result<(), rsp::Refused> {{\n{code}\n    {SHOW}\n}}\n")
+    (mine / "src/main.rs").write_text(f"fn main() -> Result<(), rsp::RspError> {{\n{code}\n    {SHOW}\n}}\n")
 
 
 @pytest.mark.needs("cargo")

@@ -1,11 +1,13 @@
 """Programs over an installed library, as another project builds them."""
 
+import re
 import shutil
 from pathlib import Path
 
 from lib import TESTS, TOP
 from lib.library import LOCKSTEP
 from lib.processes import Ended, run, succeeds
+from rsp_tools.systems import header
 
 PROJECT = TESTS / "install/installation/CMakeLists.txt"
 EXAMPLE = TOP / "examples/c/lockstep.c"
@@ -34,6 +36,9 @@ def check_cmake(prefix: Path, folder: Path) -> None:
         program = made / name
         assert succeeds(program, cwd="/") == LOCKSTEP, name
         assert ("libbrsp" in succeeds("objdump", "-p", program)) == (name == "shared")
-    for asked in "2.0", "1.99", "0.9":
-        (folder / PROJECT.name).write_text(PROJECT.read_text().replace("rsp 1.0", f"rsp {asked}"))
+    major, minor = map(int, header.version().split(".")[:2])
+    for asked in f"{major + 1}.0", f"{major}.{minor + 1}":
+        text, count = re.subn(r"find_package\(brsp [\d.]+", f"find_package(brsp {asked}", PROJECT.read_text())
+        assert count == 1
+        (folder / PROJECT.name).write_text(text)
         assert configured(prefix, folder, f"out-{asked}").returncode, f"version {asked} isn't refused"

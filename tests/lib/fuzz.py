@@ -28,7 +28,7 @@ EDITS: Dict[str, List[Edit]] = {
         Edit(MEMORIES, "return (span){ first, end - first };", "return (span){ first, end - first - 1 };"),
     ],
     "runner": [
-        Edit(RUNNER, "p.bank > 2 || ", ""),
+        Edit(RUNNER, "p.bank > 3 || ", ""),
         Edit(RUNNER, " || p.length > length_of(p.bank) - p.address", ""),
         Edit(RUNNER, " || h.size > (size_t)(file->end - file->at)", ""),
     ],

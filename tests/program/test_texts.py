@@ -282,7 +282,7 @@ jalr $99
 addu
 j nowhere
 """
-EXPLAINED = (
+EXPLAINED: tuple[tuple[str, list[int], list[str]], ...] = (
     ("2: fault 12 BadOperand line 2", [2, 3], ["$v3"]),
     ("4: fault 12 BadOperand line 4", [1, 2], ["a number, a label, or a label + or - a number"]),
     ("5: fault 14 LabelTwice line 5", [], []),

@@ -670,14 +670,14 @@ class Machine(_Owner):
         """A savestate: all registers and memories as bytes, which are the same in every language."""
         length = self.image_length
 
-        def read(at: int) -> bytes:
+        def _read(at: int) -> bytes:
             state, parts = unset(State), [(ctypes.c_uint8 * it)() for it in (4096, 4096, length)]
             _ok(_lib.brsp_get(at, byref(state)), "save_state")
             for bank, part in enumerate(parts):
                 _ok(_lib.brsp_memory(at, bank, 0, part, len(part)), "save_state")
             return _savestate.saved(bytes(state), *map(bytes, parts))
 
-        return self._alone("save_state", read)
+        return self._alone("save_state", _read)
 
     def load_state(self, data: bytes) -> None:
         """Sets all registers and memories from a savestate, and empties the history. Breakpoints and watches
@@ -693,12 +693,12 @@ class Machine(_Owner):
             told = _in_words.state_fault(field, state) if field else "byte 705 isn't 0"
             raise RspError(Status.OUT_OF_RANGE, f"load_state: {told}")
 
-        def write(at: int) -> None:
+        def _write(at: int) -> None:
             _ok(_lib.brsp_set(at, byref(state)), "load_state")
             for bank, part in enumerate(_savestate.memories_of(raw)):
                 _ok(_lib.brsp_load(at, bank, 0, part, len(part)), "load_state")
 
-        self._alone("load_state", write)
+        self._alone("load_state", _write)
 
     def start_task(self, address: int) -> None:
         """Starts the task whose structure of 64 bytes is at an address of RDRAM, a multiple of 8, and empties

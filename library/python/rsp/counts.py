@@ -14,6 +14,7 @@ import re
 import sys
 from collections import Counter
 from pathlib import Path
+from typing import Counter as CounterOf
 from typing import Dict, Iterator, List, NamedTuple, Tuple
 
 import rsp
@@ -29,7 +30,7 @@ class Counted(NamedTuple):
     their address and the word there, `blocks` all words of its blocks, and `faults` the replies that refuse a
     line, each with the line's number."""
 
-    steps: "Counter[Place]"
+    steps: CounterOf[Place]
     labels: Dict[Place, str]
     blocks: List[Place]
     faults: List[str]

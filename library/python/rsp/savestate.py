@@ -1,7 +1,7 @@
 """A whole machine as a string of bytes, the same in each language: conformance/FORMS.md lists them."""
 
 import struct
-from typing import Optional
+from typing import Optional, Tuple
 
 MAGIC, VERSION = b"RSPS", 1
 _STATE = "32I280H6B5H17I"  # the numbers of a state, which has no gaps
@@ -38,7 +38,7 @@ def state_of(data: bytes) -> bytes:
     return struct.pack("=" + _STATE, *numbers)
 
 
-def memories_of(data: bytes) -> "tuple[bytes, bytes, bytes]":
+def memories_of(data: bytes) -> Tuple[bytes, bytes, bytes]:
     """DMEM, IMEM and the image."""
     at = _AT_MEMORIES
     return data[at : at + _MEMORY], data[at + _MEMORY : _BEFORE_IMAGE], data[_BEFORE_IMAGE:]

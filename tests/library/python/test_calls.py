@@ -87,7 +87,8 @@ CALLS: Dict[str, Tuple[Any, ...]] = {
     "set_sp": (rsp.SpWords(),), "listing": (0, 1), "event": (1,), "pass_dma": (), "history": (), "close": (),
 }  # fmt: skip
 OF_A_SESSION: Dict[str, Tuple[Any, ...]] = {"feed": ("step\n",), "end": (), "close": ()}
-NO_CALL = {"iter_trace", "memory_array", "iter_feed", "save_state", "load_state"}  # these are made of other calls
+# Those that are made of other calls.
+NO_CALL = {"iter_trace", "memory_array", "iter_feed", "save_state", "load_state"}
 
 
 def names_of(kind: type) -> Set[str]:

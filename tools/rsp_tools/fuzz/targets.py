@@ -9,7 +9,8 @@ from rsp_tools.systems.toolchain import Word, call
 
 # The calls of the program in C that go to fuzz/program.c.
 CAUGHT = """
-exit read write open close fsync isatty lstat access fchown fchmod rename unlink malloc calloc brsp_session_new main
+exit read write open close fsync isatty lstat access fchown fchmod rename unlink malloc calloc
+brsp_session_new main
 """
 
 

@@ -45,4 +45,6 @@ def in_source(file: File, release: About) -> File:
     """A file of the repository; the README gets a section on the archive."""
     if file.name != "README.md" or isinstance(file.data, str):
         return file
-    return file._replace(data=file.data + page("source", release, []).data)
+    more = page("source", release, []).data
+    assert isinstance(more, bytes)
+    return file._replace(data=file.data + more)
