@@ -41,7 +41,7 @@ FILES = {
     "share/fish/vendor_completions.d/rsp.fish",
 }
 FULL_DISK = """
-mount -t tmpfs -o size=64k none "$1" || exit 9
+mount -t tmpfs -o size=160k none "$1" || exit 9
 "$0" "$1"; ended=$?; find "$1" -type f; exit $ended
 """
 
@@ -106,6 +106,26 @@ def test_second_install(own: Path) -> None:
         assert files_below(own) == found | {"lib/mine"}
         assert header.read_text() == HEADER
         assert os.fstat(old.fileno()).st_ino != (own / "lib" / SONAME).stat().st_ino
+
+
+def test_uninstall(own: Path) -> None:
+    """It removes what was installed, and nothing else."""
+    count = len(files_below(own))
+    (own / "lib/mine").write_text("mine\n")
+    said = succeeds(INSTALL, own, "--uninstall")
+    assert files_below(own) == {"lib/mine"} and not (own / "lib/cmake/brsp").exists()
+    assert said == f"library/c/install: removed {count} files from {own}\n"
+
+
+def test_package_of_a_distribution(library: Path, folder: Path) -> None:
+    """DESTDIR is where the files go, and PREFIX what brsp.pc names, without an rpath."""
+    where = {**os.environ, "DESTDIR": str(folder / "package")}
+    succeeds(INSTALL, "/usr", "--no-rpath", env=where)
+    assert files_below(folder / "package/usr") - {"bin/rsp"} == FILES
+    described = (folder / "package/usr/lib/pkgconfig/brsp.pc").read_text()
+    assert described.startswith("prefix=/usr\n") and "rpath" not in described
+    succeeds(INSTALL, "/usr", "--uninstall", env=where)
+    assert files_below(folder / "package") == set()
 
 
 def test_folder_in_the_place_of_a_file(own: Path) -> None:
@@ -185,7 +205,7 @@ def test_dlopen(prefix: Path, folder: Path) -> None:
 def test_two_libraries_in_one_program(library: Path, folder: Path) -> None:
     """libbrsp.a beside its code as `rt lib` leaves it, like any library of the kit, with calls other_*."""
     heap = Path(succeeds("rt", "doc").strip()).parent / "c/liblibc_c.a"
-    names = [f"--redefine-sym={it}=other{it[3:]}" for it in CALLS]
+    names = [f"--redefine-sym={it}=other{it[4:]}" for it in CALLS]
     succeeds("objcopy", *names, TOP / "crates/rsp_c/out/librsp_c.a", folder / "other.a")
     libraries = (library / "libbrsp.a", folder / "other.a", heap)
     whole = ("-Wl,--whole-archive", *libraries, "-Wl,--no-whole-archive")

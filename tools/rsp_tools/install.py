@@ -1,4 +1,4 @@
-"""library/c/install PREFIX: installs the library below the folder PREFIX.
+"""library/c/install PREFIX [--no-rpath | --uninstall]: installs the library below the folder PREFIX.
 
 library/c/build builds it first, if it isn't built. It fails at the first file that can't be written.
 
@@ -14,7 +14,8 @@ library/c/build builds it first, if it isn't built. It fails at the first file t
   PREFIX/bin/rsp                   if ./rsp has built the program
 
 pkg-config reads the variable PKG_CONFIG_PATH, and cmake takes -DCMAKE_PREFIX_PATH=PREFIX. A second install
-replaces the first one. To remove an installation, delete these files.
+replaces the first one. For packages of a distribution the files go below DESTDIR, if the variable is set,
+while PREFIX remains what they name.
 """
 
 import argparse
@@ -28,6 +29,7 @@ from pathlib import Path
 from typing import List, NoReturn, Optional
 
 from rsp_tools import TOP
+from rsp_tools.packaging import install_tree
 from rsp_tools.packaging.install_tree import File, contents
 from rsp_tools.packaging.link import linked_program
 
@@ -63,15 +65,37 @@ def install(prefix: Path, files: List[File]) -> None:
         fail(f"cannot write {path}: {fault.strerror}")
 
 
+def uninstall(prefix: Path) -> int:
+    """Removes each file of an installation that is there, and the folder that is its own. How many files."""
+    found = [path for it in install_tree.names() if os.path.lexists(path := prefix / it)]
+    path = prefix
+    try:
+        for path in found:
+            path.unlink()
+        path = prefix / "lib/cmake/brsp"
+        if path.is_dir() and not any(path.iterdir()):
+            path.rmdir()
+    except OSError as fault:
+        fail(f"cannot remove {path}: {fault.strerror}")
+    return len(found)
+
+
 def main() -> None:
     signal.signal(signal.SIGINT, lambda *_: sys.exit(130))
     form = argparse.RawDescriptionHelpFormatter
     words = argparse.ArgumentParser(prog=NAME, description=__doc__, formatter_class=form)
     words.add_argument("prefix", metavar="PREFIX")
-    given = words.parse_args().prefix
-    if not given:
+    kinds = words.add_mutually_exclusive_group()
+    kinds.add_argument("--no-rpath", action="store_true", help="leave the rpath out of brsp.pc")
+    kinds.add_argument("--uninstall", action="store_true", help="remove the files of an installation")
+    given = words.parse_args()
+    if not given.prefix:
         words.error("PREFIX is empty")
-    prefix = os.path.abspath(given)
+    prefix = os.path.abspath(given.prefix)
+    to = Path(os.environ.get("DESTDIR", "") + prefix)
+    if given.uninstall:
+        print(f"{NAME}: removed {uninstall(to)} files from {to}")
+        return
     bad = re.findall(r"[^\w/.,:@%+=~ -]", prefix)
     if bad:
         fail(
@@ -80,10 +104,11 @@ def main() -> None:
     if subprocess.run([TOP / "library/c/build"]).returncode:
         fail("library/c/build has built no library")
     os.umask(0o022)  # what root installs others read, whatever the umask of root's shell
-    files = list(contents(prefix.replace(" ", "\\ "), program()))
-    install(Path(prefix), files)
+    rpath = "" if given.no_rpath else install_tree.RPATH
+    files = list(contents(prefix.replace(" ", "\\ "), program(), rpath))
+    install(to, files)
     more = "" if files[-1].name == "bin/rsp" else ", without the program, which ./rsp builds"
-    print(f"{NAME}: {len(files)} files in {prefix}{more}")
+    print(f"{NAME}: {len(files)} files in {to}{more}")
 
 
 if __name__ == "__main__":

@@ -2,7 +2,7 @@
 
 import os
 from pathlib import Path
-from typing import Iterator, NamedTuple, Optional, Tuple, Union
+from typing import Iterator, List, NamedTuple, Optional, Tuple, Union
 
 from rsp_tools import TOOLS, TOP
 from rsp_tools.systems import header
@@ -23,6 +23,7 @@ exit $ended
 
 
 SHARE = TOOLS / "packaging/share"
+HEADERS = ("brsp.h", "brsp.hpp", "brsp_compare.h", "brsp_savestate.h")
 RPATH = " -Wl,-rpath,${libdir}"
 # What pkg-config and CMake read, and the templates in tools/packaging.
 TEMPLATES = {
@@ -80,10 +81,18 @@ def soname() -> str:
     return f"libbrsp.so.{header.interface()}"
 
 
-def contents(prefix: str, program: Optional[bytes]) -> Iterator[File]:
-    """Each file. `prefix` is what brsp.pc says, and `program` the bytes of the program, if there is one."""
+def names() -> List[str]:
+    """The names of all files that an installation may have."""
+    libraries = ("lib/libbrsp.a", f"lib/{soname()}", "lib/libbrsp.so")
+    shares = (it.name for it in shared())
+    return [*(f"include/{it}" for it in HEADERS), *libraries, *TEMPLATES, *shares, "bin/rsp"]
+
+
+def contents(prefix: str, program: Optional[bytes], rpath: str = RPATH) -> Iterator[File]:
+    """Each file. `prefix` and `rpath` are what brsp.pc says, and `program` the bytes of the program, if there
+    is one."""
     library = TOP / "library/c"
-    for name in "brsp.h", "brsp.hpp", "brsp_compare.h", "brsp_savestate.h":
+    for name in HEADERS:
         yield File(f"include/{name}", (library / name).read_bytes())
     yield File("lib/libbrsp.a", (library / "libbrsp.a").read_bytes())
     yield File(f"lib/{soname()}", (library / soname()).read_bytes(), True)
@@ -91,7 +100,7 @@ def contents(prefix: str, program: Optional[bytes]) -> Iterator[File]:
     system, processors = NATIVE.cmake
     words = {"LIBRARY": soname(), "SONAME": soname(), "SYSTEM": system, "PROCESSORS": processors}
     for name, template in TEMPLATES.items():
-        text = header.filled(TOOLS / "packaging" / template, PREFIX=prefix, RPATH=RPATH, **words)
+        text = header.filled(TOOLS / "packaging" / template, PREFIX=prefix, RPATH=rpath, **words)
         yield File(name, text.encode(errors="surrogateescape"))
     yield from shared()
     if program:
