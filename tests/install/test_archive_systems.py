@@ -59,6 +59,9 @@ MADE = {
     "macos": "lib/libbrsp.a lib/libbrsp.dylib lib/pkgconfig/brsp.pc",
     "windows-x86_64": "lib/libbrsp.a lib/libbrsp.dll.a lib/brsp.lib lib/brsp_static.lib "
     "bin/brsp.dll bin/rsp.exe lib/pkgconfig/brsp.pc",
+    "vendor": "CMakeLists.txt include/brsp.h include/brsp.hpp include/brsp_compare.h program/main.c "
+    "program/texts.h src/Linux-x86_64.s src/Linux-aarch64.s src/Windows-x86_64.s src/Darwin-x86_64.s "
+    "src/Darwin-arm64.s",
     "wasm64": "package.json rsp.js rsp.d.ts rsp.wasm",
     "page": "index.html",
 }
@@ -68,6 +71,7 @@ MORE = {
     "library/rust/lib/x86_64-apple-darwin/libbrsp.a",
     "windows-x86_64": f"{COMMON} {SHELLS} library/rust/lib/x86_64-pc-windows-gnu/libbrsp.a "
     "library/rust/lib/x86_64-pc-windows-msvc/brsp_static.lib",
+    "vendor": "README.md CHANGELOG.md SHA256SUMS docs/EMBEDDING.md examples/c/console.hpp examples/first.rsp",
     "wasm64": "README.md CHANGELOG.md SHA256SUMS docs/EMBEDDING.md examples/js/lockstep.js microcode/copy.s",
     "page": "README.md CHANGELOG.md SHA256SUMS",
 }

@@ -82,6 +82,7 @@ CROSS: Tuple[Target, ...] = (
         python="darwin",
         wheel=("macosx_11_0_universal2",),
     ),
+    Target(name="vendor"),
     Target(name="wasm64", ending="tgz"),
 )
 PAGE = Target(name="page", ending="zip")

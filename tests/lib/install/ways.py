@@ -269,6 +269,8 @@ WAYS = (
         prints="ok 1024 words\nok 2 words\nstop Halted steps 3 pc 7f4",
     ),
     Way("docs/SYSTEMS.md", "library/c/build", left_out="it needs the repository and the kit"),
+    Way("docs/GDB.md", "python3 examples/", left_out="tests/library/python/test_gdb.py types the page"),
+    Way("docs/SYSTEMS.md", "DESTDIR=", left_out="tests/install/test_installation.py installs a package"),
     Way(
         "conformance/README.md",
         "cc -O2 -c ",

@@ -3,7 +3,7 @@ the parts of the repository that serve there."""
 
 import tempfile
 from pathlib import Path
-from typing import Callable, Iterator
+from typing import Callable, Iterator, Mapping, Sequence
 
 from rsp_tools.packaging import install_tree, repository
 from rsp_tools.packaging.release_info import About
@@ -17,7 +17,11 @@ library/c/brsp.h library/c/brsp.hpp library/c/brsp_compare.h library/c/brsp_save
 library/python/README.md library/rust docs examples microcode CHANGELOG.md
 """.split()
 NOT_THERE = "docs/PLUGIN.md"
-PARTS_OF_WASM = "docs examples microcode CHANGELOG.md".split()
+PARTS_OF: Mapping[str, Sequence[str]] = {
+    "wasm64": "docs examples microcode CHANGELOG.md".split(),
+    "vendor": "docs examples/c examples/first.rsp CHANGELOG.md".split(),
+    "page": ["CHANGELOG.md"],
+}
 # Rust 1.63 takes no library that is for two processors, as those for macOS are.
 THIN = {"aarch64-apple-darwin": "arm64", "x86_64-apple-darwin": "x86_64"}
 Thin = Callable[[Path, str], bytes]
@@ -48,8 +52,7 @@ def of_rust(system: str, folder: Path, thin: Thin) -> Iterator[File]:
 def contents(system: str, folder: Path, about: About, thin: Thin = thinned) -> Iterator[File]:
     """Each file of a system's archive but its README."""
     yield from of_folder(folder)
-    parts = {"wasm64": PARTS_OF_WASM, "page": ["CHANGELOG.md"]}.get(system, PARTS)
-    yield from (it for it in repository.of_systems(parts) if it.name != NOT_THERE)
+    yield from (it for it in repository.of_systems(PARTS_OF.get(system, PARTS)) if it.name != NOT_THERE)
     target = TARGETS[system]
     yield from of_rust(system, folder, thin)
     if target.program:

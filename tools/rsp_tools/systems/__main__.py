@@ -10,6 +10,8 @@ x86-64, or for those that are named.
   wasm64           library/systems/wasm64: rsp.wasm for browsers, Node 24 and Deno, with an ES module and its
                    types, as a package of npm; and of it library/systems/page, static files that answer
                    scripts in a browser
+  vendor           library/systems/vendor: the library as assembly for Linux and macOS on x86-64 and ARM, and
+                   for Windows, with a CMakeLists.txt: gcc or clang build it without the kit
 
 It wants a clone whose library is built (library/c/build), for linux-aarch64 also the program (./rsp run), the
 kit, and packages of Debian that it names. Each system takes some minutes of processor. The same sources of
@@ -29,7 +31,7 @@ from typing import Callable, Dict, Mapping, NamedTuple, Tuple
 
 from rsp_tools.targets import CROSS, Target
 
-from . import linux, macos, manual, web_page, places, wasm, windows
+from . import linux, macos, manual, vendor, web_page, places, wasm, windows
 from .modules import Source, module
 from .toolchain import Refused, missing
 
@@ -50,6 +52,7 @@ def system_of(target: Target) -> System:
     return {
         "windows-x86_64": System(windows.make, (target.compiler,)),
         "macos": System(macos.make),
+        "vendor": System(vendor.make),
         "wasm64": System(wasm.make, (manual.CONVERTER,), more={"page": web_page.make}),
     }[target.name]
 

@@ -134,7 +134,7 @@ def module(target: str) -> Module:
     if not is_kept(kept, made_of):
         with tempfile.TemporaryDirectory() as at:
             take(LIBRARY, target, Path(at))
-            as_text = ["-S", "-emit-llvm", "-O0", "-Wno-override-module"]
+            as_text = ["-S", "-emit-llvm", "-Xclang", "-disable-llvm-passes", "-Wno-override-module"]
             llvm("clang", "-x", "ir", Path(at, "module"), *as_text, "-o", Path(at, "module.ll"))
             names = {"module.ll": "module.ll", "module.words": "module.words", "librsp_c.a": "made"}
             keep(kept, made_of, {name: Path(at, made) for name, made in names.items()})

@@ -23,16 +23,18 @@ def heap(processor: str, to: Path) -> None:
     llvm("clang", *words, "-o", to, places.PARTS / "heap.c")
 
 
-def compiled(module: Module, processor: str, target: str, at: Path, changes: Iterable[Change] = ()) -> Path:
-    """An object for a target of clang, in which only the calls of brsp.h are to be seen. `at` is for files on
-    the way."""
-    text, made = at / f"{target}.ll", at / f"{target}.o"
+def compiled(
+    module: Module, processor: str, target: str, at: Path, changes: Iterable[Change] = (), kind: str = "-c"
+) -> Path:
+    """An object (or with `-S` its assembly) for a target of clang, in which only the calls of brsp.h are to
+    be seen. `at` is for files on the way."""
+    text, made = at / f"{target}.ll", at / f"{target}{'.o' if kind == '-c' else '.s'}"
     text.write_text(rewritten(module.text.read_text(), INTRINSICS[processor], changes))
     heap(processor, at / f"{target}-heap.bc")
     # What clang takes in by the first word isn't to be seen from outside. By the second it writes no time
     # into an object for Windows.
     inside = ["-Xclang", "-mlink-builtin-bitcode", "-Xclang", str(at / f"{target}-heap.bc")]
     same = "-mno-incremental-linker-compatible"
-    words = [f"--target={target}", "-x", "ir", "-c", *module.flags, *inside, same]
+    words = [f"--target={target}", "-x", "ir", kind, *module.flags, *inside, same]
     llvm("clang", *words, "-Wno-override-module", "-o", made, text)
     return made

@@ -3,7 +3,7 @@ for."""
 
 import json
 from pathlib import Path
-from typing import List, Sequence
+from typing import Dict, List, Sequence
 
 from rsp_tools import page_tables
 
@@ -19,16 +19,24 @@ def initializers(lines: Sequence[Sequence[object]]) -> str:
     return "".join(f"{{{','.join(map(json.dumps, line))}}}," for line in lines)
 
 
-def definitions() -> List[str]:
-    """The version, the texts of --help and the tables of --explain: those of the proved program, each in its
-    one place."""
+def texts() -> Dict[str, str]:
+    """The version, the texts of --help and the tables of --explain, as C has them: those of the proved
+    program, each in its one place."""
     given = {"VERSION": header.dated_version()}
     for it in ("rsp", "run", "asm", "dis"):
         given[f"HELP_{it.upper()}"] = (places.HELP / f"{it}.txt").read_text()
     given["INSTRUCTIONS"] = " ".join(it["Instruction"].lower() for it in page_tables.data("instructions"))
-    words = [f"-D{name}={json.dumps(text)}" for name, text in given.items()]
-    tables = {"COMMAND_FORMS": page_tables.command_forms(), "FAULT_TEXTS": page_tables.fault_texts()}
-    return words + [f"-D{name}={initializers(lines)}" for name, lines in tables.items()]
+    tables: Dict[str, Sequence[Sequence[object]]] = {
+        "COMMAND_FORMS": page_tables.command_forms(),
+        "FAULT_TEXTS": page_tables.fault_texts(),
+    }
+    strings = {name: json.dumps(text) for name, text in given.items()}
+    return {**strings, **{name: initializers(lines) for name, lines in tables.items()}}
+
+
+def definitions() -> List[str]:
+    """The words of a compiler that define these."""
+    return [f"-D{name}={value}" for name, value in texts().items()]
 
 
 def link(compiler: str, kind: str, to: Path, *words: Word) -> None:

@@ -1,0 +1,199 @@
+"""The library in another project's CMake: from a clone, and from the archive that builds without the kit.
+
+The archive is that of --archive; `./release --systems vendor` makes it.
+"""
+
+import os
+import re
+import shutil
+from pathlib import Path
+from typing import Iterator
+
+import pytest
+
+from lib import TESTS, TOP
+from lib.cmake import EXAMPLE
+from lib.install.unpacked import check_common, given, unpacked
+from lib.library import LOCKSTEP
+from lib.pages import page
+from lib.packages import need
+from lib.processes import STRICT, bytes_of, compiled, run, succeeds
+from lib.systems.kinds import KINDS
+from lib.systems.runners import Runner, see_passed
+from measure import LIBRARY
+from measure.speed import LOOPS, code, figure
+from rsp_tools.systems import header
+from rsp_tools.systems.toolchain import llvm
+
+outside = pytest.mark.outside("it tests the archive for other projects: `--archive dist`")
+# A project that has the folder as `rsp` beside it.
+PROJECT = """cmake_minimum_required(VERSION 3.13)
+project(mine C)
+{how}
+add_executable(lockstep lockstep.c)
+target_link_libraries(lockstep PRIVATE brsp::brsp)
+"""
+SUBDIRECTORY = "add_subdirectory(rsp)"
+FETCHED = "include(FetchContent)\nFetchContent_Declare(brsp URL {0})\nFetchContent_MakeAvailable(brsp)"
+
+
+def project(folder: Path, how: str = SUBDIRECTORY) -> Path:
+    """A folder with a project that takes the library in this way."""
+    folder.mkdir(parents=True, exist_ok=True)
+    shutil.copy(EXAMPLE, folder)
+    (folder / "CMakeLists.txt").write_text(PROJECT.format(how=how))
+    return folder
+
+
+def built(folder: Path, *words: str) -> Path:
+    """The folder in which CMake has built a project, with these words."""
+    succeeds("cmake", "-S", folder, "-B", folder / "out", *words)
+    succeeds("cmake", "--build", folder / "out")
+    return folder / "out"
+
+
+@pytest.mark.needs("cmake", "make")
+def test_clone(library: Path, folder: Path) -> None:
+    """add_subdirectory of a clone gives its library; without that, or for another system, one sentence."""
+    mine = project(folder / "a project")
+    (mine / "rsp/library/c").mkdir(parents=True)
+    shutil.copy(TOP / "CMakeLists.txt", mine / "rsp")
+    shutil.copy(library / "brsp.h", mine / "rsp/library/c")
+    refused = run("cmake", "-S", mine, "-B", mine / "unbuilt")
+    assert refused.returncode and "type library/c/build in" in " ".join(refused.stdout.split())
+    other = run(
+        "cmake",
+        "-S",
+        mine,
+        "-B",
+        mine / "other",
+        "-DCMAKE_SYSTEM_NAME=Linux",
+        "-DCMAKE_SYSTEM_PROCESSOR=mips",
+    )
+    assert other.returncode and "x86-64 only" in other.stdout
+    shutil.copy(library / "libbrsp.a", mine / "rsp/library/c")
+    assert succeeds(built(mine) / "lockstep") == LOCKSTEP
+
+
+@pytest.fixture
+def packed(request: pytest.FixtureRequest) -> Path:
+    found = given(request.config, "vendor")
+    if not found:
+        pytest.skip("--archive names none for vendor: `./release --systems vendor` makes one")
+    return found[0]
+
+
+@pytest.fixture
+def top(packed: Path, folder: Path) -> Path:
+    """The unpacked archive, in a folder with a blank in its name."""
+    (folder / "a folder").mkdir()
+    return unpacked(packed, folder / "a folder")
+
+
+@outside
+@pytest.mark.needs("cmake", "make", "gcc", "clang")
+@pytest.mark.parametrize("compiler", ["gcc", "clang"])
+def test_builds(packed: Path, top: Path, folder: Path, compiler: str) -> None:
+    """With one compiler, which sees nothing else: add_subdirectory, FetchContent, and the program."""
+    check_common(top)
+    words = (f"-DCMAKE_C_COMPILER={compiler}",)
+    mine = project(folder / "mine")
+    top.rename(mine / "rsp")
+    assert succeeds(built(mine, *words) / "lockstep") == LOCKSTEP
+    fetched = project(folder / "fetched", FETCHED.format(packed))
+    assert succeeds(built(fetched, *words) / "lockstep") == LOCKSTEP
+    program = built(mine / "rsp", *words) / "rsp"
+    first = bytes_of(program, ["run"], page("examples/first.rsp").encode())
+    assert first.stdout == page("examples/first.out").encode()
+
+
+@outside
+@pytest.mark.needs("cmake", "make")
+def test_builds_anew(top: Path, folder: Path) -> None:
+    """After an update whose files are older than what was built, CMake assembles the new file."""
+    mine = project(folder / "mine")
+    top.rename(mine / "rsp")
+    built(mine)
+    (source,) = (mine / "rsp/src").glob("Linux-x86_64.s")
+    before = source.stat()
+    source.write_text("nothing that an assembler takes\n")
+    os.utime(source, (before.st_atime, before.st_mtime - 1000))
+    succeeds("cmake", "-S", mine, "-B", mine / "out")
+    assert run("cmake", "--build", mine / "out").returncode
+
+
+@outside
+@pytest.mark.needs("cmake")
+def test_refuses(top: Path, folder: Path) -> None:
+    """Another processor gets one sentence that lists those that are there."""
+    words = ("-DCMAKE_SYSTEM_NAME=Linux", "-DCMAKE_SYSTEM_PROCESSOR=riscv64")
+    ended = run("cmake", "-S", top, "-B", folder / "out", *words)
+    assert ended.returncode and "there is no file for Linux-riscv64" in " ".join(ended.stdout.split())
+
+
+class Vendored:
+    """Compiles programs of tests over a file of src/, as a runner of another system does."""
+
+    def __init__(self, runner: Runner, source: Path) -> None:
+        self.runner = runner
+        self.library = [str(runner.at / "brsp.o")]
+        succeeds(runner.compiler, "-c", source, "-o", self.library[0])
+
+    def passes(self, name: str, *words: str) -> None:
+        source = TESTS / f"library/c/{name}.c"
+        made = self.runner.compile(source, *words, library=[*self.library, *self.runner.threads])
+        ended = self.runner.run(made)
+        see_passed(ended.stdout)
+
+
+@pytest.fixture
+def vendored(request: pytest.FixtureRequest, top: Path, folder: Path) -> Iterator[Vendored]:
+    name, source = request.param
+    kind = KINDS.get(name, Runner)
+    need(*kind.programs)
+    at = folder / "programs"
+    at.mkdir()
+    runner = kind(top, at)
+    yield Vendored(runner, top / "src" / source)
+    runner.stop()
+
+
+ON = [("", "Linux-x86_64.s"), ("linux-aarch64", "Linux-aarch64.s"), ("windows-x86_64", "Windows-x86_64.s")]
+
+
+@outside
+@pytest.mark.timeout(1800)
+@pytest.mark.parametrize("vendored", ON, ids=[it[1] for it in ON], indirect=True)
+@pytest.mark.parametrize("name", ["calls", "owner", "threads"])
+def test_calls(vendored: Vendored, name: str) -> None:
+    vendored.passes(name)
+
+
+@outside
+@pytest.mark.needs("rt")
+@pytest.mark.parametrize("name", ["Darwin-arm64", "Darwin-x86_64"])
+def test_macos_is_assembled(top: Path, folder: Path, name: str) -> None:
+    """The kit's assembler takes the file, and the object has the calls of brsp.h. Nothing runs it here."""
+    target = f"{name.removeprefix('Darwin-')}-apple-macosx11.0"
+    llvm("clang", f"--target={target}", "-c", top / "src" / f"{name}.s", "-o", folder / "made.o")
+    named = llvm("llvm-nm", "-g", "--defined-only", folder / "made.o")
+    assert {*re.findall(r" T _(\w+)$", named, re.M)} == {*header.calls()}
+
+
+@outside
+@pytest.mark.needs("valgrind")
+def test_speed(library: Path, top: Path, folder: Path) -> None:
+    """A step takes as many host instructions as with libbrsp.a, within 2 percent."""
+    succeeds("cc", "-c", top / "src/Linux-x86_64.s", "-o", folder / "brsp.o")
+    programs = [
+        compiled(folder / f"speed-{it.stem}", *STRICT, TOP / "measure/speed.c", it)
+        for it in (LIBRARY, folder / "brsp.o")
+    ]
+    for name in LOOPS:
+        text = "".join(f".word 0x{word}\n" for word in code(name).hex(" ", 4).split())
+
+        def counted(program: Path) -> float:
+            return figure(lambda steps: ([program, "run", 0, steps, text], b""), 20_000, 60_000)
+
+        ours, others = map(counted, programs)
+        assert others == pytest.approx(ours, rel=0.02), name
