@@ -9,7 +9,8 @@ from typing import Dict, NamedTuple, Tuple
 
 from . import macos, packages, places, program
 from .header import filled
-from .modules import TARGETS, Source, module
+from .modules import TARGETS, Source
+from .modules import module as module_of
 from .objects import compiled
 from .rewriting import STACK_PROBES, UNWIND_TABLES, Change
 from .windows import GNU
@@ -34,12 +35,20 @@ FILES: Dict[str, Assembly] = {
 }
 
 
+# What GNU's assembler lacks: the first lets lld merge functions, the others say where an epilogue is, which
+# no table of frames of this version holds.
+LACKING = (".addrsig", ".seh_startepilogue", ".seh_endepilogue")
+
+
 def assembly(name: str, at: Path, source: Source) -> str:
-    """The text of a file. GNU's assembler lacks `.addrsig`, which only lets lld merge functions."""
+    """The text of a file. For Windows GNU's assembler can't read a section for each function."""
     processor, target, changes = FILES[name]
-    made = compiled(source(processor), processor, target, at, changes, kind="-S")
+    module = source(processor)
+    if target == GNU:
+        module = module._replace(flags=[it for it in module.flags if not it.endswith("-sections")])
+    made = compiled(module, processor, target, at, changes, kind="-S")
     lines = made.read_text().splitlines(keepends=True)
-    return "".join(it for it in lines if not it.lstrip().startswith(".addrsig"))
+    return "".join(it for it in lines if not it.lstrip().startswith(LACKING))
 
 
 def copy_program(out: Path) -> None:
@@ -50,7 +59,7 @@ def copy_program(out: Path) -> None:
     (out / "texts.h").write_text("".join(lines))
 
 
-def make(out: Path, at: Path, source: Source = module) -> None:
+def make(out: Path, at: Path, source: Source = module_of) -> None:
     """Writes the folder: src/, include/, program/ and CMakeLists.txt. `at` is for files on the way."""
     for folder in ("src", "program"):
         (out / folder).mkdir(parents=True)
