@@ -84,7 +84,9 @@ def test_instruction_that_is_not_there(folder: Path) -> None:
     shown = campaign("python:emulator:Without", "--case", "VADD-g2-1-000003..000009").stdout
     assert shown == "7 done, 0 differ, 0 not shown, 7 not there\n"
     shown, done = campaign("python:emulator:Without", "--case", "VADD-g2-1-000003").stdout.splitlines()
-    assert re.fullmatch(rf"VADD-g2-1-000003 \(vadd .* at \w+\): not there, {why} \(status 5\)", shown), shown
+    assert re.fullmatch(
+        rf"VADD-g2-1-000003 \(vadd .* at \w+\): not there, {why} \(status 105\)", shown
+    ), shown
     assert done == "1 done, 0 differ, 0 not shown, 1 not there"
 
 

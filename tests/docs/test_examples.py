@@ -99,7 +99,7 @@ def test_idioms() -> None:
     (
         ("step", "step Done pc 004", ""),
         ("step", "step Done pc 008", "> step Done pc 004"),
-        ("foo", "fault 30 BadCommand", "rsp: faults in replies: 1, the first: fault 30 BadCommand"),
+        ("foo", "fault 30 BadCommand", "rsp: faults in replies: 1, the first in line 1: fault 30 BadCommand"),
     ),
     ids=("as expected", "another reply", "a fault"),
 )

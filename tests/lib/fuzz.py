@@ -33,9 +33,7 @@ EDITS: Dict[str, List[Edit]] = {
         Edit(RUNNER, " || h.size > (size_t)(file->end - file->at)", ""),
     ],
     "program": [
-        Edit(
-            f"{PROGRAM}/run.c", "brsp_session_take(session, piece + at,", "brsp_session_take(session, piece,"
-        ),
+        Edit(f"{PROGRAM}/run.c", "(session, script.at + from,", "(session, script.at,"),
         Edit(f"{PROGRAM}/disassemble.c", "if (len > 4096 - origin || len % 4)", "if (len > 4096 - origin)"),
         Edit(f"{PROGRAM}/arguments.c", "char missing[64]", "char missing[16]"),
     ],

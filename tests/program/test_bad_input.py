@@ -292,7 +292,8 @@ NAMED = {
     "dis {}": "rsp: cannot read {}",
     "dis source --at {}": "error: invalid value '{}' for '--at <ADDR>': not a multiple of 4 from 0 to 4092",
     "{}": "error: unrecognized subcommand '{}'",
-    "run {}": "error: unexpected argument '{}' found",
+    "run {}": "rsp: cannot read {}",
+    "run source {}": "error: unexpected argument '{}' found",
     "run --{}": "error: unexpected argument '--{}' found",
     "run --strict={}": "error: unexpected value '{}' for '--strict' found; no more were expected",
 }

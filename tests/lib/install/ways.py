@@ -270,7 +270,7 @@ WAYS = (
     ),
     Way("docs/SYSTEMS.md", "library/c/build", left_out="it needs the repository and the kit"),
     Way("docs/GDB.md", "python3 examples/", left_out="tests/library/python/test_gdb.py types the page"),
-    Way("docs/SYSTEMS.md", "DESTDIR=", left_out="tests/install/test_installation.py installs a package"),
+    Way("docs/SCRIPT.md", "echo 'mem dmem", left_out="tests/program/test_keyboard.py runs such scripts"),
     Way(
         "conformance/README.md",
         "cc -O2 -c ",
