@@ -91,7 +91,7 @@ def print_seconds(bench: Bench) -> None:
         ]
         for _ in range(3)
     ]
-    ours, others = map(min, zip(*times))
+    ours, others = (min(column) for column in zip(*times))
     print(f"the plugin {ours:.2f} s, z64 {others:.2f} s: z64 takes {others / ours:.2f} times as long")
 
 

@@ -194,7 +194,7 @@ def print_times(program: Path) -> None:
 
 
 # The tables: what prints one, what it needs, and what --help says.
-TABLES = {
+TABLES: Dict[str, Tuple[Callable[[Path], None], Sequence[str], str]] = {
     "steps": (print_steps, ("cc", "valgrind"), "steps, and lines of scripts (unless another is named)"),
     "lines": (print_lines, ("valgrind",), "lines of scripts alone"),
     "z64": (print_z64, ("valgrind", z64.PLUGIN), "steps of the same loops on z64"),
