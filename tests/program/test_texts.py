@@ -16,7 +16,7 @@ from unittest import mock
 import pytest
 
 from lib import TOP
-from lib.numbers import clamped, halves
+from lib.fixed_point import clamp, read_halves
 from lib.pages import block_with, page, tables
 from lib.processes import compiled, run
 
@@ -574,8 +574,8 @@ def test_task_of_page(files: Files) -> None:
     subprocess.run([sys.executable, "-c", block], cwd=files.folder, check=True)
     told = files.replies("task 0x100\nrun 1000000\nmem rdram 0x8000 16\n", "--rdram", "image")
     assert told.startswith("ok\nstop Halted")
-    sums = [clamped(a + b) for a, b in zip(halves(data, 0), halves(data, 16))]
-    assert halves(bytes.fromhex(told.split(": ")[-1]), 0) == sums
+    sums = [clamp(a + b) for a, b in zip(read_halves(data, 0), read_halves(data, 16))]
+    assert read_halves(bytes.fromhex(told.split(": ")[-1]), 0) == sums
     assert len(block.strip().splitlines()) <= 12, "the page has more lines than it says"
 
 
