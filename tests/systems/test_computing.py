@@ -18,7 +18,7 @@ import pytest
 import rsp
 from lib import TESTS, TOP
 from lib.systems.browser import Chromium
-from lib.systems.kinds import KINDS, on
+from lib.systems.target_params import KINDS, on
 from lib.systems.node import Node
 from lib.systems.runners import Native, Runner
 from rsp_conformance import bench, library_states, steps

@@ -8,7 +8,7 @@ from typing import Callable
 import pytest
 
 from lib.systems.browser import Server
-from lib.systems.page import Host, Page, linked, the
+from lib.systems.page_driver import Host, Page, linked, the
 from rsp_tools.systems import web_page as pages
 from rsp_tools.systems.toolchain import Refused
 
