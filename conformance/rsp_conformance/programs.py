@@ -1,5 +1,6 @@
 """`programs`: whole programs for machines that can only run microcode. Each holds many cases of one
-instruction, and stores what they left.
+instruction, and stores what they left. Each case has its own copy of the code around it, which sets and
+saves the registers: with a loop or a call, the cases of every instruction would depend on branches.
 
 This file writes their text and their data; run_programs.py runs them.
 """
