@@ -177,6 +177,6 @@ def state_parts(state: Any) -> Named:
     )
 
 
-def line(parts: Named) -> str:
+def line(parts: Iterable[Tuple[str, int, int]]) -> str:
     """Names with their values in one line."""
     return " ".join(f"{name} {value:0{digits}x}" for name, value, digits in parts)

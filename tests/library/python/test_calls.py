@@ -150,9 +150,9 @@ def test_closed_by_an_item(name: str, number: int) -> None:
 def test_handle_is_empty_meanwhile() -> None:
     """A short call that has passed the test just before a long one began finds no machine."""
     machine = loaded("nop\nbreak\n")
-    assert machine._alone("run", lambda at: rsp._quick.brsp_step(machine._at)) == Status.NO_MACHINE
-    assert machine._alone("run", lambda at: rsp._lib.brsp_step(at)) == Status.OK
-    raised(ZeroDivisionError, "", machine._alone, "run", lambda at: 1 // 0)
+    assert machine._call_alone("run", lambda at: rsp._quick.brsp_step(machine._at)) == Status.NO_MACHINE
+    assert machine._call_alone("run", lambda at: rsp._lib.brsp_step(at)) == Status.OK
+    raised(ZeroDivisionError, "", machine._call_alone, "run", lambda at: 1 // 0)
     assert machine.regs().pc == 4, "the machine is back"
 
 
