@@ -183,7 +183,7 @@ def test_source(path: Path) -> None:
 def test_names_and_version() -> None:
     ours = {name for name, it in vars(rsp).items() if getattr(it, "__module__", "").startswith("rsp")}
     public = {name for name in ours if not name.startswith("_")}
-    assert set(rsp.__all__) <= set(dir(rsp))
+    assert sorted(dir(rsp)) == sorted([*rsp.__all__, "STATE", "__doc__", "__version__"])
     assert len(set(rsp.__all__)) == len(rsp.__all__)
     assert public - {*rsp.__all__, "unset"} == set()
     named = [(name, getattr(rsp, name)) for name in rsp.__all__] + [*vars(rsp.Rsp).items()]
