@@ -129,6 +129,10 @@ def test_strict(script: str) -> None:
     assert error.replies.endswith(f"{reply}\n".encode())
 
 
+def test_strict_without_a_fault() -> None:
+    assert rsp.run_script("step\n", bytes(64), strict=True) == (b"step Done pc 004\n", bytes(64))
+
+
 def test_strict_line_of_a_stranger() -> None:
     """The message has nothing that a terminal would obey; `text` is the line as it is."""
     with pytest.raises(rsp.ScriptError) as caught:
@@ -137,30 +141,13 @@ def test_strict_line_of_a_stranger() -> None:
     assert caught.value.text == "foo\t\x1b]0;title\x07"
 
 
-def test_strict_without_a_fault() -> None:
-    """The stored scripts, of which those that have a fault in a reply are refused at the first one."""
-    faults = 0
-    for script in stored():
-        lines = script.wanted[1].decode().splitlines()
-        first = next((line for line in lines if line.startswith("fault ")), None)
-        if script.wanted[0] or len(script.script) > 10000:
-            continue
-        try:
-            assert rsp.run_script(script.script, script.image(), strict=True).replies == script.wanted[1]
-            assert first is None, str(script)
-        except rsp.ScriptError as error:
-            assert error.reply == first, str(script)
-            faults += 1
-    assert faults > 20
-    assert_raises(TypeError, "run_script: script is of type int", rsp.run_script, 3, bytes(64), True)
-
-
 def test_refused_calls() -> None:
     for length in (0, 63, 65, (1 << 23) + 8):
         assert_refused(Status.OUT_OF_RANGE, rsp.Session, bytes(length))
     session = rsp.Session(bytes(64))
     assert_raises(TypeError, "Session: image is of type str", rsp.Session, "image")
     assert_raises(TypeError, "feed: script is of type int", session.feed, 3)
+    assert_raises(TypeError, "run_script: script is of type int", rsp.run_script, 3, bytes(64), True)
     session.close()
     for gone in (session.end, lambda: session.feed("step\n"), lambda: session.rdram):
         assert_raises(RspError, "the session is closed", gone)
