@@ -85,10 +85,3 @@ def test_refusal(handler: str, status: int, words: Tuple[str, ...], folder: Path
     made = compiled(folder / "refused", "-std=c++17", *STRICT, *words, source, LIBRARY, compiler="c++")
     ran = run(made)
     assert ran.returncode == status and SENTENCE.rstrip() in ran.stdout
-
-
-def test_standard(folder: Path) -> None:
-    source = folder / "old.cpp"
-    source.write_text('#include "brsp.hpp"\n')
-    ran = run("c++", "-std=c++14", f"-I{TOP / 'library/c'}", "-fsyntax-only", source)
-    assert ran.returncode != 0 and "brsp.hpp needs C++17 or later" in ran.stdout

@@ -84,6 +84,12 @@ mtc0 $3, $c2
 """
 
 
+# A loop that fills one buffer again while it is sent.
+ONE_BUFFER = (
+    f"{BEGIN}ori $8, $0, 3\nturn: {STORE}{wait(5)}{PUT}bne $8, $0, turn\naddiu $8, $8, -1\n{wait(6, 'end')}"
+)
+
+
 def overlay(waits: str) -> str:
     """A program that brings 64 bytes to 100 in IMEM, where only `break` is, and jumps there."""
     lines = f"ori $2, $0, 0x1100\nori $1, $0, 0x800\nori $3, $0, 63\n{GET}{waits}j 0x100\nnop\n"
@@ -129,16 +135,7 @@ WRONG: Dict[str, Tuple[str, Named]] = {
         ROUTINE.format("", BEFORE),
         [*LOADS, ("lqv $v2[0], -16($2)", "loads")],
     ),
-    "one buffer for what goes in each turn": (
-        BEGIN
-        + "ori $8, $0, 3\nturn: "
-        + STORE
-        + wait(5)
-        + PUT
-        + "bne $8, $0, turn\naddiu $8, $8, -1\n"
-        + wait(6, "end"),
-        STORES,
-    ),
+    "one buffer for what goes in each turn": (ONE_BUFFER, STORES),
     "a branch to the next line, and a wait at the end": (
         BEGIN + GET + "mfc0 $4, $c6\nbne $4, $0, go\nnop\ngo: " + LOAD + wait(6, "end"),
         LOADS,
