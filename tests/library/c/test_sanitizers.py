@@ -12,7 +12,7 @@ import pytest
 
 from lib import TESTS, TOP
 from lib.library import LOCKSTEP
-from lib.library.programs import HERE, built, passes
+from lib.library.programs import HERE, assert_passes, built
 from lib.pages import block_with
 from lib.processes import compiled, succeeds
 from lib.program import ran
@@ -32,7 +32,7 @@ def words() -> Tuple[str, ...]:
 
 @pytest.mark.parametrize("name", ("calls", "owner", "threads"))
 def test_program(name: str, words: Tuple[str, ...], folder: Path) -> None:
-    passes(built(folder, HERE / f"{name}.c", "-pthread", *words))
+    assert_passes(built(folder, HERE / f"{name}.c", "-pthread", *words))
 
 
 def test_lockstep(words: Tuple[str, ...], folder: Path) -> None:
@@ -57,4 +57,4 @@ def test_scripts(words: Tuple[str, ...], folder: Path) -> None:
 def test_allocator(words: Tuple[str, ...], folder: Path) -> None:
     names = ("-Dmalloc=heap_malloc", "-Drealloc=heap_realloc", "-Dfree=heap_free", "-ffreestanding")
     part = compiled(folder / "part.o", *words, *names, "-c", places.PARTS / "allocator.c")
-    passes(compiled(folder / "allocator", *words, TESTS / "systems/allocator.c", part))
+    assert_passes(compiled(folder / "allocator", *words, TESTS / "systems/allocator.c", part))

@@ -254,11 +254,11 @@ def numbers_of(it: Any) -> List[int]:
 def test_states_as_arrays() -> None:
     import numpy
 
-    held: Any = shapes.structs()["RspState"]
-    raw = random.Random(1).randbytes(ctypes.sizeof(held))
+    struct: Any = shapes.structs()["RspState"]
+    raw = random.Random(1).randbytes(ctypes.sizeof(struct))
     assert rsp.STATE.itemsize == len(raw)
-    assert numbers_of(numpy.frombuffer(raw, rsp.STATE)[0]) == numbers_of(held.from_buffer_copy(raw))
-    assert list(rsp.STATE.names) == [name for name, *_ in held._fields_]
+    assert numbers_of(numpy.frombuffer(raw, rsp.STATE)[0]) == numbers_of(struct.from_buffer_copy(raw))
+    assert list(rsp.STATE.names) == [name for name, *_ in struct._fields_]
     state: Any = State(pc=8)
     state.vectors[3][2] = 77
     row = numpy.frombuffer(state, rsp.STATE)[0]

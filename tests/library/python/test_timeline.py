@@ -99,9 +99,9 @@ def test_steps_and_searches(seed: int) -> None:
         begin = chance.randrange(len(steps))
         for forwards in (False, True):
             line.goto(begin)
-            got = line.run_to(EVER) if forwards else line.back()
-            assert got == found(line, steps, begin, forwards)
-            assert line.step == got.step and seen(line.machine) == steps[got.step]
+            result = line.run_to(EVER) if forwards else line.back()
+            assert result == found(line, steps, begin, forwards)
+            assert line.step == result.step and seen(line.machine) == steps[result.step]
 
 
 @pytest.mark.parametrize("single, reason", ((0x40, Reason.HALT), (0, Reason.RESERVED)))
@@ -126,8 +126,8 @@ def test_interrupted(way: str) -> None:
     assert line._gap > here >> 4  # so there are few marks
     line.watches = {(0, 4)}
     line.is_interrupted = lambda: next(answers)
-    got = getattr(line, way)(*[] if way == "back" else [EVER])
-    assert got in ((Reason.LIMIT, line.step, None), line.step) and 0 < line.step != here
+    result = getattr(line, way)(*[] if way == "back" else [EVER])
+    assert result in ((Reason.LIMIT, line.step, None), line.step) and 0 < line.step != here
     assert line.machine.reg(1) == (line.step + 2) // 3
 
 

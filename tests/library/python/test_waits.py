@@ -178,8 +178,8 @@ def test_right(name: str) -> None:
 
 @pytest.mark.parametrize("name", WRONG)
 def test_wrong(name: str) -> None:
-    program, wanted = WRONG[name]
-    assert sorted(named(program)) == sorted(wanted)
+    program, expected = WRONG[name]
+    assert sorted(named(program)) == sorted(expected)
 
 
 def test_sentences() -> None:
@@ -225,13 +225,13 @@ def test_order_after_another_move() -> None:
 def test_rows_and_the_end_of_dmem() -> None:
     """Two rows of 16 bytes from ff0 on are bytes ff0 to 00f."""
     rows = "ori $2, $0, 0xff0\nlui $3, 0x80\nori $3, $3, 0x100f\n" + GET
-    for line, wanted in {
+    for line, expected in {
         "lw $5, 12($0)": 1,
         "lw $5, 16($0)": 0,
         "lb $5, 0xff0($0)": 1,
         "lb $5, 0xfef($0)": 0,
     }.items():
-        assert len(list(rsp.waits.missing(loaded(f"{rows}{line}\nbreak\n")))) == wanted, line
+        assert len(list(rsp.waits.missing(loaded(f"{rows}{line}\nbreak\n")))) == expected, line
 
 
 def test_machine_afterwards() -> None:
@@ -272,14 +272,14 @@ def test_microcode(path: Path) -> None:
 def test_cookbook(folder: Path) -> None:
     """The code of the page names the load that it says, in the loop of two buffers without its wait."""
     name = "docs/COOKBOOK.md"
-    code, told = (block_with(name, "import rsp, rsp.waits", more) for more in (0, 1))
+    code, line = (block_with(name, "import rsp, rsp.waits", more) for more in (0, 1))
     block = block_with(name, "        jal   fetch             # the first block")
     text = "ori $1, $0, 0x800\nori $7, $0, 0xc00\n" + block.replace("# its address", "\nlw $5, 0($4)")
     env = {**os.environ, "PYTHONPATH": str(TOP / "library/python")}
-    for program, wanted in (text, []), (re.sub(r"(?m)^(next:).*\n.*\n", r"\1\n", text), [told.strip()]):
+    for program, expected in (text, []), (re.sub(r"(?m)^(next:).*\n.*\n", r"\1\n", text), [line.strip()]):
         (folder / "text.s").write_text(program)
-        said = succeeds(sys.executable, "-c", textwrap.dedent(code), cwd=folder, env=env)
-        assert said.splitlines()[:1] == wanted
+        output = succeeds(sys.executable, "-c", textwrap.dedent(code), cwd=folder, env=env)
+        assert output.splitlines()[:1] == expected
 
 
 @pytest.mark.needs("cc")
@@ -289,11 +289,11 @@ def test_in_c(folder: Path) -> None:
     assert len(example.read_text().splitlines()) <= 120
     made, text = built(folder, example), folder / "text.s"
     right: Dict[str, Tuple[str, Named]] = {f"right: {name}": (text, []) for name, text in RIGHT.items()}
-    for name, (program, wanted) in {**right, **WRONG}.items():
+    for name, (program, expected) in {**right, **WRONG}.items():
         text.write_text(program + "break\n")
         ended = run(made, text)
-        told = re.findall(r"(?m)^\w+: (.*): (.*) before the end of the transfer of \w+$", ended.stdout)
-        assert (ended.returncode, sorted({*told})) == (int(bool(wanted)), sorted(wanted)), name
+        found = re.findall(r"(?m)^\w+: (.*): (.*) before the end of the transfer of \w+$", ended.stdout)
+        assert (ended.returncode, sorted({*found})) == (int(bool(expected)), sorted(expected)), name
     text.write_text(f"{BEGIN}{GET}{wait()}lw $5, 0($2)\nbeq $5, $0, end\nnop\n{GET}{LOAD}end: break\n")
     image = folder / "image"
     for data, status in (b"\x00" * 4096, 0), (b"\x01" * 4096, 1), (b"", 2):
