@@ -22,7 +22,7 @@ from lib.systems.target_params import RUNNERS, on
 from lib.systems.node import Node
 from lib.systems.runners import Native, Runner
 from rsp_conformance import bench, library_states, steps
-from rsp_conformance.random import Random
+from rsp_conformance.seeded_random import Random
 from rsp_conformance.corrupt import spoilt_entries
 from rsp_conformance.states import numbers_of, texts_of
 from rsp_conformance.vectors import VECTORS, entries_in, names_in

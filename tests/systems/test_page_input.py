@@ -147,7 +147,7 @@ LACKING = {
         "rsp.js isn't served: 404 File not found. A newer page may be there: reload it.",
     ),
     "a module of the library": (
-        absent("rsp/words.js"),
+        absent("rsp/errors.js"),
         "rsp.js is served, but the browser hasn't taken it, or a module that it imports.",
     ),
 }
