@@ -180,7 +180,8 @@ def test_passes_the_check_of_vectors(archive: Path) -> None:
 @pytest.mark.needs("cc", "objcopy")
 def test_start_asks_the_processor(folder: Path) -> None:
     """What start.c says of the processor, beside what glibc says."""
-    for path in TOP / "tools/packaging/start.c", TESTS / "install/archive/features.c":
+    packaging = TOP / "tools/packaging"
+    for path in packaging / "start.c", packaging / "cpuid.h", TESTS / "install/archive/features.c":
         shutil.copy(path, folder)
     where = {"cwd": folder, "env": BARE}
     if run("cc", "-fsyntax-only", "features.c", **where).returncode:
