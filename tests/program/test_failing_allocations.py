@@ -19,8 +19,8 @@ import pytest
 
 from lib import TOP, failing
 from lib.pages import page
-from lib.processes import bytes_of
-from lib.program import Ran, need_binary
+from lib.processes import run_bytes
+from lib.program import Result, need_binary
 from lib.script_cases import SCRIPTS, Stored
 
 pytestmark = pytest.mark.needs("cc")
@@ -109,7 +109,7 @@ def answers_of(
     """What the program answers as its allocations fail. `written` is a file that only a whole run writes."""
     answers = ""
     for is_failed, ended in failing.runs(calls, words, script):
-        ran = Ran(ended.returncode, ended.stdout, ended.stderr)
+        ran = Result(ended.returncode, ended.stdout, ended.stderr)
         is_whole = ran == (0, output, b"")
         if not is_whole:
             fault = re.fullmatch(rb"rsp: fault (17|43) OutOfMemory\n", ran.errors)
@@ -162,7 +162,7 @@ def test_small_stack(words: str, script: bytes, output: bytes, binary: Path, fol
     (folder / "file").write_bytes(TEXT if "asm" in words else CODE)
     command = [it.format(folder / "file") for it in words.split()]
     limit = {"preexec_fn": lambda: resource.setrlimit(resource.RLIMIT_STACK, (size, size))}
-    ended = bytes_of(binary, command, script, **limit)
+    ended = run_bytes(binary, command, script, **limit)
     assert (ended.returncode, ended.stdout, ended.stderr) == (0, output, b"")
 
 

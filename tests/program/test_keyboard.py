@@ -14,7 +14,7 @@ from typing import Any, List, Tuple
 import pytest
 
 from lib.pages import block_with, data
-from lib.program import ran
+from lib.program import run_program
 
 STEP, STEPPED = b"step\n", b"step Done pc 004\n"
 COMMANDS = [line["Command"] for line in data("commands")]
@@ -50,7 +50,7 @@ def test_no_greeting(program: Path, folder: Path) -> None:
     with open(folder / "script", "rb") as script:
         status, _, said = typed(program, ["run"], stdin=script, stderr=subprocess.PIPE)
     assert (status, said) == (0, b"")
-    assert ran(program, ["run"], STEP) == (0, STEPPED, b"")
+    assert run_program(program, ["run"], STEP) == (0, STEPPED, b"")
 
 
 def test_greeting_that_fails(program: Path) -> None:

@@ -19,7 +19,7 @@ from typing import Any, Callable, Iterator, List, NamedTuple, Optional, Tuple
 import pytest
 
 from lib import TOP, devices, failing
-from lib.program import Ran, need_binary, ran
+from lib.program import Result, need_binary, run_program
 
 SIZE = 4096
 OLD = bytes(i % 251 for i in range(SIZE))
@@ -74,7 +74,7 @@ class Trial:
         """Runs the writer on the file, or on another."""
         self.out, (program, *words) = out or self.file, self.writer.words
         given: Any = {"preexec_fn": setting, "restore_signals": False, **how}
-        self.ran = ran(program, [*words, self.out], self.writer.script, **given)
+        self.ran = run_program(program, [*words, self.out], self.writer.script, **given)
         return self
 
     def ends(self, output: Optional[bytes], status: int = 0, errors: bytes = b"") -> "Trial":
@@ -156,9 +156,9 @@ def test_limit_of_standard_output(ignoring: Trial) -> None:
         "restore_signals": False,
     }
     with open(replies, "wb") as output:
-        ended = ran(program, ["run"], script, stdout=output, **given)
+        ended = run_program(program, ["run"], script, stdout=output, **given)
     assert ended == (1, b"", b"rsp: fault 41 WriteFault\n")
-    assert replies.read_bytes() == ran(program, ["run"], script).output[:1024]
+    assert replies.read_bytes() == run_program(program, ["run"], script).output[:1024]
 
 
 def test_killed_by_the_limit(new: New) -> None:
@@ -192,9 +192,9 @@ def test_file_that_is_being_written(new: New) -> None:
     it = new(0o664)
     log, (program, *words) = it.folder.parent / "log", it.writer.words
     tracing = ["-f", "-e", "trace=open,openat,creat", "-o", log]
-    if ran("strace", [*tracing, "true"], b"").status:
+    if run_program("strace", [*tracing, "true"], b"").status:
         pytest.skip("strace may not trace a process here")
-    it.ran = ran("strace", [*tracing, program, *words, it.file], it.writer.script)
+    it.ran = run_program("strace", [*tracing, program, *words, it.file], it.writer.script)
     it.saved().mode(0o664)
     made = re.findall(r'"[^"]*\.file\.rsp-save-0", (\S+), (\d+)\)', log.read_text())
     assert [int(mode, 8) for flags, mode in made if "O_CREAT" in flags] == [0o600], log.read_text()
@@ -388,7 +388,7 @@ MOUNTS = {
 @ROOT_ALONE
 @pytest.mark.parametrize("mount, is_refused", MOUNTS.values(), ids=MOUNTS)
 def test_mount(mount: str, is_refused: bool, new: New, folder: Path) -> None:
-    if ran("unshare", ["-m", "mount", "-t", "tmpfs", "tmpfs", folder]).status:
+    if run_program("unshare", ["-m", "mount", "-t", "tmpfs", "tmpfs", folder]).status:
         pytest.skip("this machine lets nobody mount")
     it = new(name="other")
     (it.folder / "at").mkdir()
@@ -410,7 +410,7 @@ def test_calls_of_the_system_fail(is_lasting: bool, new: New, folder: Path) -> N
     it.out = it.folder / "link"
     it.out.symlink_to("file")
     for is_failed, ended in failing.runs(calls, [*it.writer.words, it.out], it.writer.script, is_lasting):
-        it.ran = Ran(ended.returncode, ended.stdout, ended.stderr)
+        it.ran = Result(ended.returncode, ended.stdout, ended.stderr)
         it = it.refused().kept() if it.ran.status else it.saved()
         it = it if is_lasting else it.names("file", "link")
         count += is_failed
@@ -473,10 +473,10 @@ def test_killed_while_it_saves(call: str, number: int, sent: str, binary: Path, 
     own.mkdir()
     image.write_bytes(bytes(8388608))
     (own / "file").write_bytes(OLD)
-    if ran("strace", ["-o", os.devnull, "true"], b"").status:
+    if run_program("strace", ["-o", os.devnull, "true"], b"").status:
         pytest.skip("strace may not trace a process here")
     when = f"inject={call}:signal={sent}:when={number}"
     killed = ["-f", "-o", os.devnull, "-e", f"trace={call}", "-e", when, binary, "run", "--rdram", image]
-    assert ran("strace", [*killed, "--save", own / "file"], b"load rdram 0 ff\n").status != 0
+    assert run_program("strace", [*killed, "--save", own / "file"], b"load rdram 0 ff\n").status != 0
     assert (own / "file").read_bytes() == OLD
     assert sorted(os.listdir(own)) == [".file.rsp-save-0", "file"]

@@ -18,7 +18,7 @@ import pytest
 import rsp
 from lib.library.module import raised, refused
 from lib.pages import data
-from lib.program import content, ran
+from lib.program import content, run_program
 from lib.script_cases import Stored, stored
 from rsp import RspError, Status
 
@@ -93,7 +93,7 @@ def by_program(program: Path, script: bytes, image: bytes, folder: Path) -> Tupl
     """What `rsp run` writes, and the image that it saves."""
     given, saved = folder / "image", folder / "saved"
     given.write_bytes(image)
-    got = ran(program, ["run", "--rdram", given, "--save", saved], script)
+    got = run_program(program, ["run", "--rdram", given, "--save", saved], script)
     return got.output, content(saved) or b""
 
 
