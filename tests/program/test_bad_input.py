@@ -78,7 +78,7 @@ SHORTER_NUMBERS = {
 def cut_reply(name: str, place: int, cut: bytes, line: bytes) -> bytes:
     """The reply to the first bytes of a line outside of a block.
 
-    It is BadCommand until all words have begun, and then, for the bytes that a load ends with, BadNumber at an
+    It is BadCommand until all words have begun, and then, for the bytes at the end of a load, BadNumber at an
     odd number of digits. Other last words are in SHORTER_NUMBERS.
     """
     if not cut or (name, place, cut) in SHORTER_NUMBERS:
