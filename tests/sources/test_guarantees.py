@@ -129,7 +129,7 @@ Clause = Tuple[str, ...]  # a crate, a call, and what the call requires
 
 
 def covers(written: Clause, found: Clause) -> bool:
-    """Whether a line has a clause: in the table `T::*` is each call of T, `A ..` each clause that begins so."""
+    """Whether a line has a clause. There `T::*` is each call of T, and `A ..` each clause that begins so."""
     (crate, named, required), (name, call, clause) = written, found
     calls = named == call or (named.endswith("::*") and call.startswith(named[:-1]))
     clauses = required == clause or (required.endswith(" ..") and clause.startswith(required[:-2]))
