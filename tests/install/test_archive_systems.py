@@ -30,7 +30,7 @@ from lib.library.typescript import OPTIONS, USE
 from lib.links import broken_everywhere, elsewhere
 from lib.packages import need
 from lib.pages import page
-from lib.processes import Ended, bytes_of, run, succeeds
+from lib.processes import Ended, run, run_bytes, succeeds
 from lib.systems import browser, built_files, macos, node, rust
 from lib.systems.target_params import COMPILED, LINUX, RUNNERS
 from lib.systems.runners import Runner
@@ -223,7 +223,7 @@ def test_wheel_installed(top: Path, runner: Runner, system: str) -> None:
     succeeds(sys.executable, "-m", "pip", "install", "-q", *words, "--target", to, wheel)
     assert (to / "rsp/__init__.py").is_file()
     command = [*runner.start, to / TARGETS[system].program, "run"]
-    ended = bytes_of(command[0], command[1:], FIRST, env=runner.env)
+    ended = run_bytes(command[0], command[1:], FIRST, env=runner.env)
     assert ended.stdout == page("examples/first.out").encode()
 
 
@@ -252,7 +252,7 @@ def test_example_of_the_crate(top: Path, runner: Runner, system: str) -> None:
 def of_archive(runner: Runner, *words: str, given: bytes = b"") -> "Ended[bytes]":
     """A run of a program of the archive, in its folder."""
     command = [*runner.start, *words]
-    return bytes_of(command[0], command[1:], given, cwd=runner.folder, env=runner.env)
+    return run_bytes(command[0], command[1:], given, cwd=runner.folder, env=runner.env)
 
 
 @of(*COMPILED)
