@@ -12,7 +12,7 @@ from rsp_conformance import bench
 from rsp_conformance.bench import ONES_DATA, accumulator_data, accumulator_program
 from rsp_conformance.cases import WINDOW_LENGTH, WRAPPING, Case, changing_numbers, make_case, paired_element
 from rsp_conformance.cases import reached_windows
-from rsp_conformance.random import Random
+from rsp_conformance.seeded_random import Random
 from rsp_conformance.table import Row, uses_memory, word_of
 
 Layout = List[Tuple[str, int, int]]  # the fields that a case stores: what, offset, length

@@ -7,11 +7,11 @@ import { Accumulators, Bank, Changes, Divider, FIELDS, Flags, Reason, Scalars, S
   read } from "./shapes.js";
 import { parts_of, saved } from "./savestate.js";
 import { joined, strict_replies } from "./strict.js";
-import { AssemblyError, RspError, allowed, bytes_of, numbers, refusal, state_refusal, words_of } from "./words.js";
+import { AssemblyError, RspError, allowed, bytes_of, numbers, refusal, state_refusal, words_of } from "./errors.js";
 
 export { Accumulators, Bank, Changes, Difference, Divider, FAULTS, Fault, Flags, Part, Reason, Scalars, SpWords, State,
   Status, Traced } from "./shapes.js";
-export { AssemblyError, RspError, ScriptError } from "./words.js";
+export { AssemblyError, RspError, ScriptError } from "./errors.js";
 export { first_difference } from "./compare.js";
 
 export const { DMEM, IMEM, RDRAM } = Bank;

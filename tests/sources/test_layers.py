@@ -9,7 +9,7 @@ from typing import Dict, Iterable, Iterator
 
 from lib import TESTS, TOP
 
-# The layers from the top. `.random` is rsp_conformance.random; what no line names is in its package's layer.
+# The layers from the top. `.states` is rsp_conformance.states; what no line names is in its package's layer.
 LAYERS = (
     "tests",
     "measure",
@@ -17,9 +17,9 @@ LAYERS = (
     "rsp_tools",
     "rsp_conformance",  # its commands
     ".coverage .campaign",
-    ".random .outcomes .wanted_lanes .case_outcomes .cases .programs .run_programs .steps .full .corrupt"
+    ".seeded_random .outcomes .wanted_lanes .case_outcomes .cases .programs .run_programs .steps .full .corrupt"
     " .vectors .campaign.generator .campaign.protocol",
-    ".bench .states .library_states .commands .files .campaign.build .campaign.hashes",
+    ".bench .states .library_states .command_line .safe_files .campaign.build .campaign.hashes",
     ".table",  # the only list of names, codes and operands in Python
 )
 
