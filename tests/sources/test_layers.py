@@ -9,7 +9,8 @@ from typing import Dict, Iterable, Iterator
 
 from lib import TESTS, TOP
 
-# The layers from the top. `.states` is rsp_conformance.states; what no line names is in its package's layer.
+# The layers from the top. `.states` is rsp_conformance.states; a module that no line names is in the layer of
+# its package.
 LAYERS = (
     "tests",
     "measure",
@@ -17,8 +18,8 @@ LAYERS = (
     "rsp_tools",
     "rsp_conformance",  # its commands
     ".coverage .campaign",
-    ".seeded_random .outcomes .wanted_lanes .case_outcomes .cases .programs .run_programs .steps .full .corrupt"
-    " .vectors .campaign.generator .campaign.protocol",
+    ".seeded_random .outcomes .wanted_lanes .case_outcomes .cases .programs .run_programs .steps .full"
+    " .corrupt .vectors .campaign.generator .campaign.protocol",
     ".bench .states .library_states .command_line .safe_files .campaign.build .campaign.hashes",
     ".table",  # the only list of names, codes and operands in Python
 )
