@@ -6,7 +6,7 @@ The same row, seed and number give the same case, on every version of Python.
 from typing import Any, Callable, Dict, Iterator, List, Optional, Sequence, Tuple
 
 from rsp_conformance.wanted_lanes import TRIES, aim, near
-from rsp_conformance.random import LANES, Random
+from rsp_conformance.seeded_random import LANES, Random
 from rsp_conformance.outcomes import lanes_of, possible, result_of, selected, signed
 from rsp_conformance.states import Texts
 from rsp_conformance.table import FORMS, MPEG, SCALE, Row, destination, ignored_bits, reads_other_lanes

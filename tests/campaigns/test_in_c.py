@@ -14,7 +14,7 @@ from lib.processes import bytes_of, compiled, run, succeeds
 
 if is_here("python:numpy"):
     from rsp_conformance.campaign.generator import MEMORIES
-    from rsp_conformance.campaign.programs import program_of
+    from rsp_conformance.campaign.random_programs import program_of
     from rsp_conformance.campaign.compare import Sides
 
 pytestmark = [pytest.mark.needs("cc"), pytest.mark.usefixtures("library")]

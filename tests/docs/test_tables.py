@@ -19,7 +19,7 @@ from typing import Any, Dict, Iterable, Iterator, List, Set, Tuple
 import pytest
 
 from lib import worked_cases
-from lib.lists import see_same
+from lib.same_items import assert_same_items
 from lib.pages import cells_of, data, page, replies, tables, words_of
 from lib.processes import run
 from rsp_conformance import bench, flat, programs
@@ -110,7 +110,7 @@ def differing(look: Dict[str, Any], cell: str) -> Iterator[str]:
 @pytest.mark.xdist_group("docs/data/instructions.tsv")
 class TestInstructions:
     def test_all(self) -> None:
-        see_same((it["Instruction"].lower() for it in data("instructions")), ROWS)
+        assert_same_items((it["Instruction"].lower() for it in data("instructions")), ROWS)
 
     @lines_of("instructions")
     def test_line(self, line: Line, ran: Dict[str, Any]) -> None:

@@ -31,14 +31,14 @@ from lib.links import broken_everywhere, elsewhere
 from lib.packages import need
 from lib.pages import page
 from lib.processes import Ended, bytes_of, run, succeeds
-from lib.systems import browser, files, macos, node, rust
-from lib.systems.kinds import KINDS
+from lib.systems import browser, built_files, macos, node, rust
+from lib.systems.target_params import KINDS
 from lib.systems.runners import Runner
-from rsp_tools.packaging import archives, install_tree, repository, systems
+from rsp_tools.packaging import archives, install_tree, repository
 from rsp_tools.packaging.release_info import About
 from rsp_tools.systems import packages
 from rsp_tools.systems.toolchain import llvm
-from rsp_tools.targets import TARGETS
+from rsp_tools.targets import PROCESSORS, TARGETS
 
 # What an archive for C, Python and Rust has on each system.
 COMMON = """
@@ -166,7 +166,7 @@ def test_files(packed_for: Path, top: Path, system: str) -> None:
 
 @of(*rust.TARGETS)
 def test_wheel(packed_for: Path, top: Path, system: str) -> None:
-    files.check_wheel(system, top)
+    built_files.check_wheel(system, top)
     check_date_of_wheel(packed_for, top)
 
 
@@ -291,9 +291,9 @@ def test_first_line_of_windows(top: Path, runner: Runner) -> None:
 def test_macos(top: Path, folder: Path) -> None:
     """The files are only read."""
     macos.check(top, folder)
-    for target, processor in systems.THIN.items():
-        held = llvm("llvm-lipo", "-archs", top / "library/rust/lib" / target / "libbrsp.a").split()
-        assert held == [processor], target
+    for triple in TARGETS["macos"].rust:
+        held = llvm("llvm-lipo", "-archs", top / "library/rust/lib" / triple / "libbrsp.a").split()
+        assert held == [PROCESSORS[triple.partition("-")[0]].apple], triple
 
 
 @of("wasm64")

@@ -18,8 +18,8 @@ from lib.library import LOCKSTEP
 from lib.pages import page
 from lib.packages import need
 from lib.processes import STRICT, bytes_of, compiled, run, succeeds
-from lib.systems.kinds import KINDS
-from lib.systems.runners import Runner, see_passed
+from lib.systems.target_params import KINDS
+from lib.systems.runners import Runner, assert_all_passed
 from measure import LIBRARY
 from measure.speed import LOOPS, code, figure
 from rsp_tools.systems import header
@@ -143,7 +143,7 @@ class Vendored:
         source = TESTS / f"library/c/{name}.c"
         made = self.runner.compile(source, *words, library=[*self.library, *self.runner.threads])
         ended = self.runner.run(made)
-        see_passed(ended.stdout)
+        assert_all_passed(ended.stdout)
 
 
 @pytest.fixture

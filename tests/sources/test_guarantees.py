@@ -23,7 +23,7 @@ from typing import Dict, Iterator, List, Match, NamedTuple, Optional, Set, Tuple
 
 from lib import TESTS, TOP
 from lib.definitions import rests_on, used_by
-from lib.lists import see_same
+from lib.same_items import assert_same_items
 from lib.pages import data, page
 from rsp_tools.page_tables import crates
 
@@ -155,7 +155,7 @@ def test_assumed() -> None:
     head = "**The definitions of the kit that the main theorem cites**"
     cited = assumed.partition(head)[2].partition("\n- **")[0]
     named = {*re.findall(r"`([^`]*)`", cited)} - {"Rattle.std.specs"}
-    see_same(named, wanted)
+    assert_same_items(named, wanted)
 
 
 def test_system() -> None:
@@ -199,7 +199,7 @@ def test_tests_of_allocations() -> None:
 
 def test_crates() -> None:
     """crates.txt says of each crate what it is, and so does the head of each crate's sources."""
-    see_same(crates(), {path.parent.name for path in TOP.glob("crates/*/src")})
+    assert_same_items(crates(), {path.parent.name for path in TOP.glob("crates/*/src")})
     roots = [it for name in ("lib", "main") for it in TOP.glob(f"crates/*/src/{name}.rt")]
     assert len(roots) >= len(crates()) and not [it for it in roots if not it.read_text().startswith("//! ")]
 
@@ -207,7 +207,9 @@ def test_crates() -> None:
 def test_mutations() -> None:
     """The table names the crates that have none, and GUARANTEES says how many there are, rounded to tens."""
     count = {it: len([*TOP.glob(f"crates/{it}/must-fail/*.edit")]) for it in crates()}
-    see_same([it["Crate"] for it in data("without_mutants")], [it for it in crates() if not count[it]])
+    assert_same_items(
+        [it["Crate"] for it in data("without_mutants")], [it for it in crates() if not count[it]]
+    )
     assert f"refuses some {round(sum(count.values()), -1)} wrong bodies" in page(GUARANTEES)
 
 
@@ -227,7 +229,7 @@ def test_laws() -> None:
     """The table of laws has each public one."""
     named = [f"{it['Crate']} {it['Law']}" for it in data("laws")]
     texts = {it.parts[-3]: it.read_text() for it in TOP.glob("crates/*/src/laws.rt")}
-    see_same(
+    assert_same_items(
         named, [f"{crate} {law}" for crate in texts for law in re.findall(r"(?m)^pub fn (\w+)", texts[crate])]
     )
 
@@ -255,7 +257,7 @@ def test_contracts_for_c() -> None:
 
 def test_streams() -> None:
     """The table has each clause of run_bench, by its first word."""
-    see_same(
+    assert_same_items(
         {it["Clause"].split()[0] for it in data("streams")},
         {clause for _, call, clause in promises() if call == "run_bench"},
     )
@@ -265,4 +267,4 @@ def test_parts() -> None:
     """GUARANTEES has the parts of the tables of contracts and laws, and both have no other."""
     proved = page(GUARANTEES).partition("\n## Proved, part by part\n")[2].partition("\n## ")[0]
     parts = re.findall(r"(?m)^- \*\*([^*]*)\*\*", proved)
-    see_same(parts, {it["Part"] for name in ("contracts", "laws") for it in data(name)})
+    assert_same_items(parts, {it["Part"] for name in ("contracts", "laws") for it in data(name)})

@@ -11,7 +11,7 @@ import pytest
 
 from lib import TOP
 from lib.definitions import rests_on
-from lib.lists import see_same
+from lib.same_items import assert_same_items
 
 STEP = "crates/rsp_machine/src/step.rt"
 CALLS = ["step", "step_recorded", "steps", "steps_recorded_until", "steps_until"]
@@ -53,14 +53,16 @@ def test_simd(texts: Texts) -> None:
 def test_unsafe(texts: Texts) -> None:
     lines = [(path, line.strip()) for path, text in texts.items() for line in text.splitlines()]
     found = [it for it in lines if re.search(r"\bunsafe\b", it[1].replace("#[unsafe(no_mangle)]", ""))]
-    see_same((f"{path}: {line}" for path, line in found), UNSAFE)
+    assert_same_items((f"{path}: {line}" for path, line in found), UNSAFE)
 
 
 def test_loop(texts: Texts) -> None:
     """run_loop is private, and a few public calls are over it."""
     assert [path for path, text in texts.items() if re.search(r"\brun_loop\b", text)] == [STEP]
     assert re.search(r"^    fn run_loop<", texts[STEP], re.M)
-    see_same((it for it in re.findall(r"^    pub fn (\w+)", texts[STEP], re.M) if it != "undo"), CALLS)
+    assert_same_items(
+        (it for it in re.findall(r"^    pub fn (\w+)", texts[STEP], re.M) if it != "undo"), CALLS
+    )
 
 
 def test_matches(texts: Texts) -> None:
@@ -70,7 +72,7 @@ def test_matches(texts: Texts) -> None:
     matching = re.compile(r"\bmatch \*?inst\b|\bif let Inst::\w+ [^=]*= \*?inst\b")
     code = [(path.split("/")[1], text) for path, text in texts.items() if "rsp_tests" not in path]
     found = {(name, function_at(text, it.start())) for name, text in code for it in matching.finditer(text)}
-    see_same(found, ((name, it) for name, functions in MATCHES.items() for it in functions.split()))
+    assert_same_items(found, ((name, it) for name, functions in MATCHES.items() for it in functions.split()))
 
 
 def test_scaffolding() -> None:

@@ -9,8 +9,8 @@ import pytest
 
 from lib.packages import need
 from lib.systems import chromium
-from lib.systems.kinds import KINDS
-from lib.systems.page import Host, Page
+from lib.systems.target_params import KINDS
+from lib.systems.page_driver import Host, Page
 from lib.systems.runners import Native, Runner
 from rsp_tools.systems import manual
 from rsp_tools.systems import web_page as pages

@@ -8,7 +8,7 @@ import pytest
 from lib import TESTS
 from lib.cmake import EXAMPLE
 from lib.library import LOCKSTEP
-from lib.systems.kinds import on
+from lib.systems.target_params import on
 
 SOURCES = TESTS / "library/c"
 COUNTED = "-Wl,--wrap=malloc,--wrap=realloc,--wrap=free"

@@ -18,11 +18,11 @@ import pytest
 import rsp
 from lib import TESTS, TOP
 from lib.systems.browser import Chromium
-from lib.systems.kinds import KINDS, on
+from lib.systems.target_params import KINDS, on
 from lib.systems.node import Node
 from lib.systems.runners import Native, Runner
 from rsp_conformance import bench, library_states, steps
-from rsp_conformance.random import Random
+from rsp_conformance.seeded_random import Random
 from rsp_conformance.corrupt import spoilt_entries
 from rsp_conformance.states import numbers_of, texts_of
 from rsp_conformance.vectors import VECTORS, entries_in, names_in

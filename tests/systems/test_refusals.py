@@ -8,7 +8,7 @@ import pytest
 
 from lib import TOP
 from lib.processes import Ended, run
-from lib.systems.kinds import SYSTEMS
+from lib.systems.target_params import SYSTEMS
 from rsp_tools.systems import modules, places
 from rsp_tools.systems.toolchain import Refused, kit
 

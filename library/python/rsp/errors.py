@@ -1,4 +1,4 @@
-"""Refusals in words: what a call was given, and what it takes."""
+"""Why calls are refused: the ranges of their arguments, and messages."""
 
 import operator
 from typing import Any, Dict, List, Mapping, NamedTuple, Sequence, Tuple

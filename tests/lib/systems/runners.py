@@ -17,7 +17,7 @@ STRICT = ("-std=c99", "-O2", "-Wall", "-Wextra", "-Werror")
 LONGEST = 1800  # seconds that a program may take
 
 
-def see_passed(said: str) -> None:
+def assert_all_passed(said: str) -> None:
     """The last line of a program of tests is `N passed, 0 failed`, and N isn't 0."""
     assert re.search(r"(?m)^[1-9]\d* passed, 0 failed\n*\Z", said), said[-2000:]
 
@@ -83,7 +83,7 @@ class Runner:
     def passes(self, program: Path) -> None:
         """Runs a program of tests, which have to pass."""
         ended = self.run(program)
-        see_passed(ended.stdout)
+        assert_all_passed(ended.stdout)
         assert ended.returncode == 0, ended.stdout[-2000:]
 
     def stop(self) -> None:

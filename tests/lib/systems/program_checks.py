@@ -43,7 +43,7 @@ def started(runner: Runner, folder: Path) -> Path:
     return to
 
 
-def see_tests(program: Path, system: str, seconds: int, *more: str) -> None:
+def check_by_tests(program: Path, system: str, seconds: int, *more: str) -> None:
     """The proved program's tests, on a program for a system. It must have ended after so many seconds."""
     files = [TESTS / f"program/test_{it}.py" for it in FILES]
     words = ("-q", f"--program={program}", f"--left-out={system}", f"--timeout={seconds}", *more)
@@ -74,7 +74,7 @@ def answered(program: Path, line: List[str], folder: Path) -> Tuple[Ran, Dict[st
     return got, {it.name: content(it) for it in folder.iterdir()}
 
 
-def see_lines(program: Path, proved: Path, folder: Path) -> None:
+def check_command_lines(program: Path, proved: Path, folder: Path) -> None:
     """Command lines, of which both programs have to make the same."""
     differ = []
     for line in command_lines():
