@@ -11,7 +11,7 @@ from lib.pages import page
 
 PAGES = """
 README.md docs/TUTORIAL.md docs/EMBEDDING.md docs/CAMPAIGN.md docs/PLUGIN.md
-conformance/README.md microcode/README.md CONTRIBUTING.md tests/plugin/README.md
+conformance/README.md microcode/README.md CONTRIBUTING.md
 """.split()
 
 

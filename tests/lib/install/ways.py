@@ -290,7 +290,7 @@ WAYS = (
 IN_A_CLONE = (
     # mupen64plus doesn't end by itself; tests/plugin plays what is made here.
     Way(
-        "tests/plugin/README.md",
+        "docs/PLUGIN.md",
         "tools/python lib.plugin",
         instead=(("/tmp/", "~/"), ("/usr/games", ": /usr/games")),
     ),
