@@ -31,7 +31,7 @@ COLUMNS, LINES, WIDTH, HEIGHT = 100, 40, 7.25, 15  # of the screen, and of a cha
 def shown(folder: str) -> str:
     """The screen, with tmux's marks of what is inverse."""
     page = (TOP / "docs/GDB.md").read_text()
-    Path(folder, "scale.s").write_text(re.findall(r"(?s)```text\n(# Doubles.*?)```", page)[0])
+    Path(folder, "scale.s").write_text(re.findall(r"(?s)```asm\n(# Doubles.*?)```", page)[0])
     Path(folder, "data.rsp").write_text(re.findall("`(load dmem .*?)`", page)[0])
     env = {**os.environ, "PYTHONPATH": str(TOP / "library/python"), "LC_ALL": "C.UTF-8", "TERM": "xterm"}
     make = TOP / "examples/python/make_elf.py"

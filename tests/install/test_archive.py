@@ -17,8 +17,16 @@ import pytest
 
 from lib import TESTS, TOP
 from lib.cmake import check_cmake
-from lib.install.unpacked import BARE, check_common, check_date_of_wheel, check_pack, unpacked
-from lib.install.ways import LOOP_CODE, LOOP_TEXT, LOOP_WORDS
+from lib.install.unpacked import (
+    BARE,
+    LOOP_CODE,
+    LOOP_TEXT,
+    LOOP_WORDS,
+    check_common,
+    check_date_of_wheel,
+    check_pack,
+    unpacked,
+)
 from lib.library import LOCKSTEP
 from lib.links import broken_everywhere, broken_in
 from lib.packages import need
