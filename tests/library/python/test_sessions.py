@@ -16,7 +16,7 @@ import pytest
 
 import rsp
 from lib.library.module import assert_raises, assert_refused
-from lib.program import content, ran
+from lib.program import content, run_program
 from lib.script_cases import Stored, stored
 from rsp import RspError, Status
 
@@ -45,7 +45,7 @@ def by_program(program: Path, script: bytes, image: bytes, folder: Path) -> Tupl
     """The output of `rsp run`, and the image that it saves."""
     given, saved = folder / "image", folder / "saved"
     given.write_bytes(image)
-    result = ran(program, ["run", "--rdram", given, "--save", saved], script)
+    result = run_program(program, ["run", "--rdram", given, "--save", saved], script)
     return result.output, content(saved) or b""
 
 
