@@ -39,8 +39,8 @@ def words(text: str) -> bytes:
     return b"".join(it.to_bytes(4, "big") for it in rsp.assemble(text.replace("; ", "\n")))
 
 
-def changed(machine: rsp.Rsp, task: bool) -> None:
-    """A change by the user: of a register and RDRAM, or the start of a task, which is the program again."""
+def change(machine: rsp.Rsp, task: bool) -> None:
+    """Changes a register and RDRAM, or starts a task, which is the program again, as a user does."""
     if task:
         machine.start_task(0x100)
     else:
@@ -60,8 +60,8 @@ def both(chance: random.Random) -> Tuple[rsp.Timeline, List[Seen]]:
     while machine.step() is rsp.Status.OK:
         if len(steps) == at:
             assert line.run_to(at) == (Reason.LIMIT, at, None)
-            for it in machine, line.machine:
-                changed(it, task_starts)
+            for one in machine, line.machine:
+                change(one, task_starts)
             line.changed()
         steps.append(seen(machine))
     assert line.run_to(EVER) == (Reason.HALT, len(steps) - 1, None)
