@@ -13,7 +13,6 @@ import pytest
 from lib import TESTS, TOP
 from lib.library import LOCKSTEP
 from lib.library.programs import HERE, assert_passes, built
-from lib.pages import block_with
 from lib.processes import compiled, succeeds
 from lib.program import run_program
 from lib.sanitizers import sanitizers
@@ -37,13 +36,6 @@ def test_program(name: str, words: Tuple[str, ...], folder: Path) -> None:
 
 def test_lockstep(words: Tuple[str, ...], folder: Path) -> None:
     assert succeeds(built(folder, TOP / "examples/c/lockstep.c", *words)) == LOCKSTEP
-
-
-def test_page(words: Tuple[str, ...], folder: Path) -> None:
-    """The program at the top of EMBEDDING.md."""
-    source = folder / "text.c"
-    source.write_text(block_with("docs/EMBEDDING.md", '#include "brsp.h"'))
-    assert succeeds(built(folder, source, *words)) == "2 steps, $2 is 1234\n"
 
 
 def test_scripts(words: Tuple[str, ...], folder: Path) -> None:

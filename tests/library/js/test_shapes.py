@@ -23,15 +23,8 @@ TYPES = page("library/js/rsp.d.ts")
 RENAMED = {"bytes": "stored_bytes"}
 # What one of the classes of Python and JavaScript has alone: a call of numpy, and how a machine is freed.
 PYTHON_ALONE, JAVASCRIPT_ALONE = {"close", "memory_array"}, {"free"}
-# The fields of a state that can have a fault.
-FIELDS = {
-    "ZERO": "words[0]",
-    "LOADED": "divider.loaded",
-    "PC": "pc",
-    "NPC": "npc",
-    "INTERRUPT": "interrupt",
-    "SP": "sp[0]",
-}
+# The fields of a state that can have a fault and another name than the number has.
+FIELDS = {"ZERO": "words[0]", "LOADED": "divider.loaded", "SP": "sp[0]"}
 # A script that prints the numbers and the layouts of shapes.js, and the calls of errors.js.
 DESCRIPTION = f"""
 import * as shapes from "{FOLDER}/shapes.js";
@@ -79,7 +72,7 @@ def test_numbers_and_calls(library_js: Dict[str, Any]) -> None:
     assert numbers(library_js["Bank"]) == shapes.BANKS
     assert numbers(library_js["Reason"]) == shapes.REASONS
     assert {name: int(number) for number, name in library_js["FAULTS"].items()} == shapes.FAULTS
-    fields = {FIELDS[name]: number for name, number in shapes.FIELDS.items()}
+    fields = {FIELDS.get(name, name.lower()): number for name, number in shapes.FIELDS.items()}
     fields.update({f"sp[{n}]": fields["sp[0]"] + n for n in range(8)})
     assert {it: int(n) for n, it in library_js["FIELDS"].items()} == fields
     known = python_names("Machine") | {"Machine", "assemble", "text", "first_difference"}
