@@ -12,9 +12,7 @@ from lib.systems import chromium
 from lib.systems.target_params import RUNNERS
 from lib.systems.page_driver import Host, Page
 from lib.systems.runners import Native, Runner, target_of
-from rsp_tools.systems import manual
-from rsp_tools.systems import web_page as pages
-from rsp_tools.systems import places
+from rsp_tools.systems import manual, places, web_page
 
 WHY = "what tools/systems makes takes minutes, and wants cross compilers and emulators"
 
@@ -75,10 +73,9 @@ def host(at: Path) -> Iterator[Host]:
     """The page that answers scripts, on a server."""
     need(manual.CONVERTER)
     folder_of("wasm64")
-    pages.make(at / "page")
-    host = Host(at / "page")
-    yield host
-    host.stop()
+    web_page.make(at / "page")
+    with Host(at / "page") as host:
+        yield host
 
 
 @pytest.fixture(scope="session")
@@ -93,7 +90,7 @@ def driver(at: Path) -> Iterator[Any]:
 
 @pytest.fixture
 def forgetful(at: Path, folder: Path) -> Iterator[Page]:
-    """The tab of a browser that keeps no whole page for who goes back to it, only what was typed."""
+    """The tab of a browser that keeps only what was typed for who goes back to a page."""
     need(*chromium.PROGRAMS)
     page = Page(chromium.started(folder, "--disable-features=BackForwardCache"), folder)
     yield page

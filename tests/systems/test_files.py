@@ -3,7 +3,6 @@
 They fail as well if another make of the same sources gives other bytes.
 """
 
-import gzip
 import re
 from pathlib import Path
 
@@ -14,7 +13,7 @@ from lib.processes import succeeds
 from lib.systems import macos
 from lib.systems.built_files import check_wheel, symbol_names
 from lib.systems.target_params import LINUX, of
-from rsp_tools.systems import header, wasm
+from rsp_tools.systems import header
 from rsp_tools.systems.__main__ import SYSTEMS
 from rsp_tools.targets import CROSS
 from rsp_tools.systems.modules import module
@@ -73,11 +72,3 @@ def test_linux_signs_returns(made: Path) -> None:
     """The C of the program begins with the instruction that signs the address of the return."""
     listed = succeeds("aarch64-linux-gnu-objdump", "-d", "--no-show-raw-insn", made / "bin/rsp")
     assert "\tpaciasp" in listed
-
-
-@of("wasm64")
-def test_wasm(made: Path) -> None:
-    assert {it.name for it in made.iterdir()} == {"rsp.wasm", *(it.name for it in wasm.SCRIPTS.iterdir())}
-    assert header.version() in (made / "package.json").read_text()
-    data = (made / "rsp.wasm").read_bytes()
-    print(f"rsp.wasm has {len(data)} bytes, by gzip {len(gzip.compress(data, 9))}")

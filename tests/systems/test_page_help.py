@@ -1,7 +1,8 @@
 """The pages beside the page that answers scripts: made of the repository's Markdown, each link leads
-somewhere, and nothing is cut off."""
+somewhere, and nothing is cut off. And the README's picture of the page."""
 
 import re
+import struct
 from pathlib import Path
 from typing import Iterator, Set, Tuple
 
@@ -9,6 +10,7 @@ import pytest
 
 from lib.pages import blocks_of
 from lib.pages import page as text_of
+from lib.systems import screenshot
 from lib.systems.page_driver import Host, Page
 from rsp_tools.page_tables import ANCHOR, data
 from rsp_tools.systems import manual
@@ -20,6 +22,7 @@ PLAIN = (
     (r"\[([^\]]*)\]\([^)]*\)", r"\1"),
     (r"(?m)^\|[-|]+\|$", ""),
     (ANCHOR.pattern, ""),
+    (r"(?m)^```\w*\n", ""),
     ("`", ""),
 )
 
@@ -45,13 +48,11 @@ def links(path: Path) -> Iterator[Tuple[Path, str]]:
 
 def test_links(pages: Path) -> None:
     """Each leads to a file that is there, and to an anchor of it; none to another server."""
-    count = 0
-    for path in pages.glob("*.html"):
-        for file, anchor in links(path):
-            count += 1
-            assert file.is_file(), f"{path.name}: {file.name}"
-            assert not anchor or anchor in anchors(file), f"{path.name}: {file.name}#{anchor}"
-    assert count > 150
+    found = [(path, *link) for path in pages.glob("*.html") for link in links(path)]
+    for path, file, anchor in found:
+        assert file.is_file(), f"{path.name}: {file.name}"
+        assert not anchor or anchor in anchors(file), f"{path.name}: {file.name}#{anchor}"
+    assert len(found) > 150
 
 
 def test_rows(pages: Path) -> None:
@@ -66,35 +67,36 @@ def test_rows(pages: Path) -> None:
 
 
 @pytest.mark.parametrize("name", ("SCRIPT", "FAULTS", "INSTRUCTIONS"))
-def test_words(name: str, page: Page, host: Host, pages: Path) -> None:
+def test_words(name: str, page: Page, host: Host) -> None:
     """All words of the Markdown are on the page, in order, and the blocks of code as they are."""
-    page.open(f"{host.url}{pages.parent.name}/help/{name}.html")
-    shown = page.value("document.querySelector('main').textContent")
+    page.open(host.url_of(f"help/{name}.html"))
     text = text_of(f"docs/{name}.md")
-    blocks = blocks_of(text)
-    code = page.value("[...document.querySelectorAll('pre')].map((it) => it.textContent)")
-    assert "".join(code).split() == re.sub(r"\s+", " ", "".join(blocks)).split()
-    text = re.sub(r"(?m)^```\w*\n", "", text)
+    code = page.value("all('pre').map((it) => it.textContent)")
+    assert "".join(code).split() == "".join(blocks_of(text)).split()
     for form, instead in PLAIN:
         text = re.sub(form, instead, text)
-    wanted, found = (re.findall(r"[A-Za-z0-9]+", it) for it in (text, shown))
-    assert len(wanted) > 1000 and found == wanted
+    shown = page.value("document.querySelector('main').textContent")
+    expected, found = (re.findall(r"[A-Za-z0-9]+", it) for it in (text, shown))
+    assert len(expected) > 1000 and found == expected
 
 
 @pytest.mark.parametrize("width", (320, 360, 1280))
 @pytest.mark.parametrize("name", manual.PAGES)
-def test_nothing_is_cut_off(name: str, width: int, page: Page, host: Host, pages: Path) -> None:
-    """The page isn't wider than the screen: tables and code scroll."""
-    page.open(f"{host.url}{pages.parent.name}/help/{name}.html")
+def test_nothing_is_cut_off(name: str, width: int, page: Page, host: Host) -> None:
+    """The page isn't wider than the screen: tables and code scroll. Its pictures are shown."""
+    page.open(host.url_of(f"help/{name}.html"))
     with page.sized(width, 740, is_mobile=width < 1000):
         wide = page.value("document.documentElement.scrollWidth")
     assert wide <= width
-
-
-def test_no_error(page: Page, host: Host, pages: Path) -> None:
-    """The pages' rules take what the pages have: styles, and pictures."""
-    page.open(f"{host.url}{pages.parent.name}/help/INSTRUCTIONS.html")
-    page.until("document.readyState === 'complete'")
-    assert page.value("[...document.images].length") > 3
     assert page.value("[...document.images].filter((it) => !it.naturalWidth).length") == 0
-    assert page.value("getComputedStyle(document.querySelector('.wide')).overflowX") == "auto"
+    assert name != "INSTRUCTIONS" or page.value("document.images.length") > 3
+
+
+@pytest.mark.needs(manual.CONVERTER, *screenshot.chromium.PROGRAMS)
+def test_picture(host: Host, folder: Path) -> None:
+    """It can be drawn again, and the one of docs has its size."""
+    screenshot.draw(folder / "page.png")
+    for path in folder / "page.png", screenshot.PICTURE:
+        data = path.read_bytes()
+        assert data.startswith(b"\x89PNG\r\n\x1a\n")
+        assert struct.unpack(">2I", data[16:24]) == (screenshot.WIDTH, screenshot.HEIGHT)

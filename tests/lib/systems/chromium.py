@@ -4,6 +4,8 @@ import shutil
 from pathlib import Path
 from typing import Any, Dict
 
+from lib import TESTS
+
 PROGRAMS = ("chromium", "chromedriver", "python:selenium")
 # As root Chromium has no sandbox of its own; a small window, with room for replies beside scripts, is painted
 # sooner; gc() is for machines that are dropped.
@@ -12,6 +14,7 @@ WORDS = """
 --window-size=1000,400 --js-flags=--expose-gc
 """.split()
 LONGEST = 1800  # seconds that a script in a page may take
+PROBES = TESTS / "systems/page/probes.js"  # what tests ask of a page
 
 
 def started(saved: Path, *words: str) -> Any:
@@ -37,4 +40,5 @@ def started(saved: Path, *words: str) -> Any:
         options.set_capability(name, value)
     driver = webdriver.Chrome(service=Service(str(shutil.which("chromedriver"))), options=options)
     driver.set_script_timeout(LONGEST)
+    driver.execute_cdp_cmd("Page.addScriptToEvaluateOnNewDocument", {"source": PROBES.read_text()})
     return driver

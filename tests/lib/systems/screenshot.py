@@ -8,9 +8,9 @@ import tempfile
 from pathlib import Path
 
 from lib.systems import chromium
-from lib.systems.page_driver import Host, Page, the
+from lib.systems.page_driver import Host, Page
 from rsp_tools import TOP
-from rsp_tools.systems import web_page as pages
+from rsp_tools.systems import web_page
 
 PICTURE = TOP / "docs/pictures/page.png"
 WIDTH, HEIGHT = 1000, 440
@@ -36,24 +36,17 @@ def draw(picture: Path) -> None:
     """Writes the picture to a file, in the colours of a light screen."""
     with tempfile.TemporaryDirectory() as name:
         at = Path(name)
-        pages.make(at / "page")
-        host, driver = Host(at / "page"), chromium.started(at)
-        try:
+        web_page.make(at / "page")
+        with Host(at / "page") as host, chromium.started(at) as driver:
             page = Page(driver, at)
-            size = {"width": WIDTH, "height": HEIGHT, "deviceScaleFactor": 1, "mobile": False}
-            page.call("Emulation.setDeviceMetricsOverride", **size)
             page.open(host.url)
-            page.ready()
-            page.type(SCRIPT)
-            page.click("run")
-            page.ended()
-            page.until("document.querySelector('#replies p')?.textContent.startsWith('Operand')")
-            page.value(f"({the('surface')}.scrollTo(0, 0), {the('script')}.blur())")
-            page.painted()
-            driver.save_screenshot(str(picture))
-        finally:
-            driver.quit()
-            host.stop()
+            with page.sized(WIDTH, HEIGHT):
+                page.ready()
+                page.answered(SCRIPT)
+                page.until("document.querySelector('#replies p')?.textContent.startsWith('Operand')")
+                page.value("the('script').blur()")
+                page.scroll("0")
+                driver.save_screenshot(str(picture))
 
 
 if __name__ == "__main__":

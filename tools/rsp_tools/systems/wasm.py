@@ -1,7 +1,6 @@
 """The library for browsers, Node and Deno: a module of WebAssembly with 64-bit memories and SIMD, and the ES
 module over it. The module is that for x86-64, changed where WebAssembly differs."""
 
-import re
 import shutil
 from pathlib import Path
 from typing import List
@@ -9,7 +8,7 @@ from typing import List
 from . import header, places
 from .modules import Source, module
 from .rewriting import PROCESSOR, PSHUFB, SWIZZLE, rewritten
-from .toolchain import Refused, llvm
+from .toolchain import llvm
 
 CLANG = ["--target=wasm64-unknown-unknown", "-msimd128", "-mbulk-memory", "-ffreestanding"]
 LINUX = ["--target=x86_64-unknown-linux-gnu", "-ffreestanding"]
@@ -48,11 +47,7 @@ def link(out: Path, files: List[Path], *words: str) -> None:
 
 
 def folder(out: Path, files: List[Path], *words: str) -> None:
-    """Writes a folder with the ES module, and the library of these files beside it. Refused if the version of
-    the ES module isn't that of the library."""
-    named = re.search(r'"version": "(.*)"', (SCRIPTS / "package.json").read_text())
-    if not named or named[1] != header.version():
-        raise Refused(f"library/js/package.json has another version than {header.version()}")
+    """Writes a folder with the ES module, and the library of these files beside it."""
     out.mkdir(parents=True)
     for path in sorted(SCRIPTS.iterdir()):
         shutil.copyfile(path, out / path.name)
