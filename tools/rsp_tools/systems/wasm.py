@@ -6,7 +6,8 @@ from pathlib import Path
 from typing import List
 
 from . import header, places
-from .modules import Source, module
+from .modules import Source
+from .modules import module as module_of
 from .rewriting import PROCESSOR, PSHUFB, SWIZZLE, rewritten
 from .toolchain import llvm
 
@@ -25,12 +26,12 @@ def as_ir(source: Path, to: Path) -> None:
     to.write_text(rewritten(to.read_text(), set(), [PROCESSOR]))
 
 
-def objects(at: Path, source: Source = module) -> List[Path]:
+def objects(at: Path, source: Source = module_of) -> List[Path]:
     """Compiles the library with its heap and its memory, in a folder. The files to be linked."""
-    given = source("x86_64")
-    (at / "rsp.ll").write_text(rewritten(given.text.read_text(), {PSHUFB}, CHANGES))
+    module = source("x86_64")
+    (at / "rsp.ll").write_text(rewritten(module.text.read_text(), {PSHUFB}, CHANGES))
     as_ir(places.PARTS / "heap.c", at / "heap.ll")
-    flags = [*CLANG, *given.flags, "-Wno-override-module", "-c", "-o"]
+    flags = [*CLANG, *module.flags, "-Wno-override-module", "-c", "-o"]
     for name in PARTS[:2]:
         llvm("clang", *flags, at / f"{name}.o", "-x", "ir", at / f"{name}.ll")
     for name in PARTS[2:]:
@@ -41,9 +42,9 @@ def objects(at: Path, source: Source = module) -> List[Path]:
 def link(out: Path, files: List[Path], *words: str) -> None:
     """Links files to a module that exports the calls of brsp.h, malloc and free. Its stack is at 0, so that a
     call that needs more is stopped."""
-    shown = [f"--export={it}" for it in [*header.calls(), "malloc", "free"]]
+    exported = [f"--export={it}" for it in [*header.calls(), "malloc", "free"]]
     stack = ["--stack-first", "-z", f"stack-size={header.stack()}"]
-    llvm("wasm-ld", "-m", "wasm64", "--no-entry", "--strip-all", *stack, *shown, *words, "-o", out, *files)
+    llvm("wasm-ld", "-m", "wasm64", "--no-entry", "--strip-all", *stack, *exported, *words, "-o", out, *files)
 
 
 def folder(out: Path, files: List[Path], *words: str) -> None:
@@ -54,6 +55,6 @@ def folder(out: Path, files: List[Path], *words: str) -> None:
     link(out / "rsp.wasm", files, *words)
 
 
-def make(out: Path, at: Path, source: Source = module) -> None:
+def make(out: Path, at: Path, source: Source = module_of) -> None:
     """Writes the library's folder, from the module of a source. `at` is for files on the way."""
     folder(out, objects(at, source))

@@ -24,8 +24,8 @@ def resources(at: Path, file: str, kind: str) -> Path:
     """An object with the properties of a file of this kind, and of a program (VFT_APP) its manifest. `at`
     is for files on the way."""
     numbers, made = [*header.version().split("."), "0"], at / f"{file}.o"
-    given = {"NUMBERS": ",".join(numbers), "KIND": kind, "FILE": file}
-    text = header.filled(places.PARTS / "resources.rc.in", **given)
+    words = {"NUMBERS": ",".join(numbers), "KIND": kind, "FILE": file}
+    text = header.filled(places.PARTS / "resources.rc.in", **words)
     if kind == "VFT_APP":
         manifest = at / f"{file}.manifest"
         manifest.write_text(header.filled(places.PARTS / "rsp.manifest.in", DOTTED=".".join(numbers)))
