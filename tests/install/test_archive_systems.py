@@ -17,6 +17,9 @@ import pytest
 
 from lib.install.unpacked import (
     BARE,
+    LOOP_CODE,
+    LOOP_TEXT,
+    LOOP_WORDS,
     check_common,
     check_date_of_wheel,
     check_pack,
@@ -24,13 +27,12 @@ from lib.install.unpacked import (
     given,
     unpacked,
 )
-from lib.install.ways import LOOP_CODE, LOOP_TEXT, LOOP_WORDS
 from lib.library import LOCKSTEP
 from lib.library.typescript import OPTIONS, USE
 from lib.links import broken_everywhere, elsewhere
 from lib.packages import need
 from lib.pages import page
-from lib.processes import Ended, bytes_of, run, succeeds
+from lib.processes import Ended, run, run_bytes, succeeds
 from lib.systems import browser, built_files, macos, node, rust
 from lib.systems.target_params import COMPILED, LINUX, RUNNERS
 from lib.systems.runners import Runner
@@ -52,7 +54,7 @@ SHELLS = """
 share/man/man1/rsp.1 share/bash-completion/completions/rsp share/zsh/site-functions/_rsp
 share/fish/vendor_completions.d/rsp.fish
 """
-# What tools/systems makes for an archive that isn't in the record of its system, and what more an archive has.
+# What tools/systems makes for an archive beside what the record names, and what more an archive has.
 MADE = {
     "windows-x86_64": "lib/libbrsp.dll.a lib/brsp.lib",
     "vendor": "CMakeLists.txt include/brsp.h include/brsp.hpp include/brsp_compare.h program/main.c "
@@ -223,7 +225,7 @@ def test_wheel_installed(top: Path, runner: Runner, system: str) -> None:
     succeeds(sys.executable, "-m", "pip", "install", "-q", *words, "--target", to, wheel)
     assert (to / "rsp/__init__.py").is_file()
     command = [*runner.start, to / TARGETS[system].program, "run"]
-    ended = bytes_of(command[0], command[1:], FIRST, env=runner.env)
+    ended = run_bytes(command[0], command[1:], FIRST, env=runner.env)
     assert ended.stdout == page("examples/first.out").encode()
 
 
@@ -252,7 +254,7 @@ def test_example_of_the_crate(top: Path, runner: Runner, system: str) -> None:
 def of_archive(runner: Runner, *words: str, given: bytes = b"") -> "Ended[bytes]":
     """A run of a program of the archive, in its folder."""
     command = [*runner.start, *words]
-    return bytes_of(command[0], command[1:], given, cwd=runner.folder, env=runner.env)
+    return run_bytes(command[0], command[1:], given, cwd=runner.folder, env=runner.env)
 
 
 @of(*COMPILED)

@@ -15,7 +15,7 @@ from lib.cmake import EXAMPLE
 from lib.install.unpacked import check_common, given, unpacked
 from lib.library import LOCKSTEP
 from lib.pages import page
-from lib.processes import STRICT, bytes_of, compiled, run, succeeds
+from lib.processes import STRICT, compiled, run, run_bytes, succeeds
 from lib.systems.target_params import RUNNERS
 from lib.systems.runners import Runner
 from measure import LIBRARY
@@ -102,7 +102,7 @@ def test_builds(packed: Path, top: Path, folder: Path, compiler: str) -> None:
     fetched = project(folder / "fetched", FETCHED.format(packed))
     assert succeeds(built(fetched, *words) / "lockstep") == LOCKSTEP
     program = built(mine / "rsp", *words) / "rsp"
-    first = bytes_of(program, ["run"], page("examples/first.rsp").encode())
+    first = run_bytes(program, ["run"], page("examples/first.rsp").encode())
     assert first.stdout == page("examples/first.out").encode()
 
 

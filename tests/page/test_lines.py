@@ -10,7 +10,7 @@ import json
 import re
 import shutil
 from pathlib import Path
-from typing import Any, Callable
+from typing import Any, Callable, Dict
 
 import pytest
 
@@ -116,7 +116,12 @@ def test_advice(evaluate: Evaluate) -> None:
 
 
 # Where tsc is less strict than on the library's declarations, and what it can't know.
-LENIENT = {"allowJs": True, "checkJs": True, "noImplicitAny": False, "useUnknownInCatchVariables": False}
+LENIENT: Dict[str, Any] = {
+    "allowJs": True,
+    "checkJs": True,
+    "noImplicitAny": False,
+    "useUnknownInCatchVariables": False,
+}
 GLOBAL = (
     "declare function why_not(url: URL): Promise<string>; interface HTMLElement { hidePopover(): void }\n"
 )
@@ -129,7 +134,7 @@ def test_types(modules: Path) -> None:
     for path in modules.glob("*.js"):
         path.write_text(re.sub(r" (?=@(?:param|returns|type)\b)", "\n * ", path.read_text()))
     (modules / "global.d.ts").write_text(GLOBAL)
-    options = {**OPTIONS, **LENIENT, "lib": ["es2022", "dom", "dom.iterable"], "paths": {}}
+    options: Dict[str, Any] = {**OPTIONS, **LENIENT, "lib": ["es2022", "dom", "dom.iterable"], "paths": {}}
     project = {"compilerOptions": options, "files": ["page.js", "global.d.ts"]}
     (modules / "tsconfig.json").write_text(json.dumps(project))
     assert run("tsc", "-p", ".", cwd=modules).stdout == ""

@@ -9,7 +9,7 @@ from typing import List
 
 import pytest
 
-from lib.processes import bytes_of, run, succeeds
+from lib.processes import run, run_bytes, succeeds
 from lib.systems.runners import LONGEST, Runner
 from rsp_tools.systems import places
 
@@ -75,7 +75,7 @@ class Node(Runner):
         """The output of a test in JavaScript, which has to end well."""
         program, *flags = command()
         arguments = [*flags, "--expose-gc", "node.mjs", name, *map(self.url, (library, *words))]
-        ended = bytes_of(program, arguments, cwd=self.at / "tests", timeout=LONGEST)
+        ended = run_bytes(program, arguments, cwd=self.at / "tests", timeout=LONGEST)
         assert ended.returncode == 0, f"{name}: {ended.stdout[-1000:]!r}{ended.stderr[-2000:]!r}"
         return ended.stdout
 
