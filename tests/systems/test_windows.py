@@ -24,9 +24,9 @@ from rsp_tools.targets import TARGETS
 
 CALLS = {*header.calls()}
 TARGET = TARGETS["windows-x86_64"]
-# What the library takes of the C library, and for each compiler how it grows the stack.
-TAKEN = {"free", "malloc", "memcpy", "memmove", "memset", "realloc"}
-STATIC = {"libbrsp.a": TAKEN | {"___chkstk_ms"}, "brsp_static.lib": TAKEN | {"__chkstk"}}
+# What the library needs of the C library, and for each compiler how it grows the stack.
+COMMON = {"free", "malloc", "memcpy", "memmove", "memset", "realloc"}
+STATIC = {"libbrsp.a": COMMON | {"___chkstk_ms"}, "brsp_static.lib": COMMON | {"__chkstk"}}
 NEEDED = {
     "brsp.dll": ["KERNEL32.dll", "msvcrt.dll"],
     # The first gives the stack protector its number.
@@ -122,8 +122,8 @@ def test_static(made: Path, name: str) -> None:
     assert {
         it for it in symbol_names("-g", "--defined-only", library) if not it.startswith("__xmm@")
     } == CALLS
-    wants = symbol_names("-u", library)
-    assert {"free", "malloc"} <= wants <= STATIC[name]
+    needed = symbol_names("-u", library)
+    assert {"free", "malloc"} <= needed <= STATIC[name]
     assert CALLS - framed(library) <= FRAMELESS
 
 

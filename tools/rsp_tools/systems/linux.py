@@ -31,9 +31,7 @@ def make(target: Target, out: Path, at: Path, source: Source = module) -> None:
     words.append(f"-Wl,--version-script={places.HEADER.with_name('brsp.map')}")
     call(target.compiler, *words, "-o", out / "lib" / soname, at / "rsp.o")
     shutil.copy(out / "lib" / soname, out / target.shared)  # a link would do, but `rt ci` refuses links
-    packages.header(out)
-    packages.pkg_config(out)
-    packages.cmake(out, target, LIBRARY=soname, SONAME=soname)
+    packages.describe(out, target, soname, soname)
     program = out / target.program
     link_program(target, program, at / "heap.o", modules.program(target.processor))
     packages.wheel(out, out / "lib" / soname, "libbrsp.so", target.wheel, program)

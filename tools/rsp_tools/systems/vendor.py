@@ -7,6 +7,8 @@ import shutil
 from pathlib import Path
 from typing import Dict, Tuple
 
+from rsp_tools import TOOLS
+from rsp_tools.packaging import install_tree
 from rsp_tools.targets import TARGETS
 
 from . import packages, places, program
@@ -59,7 +61,7 @@ def make(out: Path, at: Path, source: Source = module_of) -> None:
         (out / folder).mkdir(parents=True)
     for name in FILES:
         (out / "src" / f"{name}.s").write_text(assembly(name, at, source))
-    packages.header(out)
+    packages.write(out, install_tree.headers())
     copy_program(out / "program")
-    text = filled(packages.TEMPLATES / "vendor/CMakeLists.txt.in", FILES=" ".join(FILES))
+    text = filled(TOOLS / "packaging/vendor/CMakeLists.txt.in", FILES=" ".join(FILES))
     (out / "CMakeLists.txt").write_text(text)

@@ -66,7 +66,5 @@ def make(out: Path, at: Path, source: Source = module) -> None:
     llvm("llvm-ar", "rcsD", out / "lib" / "libbrsp.a", gnu)
     llvm("llvm-ar", "rcsD", "--format=coff", out / "lib" / "brsp_static.lib", msvc)
     link_program(out / "bin" / "rsp.exe", at, out / "lib" / "libbrsp.a")
-    packages.header(out)
-    packages.pkg_config(out, rpath="")
-    packages.cmake(out, TARGET)
+    packages.describe(out, TARGET, rpath="")
     packages.wheel(out, out / "bin" / "brsp.dll", "brsp.dll", TARGET.wheel, out / "bin" / "rsp.exe")
