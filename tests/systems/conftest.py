@@ -8,7 +8,8 @@ from typing import Any, Iterator
 import pytest
 
 from lib.packages import need
-from lib.systems import chromium
+
+from lib.systems.browser import PROGRAMS, start_chromium
 from lib.systems.target_params import RUNNERS
 from lib.systems.page_driver import Host, Page
 from lib.systems.runners import Native, Runner, target_of
@@ -80,9 +81,9 @@ def host(at: Path) -> Iterator[Host]:
 
 @pytest.fixture(scope="session")
 def driver(at: Path) -> Iterator[Any]:
-    need(*chromium.PROGRAMS)
+    need(*PROGRAMS)
     (at / "saved").mkdir()
-    driver = chromium.started(at / "saved")
+    driver = start_chromium(at / "saved")
     driver.execute_cdp_cmd("Emulation.setFocusEmulationEnabled", {"enabled": True})
     yield driver
     driver.quit()
@@ -91,8 +92,8 @@ def driver(at: Path) -> Iterator[Any]:
 @pytest.fixture
 def forgetful(at: Path, folder: Path) -> Iterator[Page]:
     """The tab of a browser that keeps only what was typed for who goes back to a page."""
-    need(*chromium.PROGRAMS)
-    page = Page(chromium.started(folder, "--disable-features=BackForwardCache"), folder)
+    need(*PROGRAMS)
+    page = Page(start_chromium(folder, "--disable-features=BackForwardCache"), folder)
     yield page
     page.driver.quit()
 

@@ -1,8 +1,7 @@
 """The pages beside the page that answers scripts: made of the repository's Markdown, each link leads
-somewhere, and nothing is cut off. And the README's picture of the page."""
+somewhere, and nothing is cut off."""
 
 import re
-import struct
 from pathlib import Path
 from typing import Iterator, Set, Tuple
 
@@ -10,7 +9,6 @@ import pytest
 
 from lib.pages import blocks_of
 from lib.pages import page as text_of
-from lib.systems import screenshot
 from lib.systems.page_driver import Host, Page
 from rsp_tools.page_tables import ANCHOR, data
 from rsp_tools.systems import manual
@@ -90,13 +88,3 @@ def test_nothing_is_cut_off(name: str, width: int, page: Page, host: Host) -> No
     assert wide <= width
     assert page.value("[...document.images].filter((it) => !it.naturalWidth).length") == 0
     assert name != "INSTRUCTIONS" or page.value("document.images.length") > 3
-
-
-@pytest.mark.needs(manual.CONVERTER, *screenshot.chromium.PROGRAMS)
-def test_picture(host: Host, folder: Path) -> None:
-    """It can be drawn again, and the one of docs has its size."""
-    screenshot.draw(folder / "page.png")
-    for path in folder / "page.png", screenshot.PICTURE:
-        data = path.read_bytes()
-        assert data.startswith(b"\x89PNG\r\n\x1a\n")
-        assert struct.unpack(">2I", data[16:24]) == (screenshot.WIDTH, screenshot.HEIGHT)

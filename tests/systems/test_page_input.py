@@ -5,7 +5,7 @@ import json
 import os
 import shutil
 from pathlib import Path
-from typing import Callable
+from typing import Any, Dict, List, Tuple
 
 import pytest
 
@@ -92,73 +92,50 @@ def test_from_a_folder(page: Page, host: Host) -> None:
     assert "python3 -m http.server --bind 127.0.0.1" in page.text("absent")
 
 
-def changed(name: str, change: Callable[[bytes], bytes]) -> Callable[[Path], None]:
-    """A change of a file of the page."""
-
-    def change_file(page: Path) -> None:
-        (path,) = page.glob(f"*/{name}")
-        path.write_bytes(change(path.read_bytes()))
-
-    return change_file
-
-
-def without_memories(page: Path) -> None:
-    """Asks the browser for a kind of memory that none has, as 64 bits are for older ones, and gives it a
-    library with such a memory."""
-    changed("rsp/module.js", lambda it: it.replace(b"[5, 3, 1, 4, 0]", b"[5, 3, 1, 68, 0]"))(page)
-    changed("rsp/rsp.wasm", lambda it: it[:8] + bytes([5, 3, 1, 68, 0]))(page)
-
-
-def absent(name: str) -> Callable[[Path], None]:
-    return lambda page: next(page.glob(f"*/{name}")).unlink()
-
-
-PAGE_OF_HOST = b"<!doctype html>\n<title>Not here</title>\n"
-LACKING = {
-    "memories": (
-        without_memories,
-        "rsp needs WebAssembly with 64-bit memories: Chrome and Edge have them since 133, Firefox since 134, "
-        "Node since 24, or since 20 with --experimental-wasm-memory64; Safari hasn't.",
-    ),
-    "rsp.wasm": (absent("rsp/rsp.wasm"), "rsp.wasm isn't served: 404 File not found."),
-    "half of rsp.wasm": (
-        changed("rsp/rsp.wasm", lambda it: it[:100000]),
-        "rsp.wasm isn't whole: 100000 bytes came, which are no module.",
-    ),
-    "HTML for rsp.wasm": (
-        changed("rsp/rsp.wasm", lambda _: PAGE_OF_HOST),
-        'rsp.wasm isn\'t a module of WebAssembly: it begins with "<!doctype html>\\n", so something else was '
-        "served.",
-    ),
-    "worker.js": (
-        absent("worker.js"),
-        "worker.js isn't served: 404 File not found. A newer page may be there: reload it.",
-    ),
-    "HTML for worker.js": (
-        changed("worker.js", lambda _: PAGE_OF_HOST),
-        "worker.js isn't served: the server has answered with HTML.",
-    ),
-    "rsp.js": (
-        absent("rsp/rsp.js"),
-        "rsp.js isn't served: 404 File not found. A newer page may be there: reload it.",
-    ),
-    "a module of the library": (
-        absent("rsp/errors.js"),
-        "rsp.js is served, but the browser hasn't taken it, or a module that it imports.",
-    ),
-}
-
-
 @pytest.fixture
 def lacking(host: Host, folder: Path) -> Path:
     """A copy of the page, to be changed."""
     return Path(shutil.copytree(host.folder, folder / "page"))
 
 
-@pytest.mark.parametrize("change, message", LACKING.values(), ids=LACKING)
-def test_without(change: Callable[[Path], None], message: str, page: Page, lacking: Path) -> None:
+HTML, ABSENT = b"<!doctype html>\n<title>Not here</title>\n", "isn't served: 404 File not found."
+NEWER = "A newer page may be there: reload it."
+NO_MEMORIES = (
+    "rsp needs WebAssembly with 64-bit memories: Chrome and Edge have them since 133, Firefox since 134, "
+)
+NO_MEMORIES += "Node since 24, or since 20 with --experimental-wasm-memory64; Safari hasn't."
+NO_MODULE = (
+    'rsp.wasm isn\'t a module of WebAssembly: it begins with "<!doctype html>\\n", so something else was '
+)
+NO_MODULE += "served."
+# A kind of memory that no browser has, as 64 bits are for older ones: the library asks for it, and has it.
+NONE = bytes([5, 3, 1, 68, 0])
+MEMORIES = {
+    "rsp/module.js": lambda it: it.replace(b"[5, 3, 1, 4, 0]", str([*NONE]).encode()),
+    "rsp/rsp.wasm": lambda it: it[:8] + NONE,
+}
+# What is made of files of the page, None for those that aren't there, and what the page says then.
+LACKING: List[Tuple[Dict[str, Any], str]] = [
+    (MEMORIES, NO_MEMORIES),
+    ({"rsp/rsp.wasm": None}, f"rsp.wasm {ABSENT}"),
+    ({"rsp/rsp.wasm": lambda it: it[:9999]}, "rsp.wasm isn't whole: 9999 bytes came, which are no module."),
+    ({"rsp/rsp.wasm": lambda _: HTML}, NO_MODULE),
+    ({"worker.js": None}, f"worker.js {ABSENT} {NEWER}"),
+    ({"worker.js": lambda _: HTML}, "worker.js isn't served: the server has answered with HTML."),
+    ({"rsp/rsp.js": None}, f"rsp.js {ABSENT} {NEWER}"),
+    (
+        {"rsp/errors.js": None},
+        "rsp.js is served, but the browser hasn't taken it, or a module that it imports.",
+    ),
+]
+
+
+@pytest.mark.parametrize("changes, message", LACKING, ids=(it[:25] for _, it in LACKING))
+def test_without(changes: Dict[str, Any], message: str, page: Page, lacking: Path) -> None:
     """What the page says that lacks something: when it is opened, and when a script is run."""
-    change(lacking)
+    for name, change in changes.items():
+        (path,) = lacking.glob(f"*/{name}")
+        path.write_bytes(change(path.read_bytes())) if change else path.unlink()
     with Host(lacking) as host:
         page.open(host.url)
         page.until(f"the('ran').textContent === {json.dumps(message)}")

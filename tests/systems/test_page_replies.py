@@ -254,7 +254,6 @@ REASONS = {
     "an operand": ("asm 0\nnop\nlqv $v1[0], 3($0)\nend\n", OPERAND, 3),
     "another assembler": ("asm 0\nmove $1, $2\nend\n", "Write: addu $1, $2, $0", 2),
     "a command": ("step\nmem dmem 0\n", "Write: mem BANK ADDR LEN (ADDR 0 to 16777215, LEN 1 to 256)", 2),
-    "a number": ("break 010\n", "Write: break ADDR (a multiple of 4 from 0 to 4092)", 1),
     "another": ("break 0\nbreak 0\n", "Nothing: it is set.", 2),
     "an unknown command": ("foo\n", "Use lower case; end only ends a block.", 1),
 }

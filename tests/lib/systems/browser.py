@@ -1,6 +1,7 @@
 """Programs and tests in Chromium: a server on this machine's own address gives its page files, and takes
 their output."""
 
+import shutil
 import threading
 from functools import cached_property
 from http.server import SimpleHTTPRequestHandler, ThreadingHTTPServer
@@ -8,13 +9,48 @@ from pathlib import Path
 from typing import Any, Dict, List, Optional, Tuple
 
 from lib.processes import Ended
-from lib.systems import chromium
 from lib.systems.runners import Runner
 from rsp_tools.systems import places, wasm
 from rsp_tools.systems.toolchain import llvm
 
 PAGES = places.TOP / "tests/systems/wasm"
+PROGRAMS = ("chromium", "chromedriver", "python:selenium")
+# As root Chromium has no sandbox of its own; a small window, with room for replies beside scripts, is painted
+# sooner; gc() is for machines that are dropped.
+WORDS = """
+--headless=new --no-sandbox --disable-gpu --disable-dev-shm-usage --no-first-run
+--window-size=1000,400 --js-flags=--expose-gc
+""".split()
+LONGEST = 1800  # seconds that a script in a page may take
+PROBES = places.TOP / "tests/systems/page/probes.js"  # what tests ask of a page
 HEADERS = ("stddef", "stdint", "stdio", "stdlib", "string", "time")
+
+
+def start_chromium(saved: Path, *words: str) -> Any:
+    """A Chromium of its own, with more words, whose downloads go to a folder. It leaves dialogs to the tests,
+    and logs what a page requests and opens. `quit()` ends it."""
+    from selenium import webdriver
+    from selenium.webdriver.chrome.service import Service
+
+    options = webdriver.ChromeOptions()
+    options.binary_location = str(shutil.which("chromium"))
+    for word in (*WORDS, *words):
+        options.add_argument(word)
+    # Chromium asks before it saves file after file, and where nobody answers it saves none.
+    several = "profile.default_content_setting_values.automatic_downloads"
+    options.add_experimental_option("prefs", {"download.default_directory": str(saved), several: 1})
+    # That a page is left without a question is the rule of chromedriver, except with a socket.
+    capabilities: Dict[str, Any] = {
+        "webSocketUrl": True,
+        "unhandledPromptBehavior": {"default": "ignore", "beforeUnload": "ignore"},
+        "goog:loggingPrefs": {"performance": "ALL"},
+    }
+    for name, value in capabilities.items():
+        options.set_capability(name, value)
+    driver = webdriver.Chrome(service=Service(str(shutil.which("chromedriver"))), options=options)
+    driver.set_script_timeout(LONGEST)
+    driver.execute_cdp_cmd("Page.addScriptToEvaluateOnNewDocument", {"source": PROBES.read_text()})
+    return driver
 
 
 class Handler(SimpleHTTPRequestHandler):
@@ -61,7 +97,7 @@ class Chromium(Runner):
     """WebAssembly in a browser. `folder` is the library's, with rsp.js. Programs in C are linked with the
     objects of which the library was linked: those of the folder `way`, or else they are made again."""
 
-    programs = ("rt", *chromium.PROGRAMS)
+    programs = ("rt", *PROGRAMS)
 
     def __init__(self, name: str, folder: Path, at: Path) -> None:
         super().__init__(name, folder, at)
@@ -74,7 +110,7 @@ class Chromium(Runner):
     @cached_property
     def driver(self) -> Any:
         """A Chromium with the page that runs what it is given."""
-        driver = chromium.started(self.at)
+        driver = start_chromium(self.at)
         driver.get(f"http://127.0.0.1:{self.server.server_address[1]}/tests/page.html")
         return driver
 

@@ -2,12 +2,10 @@
 
 import base64
 import hashlib
-import json
 import re
 import sys
 import tempfile
 import zipfile
-from email import message_from_string
 from pathlib import Path
 from typing import Dict, Set
 
@@ -41,24 +39,6 @@ def check_record(text: str, files: Dict[str, bytes]) -> None:
     assert sorted(text.splitlines()) == sorted(expected)
 
 
-def check_metadata(text: str) -> None:
-    """A wheel's metadata, which have the form of a mail, are those of the project."""
-    found, project = message_from_string(text), (places.PYTHON / "pyproject.toml").read_text()
-    assert (found["Name"], found["Version"]) == ("rsp", header.version())
-    for key, name in ("Summary", "description"), ("Requires-Python", "requires-python"):
-        assert f'\n{name} = "{found[key]}"\n' in project
-    lists = {"classifiers": found.get_all("Classifier"), "keywords": found["Keywords"].split(",")}
-    for name, items in lists.items():
-        (expected,) = re.findall(rf"(?ms)^{name} = (\[.*?\])$", project)
-        assert json.loads(expected.replace(",\n]", "\n]")) == items
-    assert "Topic :: System :: Emulators" in lists["classifiers"]
-    assert found["Description-Content-Type"] == "text/markdown"
-    assert found.get_payload() == (places.PYTHON / "README.md").read_text()
-
-
-INFO = "METADATA", "WHEEL", "RECORD"
-
-
 def check_wheel(system: str, folder: Path) -> None:
     """The wheel's tags, its files, its record, and that its library is the one beside it."""
     info, target = f"rsp-{header.version()}.dist-info", TARGETS[system]
@@ -73,13 +53,12 @@ def check_wheel(system: str, folder: Path) -> None:
         output = run(sys.executable, "-c", IMPORTED, target.python, cwd=at).stdout
         assert output == f"loads {Path(at).resolve()}/{library}\n"
     commands = {f"rsp-{header.version()}.data/scripts/{it}": it for it in [Path(target.program).name] if it}
-    expected = modules | {library} | {f"{info}/{it}" for it in INFO} | {*commands}
+    expected = modules | {library} | {f"{info}/{it}" for it in ("METADATA", "WHEEL", "RECORD")} | {*commands}
     if target.is_linux:
         expected.add(f"{info}/entry_points.txt")  # of rsp-gdb
     assert {*files} == expected
     are_same = [files[it] == (folder / "bin" / name).read_bytes() for it, name in commands.items()]
     assert all(are_same), "the wheel has another program"
-    check_metadata(files[f"{info}/METADATA"].decode())
     is_same = files[library] == (folder / target.shared).read_bytes()
     assert is_same, "the wheel has another library"
     assert re.findall(r"(?m)^Tag: py3-none-(.*)$", files[f"{info}/WHEEL"].decode()) == [*target.wheel]

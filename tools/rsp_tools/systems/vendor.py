@@ -16,7 +16,7 @@ from .header import filled
 from .modules import Source
 from .modules import module as module_of
 from .objects import compiled
-from .rewriting import STACK_PROBES, UNWIND_TABLES
+from .rewriting import with_unwind_tables, without_stack_probes
 from .windows import GNU
 
 
@@ -39,10 +39,11 @@ LACKING = (".addrsig", ".seh_startepilogue", ".seh_endepilogue")
 def assembly(name: str, at: Path, source: Source) -> str:
     """The text of a file. For Windows GNU's assembler can't read a section for each function."""
     processor, triple = FILES[name]
-    module, changes = source(processor), (STACK_PROBES, UNWIND_TABLES)
+    module, changes = source(processor), []
     if triple == GNU:
         module = module._replace(flags=[it for it in module.flags if not it.endswith("-sections")])
-    made = compiled(module, processor, triple, at, changes if triple == GNU else (), kind="-S")
+        changes = [without_stack_probes, with_unwind_tables]
+    made = compiled(module, processor, triple, at, changes, kind="-S")
     lines = made.read_text().splitlines(keepends=True)
     return "".join(it for it in lines if not it.lstrip().startswith(LACKING))
 

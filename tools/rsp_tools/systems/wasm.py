@@ -8,12 +8,12 @@ from typing import List
 from . import header, places
 from .modules import Source
 from .modules import module as module_of
-from .rewriting import PROCESSOR, PSHUFB, SWIZZLE, rewritten
+from .rewriting import PSHUFB, rewritten, with_swizzle, without_processor
 from .toolchain import llvm
 
 CLANG = ["--target=wasm64-unknown-unknown", "-msimd128", "-mbulk-memory", "-ffreestanding"]
 LINUX = ["--target=x86_64-unknown-linux-gnu", "-ffreestanding"]
-CHANGES = [PROCESSOR, SWIZZLE]
+CHANGES = [without_processor, with_swizzle]
 SCRIPTS = places.TOP / "library" / "js"
 # The library, the kit's functions of the heap, and what these need.
 PARTS = ["rsp", "heap", "allocator", "memory_wasm"]
@@ -23,7 +23,7 @@ def as_ir(source: Path, to: Path) -> None:
     """Compiles C for Linux to LLVM's language, and changes it for wasm: the heap's functions return two
     numbers in registers, as the library expects, which C for wasm would return by a pointer."""
     llvm("clang", *LINUX, "-O2", "-S", "-emit-llvm", "-o", to, source)
-    to.write_text(rewritten(to.read_text(), set(), [PROCESSOR]))
+    to.write_text(rewritten(to.read_text(), set(), [without_processor]))
 
 
 def objects(at: Path, source: Source = module_of) -> List[Path]:

@@ -10,7 +10,7 @@ from rsp_tools.targets import TARGETS
 from . import header, packages, places, program
 from .modules import Source, module
 from .objects import compiled
-from .rewriting import STACK_PROBES, UNWIND_TABLES
+from .rewriting import with_unwind_tables, without_stack_probes
 from .toolchain import call, llvm
 
 TARGET = TARGETS["windows-x86_64"]
@@ -53,7 +53,7 @@ def link_program(to: Path, at: Path, library: Path) -> None:
 def make(out: Path, at: Path, source: Source = module) -> None:
     """Writes the library's folder, from the modules of a source. `at` is for files on the way."""
     made = source("x86_64")
-    changes = [STACK_PROBES, UNWIND_TABLES]
+    changes = [without_stack_probes, with_unwind_tables]
     gnu, msvc = (compiled(made, "x86_64", it, at, changes) for it in (GNU, MSVC))
     for folder in ("bin", "lib"):
         (out / folder).mkdir(parents=True)
