@@ -89,7 +89,7 @@ def test_packages_of_the_newcomer(monkeypatch: pytest.MonkeyPatch) -> None:
     lost = "/usr/include/mupen64plus", "/usr/bin/pkg-config"
     monkeypatch.setattr(packages, "is_here", lambda tool: tool not in lost)
     assert sorted(needed_packages.missing()) == ["libmupen64plus-dev", "pkg-config"]
-    monkeypatch.setattr(release, "said", lambda *_: "libmupen64plus-dev pkg-config")
+    monkeypatch.setattr(release, "output_of", lambda *_: "libmupen64plus-dev pkg-config")
     monkeypatch.setattr(release, "missing", lambda *_: "")
     monkeypatch.setattr(shutil, "which", str)
     release.check_packages([], False)

@@ -111,9 +111,9 @@ def page_code() -> List[Tuple[str, str]]:
 
 
 @on(*JAVASCRIPT)
-@pytest.mark.parametrize("code, told", page_code(), ids=lambda it: it.strip()[:20])
-def test_code_of_page(runner: Any, code: str, told: str) -> None:
-    assert runner.says("page.js", code) == f"{told}\n"
+@pytest.mark.parametrize("code, output", page_code(), ids=lambda it: it.strip()[:20])
+def test_code_of_page(runner: Any, code: str, output: str) -> None:
+    assert runner.says("page.js", code) == f"{output}\n"
 
 
 def as_case(script: Stored) -> Dict[str, Any]:
@@ -129,9 +129,9 @@ def test_scripts(runner: Any) -> None:
     scripts = stored()
     (runner.at / "scripts.json").write_text(json.dumps([*map(as_case, scripts)]))
     found = json.loads(runner.test("scripts.js", "/at/scripts.json"))
-    wanted = [["OUT_OF_RANGE" if it.wanted[0] else it.wanted[1].decode(), True] for it in scripts]
+    expected = [["OUT_OF_RANGE" if it.wanted[0] else it.wanted[1].decode(), True] for it in scripts]
     assert len(found) == len(scripts)
-    assert [it for it in zip(map(str, scripts), found, wanted) if it[1] != it[2]] == []
+    assert [it for it in zip(map(str, scripts), found, expected) if it[1] != it[2]] == []
 
 
 @on(*JAVASCRIPT)

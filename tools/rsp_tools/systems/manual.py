@@ -51,7 +51,7 @@ def converted(text: str) -> str:
     """A page's Markdown as HTML. Links lead to pages that are here, and others are their words alone."""
     text = LINK.sub(lambda link: link[0] if is_here(link[2]) else link[1], text)
     # The anchors of the pages are HTML.
-    body = call(CONVERTER, "--unsafe", "--extension", "table", "--to", "html", given=text)
+    body = call(CONVERTER, "--unsafe", "--extension", "table", "--to", "html", text=text)
     body = re.sub(r"<h([1-6])>(.*?)</h\1>", with_anchor, body)
     body = re.sub(r'(<a href="\w+)\.md(?=["#])', r"\1.html", body)
     return with_rows(
