@@ -59,11 +59,10 @@ class Node(Runner):
     """This machine's Node. The paths of tests are those of the server for Chromium: `/library` is the folder
     of the library, `/at` that of a test's files."""
 
-    system = "wasm64"
     programs = ("node",)
 
-    def __init__(self, folder: Path, at: Path) -> None:
-        super().__init__(folder, at)
+    def __init__(self, name: str, folder: Path, at: Path) -> None:
+        super().__init__(name, folder, at)
         shutil.copytree(PAGES, at / "tests")
         (at / "package.json").write_text('{ "type": "module" }')
 
