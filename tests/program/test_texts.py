@@ -19,7 +19,7 @@ from lib.fixed_point import clamp, read_halves
 from lib.pages import block_with, page, tables
 from lib.processes import compiled
 
-ASSEMBLY, COOKBOOK = "docs/ASSEMBLY.md", "docs/COOKBOOK.md"
+ASSEMBLY = "docs/ASSEMBLY.md"
 MIPS = "mips-linux-gnu-gcc"
 HEADER = Path("/usr/include/mupen64plus/m64p_plugin.h")
 # Opcodes with a distance in words from the delay slot, and the codes of opcode 1 that have one.
@@ -362,8 +362,7 @@ def test_explanation_of_size(rsp: Any, folder: Path) -> None:
 # Blocks of pages.
 
 
-# An overlay as libdragon links it: what begins at 0 adds two words of its data, and a command at 040 keeps
-# a part of its first word. `mark` is a label of data.
+# An overlay as libdragon links it, which adds two words of its data. `mark` is a label of data.
 OVERLAY = """
     .set noreorder
     .text
@@ -375,10 +374,6 @@ _start: lw $a0, 0($0)
     break
 add: jr $ra
     addu $v0, $a0, $a1
-    .org 0x40
-command: andi $t0, $a0, 0xff
-    jr $ra
-    sw $t0, 12($0)
     .data
     .word 30, 12
 mark: .word 0, 0
@@ -397,17 +392,10 @@ def overlay(files: Files) -> Files:
     """The files with an ELF, and what the page makes of it up to the cleared code."""
     link(files.folder, OVERLAY)
     names = files.run_shell(block_with(ASSEMBLY, "mips-linux-gnu-objcopy -O binary -j .text"))
-    for form in "04000008 . mark", "04001000 T _start", "04001040 t command":
+    for form in "04000008 . mark", "04001000 T _start", "04001014 t add":
         assert re.search(rf"(?m)^{form}$", names), names
     files.run_shell(block_with(ASSEMBLY, "python3 -c 'code"))
     return files
-
-
-def loads(files: Files) -> str:
-    """The lines that load code and data, as the page makes them."""
-    block = block_with(ASSEMBLY, "loads() {").replace("| rsp run", "")
-    assert block.endswith("echo run 1000000; echo mem dmem 0 16) \n")
-    return files.run_shell(block).partition("run")[0]
 
 
 @pytest.mark.needs("mips-linux-gnu-gcc")
@@ -424,25 +412,6 @@ def test_elf_of_page(overlay: Files) -> None:
     assert (overlay.folder / "data.bin").read_bytes() == pack_words([30, 12, 0, 0])
     output = overlay.run_shell(block_with(ASSEMBLY, "loads() {"))
     assert output.endswith("stop Halted steps 7 pc 014\n000000: 0000001e0000000c0000002a00000000\n")
-
-
-@pytest.mark.needs("mips-linux-gnu-gcc")
-def test_command_of_overlay(overlay: Files) -> None:
-    """The cookbook's caller calls the command, which returns to it."""
-    replies = overlay.run(loads(overlay) + block_with(COOKBOOK, "asm 0xf80"))
-    assert replies.endswith("stop Halted steps 8 pc f94\n000000: 0000001e0000000c0000000000000007\n")
-
-
-@pytest.mark.needs("mips-linux-gnu-gcc")
-def test_words_for_gnu_as(files: Files) -> None:
-    """The words of a text, as the page writes them for another assembler, are those of the text."""
-    (files.folder / "mine.s").write_text("x: bne $1, $0, x\nvadd $v1, $v2, $v3[1h]\nj x\n.word 0xfedcba98\n")
-    files.run_shell(block_with(ASSEMBLY, "rsp asm mine.s mine.bin --at 0x080"))
-    text = (files.folder / "mine.inc").read_text()
-    link(files.folder, f".text\n_start: .globl _start\n{text}")
-    files.run_shell(block_with(ASSEMBLY, "mips-linux-gnu-objcopy -O binary -j .text").splitlines()[0])
-    linked, mine = ((files.folder / f"{name}.bin").read_bytes() for name in ("linked", "mine"))
-    assert len(mine) == 16 and linked[:16] == mine and not any(linked[16:])
 
 
 def scalar_names() -> Dict[str, int]:
