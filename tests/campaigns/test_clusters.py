@@ -1,4 +1,4 @@
-"""Campaigns on clusters of Dask give the results of one process, also where a part of the cluster is lost."""
+"""Campaigns on clusters of Dask give the results of one process, also after a part of the cluster is lost."""
 
 import contextlib
 import signal
@@ -11,7 +11,7 @@ from typing import Any, Dict, Iterator, List, Tuple
 
 import pytest
 
-from lib.campaigns import CAMPAIGN, FEW, SOURCES, campaign, faulty, results_of, said_of
+from lib.campaigns import CAMPAIGN, FEW, SOURCES, campaign, faulty, results_of, output_of
 
 pytestmark = [
     pytest.mark.needs("cc", "python:numpy", "python:distributed"),
@@ -27,7 +27,7 @@ TASKS = 3 * len(FEW.split(",")) + 2
 def test_local_cluster(folder: Path) -> None:
     """A local cluster of two workers gives the results of one process."""
     words = ("--instructions", "vadd,lqv,vxor", "--cases", 3000, "--size", 2000, *PROGRAMS)
-    said_of(folder / "here", faulty(2), *words)
+    output_of(folder / "here", faulty(2), *words)
     ended = campaign(faulty(2), *words, "--workers", 2, folder / "cluster")
     assert ended.returncode == 0, ended.stderr
     assert len(results_of(folder / "here")) == 9
@@ -42,7 +42,7 @@ def words_of_campaign() -> Tuple[object, ...]:
 def quiet() -> Dict[str, Any]:
     """The results of an undisturbed campaign."""
     with tempfile.TemporaryDirectory() as folder:
-        said_of(Path(folder), *words_of_campaign())
+        output_of(Path(folder), *words_of_campaign())
         found = results_of(Path(folder))
     assert len(found) == TASKS + 1
     return found
@@ -69,8 +69,8 @@ def cluster() -> Iterator[Tuple[str, List[Any]]]:
 def started(address: str, out: Path, results: int) -> "subprocess.Popen[str]":
     """A campaign on a cluster that has some results."""
     pipes: Dict[str, Any] = {"stdout": subprocess.PIPE, "stderr": subprocess.PIPE}
-    words = [str(it) for it in (CAMPAIGN, *words_of_campaign(), "--scheduler", address, out)]
-    client = subprocess.Popen(words, text=True, cwd=SOURCES, **pipes)
+    words = map(str, (CAMPAIGN, *words_of_campaign(), "--scheduler", address, out))
+    client = subprocess.Popen([*words], text=True, cwd=SOURCES, **pipes)
     while client.poll() is None and len(list(out.glob("*-*.json"))) < results:
         time.sleep(0.05)
     return client
@@ -81,14 +81,14 @@ def test_lost_worker(quiet: Dict[str, Any], folder: Path) -> None:
     with cluster() as (address, begun):
         client = started(address, folder / "out", 3)
         begun[1].kill()
-        told = client.communicate(timeout=300)
-    assert client.returncode == 0, told
+        output = client.communicate(timeout=300)
+    assert client.returncode == 0, output
     assert results_of(folder / "out") == quiet
 
 
 @LOST
 def test_lost_client(quiet: Dict[str, Any], folder: Path) -> None:
-    """It is killed twice, and goes on."""
+    """It is killed twice, and continues."""
     with cluster() as (address, _begun):
         for count in (4, 12):
             client = started(address, folder / "out", count)
@@ -102,7 +102,7 @@ def test_lost_client(quiet: Dict[str, Any], folder: Path) -> None:
 
 @LOST
 def test_lost_scheduler(quiet: Dict[str, Any], folder: Path) -> None:
-    """A sentence says so, and a local cluster goes on."""
+    """A sentence says so, and a local cluster continues."""
     with cluster() as (address, begun):
         client = started(address, folder / "out", 3)
         begun[0].kill()
