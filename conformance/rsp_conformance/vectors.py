@@ -18,15 +18,7 @@ MEMORIES = {
     "imem": range(MEMORY),
     "rdram": range(bench.WINDOW, bench.WINDOW + bench.WINDOW_LENGTH),
 }
-LONGEST_LINE, LONGEST_TEXT = 1 << 17, 100  # a line in bytes: a case with all bytes of memories has a third
-KEYS = {
-    "before": {*bench.DEFAULT, "divided", *MEMORIES},
-    "after": {*bench.DEFAULT, *MEMORIES},
-    "case": {"name", "word", "text", "choice", "before", "after"},
-    "manifest": {"row", "programs"},
-    "program": {"name", "steps", "layouts", "cases"},
-    "case of a program": {"name", "pc", "word", "text", "at", "layout", "choice"},
-}
+LONGEST_LINE = 1 << 17  # in bytes; a case with all bytes of memories has a third of them
 
 
 class VectorsFault(Exception):
@@ -72,60 +64,58 @@ def require(is_right: object, why: str) -> None:
         raise Malformed(why)
 
 
-def check_keys(what: str, found: Dict[str, Any]) -> None:
-    """Refuses an unknown key, because nothing would compare its value."""
-    for key in found.keys() - KEYS[what]:
-        raise Malformed(f"{what} has the unknown key {key!r:.40}")
+def check_form(what: str, value: Any, form: Any) -> None:
+    """Raises one of MALFORMED unless a value has a form: a regular expression of a text, the forms of the
+    values of keys, or the form of each item of a list. An unknown key is refused, because nothing would
+    compare its value.
+    """
+    if isinstance(form, str):
+        is_right = isinstance(value, str) and re.fullmatch(form, value)
+        require(is_right, f"{what} is {value!r:.40}, and hasn't the form {form}")
+    elif isinstance(form, dict):
+        for key, part in value.items():
+            require(key in form, f"{what} has the unknown key {key!r:.40}")
+            check_form(f"{key} of {what}", part, form[key])
+    else:
+        require(isinstance(value, list), f"{what} is {value!r:.40}, and not a list")
+        for part in value:
+            check_form(what, part, form[0])
 
 
-def is_short(text: Any) -> bool:
-    """Whether this is a text that each difference may repeat."""
-    return isinstance(text, str) and len(text) <= LONGEST_TEXT
+TEXT = "(?s:.{0,100})"  # which each difference may repeat
+WORD, ADDRESS = "[0-9a-f]{8}", "[0-9a-f]{3}"
+STATE = {
+    **{key: f"[0-9a-f]{{{len(text)}}}" for key, text in bench.DEFAULT.items()},
+    **dict.fromkeys(("pc", "npc"), "[0-9a-f]{2}[048c]"),
+}
+CASE = {"name": "[^\ud800-\udfff]{0,100}", "word": WORD, "text": TEXT, "choice": TEXT}
+PROGRAM_CASE = {**CASE, "pc": ADDRESS, "at": ADDRESS, "layout": TEXT}
 
 
-def check_texts(case: Dict[str, Any]) -> None:
-    for key in ("name", "text"):
-        why = f"{key} is {case[key]!r:.40}, and not a text of at most {LONGEST_TEXT} characters"
-        require(is_short(case[key]), why)
-
-
-def check_digits(what: str, text: Any, count: int) -> None:
-    is_right: object = isinstance(text, str) and re.fullmatch(f"[0-9a-f]{{{count}}}", text)
-    require(is_right, f"{what} is {text!r:.40}, and not {count} of the digits 0 to 9 and a to f")
-
-
-def check_bytes(bank: str, address: str, text: Any) -> None:
+def check_bytes(bank: str, pieces: Any) -> None:
     """Refuses bytes that no runner compares."""
-    is_right: object = isinstance(text, str) and re.fullmatch("([0-9a-f]{2})*", text)
-    require(is_right, f"{bank} {address!r:.40} is {text!r:.40}, and not bytes in hexadecimal")
-    require(re.fullmatch("[0-9a-f]{1,6}", address), f"{bank} has the address {address!r:.40}")
-    first, compared = int(address, 16), MEMORIES[bank]
-    is_right = compared.start <= first and first + len(text) // 2 <= compared.stop
-    require(is_right, f"{bank} {address!r} isn't in {compared.start:03x} to {compared.stop - 1:03x}")
-
-
-def check_state(when: str, state: Dict[str, Any]) -> None:
-    check_keys(when, state)
-    for key, value in state.items():
-        for address, text in value.items() if key in MEMORIES else ():
-            check_bytes(key, address, text)
-        if key not in MEMORIES:
-            check_digits(f"{key} of {when}", value, len(bench.DEFAULT.get(key, "divided!")))
-        if key in ("pc", "npc"):
-            require(int(value, 16) % 4 == 0, f"{key} of {when} is {value!r}, and not a multiple of 4")
+    compared = MEMORIES[bank]
+    for address, text in pieces.items():
+        check_form(f"{bank} {address!r:.40}", text, "([0-9a-f]{2})*")
+        check_form(f"an address of {bank}", address, "[0-9a-f]{1,6}")
+        first = int(address, 16)
+        is_right = compared.start <= first and first + len(text) // 2 <= compared.stop
+        require(is_right, f"{bank} {address!r} isn't in {compared.start:03x} to {compared.stop - 1:03x}")
 
 
 def check_entry(name: str, entry: Any) -> None:
     """Raises one of MALFORMED if this isn't a case of an instruction."""
-    row = ROWS[name.lower()]
-    check_keys("case", entry)
-    check_digits("word", entry["word"], 8)
-    check_texts(entry)
-    is_right = entry["name"].startswith(f"{name}-") and not re.search("[\ud800-\udfff]", entry["name"])
-    require(is_right, f"its name, {entry['name']!r:.40}, isn't one of {name}")
-    require(int(entry["word"], 16) & row.mask == row.value, f"the word {entry['word']} is no {name}")
-    for when in ("before", "after"):
-        check_state(when, entry[when])
+    states = {"before": {**STATE, "divided": WORD}, "after": STATE}
+    check_form("the case", {key: entry[key] for key in entry.keys() - states}, CASE)
+    require(entry["name"].startswith(f"{name}-"), f"its name, {entry['name']!r:.40}, isn't one of {name}")
+    row, word = ROWS[name.lower()], int(entry["word"], 16)
+    require(word & row.mask == row.value, f"the word {word:08x} is no {name}")
+    require("text" in entry, "it has no text")
+    for when, form in states.items():
+        registers = {key: text for key, text in entry[when].items() if key not in MEMORIES}
+        check_form(when, registers, form)
+        for bank in entry[when].keys() & MEMORIES:
+            check_bytes(bank, entry[when][bank])
 
 
 def reason_of(fault: Exception, data: bytes) -> str:
@@ -142,9 +132,8 @@ def entries_in(folder: Path, name: str) -> List[Entry]:
             entry = json.loads(line)
             check_entry(name, entry)
         except MALFORMED as fault:
-            raise VectorsFault(
-                f"{path}, line {number}: this isn't a case: {reason_of(fault, line)}"
-            ) from None
+            why = reason_of(fault, line)
+            raise VectorsFault(f"{path}, line {number}: this isn't a case: {why}") from None
         entries.append(entry)
     if not entries:
         raise VectorsFault(f"{path} has no case")
@@ -153,20 +142,18 @@ def entries_in(folder: Path, name: str) -> List[Entry]:
 
 def check_program(entry: Any) -> None:
     """Raises one of MALFORMED if this isn't a program of a manifest."""
-    check_keys("program", entry)
-    is_right: object = is_short(entry["name"]) and re.fullmatch(r"[\w-]+", entry["name"], re.ASCII)
-    require(is_right, f"the name {entry['name']!r:.40}")
+    require(not entry.keys() - {"name", "steps", "layouts", "cases"}, f"it has the keys {[*entry]!r:.80}")
+    check_form("its name", entry["name"], "[A-Za-z0-9_-]{1,100}")
     for layout, fields in entry["layouts"].items():
-        for what, offset, length in fields:
-            is_right = is_short(what) and type(offset) is type(length) is int and 0 < length <= MEMORY
-            field = f"{what!r:.40}, {offset!r:.40}, {length!r:.40}"
-            require(is_right, f"layout {layout} has the field {field}: a length is 1 to {MEMORY}")
+        for field, offset, length in fields:
+            check_form(f"a field of layout {layout}", field, TEXT)
+            is_right = type(offset) is type(length) is int and 0 < length <= MEMORY
+            require(is_right, f"layout {layout} has the length {length!r:.40}, and not 1 to {MEMORY}")
     lengths = {name: sum(field[2] for field in fields) for name, fields in entry["layouts"].items()}
+    check_form("a case", entry["cases"], [PROGRAM_CASE])
     for case in entry["cases"]:
-        check_keys("case of a program", case)
-        check_texts(case)
-        check_digits("at", case["at"], 3)
-        require(case["layout"] in lengths, f"there is no layout {case['layout']!r:.40}")
+        is_right = {"name", "text", "at"} <= {*case} and case["layout"] in lengths
+        require(is_right, f"it has the case {case!r:.80}")
     count = sum(lengths[case["layout"]] for case in entry["cases"])
     require(count <= MEMORY, f"the fields of its cases have {count} bytes, and DMEM has {MEMORY}")
 
@@ -177,7 +164,7 @@ def manifest_in(folder: Path, name: str) -> Dict[str, Any]:
     what, names, data = ": this isn't a manifest of programs", [], read_file(path, MOST_JSON)
     try:
         manifest: Dict[str, Any] = json.loads(data)
-        check_keys("manifest", manifest)
+        require(not manifest.keys() - {"row", "programs"}, f"it has the keys {[*manifest]!r:.80}")
         for number, entry in enumerate(manifest["programs"], 1):
             what = f", program {number}: this isn't a program"
             check_program(entry)

@@ -1,10 +1,12 @@
 """The library agrees with itself as each kind of emulator; and folders with results of an earlier run."""
 
+import subprocess
+import time
 from pathlib import Path
 
 import pytest
 
-from lib.campaigns import EMULATOR, FEW, agreed, campaign, counts_of, output_of
+from lib.campaigns import CAMPAIGN, EMULATOR, FEW, SOURCES, agreed, campaign, counts_of, output_of, results_of
 from rsp_conformance.campaign.build import built
 
 pytestmark = [pytest.mark.needs("cc", "python:numpy"), pytest.mark.usefixtures("library")]
@@ -28,6 +30,22 @@ def test_library_agrees_with_itself(kind: str, folder: Path) -> None:
     before = {path: path.stat().st_mtime_ns for path in folder.glob("out/*-*.json")}
     output_of(folder / "out", *words)
     assert {path: path.stat().st_mtime_ns for path in folder.glob("out/*-*.json")} == before
+
+
+def test_results_after_a_stop(folder: Path) -> None:
+    """A campaign that was killed continues, and has the results of one that wasn't."""
+    words = (built("library"), "--instructions", FEW, "--cases", 4000, "--size", 500)
+    output_of(folder / "whole", *words)
+    process = subprocess.Popen([CAMPAIGN, *map(str, words), "--here", folder / "killed"], cwd=SOURCES)
+    while process.poll() is None and len([*folder.glob("killed/*-*.json")]) < 3:
+        time.sleep(0.01)
+    process.kill()
+    process.wait()
+    left = {path.name: path.stat().st_mtime_ns for path in folder.glob("killed/*-*.json")}
+    assert len(left) < 64
+    output_of(folder / "killed", *words)
+    assert results_of(folder / "killed") == results_of(folder / "whole")
+    assert all((folder / "killed" / name).stat().st_mtime_ns == written for name, written in left.items())
 
 
 OTHER = {

@@ -1,7 +1,6 @@
 """Campaigns on clusters of Dask give the results of one process, also after a part of the cluster is lost."""
 
 import contextlib
-import signal
 import subprocess
 import sys
 import tempfile
@@ -77,37 +76,19 @@ def started(address: str, out: Path, results: int) -> "subprocess.Popen[str]":
 
 
 @LOST
-def test_lost_worker(quiet: Dict[str, Any], folder: Path) -> None:
-    with cluster() as (address, begun):
-        client = started(address, folder / "out", 3)
-        begun[1].kill()
-        output = client.communicate(timeout=300)
-    assert client.returncode == 0, output
-    assert results_of(folder / "out") == quiet
-
-
-@LOST
-def test_lost_client(quiet: Dict[str, Any], folder: Path) -> None:
-    """It is killed twice, and continues."""
-    with cluster() as (address, _begun):
-        for count in (4, 12):
-            client = started(address, folder / "out", count)
-            client.send_signal(signal.SIGKILL)
-            client.communicate(timeout=60)
-            assert len(results_of(folder / "out")) < TASKS
-        ended = campaign(*words_of_campaign(), "--scheduler", address, folder / "out")
-    assert ended.returncode == 0, ended.stderr
-    assert results_of(folder / "out") == quiet
-
-
-@LOST
-def test_lost_scheduler(quiet: Dict[str, Any], folder: Path) -> None:
-    """A sentence says so, and a local cluster continues."""
-    with cluster() as (address, begun):
-        client = started(address, folder / "out", 3)
-        begun[0].kill()
-        lost = client.communicate(timeout=300)[1]
-    assert client.returncode == 1 and "the scheduler is gone" in lost and "start it again" in lost
-    ended = campaign(*words_of_campaign(), "--workers", 2, folder / "out")
-    assert ended.returncode == 0, ended.stderr
-    assert results_of(folder / "out") == quiet
+@pytest.mark.parametrize("lost", ["client", "scheduler", "worker"])
+def test_lost_part(lost: str, quiet: Dict[str, Any], folder: Path) -> None:
+    """Without a worker a campaign continues. Without the scheduler it ends with a sentence. It can be started
+    again.
+    """
+    out = folder / "out"
+    with cluster() as (address, processes):
+        client = started(address, out, 3)
+        {"client": client, "scheduler": processes[0], "worker": processes[1]}[lost].kill()
+        errors = client.communicate(timeout=300)[1]
+    assert (client.returncode == 0) == (lost == "worker"), errors
+    if lost != "worker":
+        assert len(results_of(out)) < TASKS
+        assert lost == "client" or "the scheduler is gone" in errors and "start it again" in errors
+        assert campaign(*words_of_campaign(), "--workers", 2, out).returncode == 0
+    assert results_of(out) == quiet
