@@ -117,7 +117,8 @@ def element_of(row: Row, number: int) -> int:
 
 
 # Cases that are fixed and not random, by instruction and number: a and b of each lane, and the flags before.
-# Their numbers are even and after the pairs, so that each lane takes itself, and vs isn't vt.
+# A new case's number is the number of lines of vectors/steps/NAME.jsonl, plus 1 if that is odd: in a case
+# with an even number each lane takes itself, and vs isn't vt. The odd ones between them are random.
 GIVEN = {
     ("vch", 48): (0x7FFF, 0x8000, {"vco": "ffff", "vcc": "ffff", "vce": "ff"}),
 }

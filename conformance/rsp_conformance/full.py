@@ -1,5 +1,5 @@
 """`full`: the cases of `steps` with whole states of numbers, a JSON array for each instruction, in the form
-of single-step tests of other processors.
+of single-step tests of other processors. The files aren't stored, because they are five times as long.
 """
 
 import json

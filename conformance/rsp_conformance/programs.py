@@ -1,5 +1,6 @@
 """`programs`: whole programs for machines that can only run microcode. Each has many cases of one
-instruction, and stores their results.
+instruction, and stores their results. Each case has its own copy of the code that sets and saves the
+registers: with a loop or a call, the cases of every instruction would depend on branches.
 
 This file writes their text and their data, and run_programs.py runs them.
 """

@@ -10,7 +10,7 @@ import pytest
 from lib import TOP
 from lib.campaigns import SOURCES, agreed, counts_of, faulty, output_of
 from lib.packages import is_here, need
-from lib.processes import bytes_of, compiled, run, succeeds
+from lib.processes import compiled, run, run_bytes, succeeds
 
 if is_here("python:numpy"):
     from rsp_conformance.campaign.generator import MEMORIES
@@ -71,7 +71,7 @@ def test_first_difference(fault: int, every: int, limit: int, folder: Path) -> N
         program = program_of(["vadd", "vxor", "lqv", "ctc2", "vlt", "mtc0", "sqv"], "1", number)
         input_bytes = b"".join(value.to_bytes(4, "little") for value in (every, limit)) + bytes(program.raw)
         expected = first_in_words(sides.first_difference(program, limit, every))
-        lines = bytes_of(compare, [], input_bytes).stdout.decode().splitlines()
+        lines = run_bytes(compare, [], input_bytes).stdout.decode().splitlines()
         lines[1:] = [re.sub(r" 0*(?=[0-9a-f]+ )", " ", line) for line in lines[1:]]
         assert lines == expected, number
         differ += bool(expected)

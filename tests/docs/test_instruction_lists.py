@@ -10,7 +10,7 @@ from typing import Dict, Iterator
 
 import pytest
 
-from lib.lists import see_same
+from lib.same_items import assert_same_items
 from lib.pages import data, names_of, page, tables
 from rsp_conformance import table
 
@@ -62,20 +62,22 @@ def in_instructions() -> Iterator[str]:
 
 
 def test_data(rows: Rows) -> None:
-    see_same((f"{it['Instruction']} {it['Selected by']}" for it in data("instructions")), rows.values())
+    assert_same_items(
+        (f"{it['Instruction']} {it['Selected by']}" for it in data("instructions")), rows.values()
+    )
 
 
 def test_page(rows: Rows) -> None:
-    see_same(in_instructions(), rows.values())
+    assert_same_items(in_instructions(), rows.values())
 
 
 def test_anchors() -> None:
     """The page has one for each instruction, right before its name, or before the heading with its name."""
     text = page(PAGE)
     anchors = re.findall(r'<a id="(\w+)"></a>(?=(\w*))', text)
-    see_same((it for it, _ in anchors), (it["Instruction"].lower() for it in data("instructions")))
+    assert_same_items((it for it, _ in anchors), (it["Instruction"].lower() for it in data("instructions")))
     (before, heading), *others = re.findall(r"(?m)^((?:<.*></a>)+)\n\n#+ (.*)", text)
-    see_same(re.findall(r'"(\w+)"', before), heading.lower().split(", "))
+    assert_same_items(re.findall(r'"(\w+)"', before), heading.lower().split(", "))
     assert not others and [it for it, name in anchors if it != name.lower()] == re.findall(r'"(\w+)"', before)
 
 
@@ -84,11 +86,13 @@ def test_reserved_functions(rows: Rows) -> None:
     (said,) = re.findall(r"The functions ([^.]+) are reserved\.", " ".join(page(PAGE).split()))
     ranges = re.findall(r"0x(\w\w)(?: to 0x(\w\w))?", said)
     listed = [it for first, last in ranges for it in range(int(first, 16), int(last or first, 16) + 1)]
-    see_same(listed, [it for it in range(64) if f"{COMPUTING} {it:#04x}" not in rows])
+    assert_same_items(listed, [it for it in range(64) if f"{COMPUTING} {it:#04x}" not in rows])
 
 
 def test_table(rows: Rows) -> None:
-    see_same((f"{it.name.upper()} {WORDS.get(it.value)}" for it in table.ROWS.values()), rows.values())
+    assert_same_items(
+        (f"{it.name.upper()} {WORDS.get(it.value)}" for it in table.ROWS.values()), rows.values()
+    )
 
 
 def test_bits_of_the_table(program: Path) -> None:
@@ -105,4 +109,4 @@ def test_every_row() -> None:
     """The script that has the example of each instruction."""
     script = page("tests/program/scripts/blocks/every-row.script")
     (block,) = re.findall(r"(?ms)^asm 0\n(.*?)^end$", script)
-    see_same(block.splitlines(), [it["Example"] for it in data("instructions")])
+    assert_same_items(block.splitlines(), [it["Example"] for it in data("instructions")])
