@@ -19,7 +19,7 @@ from lib.fixed_point import clamp, read_halves
 from lib.pages import block_with, page, tables
 from lib.processes import compiled
 
-ASSEMBLY, COOKBOOK = "docs/ASSEMBLY.md", "docs/COOKBOOK.md"
+ASSEMBLY = "docs/ASSEMBLY.md"
 MIPS = "mips-linux-gnu-gcc"
 HEADER = Path("/usr/include/mupen64plus/m64p_plugin.h")
 # Opcodes with a distance in words from the delay slot, and the codes of opcode 1 that have one.
@@ -454,8 +454,8 @@ def test_elf_of_page(overlay: Files) -> None:
 
 @pytest.mark.needs("mips-linux-gnu-gcc")
 def test_command_of_overlay(overlay: Files) -> None:
-    """The cookbook's caller calls the command, which returns to it."""
-    told = overlay.replies(loads(overlay) + block_with(COOKBOOK, "asm 0xf80"))
+    """The page's caller calls the command, which returns to it."""
+    told = overlay.replies(loads(overlay) + block_with(ASSEMBLY, "asm 0xf80"))
     assert told.endswith("stop Halted steps 8 pc f94\n000000: 0000001e0000000c0000000000000007\n")
 
 
