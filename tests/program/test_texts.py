@@ -414,6 +414,15 @@ def test_elf_of_page(overlay: Files) -> None:
     assert output.endswith("stop Halted steps 7 pc 014\n000000: 0000001e0000000c0000002a00000000\n")
 
 
+@pytest.mark.needs("mips-linux-gnu-gcc")
+def test_command_of_overlay(overlay: Files) -> None:
+    """The page's caller calls the command, which returns to it."""
+    loads = block_with(ASSEMBLY, "loads() {").replace("| rsp run", "")
+    lines = overlay.run_shell(loads).partition("run")[0]
+    output = overlay.run(lines + block_with(ASSEMBLY, "asm 0xf80"))
+    assert output.endswith("stop Halted steps 8 pc f94\n000000: 0000001e0000000c0000000000000007\n")
+
+
 def scalar_names() -> Dict[str, int]:
     """The names of scalar registers with their numbers, as ASSEMBLY lists them."""
     row = next(line for line in page(ASSEMBLY).splitlines() if line.startswith("| scalar register |"))
