@@ -12,7 +12,7 @@ import tempfile
 from pathlib import Path
 from typing import List, Sequence
 
-from lib.plugin import CORE, FLAGS, HEADERS, HERE, Z64, Bench, begun, speed_task
+from lib.plugin import CORE, FLAGS, HEADERS, HERE, Z64, Bench, start_lines, speed_task
 from lib.processes import compiled
 from measure import LIBRARY, add_program, need, parser_of
 from measure.speed import DATA, LOOPS, PROLOGUE, host_instructions, print_heading, print_row
@@ -34,7 +34,7 @@ def per_round(bench: Bench, plugin: Path, lines: Sequence[str], short: int = 500
     """Host instructions for each of the rounds whose number is in ff0."""
 
     def counted(rounds: int) -> int:
-        script = [*begun(), *lines, f"put dmem ff0 {rounds:x} 128000", "tasks 1", ""]
+        script = [*start_lines(), *lines, f"put dmem ff0 {rounds:x} 128000", "tasks 1", ""]
         return host_instructions(([bench.driver, plugin], "\n".join(script).encode()), EXACT)
 
     return (counted(long) - counted(short)) / (long - short)
@@ -44,7 +44,7 @@ def per_task(bench: Bench, plugin: Path, lines: Sequence[str], options: Sequence
     """Host instructions for each task, of three rounds."""
 
     def counted(tasks: int) -> int:
-        script = [*begun(*options), *lines, "put dmem ff0 3 128000", f"tasks {tasks}", ""]
+        script = [*start_lines(*options), *lines, "put dmem ff0 3 128000", f"tasks {tasks}", ""]
         return host_instructions(([bench.driver, plugin], "\n".join(script).encode()), EXACT)
 
     return (counted(30) - counted(10)) / 20
@@ -86,7 +86,7 @@ def print_seconds(bench: Bench) -> None:
     rom = bench.rom("speed", "-DWAITS=0", "-DBLOCKS=300", "-DTASKS=1000")
     times = [
         [
-            float(re.findall(r"front done ([\d.]+)", bench.played(rom, it, 2)[0])[0])
+            float(re.findall(r"front done ([\d.]+)", bench.play(rom, it, 2)[0])[0])
             for it in (bench.plugin, Z64)
         ]
         for _ in range(3)

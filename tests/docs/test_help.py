@@ -14,7 +14,7 @@ import pytest
 
 from lib import TOP
 from lib.pages import page
-from lib.program import ran
+from lib.program import run_program
 
 ASKED = ["program", "rsp"]  # the program under test, and ./rsp
 
@@ -27,13 +27,17 @@ def asked(by: str, program: Path) -> Path:
 @pytest.mark.parametrize("name", ["rsp", "run", "asm", "dis"])
 def test_help(name: str, by: str, program: Path) -> None:
     words = [name] * (name != "rsp")
-    assert ran(asked(by, program), [*words, "--help"]) == (2, b"", page(f"docs/help/{name}.txt").encode())
+    assert run_program(asked(by, program), [*words, "--help"]) == (
+        2,
+        b"",
+        page(f"docs/help/{name}.txt").encode(),
+    )
 
 
 @pytest.mark.parametrize("by", ASKED)
 def test_version(by: str, program: Path) -> None:
     """`rsp VERSION` or `rsp VERSION, commit ..`, the version being the newest of CHANGELOG.md."""
-    status, output, _ = ran(asked(by, program), ["--version"])
+    status, output, _ = run_program(asked(by, program), ["--version"])
     newest = re.findall(r"(?m)^## (.*)$", page("CHANGELOG.md"))[0]
     assert status == 0 and output.decode().partition("\n")[0].partition(", commit ")[0] == f"rsp {newest}"
 
@@ -50,11 +54,11 @@ def commands() -> List[List[str]]:
 @pytest.mark.parametrize("words", commands(), ids=" ".join)
 def test_command(words: List[str]) -> None:
     """It answers --help with its usage, and does nothing else."""
-    found = ran(TOP / words[0], [*words[1:], "--help"], cwd=TOP, stdin=subprocess.DEVNULL)
+    found = run_program(TOP / words[0], [*words[1:], "--help"], cwd=TOP, stdin=subprocess.DEVNULL)
     assert found.status == 0 and not found.errors and " ".join(words) in found.output.decode()
 
 
 def test_all() -> None:
     """`tests/all --help` is pytest's, with the tests' own option."""
-    found = ran(TOP / "tests/all", ["--help"], cwd=TOP, stdin=subprocess.DEVNULL)
+    found = run_program(TOP / "tests/all", ["--help"], cwd=TOP, stdin=subprocess.DEVNULL)
     assert found.status == 0 and b"--program" in found.output

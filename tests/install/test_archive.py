@@ -19,7 +19,7 @@ from lib import TESTS, TOP
 from lib.cmake import check_cmake
 from lib.install.unpacked import BARE, check_common, check_date_of_wheel, check_pack, unpacked
 from lib.install.ways import LOOP_CODE, LOOP_TEXT, LOOP_WORDS
-from lib.library import LOCKSTEP
+from lib.library import FIRST_DIFFERENCE, LOCKSTEP
 from lib.links import broken_everywhere, broken_in
 from lib.packages import need
 from lib.pages import page
@@ -180,7 +180,8 @@ def test_passes_the_check_of_vectors(archive: Path) -> None:
 @pytest.mark.needs("cc", "objcopy")
 def test_start_asks_the_processor(folder: Path) -> None:
     """What start.c says of the processor, beside what glibc says."""
-    for path in TOP / "tools/packaging/start.c", TESTS / "install/archive/features.c":
+    packaging = TOP / "tools/packaging"
+    for path in packaging / "start.c", packaging / "cpuid.h", TESTS / "install/archive/features.c":
         shutil.copy(path, folder)
     where = {"cwd": folder, "env": BARE}
     if run("cc", "-fsyntax-only", "features.c", **where).returncode:
@@ -237,7 +238,8 @@ def test_wheel(archive: Path, folder: Path) -> None:
     succeeds(sys.executable, "-m", "venv", "own", **where)
     pip = ("own/bin/pip", "install", "--no-index", "--disable-pip-version-check")
     succeeds(*pip, *(archive / "python").glob("*.whl"), **where)
-    assert succeeds("own/bin/python", archive / "examples/python/lockstep.py", **where) == LOCKSTEP
+    example = archive / "examples/python/first_difference.py"
+    assert succeeds("own/bin/python", example, **where) == FIRST_DIFFERENCE
     code, told = re.findall(r"(?ms)^```python\n(.*?)^```\n+This prints `(.*?)`", DESCRIBED.read_text())[0]
     assert succeeds("own/bin/python", "-c", code, **where) == f"{told}\n"
     first = succeeds("own/bin/rsp", "run", input=page("examples/first.rsp"), **where)

@@ -16,7 +16,7 @@ from typing import Callable, Dict, Set
 import pytest
 
 from lib.processes import succeeds
-from lib.program import ran
+from lib.program import run_program
 from rsp_tools.packaging import install_tree
 
 COMMANDS = ("run", "asm", "dis")
@@ -102,7 +102,7 @@ in_shells = pytest.mark.parametrize("shell", [pytest.param(it, marks=pytest.mark
 
 def options(program: Path, *command: str) -> Set[str]:
     """The long options that --help of the program names."""
-    said = ran(program, [*command, "--help"]).errors.decode()
+    said = run_program(program, [*command, "--help"]).errors.decode()
     return {*re.findall(r"(?m)^ +(?:-\w, )?(--\w+)", said)}
 
 

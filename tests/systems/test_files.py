@@ -13,7 +13,7 @@ from lib.hardening import check_elf
 from lib.processes import succeeds
 from lib.systems import macos
 from lib.systems.built_files import check_wheel, symbol_names
-from lib.systems.target_params import of
+from lib.systems.target_params import LINUX, of
 from rsp_tools.systems import header, wasm
 from rsp_tools.systems.__main__ import SYSTEMS
 from rsp_tools.targets import CROSS
@@ -44,7 +44,7 @@ def test_macos(made: Path, folder: Path) -> None:
     macos.check(made, folder)
 
 
-@of("linux-aarch64")
+@of(*LINUX)
 def test_linux(made: Path) -> None:
     """The libraries show the calls of brsp.h alone."""
     calls, library = {*header.calls()}, made / f"lib/libbrsp.so.{header.interface()}"

@@ -105,7 +105,7 @@ def test_pkg_config(runner: Any) -> None:
     """As in a shell of MSYS2: shared, and static by the word of the linker."""
     where = {**os.environ, "PKG_CONFIG_PATH": f"{runner.folder}/lib/pkgconfig"}
     found = succeeds("pkg-config", "--cflags", "--libs", "brsp", env=where).split()
-    shutil.copy(runner.folder / runner.dll, runner.at)
+    shutil.copy(runner.folder / runner.target.shared, runner.at)
     for words, is_shared in ((), True), (("-static",), False):
         made = runner.compile(EXAMPLE, *words, name=f"pkg-config {is_shared}", library=found)
         runner.check_lockstep(made, is_shared)

@@ -7,20 +7,20 @@ import pytest
 
 from lib.systems.browser import Chromium
 from lib.systems.node import Node
-from lib.systems.runners import Arm, MacArm, MacIntel, Runner, Windows
-from rsp_tools.targets import CROSS
+from lib.systems.runners import MacOS, Runner, Windows
+from rsp_tools.targets import CROSS, PROCESSORS, TARGETS
 
-SYSTEMS = tuple(it.name for it in CROSS)
-KINDS: Dict[str, Type[Runner]] = {
-    "linux-aarch64": Arm,
-    "windows-x86_64": Windows,
-    "macos-x86_64": MacIntel,
-    "macos-arm64": MacArm,
+# The runners by their names, which begin with those of their targets.
+RUNNERS: Dict[str, Type[Runner]] = {
+    **{it.name: Windows if it.python == "win32" else Runner for it in CROSS if it.compiler},
+    **{f"macos-{PROCESSORS[it].apple}": MacOS for it in TARGETS["macos"].triples},
     "wasm64": Chromium,
-    "node": Node,
+    "wasm64-node": Node,
 }
-OF_C = tuple(it for it in KINDS if it != "node")  # those on which programs in C run
-JAVASCRIPT = ("wasm64", "node")  # those on which the ES module runs
+LINUX = tuple(it.name for it in CROSS if it.is_linux)
+COMPILED = tuple(it.name for it in CROSS if it.compiler)  # those with a compiler, an emulator and a program
+JAVASCRIPT = ("wasm64", "wasm64-node")  # those on which the ES module runs
+OF_C = tuple(it for it in RUNNERS if it != "wasm64-node")  # those on which programs in C run
 
 
 def on(*names: str, fixture: str = "runner") -> pytest.MarkDecorator:
@@ -31,5 +31,5 @@ def on(*names: str, fixture: str = "runner") -> pytest.MarkDecorator:
 
 
 def of(*names: str) -> pytest.MarkDecorator:
-    """Runs a test with the fixture `folder_of` of these systems: what tools/systems has made."""
+    """Runs a test with the fixture `made` of these systems: the folder that tools/systems has made."""
     return on(*names, fixture="made")
