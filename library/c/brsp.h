@@ -37,6 +37,8 @@
 extern "C" {
 #endif
 
+/* The handle of a machine. A call fills the caller's handle, and a query takes no `const` one, because a
+ * function that Rattle exports can't return a pointer, and follows this one only if it may change it. */
 typedef struct brsp_machine {
     void *at;
 } brsp_machine;

@@ -1,16 +1,28 @@
-"""The layers of the Python packages and the tests, which docs/ARCHITECTURE.md lists, against their imports.
+"""The layers of the Python packages and the tests: a module imports only those of its own layer and below.
 
-It fails if a module imports one of a higher layer, or is in none. That the page lists the crates is shown by
-tests/docs/test_tables.py.
+It fails if a module imports one of a higher layer, or is in none.
 """
 
 import ast
-import re
 from pathlib import Path
 from typing import Dict, Iterable, Iterator
 
 from lib import TESTS, TOP
-from lib.pages import block_with
+
+# The layers from the top. `.states` is rsp_conformance.states; a module that no line names is in the layer of
+# its package.
+LAYERS = (
+    "tests",
+    "measure",
+    "lib",
+    "rsp_tools",
+    "rsp_conformance",  # its commands
+    ".coverage .campaign",
+    ".seeded_random .outcomes .wanted_lanes .case_outcomes .cases .programs .run_programs .steps .full"
+    " .corrupt .vectors .campaign.generator .campaign.protocol",
+    ".bench .states .library_states .command_line .safe_files .campaign.build .campaign.hashes",
+    ".table",  # the only list of names, codes and operands in Python
+)
 
 # The folders with Python, each with the one from which on its modules have their names.
 FOLDERS = {
@@ -33,10 +45,12 @@ def modules() -> Dict[str, Path]:
 
 
 def layers() -> Dict[str, int]:
-    """The names in the page's list with the numbers of their lines, from the top."""
-    lines = enumerate(block_with("docs/ARCHITECTURE.md", "tests ").splitlines())
-    names = {name: number for number, line in lines for name in re.split("  +", line)[0].split()}
-    return {re.sub(r"^\.", "rsp_conformance.", name): number for name, number in names.items()}
+    """The names in LAYERS with the numbers of their layers, from the top."""
+    return {
+        f"rsp_conformance{name}" if name.startswith(".") else name: number
+        for number, line in enumerate(LAYERS)
+        for name in line.split()
+    }
 
 
 def nearest(name: str, names: Iterable[str]) -> str:

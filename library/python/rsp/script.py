@@ -75,7 +75,10 @@ class Ran:
 
 
 def strict_replies(session: "Session", script: Union[str, bytes]) -> bytes:
-    """The replies to a whole script. Raises ScriptError at the first one that is a fault."""
+    """The replies to a whole script. Raises ScriptError at the first one that is a fault.
+
+    It ends there because the lines after it rest on a line that wasn't carried out.
+    """
     raw = _errors.script_of("run_script", script)
     lines, replies = raw.split(b"\n"), []
     block = 0  # the number of the line `asm` of the block that is open

@@ -1,5 +1,6 @@
 """The library for Windows on x86-64: the module of Linux on the same processor, compiled for mingw and for
-MSVC. One brsp.dll is for both, and each has an import library and a static one. Then the program over it."""
+MSVC. One brsp.dll is for both, because no call takes or returns what belongs to a C library, such as a FILE;
+each has an import library and a static one. Then the program over it."""
 
 from pathlib import Path
 
