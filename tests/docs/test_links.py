@@ -5,7 +5,8 @@ from pathlib import Path
 import pytest
 
 from lib import TOP
-from lib.links import broken_in, pages_below
+from lib.links import broken_in
+from lib.pages import pages_below
 
 # The links of the archives' READMEs lead to files of an archive, whose tests follow them.
 PAGES = [it for it in pages_below(TOP) if TOP / "tools/packaging/readme" not in it.parents]

@@ -28,11 +28,8 @@ def release(into: Path) -> None:
     with tempfile.TemporaryDirectory() as folder:
         clone = cloned(Path(folder, "a clone"))
         for name, (mask, zone) in RELEASES.items():
-            before, where = os.umask(mask), {**os.environ, "TZ": zone}
-            try:
-                succeeds("./release", "--untested", cwd=clone, env=where)
-            finally:
-                os.umask(before)
+            command = f"umask {mask:o}; exec ./release --untested"
+            succeeds("sh", "-c", command, cwd=clone, env={**os.environ, "TZ": zone})
             shutil.copytree(clone / "dist", into / name)
 
 
@@ -46,14 +43,14 @@ def released(request: pytest.FixtureRequest, tmp_path_factory: pytest.TempPathFa
         request.getfixturevalue(name)
     root = tmp_path_factory.getbasetemp()
     root = root.parent if "PYTEST_XDIST_WORKER" in os.environ else root
-    made = root / "released"
+    folder = root / "released"
     with (root / "released.lock").open("w") as lock:
         fcntl.flock(lock, fcntl.LOCK_EX)
-        if not made.exists():
+        if not folder.exists():
             with tempfile.TemporaryDirectory(dir=root) as new:
                 release(Path(new))
-                shutil.copytree(new, made)
-    return made
+                shutil.copytree(new, folder)
+    return folder
 
 
 def found(request: pytest.FixtureRequest, system: str) -> Path:

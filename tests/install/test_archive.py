@@ -17,8 +17,13 @@ import pytest
 
 from lib import TESTS, TOP
 from lib.cmake import check_cmake
-from lib.install.unpacked import BARE, check_common, check_date_of_wheel, check_pack, unpacked
-from lib.install.ways import LOOP_CODE, LOOP_TEXT, LOOP_WORDS
+from lib.install.unpacked import (
+    BARE,
+    check_common,
+    check_date_of_wheel,
+    check_pack,
+    unpacked,
+)
 from lib.library import FIRST_DIFFERENCE, LOCKSTEP
 from lib.links import broken_everywhere, broken_in
 from lib.packages import need
@@ -30,6 +35,7 @@ pytestmark = pytest.mark.timeout(900)  # conformance/check takes all processors,
 PLUGIN = "plugin/mupen64plus-rsp-proved.so"
 PLUGIN_CALLS = "DoRspCycles InitiateRSP PluginGetVersion PluginShutdown PluginStartup RomClosed".split()
 DESCRIBED = TOP / "library/python/README.md"  # which the wheel's METADATA has
+PASSED = r"[1-9]\d* passed, 0 failed"
 VERSION = r"rsp [\d.]+ \([\w-]+\), commit [0-9a-f]{40}\nproved and built by \S+"
 
 
@@ -38,17 +44,17 @@ IDENTITY = ("-c", "user.name=a", "-c", "user.email=a@example.org")
 
 
 def test_sums_of_dist(released: Path) -> None:
-    names = sorted(it.name for it in (released / "first").iterdir() if it.name != "SHA256SUMS")
+    names = sorted(path.name for path in (released / "first").iterdir() if path.name != "SHA256SUMS")
     assert len(names) == 3
-    told = succeeds("sha256sum", "--strict", "-c", "SHA256SUMS", cwd=released / "first")
-    assert told == "".join(f"{it}: OK\n" for it in names)
+    output = succeeds("sha256sum", "--strict", "-c", "SHA256SUMS", cwd=released / "first")
+    assert output == "".join(f"{name}: OK\n" for name in names)
 
 
 def test_sum_of_one_archive(released: Path, folder: Path) -> None:
     """The line in SHA256SUMS checks one archive where the others aren't, and finds a byte that differs."""
     (path,) = (released / "first").glob("*-source.tar.gz")
-    for it in path, path.with_name("SHA256SUMS"):
-        shutil.copy(it, folder)
+    for file in path, path.with_name("SHA256SUMS"):
+        shutil.copy(file, folder)
     (line,) = re.findall("(?m)^# (sha256sum .*? SHA256SUMS) ", (folder / "SHA256SUMS").read_text())
     assert succeeds(*line.split(), cwd=folder) == f"{path.name}: OK\n"
     with (folder / path.name).open("r+b") as file:
@@ -58,10 +64,10 @@ def test_sum_of_one_archive(released: Path, folder: Path) -> None:
 
 def test_two_runs_give_the_same_bytes(released: Path) -> None:
     first, second = (
-        {it.name: it.read_bytes() for it in (released / name).iterdir()} for name in ("first", "second")
+        {path.name: path.read_bytes() for path in (released / run).iterdir()} for run in ("first", "second")
     )
     assert {*first} == {*second}
-    assert [it for it in first if first[it] != second[it]] == []
+    assert [name for name in first if first[name] != second[name]] == []
 
 
 @pytest.mark.parametrize("kind", KINDS)
@@ -86,22 +92,21 @@ def test_source(released: Path, folder: Path) -> None:
     (path,) = (released / "first").glob("*-source.tar.gz")
     top = unpacked(path, folder)
     listed = set(succeeds("git", "ls-files").splitlines())
-    there = {str(it.relative_to(top)) for it in top.rglob("*") if it.is_file()}
-    assert there == listed | {"SHA256SUMS", "COMMIT"}
-    same = {it for it in listed if (top / it).read_bytes() == (TOP / it).read_bytes()}
-    assert listed - same == {"README.md"}
+    packed = {str(path.relative_to(top)) for path in top.rglob("*") if path.is_file()}
+    assert packed == listed | {"SHA256SUMS", "COMMIT"}
+    changed = {name for name in listed if (top / name).read_bytes() != (TOP / name).read_bytes()}
+    assert changed == {"README.md"}
     whole = (top / "README.md").read_text()
     assert whole.startswith(page("README.md")) and broken_in(top / "README.md") == []
     more = whole[len(page("README.md")) :]
     assert "sha256sum -c SHA256SUMS" in more and succeeds("rt", "version").strip() in more
-    assert {it for it in listed if os.access(TOP / it, os.X_OK)} == {
-        it for it in listed if os.access(top / it, os.X_OK)
-    }
-    told = succeeds("./rsp", "--version", cwd=top, env=BARE)
-    assert re.fullmatch(r"rsp [\d.]+ \([\w-]+\), commit [0-9a-f]{40}\nnot built yet\n", told)
+    modes = [(os.access(TOP / name, os.X_OK), os.access(top / name, os.X_OK)) for name in listed]
+    assert all(here == unpacked for here, unpacked in modes)
+    version = succeeds("./rsp", "--version", cwd=top, env=BARE)
+    assert re.fullmatch(r"rsp [\d.]+ \([\w-]+\), commit [0-9a-f]{40}\nnot built yet\n", version)
     succeeds("git", "init", "-q", folder)
     succeeds("git", *IDENTITY, "commit", "-q", "--allow-empty", "-m", "another", cwd=folder)
-    assert succeeds("./rsp", "--version", cwd=top) == told, "it is the commit of the repository around it"
+    assert succeeds("./rsp", "--version", cwd=top) == version, "it is the commit of the repository around it"
     assert succeeds("tools/build", "--sources", "rsp_main", cwd=top) == succeeds(
         "tools/build", "--sources", "rsp_main"
     )
@@ -109,24 +114,6 @@ def test_source(released: Path, folder: Path) -> None:
 
 def test_links(archive: Path, suite: Path) -> None:
     assert broken_everywhere(archive, 21) == [] and broken_everywhere(suite, 5) == []
-
-
-def test_man_page(archive: Path) -> None:
-    text = (archive / "share/man/man1/rsp.1").read_text()
-    assert text.startswith(".TH RSP 1 ") and ".SH SCRIPTS\n" in text
-
-
-def test_first_script(archive: Path) -> None:
-    told = succeeds("./rsp", "run", input=page("examples/first.rsp"), cwd=archive, env=BARE)
-    assert told == page("examples/first.out")
-
-
-def test_assembles_and_disassembles(archive: Path, folder: Path) -> None:
-    (folder / "loop.s").write_text(LOOP_TEXT)
-    where = {"cwd": folder, "env": BARE}
-    assert succeeds(archive / "rsp", "asm", "loop.s", "loop.bin", **where) == "ok 4 words\n"
-    assert (folder / "loop.bin").read_bytes().hex() == LOOP_CODE
-    assert succeeds(archive / "rsp", "dis", "loop.bin", **where) == LOOP_WORDS
 
 
 def test_version(archive: Path) -> None:
@@ -145,15 +132,15 @@ def test_another_processor(archive: Path, folder: Path) -> None:
     script = shutil.copy(archive / "rsp", folder)
     (folder / "bin").mkdir()
     (folder / "bin/rsp").symlink_to(archive / "bin/rsp")
-    ran = run(script, "dis", "/dev/null", env=where)
-    assert (ran.returncode, ran.stdout) == (0, "")
+    ended = run(script, "dis", "/dev/null", env=where)
+    assert (ended.returncode, ended.stdout) == (0, "")
     (folder / "bin/rsp").unlink()
-    ran = run(script, "dis", "/dev/null", env=where)
-    assert ran.returncode == 127
-    assert ran.stdout.endswith("rsp: this program is for x86_64, and this machine is riscv64\n")
+    ended = run(script, "dis", "/dev/null", env=where)
+    assert ended.returncode == 127
+    assert ended.stdout.endswith("rsp: this program is for x86_64, and this machine is riscv64\n")
 
 
-def passes(*pytest_args: object) -> None:
+def check_pytest_passes(*pytest_args: object) -> None:
     """Runs pytest; at least one test passes and none fails."""
     output = succeeds(sys.executable, "-B", "-m", "pytest", "-q", *pytest_args, timeout=800)
     assert re.search(r"(?m)^[1-9]\d* passed", output), output[-600:]
@@ -163,18 +150,18 @@ def passes(*pytest_args: object) -> None:
 def test_passes_the_tests_of_the_program(archive: Path, name: str) -> None:
     """As the program that rt links does."""
     (path,) = TESTS.glob(f"*/test_{name}.py")
-    passes(f"--program={archive}/bin/rsp", path)
+    check_pytest_passes(f"--program={archive}/bin/rsp", path)
 
 
 def test_passes_the_tests_of_saves(archive: Path) -> None:
     """It also ignores the signal of a file's limit."""
-    passes(f"--program={archive}/bin/rsp", "--left-out=archive", "tests/program/test_saves.py")
+    check_pytest_passes(f"--program={archive}/bin/rsp", "--left-out=archive", "tests/program/test_saves.py")
 
 
 def test_passes_the_check_of_vectors(archive: Path) -> None:
     """That of the repository, whose vectors the archive of vectors has."""
-    told = succeeds("conformance/check", archive / "bin/rsp", env=BARE, timeout=800)
-    assert re.fullmatch(r"[1-9]\d* passed, 0 failed", told.splitlines()[-1])
+    output = succeeds("conformance/check", archive / "bin/rsp", env=BARE, timeout=800)
+    assert re.fullmatch(PASSED, output.splitlines()[-1])
 
 
 @pytest.mark.needs("cc", "objcopy")
@@ -221,7 +208,7 @@ def test_plugin(archive: Path, folder: Path, is_own: bool) -> None:
         succeeds("plugin/build", file, cwd=archive, env=BARE)
     shown = re.findall(r" g +DF \.text\s.* (\w+)$", succeeds("objdump", "-T", file), re.M)
     assert sorted(shown) == PLUGIN_CALLS
-    passes(f"--plugin={file}", f"--program={archive}/bin/rsp", "tests/plugin/test_interface.py")
+    check_pytest_passes(f"--plugin={file}", f"--program={archive}/bin/rsp", "tests/plugin/test_interface.py")
 
 
 @pytest.mark.needs("cmake", "make", "cc", "objdump")
@@ -238,10 +225,12 @@ def test_wheel(archive: Path, folder: Path) -> None:
     succeeds(sys.executable, "-m", "venv", "own", **where)
     pip = ("own/bin/pip", "install", "--no-index", "--disable-pip-version-check")
     succeeds(*pip, *(archive / "python").glob("*.whl"), **where)
-    example = archive / "examples/python/first_difference.py"
-    assert succeeds("own/bin/python", example, **where) == FIRST_DIFFERENCE
-    code, told = re.findall(r"(?ms)^```python\n(.*?)^```\n+This prints `(.*?)`", DESCRIBED.read_text())[0]
-    assert succeeds("own/bin/python", "-c", code, **where) == f"{told}\n"
+    assert (
+        succeeds("own/bin/python", archive / "examples/python/first_difference.py", **where)
+        == FIRST_DIFFERENCE
+    )
+    code, printed = re.findall(r"(?ms)^```python\n(.*?)^```\n+This prints `(.*?)`", DESCRIBED.read_text())[0]
+    assert succeeds("own/bin/python", "-c", code, **where) == f"{printed}\n"
     first = succeeds("own/bin/rsp", "run", input=page("examples/first.rsp"), **where)
     assert first == page("examples/first.out")
     assert Path(succeeds("own/bin/rsp-gdb", "--side", **where).strip()).is_file()
@@ -257,9 +246,8 @@ def test_needs_of_the_system(archive: Path, name: str) -> None:
 def test_library_of_the_wheel(archive: Path, packed: Path) -> None:
     (wheel,) = (archive / "python").glob("*.whl")
     assert wheel.name.endswith("-py3-none-manylinux_2_17_x86_64.manylinux2014_x86_64.whl")
-    with zipfile.ZipFile(wheel) as it:
-        is_same = it.read("rsp/libbrsp.so") == (archive / "lib/libbrsp.so").read_bytes()
-    assert is_same
+    with zipfile.ZipFile(wheel) as pack:
+        assert pack.read("rsp/libbrsp.so") == (archive / "lib/libbrsp.so").read_bytes()
     check_date_of_wheel(packed, archive)
 
 
@@ -267,8 +255,8 @@ def test_library_of_the_wheel(archive: Path, packed: Path) -> None:
     "words", [("conformance/run", "--program", "./rsp"), ("conformance/library",)], ids=str
 )
 def test_vectors(joined: Path, words: tuple[str, ...]) -> None:
-    told = succeeds(*words, "conformance/vectors", "VADD", cwd=joined, env=BARE)
-    assert re.search(r"(?m)^[1-9]\d* passed, 0 failed$", told)
+    output = succeeds(*words, "conformance/vectors", "VADD", cwd=joined, env=BARE)
+    assert re.fullmatch(PASSED, output.splitlines()[-1])
 
 
 def test_vectors_alone(archive: Path, suite: Path) -> None:
@@ -276,8 +264,7 @@ def test_vectors_alone(archive: Path, suite: Path) -> None:
     unnamed = run("conformance/run", "conformance/vectors", "MTC0", cwd=suite, env=BARE)
     assert unnamed.returncode == 1 and "bin/rsp of the archive for Linux" in unnamed.stdout
     words = ("conformance/run", "--program", archive / "bin/rsp", "conformance/vectors", "MTC0")
-    told = succeeds(*words, cwd=suite, env=BARE)
-    assert re.search(r"(?m)^[1-9]\d* passed, 0 failed$", told)
+    assert re.fullmatch(PASSED, succeeds(*words, cwd=suite, env=BARE).splitlines()[-1])
 
 
 # Rust, by each rustc of this machine: the crate in a copy of its folder, and from another crate beside the
@@ -288,10 +275,10 @@ SHOW = 'println!("{:?} {:x}", stop.reason, machine.reg(2)?);\n    Ok(())'
 
 def cargos() -> list[str]:
     paths = (shutil.which("cargo"), shutil.which("cargo", path=BARE["PATH"]))
-    return [*{os.path.realpath(it): it for it in paths if it}.values()]
+    return [*{os.path.realpath(path): path for path in paths if path}.values()]
 
 
-def by_rust(cargo: str) -> dict[str, str]:
+def rust_environment(cargo: str) -> dict[str, str]:
     """The environment in which this cargo finds its rustc, and no library by pkg-config."""
     path = f"{Path(cargo).parent}:{BARE['PATH']}"
     return {**BARE, "PATH": path, "HOME": os.environ.get("HOME", "/"), "PKG_CONFIG": "false"}
@@ -310,7 +297,7 @@ def write_crate(archive: Path, mine: Path) -> None:
 def test_crate(archive: Path, folder: Path, cargo: str) -> None:
     words = ("--quiet", "--offline")
     crate = shutil.copytree(archive / "library/rust", folder / "copy", symlinks=True)
-    where = {"cwd": crate, "env": by_rust(cargo)}
+    where = {"cwd": crate, "env": rust_environment(cargo)}
     assert succeeds(cargo, "run", "--example", "lockstep", *words, **where) == LOCKSTEP
     assert succeeds(cargo, "package", "--allow-dirty", *words, **where) == ""
     assert [*crate.glob("target/package/*.crate")]
@@ -322,13 +309,16 @@ def test_crate_beside_the_archive(archive: Path, cargo: str) -> None:
     with tempfile.TemporaryDirectory(dir=archive.parent) as folder:
         mine = Path(folder)
         write_crate(archive, mine)
-        assert succeeds(cargo, "run", "--quiet", "--offline", cwd=mine, env=by_rust(cargo)) == "Halt 1234\n"
+        assert (
+            succeeds(cargo, "run", "--quiet", "--offline", cwd=mine, env=rust_environment(cargo))
+            == "Halt 1234\n"
+        )
 
 
 @pytest.mark.needs("cargo")
 def test_least_rustc(archive: Path) -> None:
     """That which the crate names builds it too, where it is here."""
     (least,) = re.findall(r'(?m)^rust-version = "(.*)"$', (archive / "library/rust/Cargo.toml").read_text())
-    versions = [succeeds("rustc", "--version", env=by_rust(it)) for it in cargos()]
-    if not any(it.startswith(f"rustc {least}.") for it in versions):
+    versions = [succeeds("rustc", "--version", env=rust_environment(cargo)) for cargo in cargos()]
+    if not any(version.startswith(f"rustc {least}.") for version in versions):
         pytest.skip(f"there is no rustc {least}")

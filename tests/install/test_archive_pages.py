@@ -1,18 +1,19 @@
-"""Each command that a page of the archive shows, as a user who isn't root types it, and the installation."""
+"""The blocks of the archive's pages that are marked as run, typed by a user who isn't root; the installation.
+
+It fails if one doesn't end well or prints something else than its mark says (lib.page_blocks).
+"""
 
 import os
-import re
 import shutil
 import tempfile
 from pathlib import Path
-from typing import Iterator, NamedTuple
+from typing import Iterator
 
 import pytest
 
-from lib.install.page_commands import Block, blocks_in, check, in_table, lines_of, with_ways
 from lib.install.unpacked import BARE
-from lib.install.ways import WAYS, Way
 from lib.library import LOCKSTEP
+from lib.page_blocks import Block, all_blocks, blocks_in, check_typed
 from lib.processes import run, succeeds
 from lib.user import User
 
@@ -35,60 +36,46 @@ find /usr/local ! -type d
 """
 
 
-class Desk(NamedTuple):
-    """The user with a copy of the archive, the blocks of its pages, and the line by which he finds `rsp`."""
-
-    user: User
-    blocks: list[tuple[Block, Way]]
-    path: str
-
-
-def in_pages(at: Path, suite: Path) -> Iterator[Block]:
-    """The blocks of all pages, and the README's table of commands. The page of campaigns is in the vectors'
-    archive."""
-    for path in sorted(at.rglob("*.md")):
-        page, text = str(path.relative_to(at)), path.read_text()
-        yield from blocks_in(page, text)
-        yield from in_table(page, text) if page == "README.md" else ()
-    yield from blocks_in("docs/CAMPAIGN.md", (suite / "docs/CAMPAIGN.md").read_text())
+# The README of the archive, and the blocks that its pages may have.
+TEMPLATE = "tools/packaging/readme/linux-x86_64.md"
+BLOCKS = [
+    block
+    for block in all_blocks()
+    if block.is_typed and not block.mark["run"]
+    if block.page == TEMPLATE or not block.page.startswith(("tools/", "README.md"))
+]
 
 
 @pytest.fixture(scope="session")
-def desk(joined: Path, suite: Path) -> Iterator[Desk]:
-    """The folder of the archive is in one with a blank in its name."""
+def user(joined: Path) -> Iterator[User]:
+    """A user with a copy of the archive in a folder with a space in its name, and with the pages' PREFIX."""
     with tempfile.TemporaryDirectory() as folder:
         os.chmod(folder, 0o755)
         mine = Path(shutil.copytree(joined, f"{folder}/a b/{joined.name}", symlinks=True))
-        blocks = [*with_ways(in_pages(mine, suite), WAYS)]
-        (path,) = (it.lines for it, _ in blocks if it.lines.startswith("export PATH="))
-        yield Desk(User(mine, Path(folder, "home")), blocks, path)
+        user = User(mine, Path(folder, "home"))
+        user.types("mkdir ~/prefix; cp -dR bin include lib share ~/prefix")
+        yield user
 
 
-@pytest.mark.parametrize("way", WAYS, ids=lambda it: f"{it.page}: {it.begins.splitlines()[0]}")
-def test_command(desk: Desk, way: Way) -> None:
-    blocks = [it for it, found in desk.blocks if found is way]
-    assert blocks, "no page has this block"
-    check(desk.user, blocks[0], way, "" if way.page == "README.md" else desk.path)
-
-
-def test_no_other_command(desk: Desk) -> None:
-    """Each other block is left out for a reason."""
-    left = {str(block): lines_of(block, way) for block, way in desk.blocks if way not in WAYS}
-    unknown = [it for it, (lines, _) in left.items() if lines]
-    assert not unknown, "lib/install/ways.py doesn't say how these are typed"
-    pytest.skip("; ".join(f"{it}: {why}" for it, (_, why) in left.items()))
+@pytest.mark.parametrize("block", BLOCKS, ids=str)
+def test_block(user: User, suite: Path, block: Block) -> None:
+    """The archive's page has the block, which is typed. The page of campaigns is in the vectors' archive."""
+    name = "README.md" if block.page == TEMPLATE else block.page
+    found = [root / name for root in (user.at, suite) if (root / name).exists()]
+    if not found:
+        pytest.skip(f"the archive has no {name}")
+    assert f"```sh\n{block.text}```\n" in found[0].read_text()
+    check_typed(user, block, "" if name == "README.md" else f'export PATH="{user.at}/bin:$PATH"')
 
 
 @pytest.mark.needs("cc")
-def test_installed_by_root(desk: Desk, folder: Path) -> None:
-    """README's lines, which leave no file when it is removed. The files belong to another user before, and
+def test_installed_by_root(user: User, folder: Path) -> None:
+    """README's blocks, which leave no file when it is removed. The files belong to another user before, and
     the program in C names no folder."""
     enter = ("unshare", "--mount", *["--map-root-user"] * (os.getuid() != 0))
     if run(*enter, "true").returncode:
         pytest.skip("there is no mount namespace here")
-    text = (desk.user.at / "README.md").read_text()
-    lines = re.findall(r"(?m)^\| (?:install it|remove the installation) .*", text)
-    typed = tuple("\n".join(re.findall("`([^`]*)`", it)) for it in lines)
-    assert len(typed) == 2 and all("ldconfig" in it for it in typed)
+    typed = tuple(block.text for block in blocks_in(TEMPLATE) if "ldconfig" in block.text)
+    assert len(typed) == 2 and all(text in (user.at / "README.md").read_text() for text in typed)
     where = {**BARE, "PATH": f"/usr/sbin:/sbin:{BARE['PATH']}"}
-    assert succeeds(*enter, "sh", "-c", AS_ROOT % typed, folder, cwd=desk.user.at, env=where) == LOCKSTEP
+    assert succeeds(*enter, "sh", "-c", AS_ROOT % typed, folder, cwd=user.at, env=where) == LOCKSTEP

@@ -17,6 +17,9 @@ import pytest
 
 from lib.install.unpacked import (
     BARE,
+    LOOP_CODE,
+    LOOP_TEXT,
+    LOOP_WORDS,
     check_common,
     check_date_of_wheel,
     check_pack,
@@ -24,7 +27,6 @@ from lib.install.unpacked import (
     given,
     unpacked,
 )
-from lib.install.ways import LOOP_CODE, LOOP_TEXT, LOOP_WORDS
 from lib.library import LOCKSTEP
 from lib.library.typescript import OPTIONS, USE
 from lib.links import broken_everywhere, elsewhere

@@ -1,17 +1,14 @@
 """What bash, zsh and fish complete of the words of `rsp`, by the files of an installation.
 
-It fails if a shell offers other options than --help names, or files where none may come.
+It fails if a shell offers other options than --help names, or files where none may come. zsh completes only
+in a terminal, so its file is only read.
 """
 
 import os
-import pty
 import re
-import select
 import shlex
-import subprocess
-import time
 from pathlib import Path
-from typing import Callable, Dict, Set
+from typing import Callable
 
 import pytest
 
@@ -28,108 +25,84 @@ COMP_CWORD=$((${#COMP_WORDS[@]} - 1))
 _rsp
 printf '%%s\\n' "${COMPREPLY[@]}"
 """
-# A terminal that is wide enough for the names, in which Tab lists, and which says when it is ready.
-ZSH = """
-PROMPT= RPROMPT= LISTMAX=1000
-unsetopt zle_bracketed_paste beep
-fpath=($PWD/share/zsh/site-functions $fpath)
-autoload -Uz compinit && compinit -u -D
-bindkey '^I' list-choices
-zstyle ':completion:*' verbose no
-echo ready
-"""
-LONGEST = 280  # seconds for a shell to answer
 
 
 @pytest.fixture(scope="module")
 def prefix(tmp_path_factory: pytest.TempPathFactory) -> Path:
     """A prefix with the files, in which there is one file `text.s`."""
     folder = tmp_path_factory.mktemp("prefix")
-    for it in install_tree.shared():
-        it.write(folder / it.name)
+    for file in install_tree.shared():
+        file.write(folder / file.name)
     (folder / "text.s").write_text("nop\n")
     return folder
 
 
-def by_bash(prefix: Path, line: str) -> Set[str]:
+def offered_by_bash(prefix: Path, line: str) -> set[str]:
     words = map(shlex.quote, line.split(" "))
-    told = succeeds("bash", "--norc", "-c", BASH % " ".join(words), cwd=prefix)
-    return {*told.split()}
+    return {*succeeds("bash", "--norc", "-c", BASH % " ".join(words), cwd=prefix).split()}
 
 
-def read_until(terminal: int, form: str) -> str:
-    """What a terminal shows up to a form."""
-    shown, end = "", time.monotonic() + LONGEST
-    while not re.search(form, shown):
-        assert time.monotonic() < end, shown
-        if select.select([terminal], [], [], 0.2)[0]:
-            shown += os.read(terminal, 4096).decode(errors="replace")
-    return shown
+def offered_by_zsh(prefix: Path, line: str) -> set[str]:
+    """The words that the file gives to `_arguments` for the command of a line, or for the first word."""
+    path = prefix / "share/zsh/site-functions/_rsp"
+    succeeds("zsh", "-n", path)
+    command = line.split(" ")[1] if line.count(" ") > 1 else ""
+    form = rf"(?m)^    {command}\) _arguments (.*)$" if command else r"(?s)_arguments -C (.*?)\n    \[\["
+    (arguments,) = re.findall(form, path.read_text())
+    return {*re.findall(r"--\w+|\w+(?=\\:)", arguments)}
 
 
-def by_zsh(prefix: Path, line: str) -> Set[str]:
-    """What is listed at the end of a line, in a terminal."""
-    terminal, inside = pty.openpty()
-    env = {**os.environ, "TERM": "dumb", "COLUMNS": "200", "LINES": "50", "LC_ALL": "C"}
-    shell = subprocess.Popen(
-        ["zsh", "-f", "-i"], stdin=inside, stdout=inside, stderr=inside, cwd=prefix, env=env
-    )
-    try:
-        os.write(terminal, ZSH.encode())
-        read_until(terminal, r"(?m)^ready\r?$")
-        # A line that ends with a word which nothing lists shows that the list before is whole.
-        os.write(terminal, f"{line}\t".encode())
-        time.sleep(1)
-        os.write(terminal, b"\x15echo al''l\n")
-        shown = read_until(terminal, r"(?m)^all\r?$")
-    finally:
-        shell.kill()
-        shell.wait()
-        os.close(terminal)
-        os.close(inside)
-    return {*re.sub(r"\x1b\S*", " ", shown.partition(line)[2].partition("echo al")[0]).split()}
-
-
-def by_fish(prefix: Path, line: str) -> Set[str]:
+def offered_by_fish(prefix: Path, line: str) -> set[str]:
     script = f'source share/fish/vendor_completions.d/rsp.fish; complete -C "{line}"'
-    told = succeeds("fish", "--no-config", "-c", script, cwd=prefix, env={**os.environ, "HOME": str(prefix)})
-    return {it.partition("\t")[0] for it in told.splitlines()}
+    where = {**os.environ, "HOME": str(prefix)}
+    output = succeeds("fish", "--no-config", "-c", script, cwd=prefix, env=where)
+    return {word.partition("\t")[0] for word in output.splitlines()}
 
 
-SHELLS: Dict[str, Callable[[Path, str], Set[str]]] = {"bash": by_bash, "zsh": by_zsh, "fish": by_fish}
-in_shells = pytest.mark.parametrize("shell", [pytest.param(it, marks=pytest.mark.needs(it)) for it in SHELLS])
+SHELLS: dict[str, Callable[[Path, str], set[str]]] = {
+    "bash": offered_by_bash,
+    "zsh": offered_by_zsh,
+    "fish": offered_by_fish,
+}
+in_shells = pytest.mark.parametrize(
+    "shell", [pytest.param(name, marks=pytest.mark.needs(name)) for name in SHELLS]
+)
 
 
-def options(program: Path, *command: str) -> Set[str]:
+def options_of(program: Path, *command: str) -> set[str]:
     """The long options that --help of the program names."""
-    said = run_program(program, [*command, "--help"]).errors.decode()
-    return {*re.findall(r"(?m)^ +(?:-\w, )?(--\w+)", said)}
+    text = run_program(program, [*command, "--help"]).errors.decode()
+    return {*re.findall(r"(?m)^ +(?:-\w, )?(--\w+)", text)}
 
 
-def long(offered: Set[str]) -> Set[str]:
-    return {it for it in offered if it.startswith("--") and it != "--"}
+def long_options(offered: set[str]) -> set[str]:
+    return {word for word in offered if word.startswith("--") and word != "--"}
 
 
 @in_shells
 @pytest.mark.parametrize("command", COMMANDS)
 def test_options(prefix: Path, program: Path, shell: str, command: str) -> None:
     """After a command and `--`: the options of that command, and no others."""
-    wanted = options(program, command)
-    assert len(wanted) > 2 and long(SHELLS[shell](prefix, f"rsp {command} --")) == wanted
+    expected = options_of(program, command)
+    assert len(expected) > 2 and long_options(SHELLS[shell](prefix, f"rsp {command} --")) == expected
 
 
 @in_shells
 def test_first_word(prefix: Path, program: Path, shell: str) -> None:
     """The commands, and the options without a command."""
     assert {*COMMANDS, "help"} <= SHELLS[shell](prefix, "rsp ")
-    assert long(SHELLS[shell](prefix, "rsp --")) == options(program)
+    assert long_options(SHELLS[shell](prefix, "rsp --")) == options_of(program)
 
 
-@in_shells
-def test_files(prefix: Path, shell: str) -> None:
+@pytest.mark.needs("fish")
+def test_files(prefix: Path) -> None:
     """A source text is a file, and so are a script and what follows a redirection; an address isn't."""
-    wanted = {"rsp asm ": True, "rsp asm --at ": False, "rsp run ": True, "rsp run --strict > ": True}
-    is_listed = {line: "text.s" in SHELLS[shell](prefix, line) for line in wanted}
-    if shell == "bash":  # bash completes files itself, where the function offers nothing
-        is_listed.update({it: SHELLS[shell](prefix, it) == set() for it in wanted if wanted[it]})
-    assert is_listed == wanted
+    expected = {"rsp asm ": True, "rsp asm --at ": False, "rsp run ": True, "rsp run --strict > ": True}
+    assert {line: "text.s" in offered_by_fish(prefix, line) for line in expected} == expected
+
+
+@pytest.mark.needs("bash")
+@pytest.mark.parametrize("line", ("rsp asm ", "rsp run ", "rsp run --strict > "))
+def test_files_in_bash(prefix: Path, line: str) -> None:
+    """bash completes files itself where the function offers nothing."""
+    assert offered_by_bash(prefix, line) == set()

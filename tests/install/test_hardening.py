@@ -16,14 +16,7 @@ from rsp_tools.packaging.link import linked_program
 pytestmark = pytest.mark.needs("cc", "readelf", "objdump")
 OBJECT = TOP / "crates/rsp_main/out/rsp_main.o"
 OURS = {"rsp_before_main", "__x86_get_cpuid_feature_leaf", "statx"}  # the functions of start.c
-PLUGIN_CALLS = {
-    "DoRspCycles",
-    "InitiateRSP",
-    "PluginGetVersion",
-    "PluginShutdown",
-    "PluginStartup",
-    "RomClosed",
-}
+PLUGIN_CALLS = "DoRspCycles InitiateRSP PluginGetVersion PluginShutdown PluginStartup RomClosed".split()
 
 
 @pytest.fixture(scope="module")
@@ -43,7 +36,7 @@ def test_plugin(plugin: Path) -> None:
     found = checks(plugin)
     assert "__stack_chk_fail" in found and len(found) > 1
     first = first_instructions(plugin)
-    assert {first[it] for it in PLUGIN_CALLS} == {"endbr64"}
+    assert {first[name] for name in PLUGIN_CALLS} == {"endbr64"}
 
 
 @pytest.mark.needs("rt")
@@ -53,7 +46,7 @@ def test_program(program: Path, folder: Path) -> None:
     (folder / "rsp").write_bytes(linked_program(OBJECT))
     check_elf(folder / "rsp", is_program=True)
     first = first_instructions(folder / "rsp")
-    assert {first[it] for it in OURS} == {"endbr64"}
+    assert {first[name] for name in OURS} == {"endbr64"}
 
 
 def test_words() -> None:
@@ -61,4 +54,4 @@ def test_words() -> None:
     assert "-fcf-protection=full" in hardening.words("linux-x86_64")
     assert not {*hardening.words("linux-aarch64")} & {"-fcf-protection=full"}
     assert hardening.words("windows-x86_64", "link") == ["-Wl,--dynamicbase,--nxcompat,--high-entropy-va"]
-    assert not [it for it in hardening.words("linux-x86_64", "compile") if it.startswith("-Wl")]
+    assert not [word for word in hardening.words("linux-x86_64", "compile") if word.startswith("-Wl")]

@@ -7,6 +7,7 @@ something.
 import os
 import re
 import shutil
+import stat
 from pathlib import Path
 
 import pytest
@@ -26,20 +27,13 @@ HEADER = page("library/c/brsp.h")
 CALLS = sorted(re.findall(r"^(?:uint32_t|void) (brsp_\w+)\(", HEADER, re.M))
 SONAME = "libbrsp.so." + re.findall(r"^#define BRSP_VERSION (\d+)$", HEADER, re.M)[0]
 VERSION = re.findall(r'^version = "(.*)"$', page("library/rust/Cargo.toml"), re.M)[0]
-FILES = {
-    *(
-        "lib/pkgconfig/brsp.pc",
-        "share/man/man1/rsp.1",
-        "include/brsp.h",
-        "include/brsp.hpp",
-        "include/brsp_compare.h",
-        "include/brsp_savestate.h",
-    ),
-    *("lib/cmake/brsp/brspConfig.cmake", "lib/cmake/brsp/brspConfigVersion.cmake"),
-    *("lib/libbrsp.a", "lib/libbrsp.so", f"lib/{SONAME}"),
-    *("share/bash-completion/completions/rsp", "share/zsh/site-functions/_rsp"),
-    "share/fish/vendor_completions.d/rsp.fish",
-}
+FILES = f"""
+include/brsp.h include/brsp.hpp include/brsp_compare.h include/brsp_savestate.h
+lib/libbrsp.a lib/libbrsp.so lib/{SONAME} lib/pkgconfig/brsp.pc
+lib/cmake/brsp/brspConfig.cmake lib/cmake/brsp/brspConfigVersion.cmake
+share/man/man1/rsp.1 share/bash-completion/completions/rsp share/zsh/site-functions/_rsp
+share/fish/vendor_completions.d/rsp.fish
+""".split()
 FULL_DISK = """
 mount -t tmpfs -o size=160k none "$1" || exit 9
 "$0" "$1"; ended=$?; find "$1" -type f; exit $ended
@@ -63,25 +57,25 @@ def own(prefix: Path, folder: Path) -> Path:
 PREFIXES = pytest.mark.parametrize("prefix", ["first", "a name"], indirect=True)
 
 
-def found_in(prefix: Path) -> dict[str, str]:
-    """The environment of one who has told pkg-config about a prefix."""
+def with_prefix(prefix: Path) -> dict[str, str]:
+    """An environment in which pkg-config finds the library of a prefix."""
     return {**os.environ, "PKG_CONFIG_PATH": str(prefix / "lib/pkgconfig")}
 
 
 def files_below(prefix: Path) -> set[str]:
-    return {str(it.relative_to(prefix)) for it in prefix.rglob("*") if not it.is_dir()}
+    return {str(path.relative_to(prefix)) for path in prefix.rglob("*") if not path.is_dir()}
 
 
-def refuses(why: str, *words: object) -> None:
+def check_refused(reason: str, *words: object) -> None:
     """An install fails for a reason, which its only line says."""
-    got = run(INSTALL, *words)
-    assert got.returncode == 1
-    assert re.fullmatch(f"library/c/install: {why}\n", got.stdout), got.stdout
+    ended = run(INSTALL, *words)
+    assert ended.returncode == 1
+    assert re.fullmatch(f"library/c/install: {reason}\n", ended.stdout), ended.stdout
 
 
 def test_static_library_shows_the_calls_alone(library: Path) -> None:
-    symbols = succeeds("nm", "--extern-only", "--defined-only", library / "libbrsp.a").splitlines()
-    assert sorted(it.split()[-1] for it in symbols if len(it.split()) == 3) == CALLS
+    symbols = succeeds("nm", "--extern-only", "--defined-only", library / "libbrsp.a")
+    assert sorted(re.findall(r"(?m)^\S+ \S+ (\S+)$", symbols)) == CALLS
     assert len(CALLS) > 20
 
 
@@ -92,7 +86,7 @@ def test_shared_library(library: Path) -> None:
 
 
 def test_what_is_installed(prefix: Path) -> None:
-    assert files_below(prefix) - {"bin/rsp"} == FILES
+    assert files_below(prefix) - {"bin/rsp"} == {*FILES}
     assert os.readlink(prefix / "lib/libbrsp.so") == SONAME
 
 
@@ -112,35 +106,35 @@ def test_uninstall(own: Path) -> None:
     """It removes what was installed, and nothing else."""
     count = len(files_below(own))
     (own / "lib/mine").write_text("mine\n")
-    said = succeeds(INSTALL, own, "--uninstall")
+    output = succeeds(INSTALL, own, "--uninstall")
     assert files_below(own) == {"lib/mine"} and not (own / "lib/cmake/brsp").exists()
-    assert said == f"library/c/install: removed {count} files from {own}\n"
+    assert output == f"library/c/install: removed {count} files from {own}\n"
 
 
 def test_package_of_a_distribution(library: Path, folder: Path) -> None:
     """DESTDIR is where the files go, and PREFIX what brsp.pc names, without an rpath."""
     where = {**os.environ, "DESTDIR": str(folder / "package")}
     succeeds(INSTALL, "/usr", "--no-rpath", env=where)
-    assert files_below(folder / "package/usr") - {"bin/rsp"} == FILES
-    described = (folder / "package/usr/lib/pkgconfig/brsp.pc").read_text()
-    assert described.startswith("prefix=/usr\n") and "rpath" not in described
+    assert files_below(folder / "package/usr") - {"bin/rsp"} == {*FILES}
+    text = (folder / "package/usr/lib/pkgconfig/brsp.pc").read_text()
+    assert text.startswith("prefix=/usr\n") and "rpath" not in text
     succeeds(INSTALL, "/usr", "--uninstall", env=where)
     assert files_below(folder / "package") == set()
 
 
 def test_folder_in_the_place_of_a_file(own: Path) -> None:
-    page_of_man = own / "share/man/man1/rsp.1"
-    page_of_man.unlink()
-    page_of_man.mkdir()
-    refuses("cannot write .*: Is a directory", own)
-    page_of_man.rmdir()
+    man_page = own / "share/man/man1/rsp.1"
+    man_page.unlink()
+    man_page.mkdir()
+    check_refused("cannot write .*: Is a directory", own)
+    man_page.rmdir()
     succeeds(INSTALL, own)
 
 
 def test_no_place_for_files(library: Path, folder: Path) -> None:
     (folder / "file").write_text("mine\n")
-    refuses("cannot write .*: File exists", folder / "file")
-    refuses("cannot write /proc/self/rsp.*", "/proc/self/rsp")
+    check_refused("cannot write .*: File exists", folder / "file")
+    check_refused("cannot write /proc/self/rsp.*", "/proc/self/rsp")
 
 
 @pytest.mark.parametrize("words", [(), ("",), ("--prefix",), ("a", "b")], ids=str)
@@ -150,17 +144,17 @@ def test_words(library: Path, words: tuple[str, ...]) -> None:
 
 @pytest.mark.parametrize("name", ["a$b", "a(b", "a\nb"])
 def test_name_that_a_shell_would_read(library: Path, folder: Path, name: str) -> None:
-    refuses("PREFIX has the character .*", folder / name)
+    check_refused("PREFIX has the character .*", folder / name)
     assert not (folder / name).exists()
 
 
 def test_full_disk(library: Path, folder: Path) -> None:
     """A disk that has room for the header, and not for the libraries: no file is left."""
-    got = run("unshare", "--mount", "--map-root-user", "sh", "-c", FULL_DISK, INSTALL, folder)
-    if got.returncode == 9 or got.stdout.startswith("unshare:"):
-        pytest.skip(f"no full disk can be mounted here ({got.stdout.strip()})")
-    why = f"library/c/install: cannot write {folder}/lib/libbrsp.a: No space left on device\n"
-    assert (got.returncode, got.stdout) == (1, why)
+    ended = run("unshare", "--mount", "--map-root-user", "sh", "-c", FULL_DISK, INSTALL, folder)
+    if ended.returncode == 9 or ended.stdout.startswith("unshare:"):
+        pytest.skip(f"no full disk can be mounted here ({ended.stdout.strip()})")
+    reason = f"library/c/install: cannot write {folder}/lib/libbrsp.a: No space left on device\n"
+    assert (ended.returncode, ended.stdout) == (1, reason)
 
 
 @pytest.mark.needs("pkg-config")
@@ -180,7 +174,7 @@ def test_pkg_config(prefix: Path, folder: Path, command: str, flags: str) -> Non
     shutil.copy(EXAMPLE, folder / "my.c")
     line = f"{command} $(pkg-config {flags} --cflags --libs brsp)"
     line = f'eval "{line}"' if " " in str(prefix) else line
-    succeeds("sh", "-c", line, cwd=folder, env=found_in(prefix))
+    succeeds("sh", "-c", line, cwd=folder, env=with_prefix(prefix))
     assert succeeds(folder / "a.out", cwd="/") == LOCKSTEP
     assert ("NEEDED" in succeeds("objdump", "-p", folder / "a.out")) != ("-static" in command)
 
@@ -188,7 +182,7 @@ def test_pkg_config(prefix: Path, folder: Path, command: str, flags: str) -> Non
 @pytest.mark.needs("pkg-config")
 @PREFIXES
 def test_version_of_pkg_config(prefix: Path) -> None:
-    assert succeeds("pkg-config", "--modversion", "brsp", env=found_in(prefix)) == f"{VERSION}\n"
+    assert succeeds("pkg-config", "--modversion", "brsp", env=with_prefix(prefix)) == f"{VERSION}\n"
 
 
 @pytest.mark.needs("cmake", "make")
@@ -205,7 +199,7 @@ def test_dlopen(prefix: Path, folder: Path) -> None:
 def test_two_libraries_in_one_program(library: Path, folder: Path) -> None:
     """libbrsp.a beside its code as `rt lib` leaves it, like any library of the kit, with calls other_*."""
     heap = Path(succeeds("rt", "doc").strip()).parent / "c/liblibc_c.a"
-    names = [f"--redefine-sym={it}=other{it[4:]}" for it in CALLS]
+    names = [f"--redefine-sym={name}=other{name[4:]}" for name in CALLS]
     succeeds("objcopy", *names, TOP / "crates/rsp_c/out/librsp_c.a", folder / "other.a")
     libraries = (library / "libbrsp.a", folder / "other.a", heap)
     whole = ("-Wl,--whole-archive", *libraries, "-Wl,--no-whole-archive")
@@ -217,18 +211,18 @@ def test_man_page_has_all_words(prefix: Path) -> None:
     text = (prefix / "share/man/man1/rsp.1").read_text()
     table = page("docs/SCRIPT.md").partition("| Command |")[2].partition("\n\n")[0]
     commands = re.findall(r"^\| `([a-z]+)", table, re.M)
-    helps = "".join(it.read_text() for it in (TOP / "docs/help").glob("*.txt"))
+    helps = "".join(path.read_text() for path in (TOP / "docs/help").glob("*.txt"))
     options = {*re.findall(r"--[a-z]+", helps)} - {"--version"}
     assert (len(commands), len(options)) == (21, 9)
-    assert not [it for it in commands if f"\n\\fB{it}" not in text]
-    assert not [it for it in options if it.replace("-", "\\-") not in text]
+    assert not [name for name in commands if f"\n\\fB{name}" not in text]
+    assert not [name for name in options if name.replace("-", "\\-") not in text]
 
 
 @pytest.mark.needs("man")
 def test_man_shows_the_page(prefix: Path) -> None:
     where = {**os.environ, "MANPAGER": "cat", "MANWIDTH": "100", "LC_ALL": "C.UTF-8"}
-    told = succeeds("man", "--warnings", "-l", prefix / "share/man/man1/rsp.1", env=where)
-    assert "warning" not in told and "rsp run [OPTIONS] [SCRIPT]" in told
+    text = succeeds("man", "--warnings", "-l", prefix / "share/man/man1/rsp.1", env=where)
+    assert "warning" not in text and "rsp run [OPTIONS] [SCRIPT]" in text
 
 
 # Rust: as a path the crate finds what library/c/build has made, as a package it has its library in lib/, and
@@ -258,24 +252,25 @@ def copied_crate(to: Path) -> Path:
 
 def by_cargo(folder: Path, **more: str) -> dict[str, str]:
     """An environment in which the crate finds no library by a variable."""
-    where = {it: text for it, text in os.environ.items() if it not in ("RSP_LIB_DIR", "PKG_CONFIG_PATH")}
+    own = {"RSP_LIB_DIR", "PKG_CONFIG_PATH"}
+    where = {name: value for name, value in os.environ.items() if name not in own}
     return {**where, "CARGO_TARGET_DIR": str(folder / "target"), **more}
 
 
-def used(folder: Path, how: str, **more: str) -> str:
-    """What a program says that depends on the crate so."""
+def check_dependency(folder: Path, source: str, **more: str) -> None:
+    """A program that depends on the crate from a source is built, and runs."""
     (folder / "uses/src").mkdir(parents=True)
-    (folder / "uses/Cargo.toml").write_text(DEPENDS % how)
+    (folder / "uses/Cargo.toml").write_text(DEPENDS % source)
     (folder / "uses/src/main.rs").write_text(USES)
-    return succeeds("cargo", "run", "-q", cwd=folder / "uses", env=by_cargo(folder, **more))
+    assert succeeds("cargo", "run", "-q", cwd=folder / "uses", env=by_cargo(folder, **more)) == "nop\n"
 
 
 @pytest.mark.needs("cargo")
 def test_layout_of_the_crate() -> None:
-    got = run("cargo", "fmt", "--check", cwd=CRATE)
-    if re.search("no such (sub)?command", got.stdout):
+    ended = run("cargo", "fmt", "--check", cwd=CRATE)
+    if re.search("no such (sub)?command", ended.stdout):
         pytest.skip("there is no `cargo fmt` (Debian's package rustfmt)")
-    assert got.returncode == 0, got.stdout
+    assert ended.returncode == 0, ended.stdout
 
 
 @pytest.mark.needs("cargo")
@@ -290,12 +285,22 @@ def test_crate_as_a_package(library: Path, folder: Path) -> None:
 
 @pytest.mark.needs("cargo")
 def test_crate_as_a_path(library: Path, folder: Path) -> None:
-    assert used(folder, f'path = "{CRATE}"', PKG_CONFIG="false") == "nop\n"
+    check_dependency(folder, f'path = "{CRATE}"', PKG_CONFIG="false")
 
 
 @pytest.mark.needs("cargo", "git", "pkg-config")
 def test_crate_as_a_git_dependency(prefix: Path, folder: Path) -> None:
     copied_crate(folder / "git/rust")
     succeeds("sh", "-c", COMMIT, cwd=folder / "git")
-    where = {"PKG_CONFIG_PATH": str(prefix / "lib/pkgconfig")}
-    assert used(folder, f'git = "file://{folder}/git"', **where) == "nop\n"
+    path = str(prefix / "lib/pkgconfig")
+    check_dependency(folder, f'git = "file://{folder}/git"', PKG_CONFIG_PATH=path)
+
+
+def test_install_under_a_strict_umask(library: Path, folder: Path) -> None:
+    """All users may read what is installed, and run what can be run."""
+    succeeds(INSTALL, folder / "prefix", preexec_fn=lambda: os.umask(0o077))
+    installed = [folder / "prefix", *(folder / "prefix").rglob("*")]
+    modes = {path: stat.S_IMODE(path.stat().st_mode) for path in installed if not path.is_symlink()}
+    runs = {path for path in modes if path.is_dir() or path.parent.name == "bin" or ".so" in path.name}
+    assert len(modes) > 10 and {modes[path] for path in runs} == {0o755}
+    assert {mode for path, mode in modes.items() if path not in runs} <= {0o644, 0o755}

@@ -15,9 +15,8 @@ import pytest
 
 from lib import TOP
 from lib.install.clone import cloned
-from lib.install.page_commands import Block, check
-from lib.install.needed_packages import shown
-from lib.install.ways import Way
+from lib.install.needed_packages import typed_blocks
+from lib.page_blocks import Block, check_typed
 from lib.user import User
 
 pytestmark = [
@@ -32,7 +31,6 @@ tests/program/test_failing_allocations.py tests/docs/test_flags.py tests/install
 """.split()
 # This would prove all crates in the clone if its program isn't built here.
 OTHER_COMPILER = "tests/program/test_second_compiler.py", "crates/rsp_main/out/rsp_main.by-rattle"
-LEFT_BEHIND = "my.c a.out mine.c mine.so mine.cpp runner.o runner mine.s renamed.s"
 
 
 @pytest.fixture(scope="session")
@@ -42,7 +40,9 @@ def stranger() -> Iterator[User]:
         base.chmod(0o755)
         kit = shutil.which("rt")
         path = "/usr/bin:/bin" + (f":{Path(kit).resolve().parent}" if kit else "")
-        yield User(cloned(base / "a b/rsp"), base / "home", base, path=path)
+        user = User(cloned(base / "a b/rsp"), base / "home", base, path=path)
+        user.types("mkdir ~/prefix && library/c/install ~/prefix")  # PREFIX of the pages
+        yield user
 
 
 def test_suite(stranger: User, record_property: Callable[[str, object], None]) -> None:
@@ -56,11 +56,14 @@ def test_suite(stranger: User, record_property: Callable[[str, object], None]) -
         record_property("left out", skipped)
 
 
-@pytest.mark.parametrize("block, way", [pytest.param(*it, id=str(it[0])) for it in shown()])
-def test_command(stranger: User, block: Block, way: Way) -> None:
-    check(stranger, block, way, f'rsp() {{ "{stranger.at}/rsp" "$@"; }}')
+@pytest.mark.parametrize("block", typed_blocks(), ids=str)
+def test_block(stranger: User, block: Block) -> None:
+    """Each block of a page that is marked as run. `rsp` is that of the clone."""
+    check_typed(stranger, block, f'export PATH="{stranger.at}:$PATH"')
 
 
 def test_work_tree_is_clean_afterwards(stranger: User) -> None:
-    got = stranger.types(f"rm -f {LEFT_BEHIND}\ngit status --porcelain")
-    assert (got.returncode, got.stdout) == (0, "")
+    """Files at the top are those that the blocks write."""
+    ended = stranger.types("git status --porcelain")
+    changed = [line for line in ended.stdout.splitlines() if not re.fullmatch(r"\?\? [^/]*", line)]
+    assert (ended.returncode, changed) == (0, [])

@@ -1,7 +1,6 @@
 """What ./release says before it makes anything, and what it says it has left out.
 
-It fails if something that is missing isn't named first, or if a line of a page's block is typed without those
-before it.
+It fails if something that is missing isn't named first, or if a page's block is typed without what it needs.
 """
 
 import shutil
@@ -12,8 +11,7 @@ import pytest
 
 from lib import TOP, packages
 from lib.install import needed_packages
-from lib.install.page_commands import Block, check, lines_of
-from lib.install.ways import Way
+from lib.page_blocks import Block, check_typed, parse_mark
 from lib.pages import page
 from lib.processes import run, succeeds
 from lib.user import User
@@ -137,21 +135,14 @@ def test_day_of_a_version(day: str, tags: list[str], is_right: bool, monkeypatch
             release.check_day(day, tags)
 
 
-def test_block_is_typed_whole_or_not_at_all() -> None:
-    whole = Block("page", "cp mine.c ~/mine.c  # a copy\ncd\ncat mine.c")
-    assert lines_of(whole, Way("page")) == (whole.lines, "")
-    left = Block("page", "cd /tmp\nsudo apt-get install gcc\ncc mine.c")
-    assert lines_of(left, Way("page")) == ("", "it changes the system")
-
-
 def test_block_without_its_package(monkeypatch: pytest.MonkeyPatch, folder: Path) -> None:
     """Nothing of it is typed, and the skip names the package."""
     monkeypatch.setattr(packages, "is_here", lambda _: False)
     monkeypatch.delenv("CI", raising=False)
     monkeypatch.setattr(User, "types", lambda *_: pytest.fail("it is typed"))
-    user = User(folder, folder / "home")
+    block = Block("page", "sh", "", parse_mark("run\nthen: cat mine.c"), "cd plugin\ncc mine.c\n")
     with pytest.raises(pytest.skip.Exception, match=r"Debian's package gcc\)"):
-        check(user, Block("page", "cd plugin\ncc mine.c\ncat mine.c"), Way("page"), "")
+        check_typed(User(folder, folder / "home"), block, "")
 
 
 def test_left_out(folder: Path) -> None:

@@ -6,17 +6,8 @@ from pathlib import Path
 from typing import Iterator, List, Tuple
 
 from lib import TOP
-from lib.pages import anchor
+from lib.pages import anchor, pages_below
 from rsp_tools.page_tables import ANCHOR
-
-NO_PAGES = ("out", "vectors", "target", "node_modules")  # folders of what is built, and of test vectors
-
-
-def pages_below(root: Path) -> List[Path]:
-    """The pages of a folder and of those inside it, except of hidden folders and of what is built."""
-    found = [it for it in root.iterdir() if it.name[0] != "." and it.name not in NO_PAGES]
-    below = [page for it in found if it.is_dir() and not it.is_symlink() for page in pages_below(it)]
-    return sorted([it for it in found if it.suffix == ".md"] + below)
 
 
 def headings(page: Path) -> List[str]:

@@ -29,6 +29,7 @@ PACKAGES = {
     "tsc": "node-typescript",
     "/usr/bin/c++": "g++",
     "/usr/bin/cc": "gcc",
+    "/usr/bin/node": "nodejs",
     "/usr/bin/man": "man-db",
     "/usr/bin/mips-linux-gnu-gcc": "gcc-mips-linux-gnu",
     "/usr/include/stdio.h": "libc6-dev",

@@ -6,8 +6,22 @@ import tempfile
 from pathlib import Path
 from typing import Iterable, Iterator, List, Optional, Sequence, Tuple
 
-from rsp_tools.page_tables import ANCHOR, blocks_of, page
+from rsp_tools.page_tables import ANCHOR, page
 from rsp_tools.page_tables import anchor, data  # noqa: F401 (for those who import them from here)
+
+NO_PAGES = ("out", "vectors", "target", "node_modules")  # folders of what is built, and of test vectors
+
+
+def pages_below(root: Path) -> List[Path]:
+    """The pages of a folder and of those inside it, except of hidden folders and of what is built."""
+    found = [path for path in root.iterdir() if path.name[0] != "." and path.name not in NO_PAGES]
+    below = [page for path in found if path.is_dir() and not path.is_symlink() for page in pages_below(path)]
+    return sorted([path for path in found if path.suffix == ".md"] + below)
+
+
+def blocks_of(text: str) -> List[str]:
+    """The fenced blocks of a text, without their fences."""
+    return re.findall(r"(?ms)^```\w[^\n]*\n(.*?)^```$", text)
 
 
 def blocks(name: str) -> List[str]:
@@ -19,29 +33,6 @@ def block_with(name: str, start: str, more: int = 0) -> str:
     """The block of a page that begins so, or one `more` blocks after it."""
     shown = blocks(name)
     return shown[next(i for i, block in enumerate(shown) if block.lstrip("\n").startswith(start)) + more]
-
-
-def turns_of(block: str) -> List[Tuple[str, str]]:
-    """Splits a transcript into pairs of commands and the replies to them.
-
-    A line has a command, or a reply after at least three spaces, or both. A reply that begins with `#` is a
-    comment. A pair ends at the first command after its replies.
-    """
-    turns: List[Tuple[str, str]] = []
-    for line in block.splitlines():
-        command, *columns = re.split(r" {3,}", line, maxsplit=1)
-        reply = "".join(f"{text}\n" for text in columns if not text.startswith("#"))
-        starts_a_turn = not turns or (command and turns[-1][1])
-        commands, replies_so_far = ("", "") if starts_a_turn else turns.pop()
-        turns.append((commands + (f"{command}\n" if command else ""), replies_so_far + reply))
-    return turns
-
-
-def transcripts(name: str, heading: str) -> Iterator[Tuple[str, str]]:
-    """The blocks of a page from a heading on that have replies beside their commands: scripts and replies."""
-    for block in blocks_of(page(name).partition(f"\n{heading}\n")[2]):
-        script, wanted = ("".join(it) for it in zip(*turns_of(block)))
-        yield script, wanted.rstrip("\n")
 
 
 def cells_of(line: str) -> List[str]:
@@ -58,10 +49,11 @@ def tables(name: str, heading: str = "") -> Iterator[List[str]]:
         yield from map(cells_of, table.splitlines())
 
 
-def matches(told: Sequence[str], wanted: Sequence[str]) -> bool:
-    """Whether the lines of a reply are the wanted ones, `..` being any lines."""
-    form = "".join(r"(?:.*\n)*" if it == ".." else re.escape(it) + "\n" for it in wanted)
-    return re.fullmatch(form, "".join(f"{it}\n" for it in told)) is not None
+def matches(lines: Sequence[str], expected: Sequence[str]) -> bool:
+    """Whether these are the expected lines, of which `..` matches any lines, and within a line any text."""
+    forms = (re.escape(line).replace(r"\.\.", ".*") + "\n" for line in expected)
+    form = "".join(r"(?:.*\n)*" if form == ".*\n" else form for form in forms)
+    return re.fullmatch(form, "".join(f"{line}\n" for line in lines)) is not None
 
 
 def said(program: object, *words: object, given: str = "") -> str:
@@ -98,9 +90,3 @@ def words_of(program: object, named: Iterable[Tuple[str, object]]) -> List[List[
     found = iter(replies(program, "".join(lines)).splitlines())
     pairs = zip(found, found)
     return [shown.split(" ", 2) if told.startswith("ok") else [told, "", ""] for told, shown in pairs]
-
-
-def see_reply(actual: str, expected: str) -> None:
-    """Asserts that a reply has the expected lines, of which `..` matches any number."""
-    lines, form = actual.strip("\n").split("\n"), expected.strip("\n").split("\n")
-    assert matches(lines, form), f"expected {expected!r}, got {actual!r}"

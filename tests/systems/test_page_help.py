@@ -74,7 +74,7 @@ def test_words(name: str, page: Page, host: Host, pages: Path) -> None:
     blocks = blocks_of(text)
     code = page.value("[...document.querySelectorAll('pre')].map((it) => it.textContent)")
     assert "".join(code).split() == re.sub(r"\s+", " ", "".join(blocks)).split()
-    text = re.sub(r"(?m)^```\w*\n", "", text)
+    text = re.sub(r"(?ms)^<!-- .*?-->\n|^```[ \w]*\n", "", text)
     for form, instead in PLAIN:
         text = re.sub(form, instead, text)
     wanted, found = (re.findall(r"[A-Za-z0-9]+", it) for it in (text, shown))

@@ -42,11 +42,6 @@ def anchor(heading: str) -> str:
     return re.sub(r"[^\w\- ]", "", heading.lower()).replace(" ", "-")
 
 
-def blocks_of(text: str) -> List[str]:
-    """The fenced blocks of a text, without their fences."""
-    return re.findall(r"(?ms)^```\w+\n(.*?)^```$", text)
-
-
 def data(name: str) -> List[Dict[str, str]]:
     """The lines of a table of docs/data, each as its cells by the names of the columns."""
     names, *lines = [line.split("\t") for line in (DATA / f"{name}.tsv").read_text().splitlines()]

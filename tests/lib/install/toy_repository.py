@@ -1,4 +1,4 @@
-"""A repository of tiny crates with ./rsp, library/c/build and tools/ as here, and kits in place of `rt`."""
+"""A repository of small crates with ./rsp, library/c/build and tools/ as here, and kits in place of `rt`."""
 
 import copy
 import os
@@ -14,7 +14,7 @@ from typing import Callable, Iterator, NamedTuple, Optional, Union
 
 from lib import TOP
 
-CRATES = """# tiny crates
+CRATES = """# small crates
 rsp_decode:
 rsp_above: rsp_decode
 rsp_side:
@@ -59,7 +59,7 @@ RT = {
     "words": '[ "$1" = version ] || {{ echo asked for "$@"; exit 2; }}\nexec "{rt}" "$@"',
     # It keeps what it has checked of two functions, and says nothing until it may go on.
     "silent": """[ "$1" = lib ] && mkdir out/incremental/new && cd out/incremental/new && {{
-    for it in one two; do touch Rattle-rsp_c-proofs.$it.Lts.oantt; done
+    for name in one two; do touch Rattle-rsp_c-proofs.$name.Lts.oantt; done
     until [ -e "$GO" ]; do sleep 0.1; touch *; done
     rm -r "$PWD"; exit 2
 }}
@@ -76,68 +76,67 @@ LONGEST = 600  # seconds that a run may take on a busy machine
 Data = Union[None, bytes, Callable[[bytes], Optional[bytes]]]
 
 
-class Ran(NamedTuple):
-    """How a run ended, what it said, and the processes that it left."""
+class Result(NamedTuple):
+    """How a run ended, what it printed, and the processes that it left."""
 
     status: int
-    said: str
+    output: str
     left: list[int]
 
     @property
     def begun(self) -> set[str]:
-        return {*re.findall(r"(\w+) begins$", self.said, re.M)}
+        return {*re.findall(r"(\w+) begins$", self.output, re.M)}
 
     @property
     def proved(self) -> set[str]:
-        return {*re.findall(r"(\w+) is proved after \d+ s$", self.said, re.M)}
+        return {*re.findall(r"(\w+) is proved after \d+ s$", self.output, re.M)}
 
     @property
     def last(self) -> str:
-        return self.said.splitlines()[-1] if self.said else ""
+        return self.output.splitlines()[-1] if self.output else ""
 
 
-class Tiny:
-    """The repository below a folder, the kits by their names, each a PATH, and runs that a test keeps."""
+class ToyRepository:
+    """The repository below a folder, the kits by their names, each a PATH, and results that a test keeps."""
 
     def __init__(self, folder: Path) -> None:
-        self.at, self.runs = folder / "repository", dict[str, Ran]()
-        shutil.copytree(TOP / "tools", self.at / "tools")
+        self.root, self.results, self.go = folder / "repository", dict[str, Result](), folder / "go"
+        shutil.copytree(TOP / "tools", self.root / "tools")
         texts = {"crates.txt": CRATES, "library/c/brsp.h": HEADER}
-        texts.update({f"crates/{it}": text for it, text in SOURCES.items()})
-        for name in (*COPIED.split(), *texts):
-            (self.at / name).parent.mkdir(parents=True, exist_ok=True)
-            if name in texts:
-                (self.at / name).write_text(texts[name])
-            else:
-                shutil.copy(TOP / name, self.at / name)
+        texts.update({f"crates/{name}": text for name, text in SOURCES.items()})
+        texts.update({name: (TOP / name).read_text() for name in COPIED.split()})
+        for name, text in texts.items():
+            path = self.root / name
+            path.parent.mkdir(parents=True, exist_ok=True)
+            path.write_text(text)
+            path.chmod(0o755)
         self.kits = {"": os.environ["PATH"], "none": str(folder / "none")}
         for name, text in RT.items():
             self.kits[name] = with_program(folder / name / "rt", text.format(rt=shutil.which("rt")))
         self.kits["no python"] = with_program(folder / "no python/python3", "exit 9")
         self.kits["holds"] = holding_kit(folder / "holds")
-        self.go = folder / "go"
         (folder / "none").mkdir()
         (folder / "none/python3").symlink_to(os.path.realpath(sys.executable))
         for name in TOOLS.split():
             (folder / "none" / name).symlink_to(str(shutil.which(name)))
 
-    def copied(self, folder: Path) -> "Tiny":
-        """The same in another folder, as proved and built as here."""
+    def copied(self, folder: Path) -> "ToyRepository":
+        """A copy in another folder, proved and built as this one."""
         other = copy.copy(self)
-        other.at = folder / "repository"
-        shutil.copytree(self.at, other.at, symlinks=True)
+        other.root = folder / "repository"
+        shutil.copytree(self.root, other.root, symlinks=True)
         for form in "*/out/rlib/stamp", "*/out/built":  # each is newer than what it is of
             time.sleep(0.05)
-            for it in (other.at / "crates").glob(form):
-                it.chmod(it.stat().st_mode)
+            for path in (other.root / "crates").glob(form):
+                path.chmod(path.stat().st_mode)
         return other
 
     @contextmanager
     def started(self, words: list[str], kit: str, held: str = "") -> "Iterator[subprocess.Popen[str]]":
         """A run, which is ended with all that it has begun if what is done in it fails."""
-        ran = subprocess.Popen(
+        process = subprocess.Popen(
             words,
-            cwd=self.at,
+            cwd=self.root,
             env={**os.environ, "PATH": self.kits[kit], "HELD": held, "GO": str(self.go)},
             stdin=subprocess.DEVNULL,
             stdout=subprocess.PIPE,
@@ -146,52 +145,52 @@ class Tiny:
             start_new_session=True,
         )
         try:
-            yield ran
+            yield process
         except BaseException:
-            os.killpg(ran.pid, signal.SIGKILL)
+            os.killpg(process.pid, signal.SIGKILL)
             raise
         finally:
-            ran.wait()
+            process.wait()
 
-    def run(self, command: Union[str, list[str]], kit: str = "") -> Ran:
+    def run(self, command: Union[str, list[str]], kit: str = "") -> Result:
         words = command.split() if isinstance(command, str) else command
-        with self.started(words, kit) as ran:
-            said = ran.communicate(timeout=LONGEST)[0]
-        return Ran(ran.returncode, said, [])
+        with self.started(words, kit) as process:
+            output = process.communicate(timeout=LONGEST)[0]
+        return Result(process.returncode, output, [])
 
-    def during(
-        self, line: str, act: Callable[[int], object], command: str = RSP, kit: str = "holds", held: str = ""
-    ) -> Ran:
-        """A run in which something is done once it says a line of this form.
+    def run_and_act(
+        self, form: str, act: Callable[[int], object], command: str = RSP, kit: str = "holds", held: str = ""
+    ) -> Result:
+        """A run during which `act` is called, once it has printed a line of this form.
 
-        What the kit holds may go on as soon as there is the file `go`.
+        The kit holds the crate `held` until the file `go` is there.
         """
         self.go.unlink(missing_ok=True)
-        with self.started(command.split(), kit, held) as ran:
-            assert ran.stdout
-            said = ""
-            for got in ran.stdout:
-                said += got
-                if re.search(line, got):
+        with self.started(command.split(), kit, held) as process:
+            assert process.stdout
+            output = ""
+            for line in process.stdout:
+                output += line
+                if re.search(form, line):
                     break
-            act(ran.pid)
-            said += ran.stdout.read()
-        return Ran(ran.returncode, said, self.processes())
+            act(process.pid)
+            output += process.stdout.read()
+        return Result(process.returncode, output, self.remaining_processes())
 
-    def processes(self) -> list[int]:
+    def remaining_processes(self) -> list[int]:
         """The processes that are still at work in the repository, if they don't end."""
         until = time.monotonic() + LONGEST
-        while processes_in(self.at) and time.monotonic() < until:
+        while processes_in(self.root) and time.monotonic() < until:
             time.sleep(0.2)
-        return processes_in(self.at)
+        return processes_in(self.root)
 
     def edit(self, name: str, old: str, new: str) -> None:
-        path = self.at / name
+        path = self.root / name
         path.write_text(path.read_text().replace(old, new))
 
     def put(self, name: str, data: Optional[bytes]) -> None:
-        """Gives a file these bytes, or removes it. It and its folder get an old time."""
-        path = self.at / name
+        """Gives a file these bytes, or removes it. The file and its folder get an old time."""
+        path = self.root / name
         path.unlink(missing_ok=True)
         path.parent.mkdir(parents=True, exist_ok=True)
         if data is not None:
@@ -203,17 +202,17 @@ class Tiny:
     @contextmanager
     def changed(self, name: str, data: Data) -> Iterator[None]:
         """Gives a file other bytes, and then those that it had."""
-        path = self.at / name
-        was = path.read_bytes() if path.exists() else None
-        self.put(name, data(was or b"") if callable(data) else data)
+        path = self.root / name
+        before = path.read_bytes() if path.exists() else None
+        self.put(name, data(before or b"") if callable(data) else data)
         try:
             yield
         finally:
-            self.put(name, was)
+            self.put(name, before)
 
 
 def with_program(path: Path, text: str) -> str:
-    """A PATH with a program in front of all others."""
+    """A PATH with a program before all others."""
     path.parent.mkdir(parents=True)
     path.write_text(f"#!/bin/sh\n{text}\n")
     path.chmod(0o755)
@@ -224,22 +223,22 @@ def holding_kit(folder: Path) -> str:
     """The PATH of the kit that is here, except that its `rattle` can hold a crate."""
     kit = Path(str(shutil.which("rt"))).resolve().parent.parent
     path = with_program(folder / "bin/rattle", HOLDS.format(rattle=kit / "bin/rattle"))
-    for it in (*kit.iterdir(), *(kit / "bin").iterdir()):
-        to = folder / it.relative_to(kit)
-        if it.name in ("rt", "rtlib.py"):  # they look for the others beside themselves
-            shutil.copy(it, to)
+    for source in (*kit.iterdir(), *(kit / "bin").iterdir()):
+        to = folder / source.relative_to(kit)
+        if source.name in ("rt", "rtlib.py"):  # they look for the others beside themselves
+            shutil.copy(source, to)
         elif not to.exists():
-            to.symlink_to(it)
+            to.symlink_to(source)
     return path
 
 
 def processes_in(folder: Path) -> list[int]:
     """The processes that are at work in a folder or below it."""
     found = []
-    for it in Path("/proc").glob("[0-9]*/cwd"):
+    for link in Path("/proc").glob("[0-9]*/cwd"):
         try:
-            if folder in (Path(os.readlink(it)) / "_").parents:
-                found.append(int(it.parent.name))
+            if folder in (Path(os.readlink(link)) / "_").parents:
+                found.append(int(link.parent.name))
         except OSError:
             pass
     return found

@@ -11,7 +11,10 @@ from pathlib import Path
 
 import pytest
 
-
+# A text, its words in hexadecimal, and what `dis` prints of them.
+LOOP_TEXT = "loop: addiu $1, $1, -1\nbne $1, $0, loop\nnop\nbreak\n"
+LOOP_CODE = "2421ffff1420fffe000000000000000d"
+LOOP_WORDS = "addiu $1, $1, -1\nbne $1, $0, 0x000\nnop\nbreak\n"
 BARE = {"PATH": "/usr/bin:/bin", "LC_ALL": "C"}  # the environment of one who has nothing else
 
 
@@ -25,12 +28,13 @@ def given(config: pytest.Config, system: str) -> list[Path]:
 def check_members(members: list[tarfile.TarInfo]) -> None:
     """Files, folders, and links to a file beside them, in one folder. All may read them, the owner alone may
     change them, and no file runs with another's rights."""
-    assert {it.type for it in members} <= {tarfile.REGTYPE, tarfile.DIRTYPE, tarfile.SYMTYPE}
-    assert {it.mode for it in members if not it.issym()} <= {0o644, 0o755}
-    assert {it.mode for it in members if it.isdir()} <= {0o755}
-    names = [it.name.split("/") for it in members]
-    assert len({it[0] for it in names}) == 1 and not [it for it in names if {"", ".", ".."} & {*it}]
-    assert not [it for it in members if it.issym() and ("/" in it.linkname or it.linkname in (".", ".."))]
+    assert {member.type for member in members} <= {tarfile.REGTYPE, tarfile.DIRTYPE, tarfile.SYMTYPE}
+    assert {member.mode for member in members if not member.issym()} <= {0o644, 0o755}
+    assert {member.mode for member in members if member.isdir()} <= {0o755}
+    names = [member.name.split("/") for member in members]
+    assert len({name[0] for name in names}) == 1 and not [name for name in names if {"", ".", ".."} & {*name}]
+    links = [member.linkname for member in members if member.issym()]
+    assert not [link for link in links if "/" in link or link in (".", "..")]
 
 
 def check_pack(archive: Path) -> None:
@@ -39,17 +43,18 @@ def check_pack(archive: Path) -> None:
     if archive.suffix == ".zip":
         with zipfile.ZipFile(archive) as pack:
             names, entries = pack.namelist(), pack.infolist()
-            about = {str((it.date_time, it.create_system, it.extra, it.comment)) for it in entries}
-            assert {stat.S_IFMT(it.external_attr >> 16) for it in entries} == {stat.S_IFREG}
+            times = {
+                str((entry.date_time, entry.create_system, entry.extra, entry.comment)) for entry in entries
+            }
+            assert {stat.S_IFMT(entry.external_attr >> 16) for entry in entries} == {stat.S_IFREG}
     else:
         with tarfile.open(archive) as tar:
-            names = tar.getnames()
-            about = {str(it.mtime) for it in tar.getmembers()}
-            owners = {(it.uid, it.gid, it.uname, it.gname) for it in tar.getmembers()}
-            assert owners == {(0, 0, "", "")}
-            check_members(tar.getmembers())
+            names, members = tar.getnames(), tar.getmembers()
+            times = {str(member.mtime) for member in members}
+            assert {(it.uid, it.gid, it.uname, it.gname) for it in members} == {(0, 0, "", "")}
+            check_members(members)
     assert names == sorted(names)
-    assert len(about) == 1
+    assert len(times) == 1
 
 
 def date(archive: Path) -> int:

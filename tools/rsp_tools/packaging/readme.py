@@ -10,6 +10,9 @@ from rsp_tools.packaging.release_info import About
 from rsp_tools.packaging.install_tree import File
 
 
+MARK = re.compile(r"(?ms)^<!-- .*?-->\n")  # above a block: how a test types it
+
+
 def template(system: str) -> str:
     return (TOOLS / f"packaging/readme/{system}.md").read_text()
 
@@ -30,7 +33,7 @@ def elsewhere(pages: Dict[str, str], names: List[str]) -> List[str]:
 def page(system: str, release: About, files: List[File]) -> File:
     """The README of a system's archive with these files, which names all that their links lack."""
     built, proved = release.lines()
-    text = template(system)
+    text = MARK.sub("", template(system))
     pages = {
         it.name: it.data.decode() for it in files if it.name.endswith(".md") and isinstance(it.data, bytes)
     }

@@ -61,7 +61,7 @@ def idioms(page: str) -> Iterator[Example]:
     section = page[page.index("## Idioms") : page.index("## Your microcode in CI")]
     title = ""
     for head, bold, text in re.findall(
-        r"(?ms)^### (.*?)$|(?<=\n\n)\*\*(.*?)\*\*|^```text\n(.*?)^```$", section
+        r"(?ms)^### (.*?)$|(?<=\n\n)\*\*(.*?)\*\*|^```asm\n(.*?)^```$", section
     ):
         if text:
             script = f"# {title}\nasm 0\n{text}end\ndis 0 {len(text.splitlines())}\n"
