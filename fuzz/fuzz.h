@@ -1,5 +1,5 @@
 /* fuzz.h: what the targets share: the input as numbers and bytes, buffers that end where the caller says, what must hold, and scripts. A target is a file
- * TARGET.c, which fuzz/build links with libFuzzer. */
+ * TARGET.c, which fuzz/build links with libFuzzer. The targets are C over brsp.h, because this is what a caller gets. */
 #ifndef FUZZ_H
 #define FUZZ_H
 #include "brsp.h"

@@ -1,40 +1,31 @@
-"""Prints host instructions for emulated ones and script lines; what is much is for the reader to judge.
+"""Prints what steps and lines of scripts cost.
 
-It fails if the program or z64 gives another answer than it should.
-
-valgrind's callgrind counts. Three loops: scalar instructions, vector computing instructions, and both mixed
-with loads and stores. For each
-  steps      one call of Machine::steps, in a driver that is built from the proved libraries
-  step       a loop over Machine::step, in the same driver
-  recorded   a loop over Debugger::step with a history of 256 states, there too; each step is a call
-  run        the command `run` of PROGRAM, which records its steps too, with nothing to stop at, with a
-             breakpoint that is never reached, with a watch of bytes that never change
-Then a table of script lines: what PROGRAM takes to read one, to carry it out and to write its reply.
-On z64, another emulator (Debian's mupen64plus-rsp-z64), a loop ends after a number of rounds; then it stores
-all registers, and DMEM must be the one that PROGRAM has after the same words. With --time z64 and `run` take
-turns, and the least counts, so that other work disturbs little: the ratio is what may be compared.
+These are host instructions, as valgrind's callgrind counts them, for each step of three loops: scalar
+instructions, vector computing instructions, and both mixed with loads and stores. The steps are made by calls
+of the library for C (measure/speed.c), without a history and with one of 100 states, and by the command `run`
+of PROGRAM, which records its steps too: with nothing to stop at, with a breakpoint that is never reached, and
+with a watch of bytes that never change. Then follow lines of a script: what PROGRAM takes to read one, to
+carry it out and to write its reply.
 
 A figure is the difference between a long and a short run, divided by the difference of their steps or lines.
-The driver's libraries are proved first, which takes minutes. It needs valgrind (not for --time), `rt` (for
-the loops) and z64 (for --z64 and --time).
+With --time, `run` and the plugin z64 take turns, and the least time counts, so that other work disturbs
+little. It needs library/c/build, cc and valgrind, and for --z64 and --time Debian's mupen64plus-rsp-z64.
 """
 
 import os
 import re
 import resource
-import shutil
 import subprocess
 import sys
 import tempfile
 from pathlib import Path
-from typing import Callable, Dict, Iterable, List, Sequence, Tuple
+from typing import Callable, Dict, Iterable, Sequence, Tuple
 
-from lib import TOP, z64
-from lib.processes import run
-from measure import add_program, need, reader
+from lib import z64
+from lib.processes import STRICT, compiled
+from measure import LIBRARY, add_program, need, parser_of
 
-SHORT, LONG = 100_000, 500_000
-ROUNDS = (6_000, 30_000)  # on z64
+SHORT, LONG = 102_400, 512_000  # in steps: multiples of the 1,024 that one call of brsp_trace makes
 SHORT_SCRIPT, LONG_SCRIPT = 2_000, 4_000  # in lines
 TURNS = 9
 SHORT_TIME, LONG_TIME = 1_000_000, 21_000_000  # in steps
@@ -54,12 +45,19 @@ LOOPS = {
         ea860928 ac060100 4a694351 ca973005 8c070100 4a0d63e4 ea87380c 00c7402a 4a041c60 ca982804 34c90055
         4b2004dd ea881806 2442ffff 1440ffe6 00000000""",
 }
-# $21 at 400; sqv of each vector register from there on, sw of each other one from 600 on; break.
-STORES = [(0xEAA02000, 0x10001), (0xAC000600, 0x10004)]
-STORED = [f"{word + step * register:08x}" for word, step in STORES for register in range(32)]
-ENDING = " ".join(["34150400", *STORED, "0000000d"])
+BREAK = "0000000d"
 DATA = bytes((i * 37 + 11) % 256 for i in range(4096))
 
+# How speed.c makes steps, and what a script has before its line `run`.
+CALLS = {
+    "`brsp_run`": "run",
+    "`brsp_run_until_move`": "until",
+    "`brsp_step`": "step",
+    "`brsp_trace` of 1,024 steps": "trace",
+    "`brsp_run` of one step": "run1",
+    "`brsp_step_changes`": "changes",
+}
+STOPS = {"`run`": "", "`run`, one breakpoint": "break 4092", "`run`, one watch": "watch 4000 4"}
 # Lines of a script. They are carried out while IMEM has a loop of two words, `j 0` and `nop`.
 COMMANDS = "step|run 1|pc 0|read 4|write 4 0|regs|vregs|acc|flags|sp|mem dmem 0 256|dis 0 64"
 LINES = {
@@ -68,8 +66,8 @@ LINES = {
     "no bytes": "",
     "`# a comment line`": "# a comment line",
 }
-# A command, and what it reads.
-Command = Tuple[Sequence[object], bytes]
+Command = Tuple[Sequence[object], bytes]  # a command, and its standard input
+CommandOf = Callable[[int], Command]  # the command for a number of steps, lines or calls
 
 
 def code(name: str, rounds: int = 0x7FFFFFFF, ending: str = "") -> bytes:
@@ -78,35 +76,23 @@ def code(name: str, rounds: int = 0x7FFFFFFF, ending: str = "") -> bytes:
     return bytes.fromhex(" ".join((counter, PROLOGUE, LOOPS[name], ending)))
 
 
-def host_instructions(command: Command, answer: bytes = b"", more: Sequence[str] = ()) -> int:
-    """How many host instructions a command executes. Where an answer is given, the command must write it.
-
-    Python's hashes are the same in each run, so that its start is too.
-    """
-    words = ["valgrind", "--tool=callgrind", "--callgrind-out-file=/dev/null", *more, *map(str, command[0])]
-    env = {**os.environ, "PYTHONHASHSEED": "0"}
-    ran = subprocess.run(words, input=command[1], capture_output=True, env=env)
-    told = ran.stderr.decode(errors="replace")
-    counted = re.search(r"Collected : (\d+)", told)
+def host_instructions(command: Command, options: Sequence[str] = ()) -> int:
+    """How many host instructions a command executes."""
+    valgrind = ["valgrind", "--tool=callgrind", "--callgrind-out-file=/dev/null", *options]
+    env = {**os.environ, "PYTHONHASHSEED": "0"}  # because Python's start is the same with the same hashes
+    words = [*valgrind, *map(str, command[0])]
+    messages = subprocess.run(words, input=command[1], capture_output=True, env=env).stderr.decode(
+        errors="replace"
+    )
+    counted = re.search(r"Collected : (\d+)", messages)
     if not counted:
-        sys.exit(f"valgrind counted nothing: {told[-600:]}")
-    if answer and answer != ran.stdout:
-        sys.exit(f"another answer: {told[:2000]}")
+        sys.exit(f"valgrind counted nothing: {messages[-600:]}")
     return int(counted[1])
 
 
-def figure(command_of: Callable[[int], Command], short: int = SHORT, long: int = LONG) -> float:
-    """Host instructions a step or a line; `command_of` gives the command for a number of them."""
+def figure(command_of: CommandOf, short: int = SHORT, long: int = LONG) -> float:
+    """Host instructions a step, a line or a call."""
     return (host_instructions(command_of(long)) - host_instructions(command_of(short))) / (long - short)
-
-
-def figure_of_line(program: Path, line: str) -> float:
-    """Host instructions a line, of a script that repeats it."""
-
-    def command_of(count: int) -> Command:
-        return [program, "run"], "\n".join(["load imem 0 08000000", *[line] * count, ""]).encode()
-
-    return figure(command_of, SHORT_SCRIPT, LONG_SCRIPT)
 
 
 def script(imem: bytes, *commands: str) -> bytes:
@@ -119,36 +105,26 @@ def script(imem: bytes, *commands: str) -> bytes:
     return "\n".join([*lines, *commands, ""]).encode()
 
 
-def on_z64(imem: bytes) -> Command:
-    return [sys.executable, z64.__file__], imem.ljust(4096, b"\0") + DATA
+def by_calls(caller: Path, how: str, name: str, depth: int = 0) -> CommandOf:
+    """The steps of a loop, made by calls of the library."""
+    text = "".join(f".word 0x{word}\n" for word in code(name).hex(" ", 4).split())
+    return lambda steps: ([caller, how, depth, steps, text], b"")
 
 
-def ended(program: Path, imem: bytes) -> Tuple[int, bytes]:
-    """How many steps PROGRAM makes until BREAK, and DMEM then."""
-    looks = (f"mem dmem {at} 256" for at in range(0, 4096, 256))
-    given = script(imem, "run 1000000", *looks)
-    replies = subprocess.run(
-        [program, "run"], input=given, stdout=subprocess.PIPE, check=True
-    ).stdout.decode()
-    steps = re.search(r"^stop Halted steps (\d+)", replies, re.M)
-    if not steps:
-        sys.exit("a loop doesn't come to its end")
-    return int(steps[1]), bytes.fromhex("".join(re.findall(r"^\w{6}: (\w+)$", replies, re.M)))
+def by_script(program: Path, name: str, before: str = "") -> CommandOf:
+    """The steps of a loop, made by `run`."""
+    return lambda steps: ([program, "run"], script(code(name), before, f"run {steps}"))
 
 
-def figure_of_z64(program: Path, name: str) -> float:
-    """Host instructions a step on z64, whose DMEM at the end must be PROGRAM's.
+def on_z64(name: str) -> CommandOf:
+    """The steps of a loop on z64, which ends after a number of rounds."""
+    length, words = len(LOOPS[name].split()), [sys.executable, z64.__file__]
+    return lambda steps: (words, code(name, steps // length, BREAK).ljust(4096, b"\0") + DATA)
 
-    The number of rounds shows in $3, which counts them up, and in $2, which is 0; in the vector loop, which
-    leaves $3, in $2 alone.
-    """
-    counts, steps = [], []
-    for rounds in ROUNDS:
-        imem = code(name, rounds, ENDING)
-        made, dmem = ended(program, imem)
-        counts.append(host_instructions(on_z64(imem), dmem))
-        steps.append(made)
-    return (counts[1] - counts[0]) / (steps[1] - steps[0])
+
+def compile_caller(folder: Path) -> Path:
+    """The program that makes steps by calls of the library."""
+    return compiled(folder / "speed", *STRICT, Path(__file__).with_suffix(".c"), LIBRARY)
 
 
 def seconds(command: Command) -> float:
@@ -158,121 +134,90 @@ def seconds(command: Command) -> float:
     return resource.getrusage(resource.RUSAGE_CHILDREN).ru_utime - before
 
 
-def nanoseconds(program: Path, name: str) -> Tuple[float, float]:
-    """Nanoseconds a step: ours in `run`, and z64's."""
-    length = len(LOOPS[name].split())
-    commands: Dict[str, Callable[[int], Command]] = {
-        "ours": lambda n: ([program, "run"], script(code(name), *[f"run {MOST_STEPS}"] * (n // MOST_STEPS))),
-        "z64": lambda n: on_z64(code(name, n // length, ENDING)),
-    }
-    least: Dict[Tuple[str, int], float] = {}
-    for _ in range(TURNS):
-        for it, command_of in commands.items():
-            for steps in (SHORT_TIME, LONG_TIME):
-                took = seconds(command_of(steps))
-                least[it, steps] = min(took, least.get((it, steps), took))
-    ours, others = ((least[it, LONG_TIME] - least[it, SHORT_TIME]) * 1e9 for it in commands)
-    return ours / (LONG_TIME - SHORT_TIME), others / (LONG_TIME - SHORT_TIME)
+def nanoseconds(*commands: CommandOf) -> Sequence[float]:
+    """Nanoseconds a step of commands that take turns."""
+    times = [
+        [seconds(command_of(steps)) for command_of in commands for steps in (SHORT_TIME, LONG_TIME)]
+        for _ in range(TURNS)
+    ]
+    least = [min(column) for column in zip(*times)]
+    return [1e9 * (long - short) / (LONG_TIME - SHORT_TIME) for short, long in zip(least[::2], least[1::2])]
 
 
-def driver(folder: Path) -> Path:
-    """Builds the driver over the proved libraries, and gives its path."""
-    left_out = shutil.ignore_patterns(".git", "rsp_main", "rsp_tests_machine")
-    shutil.copytree(TOP, folder, symlinks=True, ignore=left_out)
-    crate = folder / "crates/rsp_driver"
-    (crate / "src").mkdir(parents=True)
-    tables = "\n".join(
-        f"const {name.upper()}: [u8; {len(code(name))}] = [{', '.join(map(str, code(name)))}];"
-        for name in LOOPS
-    )
-    (crate / "src/main.rt").write_text(
-        Path(__file__).with_name("driver.rt.in").read_text().replace("@TABLES@", tables)
-    )
-    crates = re.sub(r"(?m)^rsp_(main|tests_machine)\b.*\n", "", (TOP / "crates.txt").read_text())
-    used = "rsp_driver: rsp_acc rsp_memory rsp_machine rsp_debug\n"
-    (folder / "crates.txt").write_text(crates.rstrip("\n") + "\n" + used)
-    run("git", "init", "-q", folder)
-    ran = run("rt", "run", cwd=crate, timeout=7200)
-    if not (crate / "out/rsp_driver").exists():
-        sys.exit(f"the driver isn't built: {ran.stdout[-2000:]}")
-    return crate / "out/rsp_driver"
-
-
-def row(title: str, figures: Iterable[float]) -> None:
+def print_row(title: str, figures: Iterable[float]) -> None:
     texts = (f"{it:,.1f}" if it < 1000 else f"{it:,.0f}" for it in figures)
     print(f"| {title} | {' | '.join(texts)} |", flush=True)
 
 
-def heading(what: str, names: Iterable[str] = LOOPS) -> None:
-    print(f"| {what} | {' | '.join(names)} |\n|---|{'---|' * len([*names])}", flush=True)
+def print_heading(title: str, names: Iterable[str] = LOOPS) -> None:
+    print(f"| {title} | {' | '.join(names)} |\n|---|{'---|' * len([*names])}", flush=True)
 
 
-def tell_times(program: Path) -> None:
-    heading("Nanoseconds a step")
-    ours, others = zip(*(nanoseconds(program, name) for name in LOOPS))
-    row("`run`", ours)
-    row("z64", others)
-    row("z64 / `run`", [b / a for a, b in zip(ours, others)])
-
-
-def tell_z64(program: Path) -> None:
-    heading("Host instructions a step")
-    row("z64", [figure_of_z64(program, name) for name in LOOPS])
-
-
-def tell_lines(program: Path) -> None:
-    print("| Host instructions a line | |\n|---|---|", flush=True)
-    for title, line in LINES.items():
-        print(f"| {title} | {figure_of_line(program, line):,.0f} |", flush=True)
-
-
-def tell_loops(program: Path) -> None:
-    heading("Host instructions a step")
-
-    def driven(built: Path, kind: str, name: str) -> Callable[[int], Command]:
-        return lambda n: ([built, kind, name, n], b"")
-
-    def stepped(before: List[str], name: str) -> Callable[[int], Command]:
-        return lambda n: ([program, "run"], script(code(name), *before, f"run {n}"))
-
+def print_steps(program: Path) -> None:
+    print_heading("Host instructions a step")
     with tempfile.TemporaryDirectory() as folder:
-        built = driver(Path(folder) / "repository")
-        for kind in ("steps", "step", "recorded"):
-            row(kind, [figure(driven(built, kind, name)) for name in LOOPS])
-    stops: Dict[str, List[str]] = {
-        "run": [],
-        "run, one breakpoint": ["break 4092"],
-        "run, one watch": ["watch 4000 4"],
-    }
-    for title, before in stops.items():
-        row(title, [figure(stepped(before, name)) for name in LOOPS])
+        caller = compile_caller(Path(folder))
+        for depth, more in ((0, ""), (100, ", a history of 100 states")):
+            for title, how in CALLS.items():
+                print_row(title + more, [figure(by_calls(caller, how, name, depth)) for name in LOOPS])
+    for title, before in STOPS.items():
+        print_row(title, [figure(by_script(program, name, before)) for name in LOOPS])
     print()
-    tell_lines(program)
+    print_lines(program)
 
 
-# The tables: what tells one, what it needs, and what --help says.
-KINDS = {
-    "--loops": (tell_loops, ("valgrind", "rt"), "the loops, and the script lines (unless another is named)"),
-    "--lines": (tell_lines, ("valgrind",), "the table of script lines alone, which needs no driver"),
-    "--z64": (tell_z64, ("valgrind", z64.PLUGIN), "the same loops on z64 alone"),
-    "--time": (tell_times, (z64.PLUGIN,), "the nanoseconds of a processor that a step takes, ours and z64's"),
+def print_lines(program: Path, lines: Dict[str, str] = LINES) -> None:
+    print_heading("Host instructions a line", [""])
+    for title, line in lines.items():
+
+        def repeated(count: int) -> Command:
+            return [program, "run"], "\n".join(["load imem 0 08000000", *[line] * count, ""]).encode()
+
+        print_row(title, [figure(repeated, SHORT_SCRIPT, LONG_SCRIPT)])
+
+
+def print_z64(program: Path) -> None:
+    print_heading("Host instructions a step")
+    print_row("z64", [figure(on_z64(name)) for name in LOOPS])
+
+
+def print_times(program: Path) -> None:
+    def runs(name: str) -> CommandOf:
+        lines = [f"run {MOST_STEPS}"]
+        return lambda steps: ([program, "run"], script(code(name), *lines * (steps // MOST_STEPS)))
+
+    print_heading("Nanoseconds a step")
+    ours, others = zip(*(nanoseconds(runs(name), on_z64(name)) for name in LOOPS))
+    print_row("`run`", ours)
+    print_row("z64", others)
+    print_row("z64 / `run`", [b / a for a, b in zip(ours, others)])
+
+
+# The tables: what prints one, what it needs, and what --help says.
+TABLES: Dict[str, Tuple[Callable[[Path], None], Sequence[str], str]] = {
+    "steps": (print_steps, ("cc", "valgrind"), "steps, and lines of scripts (unless another is named)"),
+    "lines": (print_lines, ("valgrind",), "lines of scripts alone"),
+    "z64": (print_z64, ("valgrind", z64.PLUGIN), "steps of the same loops on z64"),
+    "time": (print_times, (z64.PLUGIN,), "the nanoseconds of a processor that a step takes, ours and z64's"),
 }
 
 
 def main() -> None:
-    words = reader(__doc__)
-    add_program(words)
-    kinds = words.add_mutually_exclusive_group()
-    for name, (_tell, _needed, said) in KINDS.items():
-        kinds.add_argument(name, dest="kind", action="store_const", const=name, default="--loops", help=said)
-    kinds.add_argument("--line", metavar="LINE", help="the figure of this script line alone")
-    given = words.parse_args()
-    tell, needed, _said = KINDS["--lines" if given.line else given.kind]
+    parser = parser_of(__doc__)
+    add_program(parser)
+    group = parser.add_mutually_exclusive_group()
+    for name, (_, _, text) in TABLES.items():
+        group.add_argument(
+            f"--{name}", dest="table", action="store_const", const=name, default="steps", help=text
+        )
+    group.add_argument("--line", metavar="LINE", help="this line of a script alone")
+    arguments = parser.parse_args()
+    print_table, needed, _ = TABLES["lines" if arguments.line else arguments.table]
     need(*needed)
-    if given.line:
-        LINES.clear()
-        LINES[f"`{given.line}`"] = given.line
-    tell(given.program)
+    if arguments.line:
+        print_lines(arguments.program, {f"`{arguments.line}`": arguments.line})
+    else:
+        print_table(arguments.program)
 
 
 if __name__ == "__main__":

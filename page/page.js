@@ -1,4 +1,5 @@
-/** The page: joins the script, the image of RDRAM, the runs and their replies. */
+/** The page: joins the script, the image of RDRAM, the runs and their replies. It shows what `rsp run` prints, and has
+ * no commands of its own, which would be a second interface to learn. */
 import { Choosing } from "./script_source.js";
 import { Editor } from "./editor.js";
 import { grouped, the } from "./elements.js";

@@ -1,5 +1,6 @@
 /* Memories between the machine and the emulator. The machine has bytes in the console's order, the emulator words in the order of the host. DMEM and
- * IMEM are compared with the plugin's own copy of what the machine has, and only what differs is carried. Of RDRAM only the rows of a DMA are carried. */
+ * IMEM are compared with the plugin's own copy of what the machine has, and only what differs is carried. Of RDRAM only the rows of a DMA are carried.
+ * The machine makes every DMA itself, so that each follows the definition. */
 #include "plugin.h"
 #include <string.h>
 

@@ -16,7 +16,7 @@ pytest.register_assert_rewrite("lib")  # before its first import
 
 from lib import TOP, slow_marker  # noqa: E402
 from lib.packages import need  # noqa: E402
-from lib.program import Ran, ran  # noqa: E402
+from lib.program import Result, run_program  # noqa: E402
 from rsp_tools.build import Build  # noqa: E402
 
 LIBRARY = TOP / "library/c"
@@ -111,6 +111,6 @@ def folder() -> Iterator[Path]:
 
 
 @pytest.fixture
-def rsp(program: Path, folder: Path) -> Callable[..., Ran]:
+def rsp(program: Path, folder: Path) -> Callable[..., Result]:
     """Runs the program with some words in the test's folder."""
-    return lambda *words, script=b"", **how: ran(program, words, script, **{"cwd": folder, **how})
+    return lambda *words, script=b"", **how: run_program(program, words, script, **{"cwd": folder, **how})

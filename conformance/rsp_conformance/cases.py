@@ -6,7 +6,7 @@ The same row, seed and number give the same case, on every version of Python.
 from typing import Any, Callable, Dict, Iterator, List, Optional, Sequence, Tuple
 
 from rsp_conformance.wanted_lanes import TRIES, aim, near
-from rsp_conformance.random import LANES, Random
+from rsp_conformance.seeded_random import LANES, Random
 from rsp_conformance.outcomes import lanes_of, possible, result_of, selected, signed
 from rsp_conformance.states import Texts
 from rsp_conformance.table import FORMS, MPEG, SCALE, Row, destination, ignored_bits, reads_other_lanes
@@ -118,8 +118,8 @@ def element_of(row: Row, number: int) -> int:
 
 
 # Cases that are given and not drawn, by instruction and number: a and b of each lane, and the flags before.
-# Numbers are even, the first after the pairs: then each lane is taken for itself, and vs isn't vt. The odd
-# ones between them are drawn.
+# A new case's number is the number of lines of vectors/steps/NAME.jsonl, plus 1 if that is odd: in a case
+# with an even number each lane is taken for itself, and vs isn't vt. The odd ones between them are drawn.
 GIVEN = {
     ("vch", 48): (0x7FFF, 0x8000, {"vco": "ffff", "vcc": "ffff", "vce": "ff"}),
 }

@@ -30,8 +30,8 @@ from typing import Any, Dict, Iterator, List, NamedTuple
 from unittest.mock import patch
 
 from rsp_conformance import HERE, bench, coverage, full, generate, planted_faults, run_programs, steps
-from rsp_conformance.commands import PROGRAM, Complaints, counted, reader, unless
-from rsp_conformance.random import Random
+from rsp_conformance.command_line import PROGRAM, Complaints, counted, reader, unless
+from rsp_conformance.seeded_random import Random
 from rsp_conformance.programs import DIVIDING
 from rsp_conformance.corrupt import spoilt_entries
 from rsp_conformance.states import texts_of

@@ -2,7 +2,7 @@
 
 from typing import Iterator
 
-from rsp_conformance.random import Random
+from rsp_conformance.seeded_random import Random
 from rsp_conformance.steps import Entry
 
 

@@ -6,7 +6,7 @@ An outcome is decided from a case's word and its state before, by outcomes.py an
 from typing import Any, Dict, Iterator, List, Optional, Tuple
 
 from rsp_conformance import bench, outcomes, case_outcomes
-from rsp_conformance.commands import Complaints, unless
+from rsp_conformance.command_line import Complaints, unless
 from rsp_conformance.outcomes import Kind
 from rsp_conformance.steps import Entry
 from rsp_conformance.table import Row, fields_of

@@ -1,5 +1,5 @@
 """`full`: the cases of `steps` with whole states of numbers, a JSON array for each instruction, as the
-runners of other processors' tests read them.
+runners of other processors' tests read them. They aren't stored, because they are five times as long.
 """
 
 import json

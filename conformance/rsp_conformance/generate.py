@@ -25,8 +25,8 @@ from typing import Callable, Dict, Iterator, List, Optional, Sequence, Tuple
 
 from rsp_conformance import bench, flat, full, hexadecimal, run_programs, steps
 from rsp_conformance.cases import ENTRIES, small_count
-from rsp_conformance.commands import PROGRAM, printable, reader, say
-from rsp_conformance.files import FileFault, make_folder, write
+from rsp_conformance.command_line import PROGRAM, printable, reader, say
+from rsp_conformance.safe_files import FileFault, make_folder, write
 from rsp_conformance.table import ROWS, Row
 from rsp_conformance.vectors import VectorsFault, entries_in, names_in
 

@@ -3,7 +3,7 @@
 from pathlib import Path
 from typing import Iterator, List, Tuple
 
-from rsp_conformance.files import read, write
+from rsp_conformance.safe_files import read, write
 from rsp_conformance.flat import BANKS, FIELDS, STATE, states_of
 from rsp_conformance.steps import Entry
 

@@ -14,9 +14,9 @@ from typing import Any, Iterable, Iterator
 
 from rsp_conformance import bench, steps
 from rsp_conformance.bench import Looks, Observed
-from rsp_conformance.commands import Complaints, counted, printable, reader, unless
-from rsp_conformance.random import Random
-from rsp_conformance.files import FileFault
+from rsp_conformance.command_line import Complaints, counted, printable, reader, unless
+from rsp_conformance.seeded_random import Random
+from rsp_conformance.safe_files import FileFault
 from rsp_conformance.corrupt import spoilt_entries
 from rsp_conformance.states import numbers_of, texts_of
 from rsp_conformance.vectors import VECTORS, VectorsFault, entries_in, names_in

@@ -4,7 +4,7 @@ from pathlib import Path
 from typing import Any, Dict, Iterator, List, Optional, Tuple
 
 from rsp_conformance import bench, run_programs, steps
-from rsp_conformance.commands import Complaints, unless
+from rsp_conformance.command_line import Complaints, unless
 from rsp_conformance.coverage import NAMES, SHARED, Found
 from rsp_conformance.outcomes import FLAGS, Kind
 from rsp_conformance.steps import Entry

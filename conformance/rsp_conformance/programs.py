@@ -1,5 +1,6 @@
 """`programs`: whole programs for machines that can only run microcode. Each holds many cases of one
-instruction, and stores what they left.
+instruction, and stores what they left. Each case has its own copy of the code around it, which sets and
+saves the registers: with a loop or a call, the cases of every instruction would depend on branches.
 
 This file writes their text and their data; run_programs.py runs them.
 """
@@ -11,7 +12,7 @@ from rsp_conformance import bench
 from rsp_conformance.bench import ONES_DATA, accumulator_data, accumulator_program
 from rsp_conformance.cases import WINDOW_LENGTH, WRAPPING, Case, changing_numbers, make_case, paired_element
 from rsp_conformance.cases import reached_windows
-from rsp_conformance.random import Random
+from rsp_conformance.seeded_random import Random
 from rsp_conformance.table import Row, uses_memory, word_of
 
 Layout = List[Tuple[str, int, int]]  # the fields that a case stores: what, offset, length

@@ -14,8 +14,8 @@ from pathlib import Path
 from typing import Iterator
 
 from rsp_conformance import bench, run_programs, steps
-from rsp_conformance.commands import PROGRAM, Complaints, counted, printable, reader
-from rsp_conformance.files import FileFault
+from rsp_conformance.command_line import PROGRAM, Complaints, counted, printable, reader
+from rsp_conformance.safe_files import FileFault
 from rsp_conformance.vectors import VECTORS, VectorsFault, entries_in, manifest_in, names_in
 
 

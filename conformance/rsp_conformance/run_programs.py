@@ -6,7 +6,7 @@ from typing import Any, Dict, Iterable, Iterator, List, Optional
 
 from rsp_conformance import bench
 from rsp_conformance.bench import RspError, Script, joined, run_script
-from rsp_conformance.commands import brief
+from rsp_conformance.command_line import brief
 from rsp_conformance.programs import MEMORY, Program, programs_of
 from rsp_conformance.steps import FLAG_NAMES
 from rsp_conformance.table import Row

@@ -6,7 +6,7 @@ from typing import Any, Dict, Iterable, Iterator, List
 from rsp_conformance import bench
 from rsp_conformance.bench import Looks
 from rsp_conformance.cases import Case, make_case
-from rsp_conformance.commands import brief
+from rsp_conformance.command_line import brief
 from rsp_conformance.states import Texts
 from rsp_conformance.table import ROWS, Row
 

@@ -6,7 +6,7 @@ from pathlib import Path
 from typing import Any, Dict, List, Sequence, Set
 
 from rsp_conformance import HERE, bench
-from rsp_conformance.files import MOST_JSON, read
+from rsp_conformance.safe_files import MOST_JSON, read
 from rsp_conformance.steps import Entry
 from rsp_conformance.table import ROWS
 

@@ -3,7 +3,7 @@
 from typing import Any, Dict, List, Sequence
 
 from rsp_conformance.outcomes import FLAGS, LIMIT, Kind, Lane, lane_of, possible, wrapped
-from rsp_conformance.random import Random
+from rsp_conformance.seeded_random import Random
 
 TRIES = 400
 BORDERS = (0, 1 << 31, -1 << 31, LIMIT - 1, -LIMIT)  # where an accumulator is clamped, or wraps

@@ -9,8 +9,9 @@
  *     field. You may move a handle, that is, assign it to another one that holds nothing. Then use only the
  *     other one, until you have set the first to BRSP_NONE. What a handle points to belongs to the library:
  *     nobody else reads, writes or frees it.
- *   - Only one call at a time uses a handle. Between two calls you may hand it to another thread, by a mutex
- *     or a join as for any data, because nothing in a machine is bound to a thread.
+ *   - Only one call at a time uses a handle: no call takes a lock, which would cost time at each step.
+ *     Between two calls you may hand it to another thread, by a mutex or a join as for any data, because
+ *     nothing in a machine is bound to a thread.
  *   - No pointer is null, not even that of an empty buffer. A buffer has at least as many elements as its
  *     length says, and the alignment of its type.
  *   - No two pointers of one call overlap, and nobody writes a buffer while a call reads it.
@@ -36,6 +37,8 @@
 extern "C" {
 #endif
 
+/* The handle of a machine. A call fills the caller's handle, and a query takes no `const` one, because a
+ * function that Rattle exports can't return a pointer, and follows this one only if it may change it. */
 typedef struct brsp_machine {
     void *at;
 } brsp_machine;

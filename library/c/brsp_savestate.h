@@ -10,7 +10,7 @@
  *     ..
  *     brsp_load_state(&machine, bytes, length);
  *
- * Each call returns a status of brsp.h. */
+ * Each call returns a status of brsp.h, and is made of calls of brsp.h, which are proved. */
 #ifndef BRSP_SAVESTATE_H
 #define BRSP_SAVESTATE_H
 

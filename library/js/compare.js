@@ -1,7 +1,7 @@
 /** The first step after which an emulator differs from the machine. */
 
 import { Difference, Part, Status } from "./shapes.js";
-import { numbers, refusal } from "./words.js";
+import { numbers, refusal } from "./errors.js";
 
 const NAMES = ["DMEM", "IMEM", "RDRAM"], LENGTHS = 1 << 2 | 1 << 3, QUADWORD = 16;
 

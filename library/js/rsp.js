@@ -7,11 +7,11 @@ import { Accumulators, Bank, Changes, Divider, FIELDS, Flags, Reason, Scalars, S
   read } from "./shapes.js";
 import { parts_of, saved } from "./savestate.js";
 import { joined, strict_replies } from "./strict.js";
-import { AssemblyError, RspError, allowed, bytes_of, numbers, refusal, state_refusal, words_of } from "./words.js";
+import { AssemblyError, RspError, allowed, bytes_of, numbers, refusal, state_refusal, words_of } from "./errors.js";
 
 export { Accumulators, Bank, Changes, Difference, Divider, FAULTS, Fault, Flags, Part, Reason, Scalars, SpWords, State,
   Status, Traced } from "./shapes.js";
-export { AssemblyError, RspError, ScriptError } from "./words.js";
+export { AssemblyError, RspError, ScriptError } from "./errors.js";
 export { first_difference } from "./compare.js";
 
 export const { DMEM, IMEM, RDRAM } = Bank;
@@ -23,6 +23,7 @@ const CALLS = `version new copy free get set state_fault image_length load load_
   step step_changes run run_until_move event trace back history pass_move pass_dma add_break drop_break
   add_watch drop_watch reg regs vreg acc flags divider read peek write sp set_sp assemble labels text listing
   explain session_new session_take session_end session_memory session_free`.split(/\s+/);
+// Awaited while this module is imported, so that no call returns a promise.
 const wasm = await instantiated(new URL("./rsp.wasm", import.meta.url));
 if ((wasm.brsp_version?.() ?? VERSION) !== VERSION) {
   throw new Error(`rsp.wasm has version ${wasm.brsp_version()} of the interface, and this module is for ${VERSION}`);

@@ -1,7 +1,7 @@
 /** The structs of brsp.h over copies of their bytes, and the numbers that have names. */
 
 import { acc_parts, changed, changed_parts, divider_parts, flag_parts, hex, line, regs, scalar_parts, sp_parts,
-  state_parts, traced, traced_parts, vregs } from "./shown.js";
+  state_parts, traced, traced_parts, vregs } from "./formatting.js";
 
 /** An object with the number of each name, and the name of each number. */
 function numbered(first, ...names) {

@@ -1,6 +1,6 @@
 /** The replies to a script, of which none may be a fault. */
 
-import { ScriptError } from "./words.js";
+import { ScriptError } from "./errors.js";
 
 const LATIN = new TextDecoder("latin1");
 

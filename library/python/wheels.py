@@ -75,7 +75,10 @@ def with_library(library: Path, name: str) -> Dict[str, bytes]:
 
 
 def with_command(name: str, program: bytes) -> Dict[str, bytes]:
-    """The file by which an install has a program as a command."""
+    """The file by which an install has a program as a command.
+
+    Only the wheels of a release have one, because the program that a clone builds needs a newer glibc.
+    """
     return {f"{COMMANDS}{name}": program}
 
 

@@ -10,11 +10,11 @@ import pytest
 from lib import TOP
 from lib.campaigns import SOURCES, agreed, counts_of, faulty, said_of
 from lib.packages import is_here, need
-from lib.processes import bytes_of, compiled, run, succeeds
+from lib.processes import compiled, run, run_bytes, succeeds
 
 if is_here("python:numpy"):
     from rsp_conformance.campaign.generator import MEMORIES
-    from rsp_conformance.campaign.programs import program_of
+    from rsp_conformance.campaign.random_programs import program_of
     from rsp_conformance.campaign.compare import Sides
 
 pytestmark = [pytest.mark.needs("cc"), pytest.mark.usefixtures("library")]
@@ -71,7 +71,7 @@ def test_first_difference(fault: int, every: int, limit: int, folder: Path) -> N
         program = program_of(["vadd", "vxor", "lqv", "ctc2", "vlt", "mtc0", "sqv"], "1", number)
         given = b"".join(it.to_bytes(4, "little") for it in (every, limit)) + bytes(program.raw)
         wanted = first_in_words(sides.first_difference(program, limit, every))
-        told = bytes_of(compare, [], given).stdout.decode().splitlines()
+        told = run_bytes(compare, [], given).stdout.decode().splitlines()
         told[1:] = [re.sub(r" 0*(?=[0-9a-f]+ )", " ", line) for line in told[1:]]
         assert told == wanted, number
         differ += bool(wanted)

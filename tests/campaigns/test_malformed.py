@@ -14,11 +14,11 @@ import pytest
 
 from rsp_conformance import bench, generate, steps
 from rsp_conformance.campaign import CampaignFault
-from rsp_conformance.campaign.folder import Folder, given_in
+from rsp_conformance.campaign.output_folder import Folder, given_in
 from rsp_conformance.campaign.report import html_table, results_in, text_table
 from rsp_conformance.campaign.supervise import nothing
-from rsp_conformance.commands import counted
-from rsp_conformance.files import FileFault, write
+from rsp_conformance.command_line import counted
+from rsp_conformance.safe_files import FileFault, write
 from rsp_conformance.vectors import VECTORS, VectorsFault, entries_in, manifest_in, memory_in
 
 HASHES = {"emulator": "a", "library": "b"}

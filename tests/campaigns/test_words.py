@@ -11,7 +11,7 @@ from lib import TOP
 from lib.campaigns import SOURCES, campaign
 from lib.packages import is_here
 from lib.processes import run
-from rsp_conformance.campaign.folder import GIVEN
+from rsp_conformance.campaign.output_folder import GIVEN
 
 ADD = '{"name":"ADD-0","word":"00000020","text":"","before":{},"after":{}}\n'
 TEXTS = {"emulator": "", "seed": "1", "instructions": ["add"]}

@@ -14,7 +14,7 @@ import pytest
 
 from lib import TOP
 from lib.pages import page
-from lib.program import ran
+from lib.program import run_program
 
 
 @pytest.fixture(params=["program", "./rsp"])
@@ -26,12 +26,12 @@ def started(request: pytest.FixtureRequest, program: Path) -> Path:
 @pytest.mark.parametrize("name", ["rsp", "run", "asm", "dis"])
 def test_help(name: str, started: Path) -> None:
     words = [name] * (name != "rsp")
-    assert ran(started, [*words, "--help"]) == (2, b"", page(f"docs/help/{name}.txt").encode())
+    assert run_program(started, [*words, "--help"]) == (2, b"", page(f"docs/help/{name}.txt").encode())
 
 
 def test_version(started: Path) -> None:
     """`rsp VERSION` or `rsp VERSION, commit ..`, the version being the newest of CHANGELOG.md."""
-    status, output, _ = ran(started, ["--version"])
+    status, output, _ = run_program(started, ["--version"])
     newest = re.findall(r"(?m)^## (.*)$", page("CHANGELOG.md"))[0]
     assert status == 0 and output.decode().partition("\n")[0].partition(", commit ")[0] == f"rsp {newest}"
 
@@ -49,11 +49,11 @@ def commands() -> List[List[str]]:
 @pytest.mark.parametrize("words", commands(), ids=" ".join)
 def test_command(words: List[str]) -> None:
     """It answers --help with its usage, and does nothing else."""
-    ended = ran(TOP / words[0], [*words[1:], "--help"], cwd=TOP, stdin=subprocess.DEVNULL)
+    ended = run_program(TOP / words[0], [*words[1:], "--help"], cwd=TOP, stdin=subprocess.DEVNULL)
     assert ended.status == 0 and not ended.errors and " ".join(words) in ended.output.decode()
 
 
 def test_all() -> None:
     """`tests/all --help` is pytest's, with the tests' own option."""
-    ended = ran(TOP / "tests/all", ["--help"], cwd=TOP, stdin=subprocess.DEVNULL)
+    ended = run_program(TOP / "tests/all", ["--help"], cwd=TOP, stdin=subprocess.DEVNULL)
     assert ended.status == 0 and b"--program" in ended.output

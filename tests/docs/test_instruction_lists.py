@@ -10,7 +10,7 @@ from typing import Dict, Iterator
 
 import pytest
 
-from lib.lists import assert_same_items
+from lib.same_items import assert_same_items
 from lib.pages import data, names_of, page, tables
 from rsp_conformance import table
 

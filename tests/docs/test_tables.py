@@ -1,7 +1,7 @@
 """The tables of docs/data against the program, and what pages have of them.
 
 It fails if the program does something else than a line of a table says, or if a page isn't what
-`tools/python rsp_tools.page_tables` makes of the tables, of crates.txt and of the test vectors.
+`tools/python rsp_tools.page_tables` makes of the tables, of crates.txt, of the vectors and of the systems.
 
   docs/data/instructions.tsv   each instruction's word, and its worked case, stepped once
   docs/data/commands.tsv       each command's sample, and how many lines it is answered with
@@ -19,7 +19,7 @@ from typing import Any, Dict, Iterable, Iterator, List, Set, Tuple
 import pytest
 
 from lib import worked_cases
-from lib.lists import assert_same_items
+from lib.same_items import assert_same_items
 from lib.pages import cells_of, data, page, replies, tables, words_of
 from lib.processes import run
 from rsp_conformance import bench, flat, programs
@@ -43,9 +43,7 @@ def test_cells(name: str) -> None:
     assert lines and {len(cells) for cells in lines} == {len(head)}
 
 
-@pytest.mark.parametrize(
-    "name", [*page_tables.TABLES.values(), page_tables.ADVICE, page_tables.LAYERS, OF_VECTORS]
-)
+@pytest.mark.parametrize("name", page_tables.made())
 def test_made_pages(name: str) -> None:
     """Each page that is made is the one that is made again."""
     texts = (page(name).splitlines(), page_tables.made()[name].splitlines())

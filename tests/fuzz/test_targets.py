@@ -1,75 +1,183 @@
-"""The fuzz targets with their fuzzer, a minute each: no part of the gate.
+"""The fuzz targets: without a fuzzer in the gate, and with it for a minute each outside the gate.
 
-It fails if fuzz/build doesn't make them, if one finds an input for which something doesn't hold, or if one
-doesn't find a planted fault: three of each, in the calls of the library (faults.c) or in the sources in C.
+Without a fuzzer each target takes its seeds, and inputs that once crashed it (fuzz/crashes): it fails if what
+must hold of such an input doesn't, if the sanitizers of gcc find something, or if no target makes a call that
+brsp.h has. With the fuzzer it fails if fuzz/build doesn't make the targets, if one finds an input for which
+something doesn't hold, or if one doesn't find a planted fault: three of each, in the calls of the library
+(faults.c) or in the sources in C. `-m "not outside"` leaves the fuzzer out.
 """
 
 import re
+import shutil
 from pathlib import Path
-from typing import Iterator, List, Tuple
+from typing import Dict, List, NamedTuple
 
 import pytest
 
-from lib import TOP
-from lib.fuzz import EDITS, edited, planted
+from lib import TESTS, TOP
 from lib.processes import Ended, run, succeeds
-from lib.sanitizers import WITHOUT_LEAKS
-from rsp_tools.fuzz.__main__ import compiler
-from rsp_tools.fuzz.targets import TARGETS, link
+from lib.sanitizers import WITHOUT_LEAKS, sanitizers
+from rsp_tools.fuzz.seeds import SEEDS, dictionary
+from rsp_tools.fuzz.targets import TARGETS, compiler, link
 
+FUZZ, FAULTS = TOP / "fuzz", TESTS / "fuzz/faults.c"
 RUNTIME = "/usr/lib/llvm-*/lib/clang/*/lib/linux/libclang_rt.fuzzer-x86_64.a"
-pytestmark = [
-    pytest.mark.outside("the fuzzer takes a minute for each target and planted fault"),
-    pytest.mark.needs("clang", "rt", RUNTIME),
-    pytest.mark.xdist_group("fuzz"),
-    pytest.mark.timeout(1200),
-]
 SECONDS = 60
-IN_LIBRARY = ("calls", "scripts", "texts")
+pytestmark = pytest.mark.needs("cc")
+
+
+class Edit(NamedTuple):
+    """A text that is in a source once, and the text in its place."""
+
+    source: str
+    old: str
+    new: str
+
+
+MEMORIES, RUNNER, PROGRAM = "plugin/memories.c", "conformance/runner.c", "library/c/program"
+# The faults of each target: numbers of faults.c, or edits of the sources in C.
+FAULTS_OF: Dict[str, List[int]] = {"calls": [1, 2, 3], "scripts": [4, 5, 6], "texts": [7, 8, 9]}
+EDITS_OF: Dict[str, List[Edit]] = {
+    "plugin": [
+        Edit(MEMORIES, "address + len > size ? size - address : len;", "len;"),
+        Edit(MEMORIES, "count * len <= 4 * MEMORY_WORDS", "count * len <= 8 * MEMORY_WORDS"),
+        Edit(MEMORIES, "return (span){ first, end - first };", "return (span){ first, end - first - 1 };"),
+    ],
+    "runner": [
+        Edit(RUNNER, "p.bank > 3 || ", ""),
+        Edit(RUNNER, " || p.length > length_of(p.bank) - p.address", ""),
+        Edit(RUNNER, " || h.size > (size_t)(file->end - file->at)", ""),
+    ],
+    "program": [
+        Edit(f"{PROGRAM}/run.c", "(session, script.at + from,", "(session, script.at,"),
+        Edit(f"{PROGRAM}/disassemble.c", "if (len > 4096 - origin || len % 4)", "if (len > 4096 - origin)"),
+        Edit(f"{PROGRAM}/arguments.c", "char missing[64]", "char missing[16]"),
+    ],
+}
+
+
+def options_of(fault: int) -> List[str]:
+    """The options that link a fault of the library into a target."""
+    wrapped = dict.fromkeys(re.findall(r"__real_(brsp_\w+)", FAULTS.read_text()))
+    return [f"-DFAULT={fault}", str(FAULTS), *(f"-Wl,--wrap={call}" for call in wrapped)]
+
+
+def copy_edited(edit: Edit, top: Path) -> None:
+    """Copies the sources of the targets to a folder, and edits one of them."""
+    for name in ("fuzz", "plugin", "library/c"):
+        shutil.copytree(TOP / name, top / name)
+    (top / RUNNER).parent.mkdir()
+    shutil.copyfile(TOP / RUNNER, top / RUNNER)
+    text = (top / edit.source).read_text()
+    assert text.count(edit.old) == 1, edit
+    (top / edit.source).write_text(text.replace(edit.old, edit.new))
+
+
+def files_of(name: str, folder: Path) -> List[Path]:
+    """The seeds of a target as files, and what once crashed it."""
+    seeds = folder / "seeds"
+    seeds.mkdir()
+    for number, seed in enumerate(SEEDS[name]()):
+        (seeds / f"{number:03}").write_bytes(seed)
+    return [*sorted((FUZZ / "crashes" / name).glob("*")), *sorted(seeds.iterdir())]
+
+
+def replay(name: str, library: Path, folder: Path, files: List[Path], *more: str) -> "Ended[str]":
+    """Runs a target on files, without a fuzzer."""
+    parts = (FUZZ / "replay.c", f"-I{library}", library / "libbrsp.a")
+    link(name, folder / name, ["cc", "-O1", *sanitizers()], *more, *parts)
+    return run(folder / name, *files, env=WITHOUT_LEAKS)
+
+
+@pytest.mark.parametrize("name", TARGETS)
+def test_seeds_and_crashes(name: str, library: Path, folder: Path) -> None:
+    files = files_of(name, folder)
+    ended = replay(name, library, folder, files)
+    assert ended.returncode == 0, ended.stdout[-3000:]
+    assert ended.stdout == "".join(f"{path}\n" for path in files) and len(files) > 5
+
+
+def test_replay_of_fault(library: Path, folder: Path) -> None:
+    """What doesn't hold ends a target: here an operand that isn't explained."""
+    ended = replay("texts", library, folder, files_of("texts", folder), *options_of(8))
+    assert ended.returncode and "this doesn't hold" in ended.stdout
+
+
+@pytest.mark.parametrize("arguments, status", [("--help", 0), ("--what", 2), ("a b", 2)])
+def test_arguments(arguments: str, status: int, folder: Path) -> None:
+    ended = run(FUZZ / "build", *arguments.split(), cwd=folder)
+    assert ended.returncode == status and ended.stdout.startswith(
+        "usage: fuzz/build [-h] [OUT]"
+    ), ended.stdout
+
+
+def test_each_call_is_made() -> None:
+    header = (TOP / "library/c/brsp.h").read_text()
+    made = "".join((FUZZ / f"{name}.c").read_text() for name in ("calls", "scripts", "texts"))
+    macros = {f"brsp_{name}" for name in re.findall(r"^(?:LOOK|LOOK_AT|CHANGE)\((\w+)", made, re.M)}
+    named = {*re.findall(r"\bbrsp_\w+", made + (FUZZ / "fuzz.h").read_text()), *macros}
+    assert {*re.findall(r"^(?:uint32_t|void) (brsp_\w+)\(", header, re.M)} - named == set()
+
+
+@pytest.mark.parametrize("name", EDITS_OF)
+def test_edits(name: str) -> None:
+    """The text of each planted fault is in its source once."""
+    assert [(TOP / edit.source).read_text().count(edit.old) for edit in EDITS_OF[name]] == [1, 1, 1]
+
+
+def test_dictionary() -> None:
+    """Each line is a word that libFuzzer reads."""
+    lines = dictionary().splitlines()
+    assert [line for line in lines if not re.fullmatch(r'"(?:[^"\\]|\\x[0-9a-f]{2})+"', line)] == []
+    assert len({*lines}) == len(lines) > 120 and {'"vmadh"', '"unwatch"', '"--explain"'} <= {*lines}
 
 
 @pytest.fixture(scope="module")
 def targets(library: Path, tmp_path_factory: pytest.TempPathFactory) -> Path:
     """The targets as fuzz/build makes them."""
     out = tmp_path_factory.mktemp("fuzz")
-    succeeds(TOP / "fuzz/build", out, timeout=900)
+    succeeds(FUZZ / "build", out, timeout=900)
     return out
 
 
-def fuzzed(targets: Path, name: str, program: Path, folder: Path) -> "Ended[str]":
-    """A target that has run for a minute at most, or until it found something."""
+def fuzz(targets: Path, name: str, program: Path, folder: Path) -> "Ended[str]":
+    """Runs a target for a minute at most, or until it finds something."""
     found, words = folder / "corpus", targets / f"{name}.dict"
     found.mkdir()
-    limits = ("-timeout=30", f"-max_total_time={SECONDS}", "-print_final_stats=1", "-rss_limit_mb=4096")
-    dictionary = [f"-dict={words}"] if words.exists() else []
+    options = ["-timeout=30", f"-max_total_time={SECONDS}", "-print_final_stats=1", "-rss_limit_mb=4096"]
+    options += [f"-dict={words}"] if words.exists() else []
     corpora = (found, targets / f"{name}_seed_corpus")
-    return run(program, *limits, *dictionary, *corpora, cwd=folder, env=WITHOUT_LEAKS, timeout=SECONDS + 240)
+    return run(program, *options, *corpora, cwd=folder, env=WITHOUT_LEAKS, timeout=SECONDS + 240)
 
 
-@pytest.mark.parametrize("name", TARGETS)
-def test_nothing_is_found(name: str, targets: Path, folder: Path) -> None:
-    ran = fuzzed(targets, name, targets / name, folder)
-    runs = re.search(r"stat::number_of_executed_units: *(\d+)", ran.stdout)
-    covered = re.findall(r"cov: (\d+) ft: (\d+) corp: (\d+)", ran.stdout)
-    assert ran.returncode == 0 and runs and covered, ran.stdout[-4000:]
-    edges, features, inputs = covered[-1]
-    print(f"{name}: {runs[1]} runs, {edges} edges, {features} features, a corpus of {inputs} inputs")
+class TestWithFuzzer:
+    pytestmark = [
+        pytest.mark.outside("the fuzzer takes a minute for each target and planted fault"),
+        pytest.mark.needs("clang", "rt", RUNTIME),
+        pytest.mark.xdist_group("fuzz"),
+        pytest.mark.timeout(1200),
+    ]
 
+    @pytest.mark.parametrize("name", TARGETS)
+    def test_nothing_is_found(self, name: str, targets: Path, folder: Path) -> None:
+        ended = fuzz(targets, name, targets / name, folder)
+        runs = re.search(r"stat::number_of_executed_units: *(\d+)", ended.stdout)
+        covered = re.findall(r"cov: (\d+) ft: (\d+) corp: (\d+)", ended.stdout)
+        assert ended.returncode == 0 and runs and covered, ended.stdout[-4000:]
+        edges, features, inputs = covered[-1]
+        print(f"{name}: {runs[1]} runs, {edges} edges, {features} features, a corpus of {inputs} inputs")
 
-def faults() -> Iterator[Tuple[str, int]]:
-    """Each target with the numbers of its faults: in faults.c they count on from target to target."""
-    for name in TARGETS:
-        first = 1 + 3 * IN_LIBRARY.index(name) if name in IN_LIBRARY else 0
-        yield from ((name, number) for number in range(first, first + 3))
-
-
-@pytest.mark.parametrize("name, number", faults())
-def test_planted_fault(name: str, number: int, targets: Path, folder: Path) -> None:
-    parts: List[str] = [*map(str, targets.glob("*.o")), "-fsanitize=fuzzer"]
-    top = TOP if name in IN_LIBRARY else edited(EDITS[name][number], folder / "top")
-    more = planted(number) if name in IN_LIBRARY else []
-    link(name, folder / name, compiler(), f"-I{TOP}/library/c", *more, *parts, top=top)
-    ran = fuzzed(targets, name, folder / name, folder)
-    assert ran.returncode and re.search(
-        "this doesn't hold|ERROR: AddressSanitizer|runtime error", ran.stdout
-    ), ran.stdout[-4000:]
+    @pytest.mark.parametrize("number", range(3))
+    @pytest.mark.parametrize("name", TARGETS)
+    def test_planted_fault(self, name: str, number: int, targets: Path, folder: Path) -> None:
+        more: List[str] = [*map(str, targets.glob("*.o")), "-fsanitize=fuzzer"]
+        top = TOP
+        if name in EDITS_OF:
+            top = folder / "top"
+            copy_edited(EDITS_OF[name][number], top)
+        else:
+            more = [*options_of(FAULTS_OF[name][number]), *more]
+        link(name, folder / name, compiler(), f"-I{TOP}/library/c", *more, top=top)
+        ended = fuzz(targets, name, folder / name, folder)
+        signs = "this doesn't hold|ERROR: AddressSanitizer|runtime error"
+        assert ended.returncode and re.search(signs, ended.stdout), ended.stdout[-4000:]

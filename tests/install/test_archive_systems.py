@@ -11,7 +11,7 @@ import re
 import shutil
 import sys
 from pathlib import Path
-from typing import Iterator
+from typing import Iterator, List
 
 import pytest
 
@@ -32,21 +32,20 @@ from lib.library.typescript import OPTIONS, USE
 from lib.links import broken_everywhere, elsewhere
 from lib.packages import need
 from lib.pages import page
-from lib.processes import Ended, bytes_of, run, succeeds
-from lib.systems import browser, files, macos, node, rust
-from lib.systems.kinds import KINDS
+from lib.processes import Ended, run, run_bytes, succeeds
+from lib.systems import browser, built_files, macos, node, rust
+from lib.systems.target_params import COMPILED, LINUX, RUNNERS
 from lib.systems.runners import Runner
-from rsp_tools.packaging import archives, install_tree, repository, systems
+from rsp_tools.packaging import archives, install_tree, repository
 from rsp_tools.packaging.release_info import About
 from rsp_tools.systems import packages
 from rsp_tools.systems.toolchain import llvm
-from rsp_tools.targets import TARGETS
+from rsp_tools.targets import CROSS, PAGE, PROCESSORS, TARGETS
 
 # What an archive for C, Python and Rust has on each system.
 COMMON = """
-README.md CHANGELOG.md SHA256SUMS include/brsp.h include/brsp.hpp include/brsp_compare.h
-include/brsp_savestate.h lib/cmake/brsp/brspConfig.cmake
-lib/cmake/brsp/brspConfigVersion.cmake library/python/rsp/__init__.py
+include/brsp.h include/brsp.hpp include/brsp_compare.h include/brsp_savestate.h
+lib/cmake/brsp/brspConfig.cmake lib/cmake/brsp/brspConfigVersion.cmake library/python/rsp/__init__.py
 library/rust/Cargo.toml library/rust/build.rs library/rust/src/lib.rs library/c/brsp.h docs/README.md
 docs/SYSTEMS.md examples/first.rsp examples/c/lockstep.c microcode/README.md microcode/copy.s
 """
@@ -55,12 +54,9 @@ SHELLS = """
 share/man/man1/rsp.1 share/bash-completion/completions/rsp share/zsh/site-functions/_rsp
 share/fish/vendor_completions.d/rsp.fish
 """
-# What more each archive has. The first are those that tools/systems makes.
+# What tools/systems makes for an archive that isn't in the record of its system, and what more an archive has.
 MADE = {
-    "linux-aarch64": "lib/libbrsp.a lib/libbrsp.so lib/libbrsp.so.1 lib/pkgconfig/brsp.pc bin/rsp",
-    "macos": "lib/libbrsp.a lib/libbrsp.dylib lib/pkgconfig/brsp.pc",
-    "windows-x86_64": "lib/libbrsp.a lib/libbrsp.dll.a lib/brsp.lib lib/brsp_static.lib "
-    "bin/brsp.dll bin/rsp.exe lib/pkgconfig/brsp.pc",
+    "windows-x86_64": "lib/libbrsp.dll.a lib/brsp.lib",
     "vendor": "CMakeLists.txt include/brsp.h include/brsp.hpp include/brsp_compare.h program/main.c "
     "program/texts.h src/Linux-x86_64.s src/Linux-aarch64.s src/Windows-x86_64.s src/Darwin-x86_64.s "
     "src/Darwin-arm64.s",
@@ -68,26 +64,38 @@ MADE = {
     "page": "index.html",
 }
 MORE = {
-    "linux-aarch64": f"{COMMON} {SHELLS} rsp library/rust/lib/aarch64-unknown-linux-gnu/libbrsp.a",
-    "macos": f"{COMMON} library/rust/lib/aarch64-apple-darwin/libbrsp.a "
-    "library/rust/lib/x86_64-apple-darwin/libbrsp.a",
-    "windows-x86_64": f"{COMMON} {SHELLS} library/rust/lib/x86_64-pc-windows-gnu/libbrsp.a "
-    "library/rust/lib/x86_64-pc-windows-msvc/brsp_static.lib",
-    "vendor": "README.md CHANGELOG.md SHA256SUMS docs/EMBEDDING.md examples/c/console.hpp examples/first.rsp",
-    "wasm64": "README.md CHANGELOG.md SHA256SUMS docs/EMBEDDING.md examples/js/lockstep.js microcode/copy.s",
-    "page": "README.md CHANGELOG.md SHA256SUMS",
+    "vendor": "docs/EMBEDDING.md examples/c/console.hpp examples/first.rsp",
+    "wasm64": "docs/EMBEDDING.md examples/js/lockstep.js microcode/copy.s",
 }
+SYSTEMS = [it.name for it in (*CROSS, PAGE)]
 # What none of them has, since it was never run there, or is in an archive of its own.
 ABSENT = "plugin docs/PLUGIN.md docs/CAMPAIGN.md conformance".split()
 ABOUT = About(install_tree.version()[0], "2000-01-01", "0123", 946684800, "no logic")
 outside = pytest.mark.outside("it tests archives of other systems: `--archive dist`")
 
 
+def made_files(system: str) -> List[str]:
+    """What tools/systems makes for an archive; the first is the library."""
+    target = TARGETS[system]
+    names = [target.shared, target.program, *(f"lib/{it}" for it in target.rust.values())]
+    names += ["lib/libbrsp.so.1"] * target.is_linux + ["lib/pkgconfig/brsp.pc"] * bool(target.wheel)
+    return [it for it in (*names, *MADE.get(system, "").split()) if it]
+
+
+def more_files(system: str) -> List[str]:
+    """What an archive has beside these."""
+    target = TARGETS[system]
+    names = "README.md CHANGELOG.md SHA256SUMS".split() + MORE.get(system, "").split()
+    names += COMMON.split() * bool(target.wheel) + SHELLS.split() * bool(target.program)
+    names += ["rsp"] * target.is_linux
+    return [*names, *(f"library/rust/lib/{triple}/{name}" for triple, name in target.rust.items())]
+
+
 def check_files(top: Path, system: str) -> None:
     """The files that it has and hasn't, those that its README names, and the links of its pages."""
     check_common(top)
     assert broken_everywhere(top, 0 if system == "page" else 21) == []
-    assert [it for it in f"{MADE[system]} {MORE[system]}".split() if not (top / it).exists()] == []
+    assert [it for it in made_files(system) + more_files(system) if not (top / it).exists()] == []
     assert [it for it in ABSENT if (top / it).exists()] == []
     text = (top / "README.md").read_text()
     assert text.startswith(f"# rsp {install_tree.version()[0]} for ")
@@ -99,17 +107,17 @@ def check_files(top: Path, system: str) -> None:
 
 def stand_in(system: str, folder: Path) -> None:
     """A folder as tools/systems makes it: each file has its name in it."""
-    for name in MADE[system].split():
+    for name in made_files(system):
         path = folder / name
         path.parent.mkdir(parents=True, exist_ok=True)
         path.write_text(name)
     if system in rust.TARGETS:
         packages.header(folder)
         packages.cmake(folder, TARGETS[system], LIBRARY="", SONAME="")
-        packages.wheel(folder, folder / MADE[system].split()[0], "library", TARGETS[system].wheel)
+        packages.wheel(folder, folder / made_files(system)[0], "library", TARGETS[system].wheel)
 
 
-@pytest.mark.parametrize("system", MADE)
+@pytest.mark.parametrize("system", SYSTEMS)
 def test_stand_in(folder: Path, library: Path, system: str) -> None:
     """Its files, links and sums, the time of the commit, and that two archives are alike."""
     stand_in(system, folder / "made")
@@ -158,7 +166,7 @@ def of(*names: str) -> pytest.MarkDecorator:
     return pytest.mark.parametrize("system", [pytest.param(it, marks=outside) for it in names])
 
 
-@of(*MADE)
+@of(*SYSTEMS)
 def test_files(packed_for: Path, top: Path, system: str) -> None:
     # npm wants another name.
     assert top.name == "package" if system == "wasm64" else top.name.endswith(f"-{system}")
@@ -168,7 +176,7 @@ def test_files(packed_for: Path, top: Path, system: str) -> None:
 
 @of(*rust.TARGETS)
 def test_wheel(packed_for: Path, top: Path, system: str) -> None:
-    files.check_wheel(system, top)
+    built_files.check_wheel(system, top)
     check_date_of_wheel(packed_for, top)
 
 
@@ -187,22 +195,19 @@ def test_crate(top: Path, folder: Path, system: str) -> None:
         assert f"lib/{target}/{name}" in listed.splitlines()
 
 
-# Programs are compiled by Debian's cross compilers, and run under qemu and wine.
-CROSS = ("linux-aarch64", "windows-x86_64")
+# Programs are compiled by Debian's compilers, and run under qemu and wine.
 EXAMPLE = "examples/c/lockstep.c"
 FIRST = page("examples/first.rsp").encode()
 
 
 @pytest.fixture
 def runner(top: Path, folder: Path, system: str) -> Iterator[Runner]:
-    kind = KINDS[system]
-    need(*kind.programs)
-    made = kind(top, folder)
-    yield made
-    made.stop()
+    runner = RUNNERS[system](system, top, folder)
+    yield runner
+    runner.stop()
 
 
-@of(*CROSS)
+@of(*COMPILED)
 def test_c(top: Path, runner: Runner, system: str) -> None:
     """The example by the files, static and shared."""
     for how, library in runner.libraries().items():
@@ -211,7 +216,7 @@ def test_c(top: Path, runner: Runner, system: str) -> None:
 
 
 @pytest.mark.needs("python:pip")
-@of(*CROSS)
+@of(*COMPILED)
 def test_wheel_installed(top: Path, runner: Runner, system: str) -> None:
     """By this machine's pip, for the other system, whose Python isn't here. Its command is run."""
     to, tag = runner.at / "installed", TARGETS[system].wheel[0]
@@ -220,12 +225,12 @@ def test_wheel_installed(top: Path, runner: Runner, system: str) -> None:
     succeeds(sys.executable, "-m", "pip", "install", "-q", *words, "--target", to, wheel)
     assert (to / "rsp/__init__.py").is_file()
     command = [*runner.start, to / TARGETS[system].program, "run"]
-    ended = bytes_of(command[0], command[1:], FIRST, env=runner.env)
+    ended = run_bytes(command[0], command[1:], FIRST, env=runner.env)
     assert ended.stdout == page("examples/first.out").encode()
 
 
 @pytest.mark.needs("pkg-config")
-@of("linux-aarch64")
+@of(*LINUX)
 def test_pkg_config(top: Path, runner: Runner, system: str) -> None:
     where = {**BARE, "PKG_CONFIG_PATH": f"{top}/lib/pkgconfig"}
     found = succeeds("pkg-config", "--cflags", "--libs", "brsp", env=where).split()
@@ -234,7 +239,7 @@ def test_pkg_config(top: Path, runner: Runner, system: str) -> None:
 
 
 @pytest.mark.needs("cmake", "make")
-@of(*CROSS)
+@of(*COMPILED)
 def test_cmake(top: Path, runner: Runner, system: str) -> None:
     runner.check_cmake()
 
@@ -249,10 +254,10 @@ def test_example_of_the_crate(top: Path, runner: Runner, system: str) -> None:
 def of_archive(runner: Runner, *words: str, given: bytes = b"") -> "Ended[bytes]":
     """A run of a program of the archive, in its folder."""
     command = [*runner.start, *words]
-    return bytes_of(command[0], command[1:], given, cwd=runner.folder, env=runner.env)
+    return run_bytes(command[0], command[1:], given, cwd=runner.folder, env=runner.env)
 
 
-@of(*CROSS)
+@of(*COMPILED)
 def test_program(top: Path, runner: Runner, system: str) -> None:
     """The first script, an assembly and a disassembly, and a file that isn't there."""
     program = f"bin/rsp{runner.ending}"
@@ -266,7 +271,7 @@ def test_program(top: Path, runner: Runner, system: str) -> None:
     assert lost.returncode == 1 and not lost.stdout
 
 
-@of(*CROSS)
+@of(*COMPILED)
 @pytest.mark.parametrize("name", ["VADD", "MTC0"])
 def test_vectors(top: Path, runner: Runner, suite: Path, system: str, name: str) -> None:
     """By the tools of the vectors' archive and this machine's Python, which starts the program by a script of
@@ -293,9 +298,9 @@ def test_first_line_of_windows(top: Path, runner: Runner) -> None:
 def test_macos(top: Path, folder: Path) -> None:
     """The files are only read."""
     macos.check(top, folder)
-    for target, processor in systems.THIN.items():
-        held = llvm("llvm-lipo", "-archs", top / "library/rust/lib" / target / "libbrsp.a").split()
-        assert held == [processor], target
+    for triple in TARGETS["macos"].rust:
+        held = llvm("llvm-lipo", "-archs", top / "library/rust/lib" / triple / "libbrsp.a").split()
+        assert held == [PROCESSORS[triple.partition("-")[0]].apple], triple
 
 
 @of("wasm64")

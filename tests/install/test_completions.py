@@ -13,7 +13,7 @@ from typing import Callable
 import pytest
 
 from lib.processes import succeeds
-from lib.program import ran
+from lib.program import run_program
 from rsp_tools.packaging import install_tree
 
 COMMANDS = ("run", "asm", "dis")
@@ -71,7 +71,7 @@ in_shells = pytest.mark.parametrize(
 
 def options_of(program: Path, *command: str) -> set[str]:
     """The long options that --help of the program names."""
-    text = ran(program, [*command, "--help"]).errors.decode()
+    text = run_program(program, [*command, "--help"]).errors.decode()
     return {*re.findall(r"(?m)^ +(?:-\w, )?(--\w+)", text)}
 
 

@@ -7,7 +7,6 @@ import os
 import re
 import shutil
 from pathlib import Path
-from typing import Iterator
 
 import pytest
 
@@ -16,14 +15,14 @@ from lib.cmake import EXAMPLE
 from lib.install.unpacked import check_common, given, unpacked
 from lib.library import LOCKSTEP
 from lib.pages import page
-from lib.packages import need
-from lib.processes import STRICT, bytes_of, compiled, run, succeeds
-from lib.systems.kinds import KINDS
-from lib.systems.runners import Runner, see_passed
+from lib.processes import STRICT, compiled, run, run_bytes, succeeds
+from lib.systems.target_params import RUNNERS
+from lib.systems.runners import Runner
 from measure import LIBRARY
 from measure.speed import LOOPS, code, figure
 from rsp_tools.systems import header
 from rsp_tools.systems.toolchain import llvm
+from rsp_tools.targets import TARGETS, Target
 
 outside = pytest.mark.outside("it tests the archive for other projects: `--archive dist`")
 # A project that has the folder as `rsp` beside it.
@@ -103,7 +102,7 @@ def test_builds(packed: Path, top: Path, folder: Path, compiler: str) -> None:
     fetched = project(folder / "fetched", FETCHED.format(packed))
     assert succeeds(built(fetched, *words) / "lockstep") == LOCKSTEP
     program = built(mine / "rsp", *words) / "rsp"
-    first = bytes_of(program, ["run"], page("examples/first.rsp").encode())
+    first = run_bytes(program, ["run"], page("examples/first.rsp").encode())
     assert first.stdout == page("examples/first.out").encode()
 
 
@@ -131,51 +130,34 @@ def test_refuses(top: Path, folder: Path) -> None:
     assert ended.returncode and "there is no file for Linux-riscv64" in " ".join(ended.stdout.split())
 
 
-class Vendored:
-    """Compiles programs of tests over a file of src/, as a runner of another system does."""
-
-    def __init__(self, runner: Runner, source: Path) -> None:
-        self.runner = runner
-        self.library = [str(runner.at / "brsp.o")]
-        succeeds(runner.compiler, "-c", source, "-o", self.library[0])
-
-    def passes(self, name: str, *words: str) -> None:
-        source = TESTS / f"library/c/{name}.c"
-        made = self.runner.compile(source, *words, library=[*self.library, *self.runner.threads])
-        ended = self.runner.run(made)
-        see_passed(ended.stdout)
-
-
-@pytest.fixture
-def vendored(request: pytest.FixtureRequest, top: Path, folder: Path) -> Iterator[Vendored]:
-    name, source = request.param
-    kind = KINDS.get(name, Runner)
-    need(*kind.programs)
-    at = folder / "programs"
-    at.mkdir()
-    runner = kind(top, at)
-    yield Vendored(runner, top / "src" / source)
-    runner.stop()
-
-
-ON = [("", "Linux-x86_64.s"), ("linux-aarch64", "Linux-aarch64.s"), ("windows-x86_64", "Windows-x86_64.s")]
+# Those whose file is run here: all but macOS.
+RUN = [it for it in TARGETS.values() if it.compiler]
 
 
 @outside
 @pytest.mark.timeout(1800)
-@pytest.mark.parametrize("vendored", ON, ids=[it[1] for it in ON], indirect=True)
+@pytest.mark.parametrize("target", RUN, ids=lambda it: it.name)
 @pytest.mark.parametrize("name", ["calls", "owner", "threads"])
-def test_calls(vendored: Vendored, name: str) -> None:
-    vendored.passes(name)
+def test_calls(name: str, target: Target, top: Path, folder: Path) -> None:
+    """A program of tests over a file of src/."""
+    runner = RUNNERS.get(target.name, Runner)(target.name, top, folder)
+    library = str(folder / "brsp.o")
+    try:
+        source = top / f"src/{target.cmake[0]}-{target.processor}.s"
+        succeeds(runner.compiler, "-c", source, "-o", library)
+        program = TESTS / f"library/c/{name}.c"
+        runner.passes(runner.compile(program, library=[library, *runner.threads]))
+    finally:
+        runner.stop()
 
 
 @outside
 @pytest.mark.needs("rt")
-@pytest.mark.parametrize("name", ["Darwin-arm64", "Darwin-x86_64"])
-def test_macos_is_assembled(top: Path, folder: Path, name: str) -> None:
+@pytest.mark.parametrize("triple", TARGETS["macos"].triples.values())
+def test_macos_is_assembled(top: Path, folder: Path, triple: str) -> None:
     """The kit's assembler takes the file, and the object has the calls of brsp.h. Nothing runs it here."""
-    target = f"{name.removeprefix('Darwin-')}-apple-macosx11.0"
-    llvm("clang", f"--target={target}", "-c", top / "src" / f"{name}.s", "-o", folder / "made.o")
+    source = top / f"src/Darwin-{triple.partition('-')[0]}.s"
+    llvm("clang", f"--target={triple}", "-c", source, "-o", folder / "made.o")
     named = llvm("llvm-nm", "-g", "--defined-only", folder / "made.o")
     assert {*re.findall(r" T _(\w+)$", named, re.M)} == {*header.calls()}
 

@@ -3,6 +3,7 @@
 import re
 import shutil
 from pathlib import Path
+from typing import List
 
 from lib import TESTS, TOP
 from lib.library import LOCKSTEP
@@ -13,17 +14,22 @@ PROJECT = TESTS / "install/installation/CMakeLists.txt"
 EXAMPLE = TOP / "examples/c/lockstep.c"
 
 
-def configured(prefix: Path, folder: Path, out: str, *told: str) -> "Ended[str]":
+def system(name: str, processor: str) -> List[str]:
+    """The words by which CMake builds for a system."""
+    return [f"-DCMAKE_SYSTEM_NAME={name}", f"-DCMAKE_SYSTEM_PROCESSOR={processor}"]
+
+
+def configured(prefix: Path, folder: Path, out: str, *words: str) -> "Ended[str]":
     """How CMake finds the library of a prefix for the project in a folder."""
-    return run("cmake", "-S", folder, f"-DCMAKE_PREFIX_PATH={prefix}", "-B", folder / out, *told)
+    return run("cmake", "-S", folder, f"-DCMAKE_PREFIX_PATH={prefix}", "-B", folder / out, *words)
 
 
-def built(prefix: Path, folder: Path, *told: str) -> Path:
+def built(prefix: Path, folder: Path, *words: str) -> Path:
     """The folder of the programs that CMake makes in a new folder, `shared` and `static`."""
     folder.mkdir()
     for it in PROJECT, EXAMPLE:
         shutil.copy(it, folder)
-    ended = configured(prefix, folder, "out", *told)
+    ended = configured(prefix, folder, "out", *words)
     assert ended.returncode == 0, ended.stdout
     succeeds("cmake", "--build", folder / "out")
     return folder / "out"

@@ -5,7 +5,7 @@ from pathlib import Path
 from typing import Iterator, Sequence, Tuple
 
 from lib import TESTS
-from lib.processes import Ended, bytes_of, run
+from lib.processes import Ended, run, run_bytes
 
 
 def library(folder: Path, name: str) -> Path:
@@ -29,7 +29,7 @@ def runs(
         reading, writing = os.pipe()
         told = {"FAILING": str(number), "LASTING": str(int(lasting)), "TOLD": str(writing)}
         env = {**os.environ, "LD_PRELOAD": str(calls), **told}
-        ran = bytes_of(words[0], words[1:], script, env=env, pass_fds=(writing,))
+        ran = run_bytes(words[0], words[1:], script, env=env, pass_fds=(writing,))
         os.close(writing)
         is_failed = bool(os.read(reading, 1))
         os.close(reading)

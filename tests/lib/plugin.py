@@ -1,6 +1,6 @@
 """The plugin of mupen64plus under test: its driver, microcode, an emulator's ROM, and plugins with a fault.
 
-`tools/python lib.plugin FOLDER [PROGRAM]` makes what the hunt of tests/plugin/README.md needs: the plugin,
+`tools/python lib.plugin FOLDER [PROGRAM]` makes what the hunt of docs/PLUGIN.md needs: the plugin,
 one with a fault, and the ROM, whole and without the tasks that wait for the CPU.
 """
 
@@ -32,9 +32,9 @@ PLACES = {"task_add": "0x80", "overlay_one": "0x400", "overlay_two": "0x400"}
 HEADER = struct.pack(">IIII16x20s7x4sx", 0x80371240, 0xF, 0x80002000, 0, b"PROVED RSP TEST     ", b"NPRE")
 
 
-def begun(*options: str) -> List[str]:
-    """The lines that start the plugin with these options, and a ROM."""
-    return [*(f"option {it}" for it in ("Version 1", *options)), "start", "initiate"]
+def start_lines(*options: str) -> List[str]:
+    """The driver's lines that start the plugin with these options, and a ROM."""
+    return [*(f"option {option}" for option in ("Version 1", *options)), "start", "initiate"]
 
 
 def halves(numbers: Sequence[int]) -> str:
@@ -54,21 +54,21 @@ class Bench:
         self.driver = compiled(folder / "driver", *FLAGS, *parts)
 
     def drive(self, lines: Sequence[str], under: Sequence[str] = ()) -> List[str]:
-        """What the driver prints, line by line; at its end its status, if that isn't 0."""
-        given = "".join(f"{it}\n" for it in lines)
-        got = run(*under, self.driver, self.plugin, input=given, cwd=self.folder)
-        return got.stdout.splitlines() + [f"status {got.returncode}"] * (got.returncode != 0)
+        """The lines that the driver prints, and at the end its status, if that isn't 0."""
+        script = "".join(f"{line}\n" for line in lines)
+        ended = run(*under, self.driver, self.plugin, input=script, cwd=self.folder)
+        return ended.stdout.splitlines() + [f"status {ended.returncode}"] * (ended.returncode != 0)
 
     def words(self, text: str) -> str:
         """The words of an assembly text, in hexadecimal."""
         source, out = self.folder / "text.s", self.folder / "text.bin"
         source.write_text(text)
         succeeds(self.program, "asm", source, out)
-        return " ".join(f"{it:08x}" for (it,) in struct.iter_unpack(">I", out.read_bytes()))
+        return out.read_bytes().hex(" ", 4)
 
     def words_of(self, name: str) -> str:
         """The words of a task of the ROM, of a script's microcode, or of a text."""
-        files = [it for it in (ROM / f"{name}.s", HERE / f"calls/{name}.s") if it.exists()]
+        files = [path for path in (ROM / f"{name}.s", HERE / f"calls/{name}.s") if path.exists()]
         return self.words(files[0].read_text() if files else name)
 
     def faulty(self, fault: int) -> Path:
@@ -99,14 +99,14 @@ class Bench:
         out.write_bytes(image.ljust(0x101000, b"\0"))
         return out
 
-    def played(self, rom: Path, plugin: Path, mode: int, *options: str) -> Tuple[str, bytes]:
-        """What a front end prints that plays a ROM to its end (front.c), and the RDRAM then."""
+    def play(self, rom: Path, plugin: Path, mode: int, *options: str) -> Tuple[str, bytes]:
+        """Plays a ROM to its end by front.c, and returns the output and the RDRAM then."""
         front, out = self.folder / "front", self.folder / "rdram"
         if not front.exists():
             compiled(front, *FLAGS, f"-I{HEADERS}", HERE / "front.c", "-ldl", "-lpthread")
         out.unlink(missing_ok=True)
-        got = run(front, CORE, rom, plugin, out, mode, 240, *options, cwd=self.folder)
-        return got.stdout, out.read_bytes() if out.exists() else b""
+        ended = run(front, CORE, rom, plugin, out, mode, 240, *options, cwd=self.folder)
+        return ended.stdout, out.read_bytes() if out.exists() else b""
 
 
 def results(rdram: bytes) -> Iterator[Tuple[int, ...]]:
@@ -121,7 +121,7 @@ def results(rdram: bytes) -> Iterator[Tuple[int, ...]]:
 def tasks_of_rom(bench: Bench) -> List[List[str]]:
     """The lines that set up each of the ROM's tasks."""
     list_at, registers_at = "put dmem ff0 123000", "put dmem ff0 124000 124100"
-    vectors = halves([i * 977 % 65536 for i in range(256)])
+    vector, vectors = f"put imem 0 {bench.words_of('vector')}", halves([i * 977 % 65536 for i in range(256)])
     return [
         [f"put imem 0 {bench.words_of('scalar')}"],
         speed_task(bench),
@@ -129,11 +129,7 @@ def tasks_of_rom(bench: Bench) -> List[List[str]]:
         [f"put imem 0 {bench.words_of('registers')}", registers_at, "set SP_SEMAPHORE 0"],
         ["rdp", f"put imem 0 {bench.words_of('list')}", list_at],
         ["put dmem ff0 124000"],
-        [
-            f"put imem 0 {bench.words_of('vector')}",
-            f"put rdram 120000 {vectors}",
-            "put dmem ff0 120000 121000",
-        ],
+        [vector, f"put rdram 120000 {vectors}", "put dmem ff0 120000 121000"],
     ]
 
 
@@ -146,24 +142,23 @@ def speed_task(bench: Bench) -> List[str]:
     ]
 
 
-def checked(bench: Bench, folder: Path, other: object, tasks: Sequence[Sequence[str]]) -> List[str]:
-    """What check mode says of tasks, each the lines that set it up. SP_PC and SP_STATUS are 0 before it."""
-    lines = begun(f"CheckAgainst {other}", f"CheckFolder {folder}")
+def check_tasks(bench: Bench, folder: Path, other: object, tasks: Sequence[Sequence[str]]) -> List[str]:
+    """The messages of check mode about tasks, each given by the lines that set it up."""
+    lines = start_lines(f"CheckAgainst {other}", f"CheckFolder {folder}")
     for task in tasks:
         lines += ["set SP_PC 0", "set SP_STATUS 0", *task, "cycles 100000000"]
-    said = bench.drive([*lines, "close"])
-    return [it.split("check: ")[1] for it in said if "check: " in it]
+    return [line.split("check: ")[1] for line in bench.drive([*lines, "close"]) if "check: " in line]
 
 
 def assert_plays(bench: Bench, folder: Path, task: int) -> None:
-    """The script of a difference has our registers before and after it, and our DMEM, as its last replies."""
+    """Asserts that a difference's script ends with our registers before and after it, and our DMEM."""
     text = (folder / f"rsp-task-{task}.txt").read_text()
     script = (folder / f"rsp-task-{task}.script").read_text()
-    got = run(bench.program, "run", input=script).stdout
+    output = run(bench.program, "run", input=script).stdout
     expected = re.findall(r"\nOur [^\n]*:\n(.*?)(?=\n\n|\Z)", text.rstrip("\n"), re.S)
     assert len(expected) in (2, 3), text
     replies = f"{expected[0]}\nstep Done pc {expected[1][3:6]}\n" + "\n".join(expected[1:]) + "\n"
-    assert "fault" not in got and got[-len(replies) :] == replies
+    assert "fault" not in output and output.endswith(replies)
 
 
 def main() -> None:

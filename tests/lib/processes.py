@@ -38,7 +38,7 @@ def compiled(to: Path, *words: object, compiler: str = "cc") -> Path:
     return to
 
 
-def bytes_of(program: object, words: Sequence[object], script: bytes = b"", **how: Any) -> "Ended[bytes]":
+def run_bytes(program: object, words: Sequence[object], script: bytes = b"", **how: Any) -> "Ended[bytes]":
     """A run of a program on bytes, to its end. Its words are texts, paths, or bytes."""
     given: Dict[str, Any] = {"stdout": subprocess.PIPE, "stderr": subprocess.PIPE, "timeout": 120, **how}
     if "stdin" not in given:

@@ -6,10 +6,10 @@ from typing import Any, NamedTuple, Optional, Sequence
 import pytest
 
 from lib import TOP
-from lib.processes import bytes_of
+from lib.processes import run_bytes
 
 
-class Ran(NamedTuple):
+class Result(NamedTuple):
     """How a run ended. A test compares it with `(status, output, errors)`."""
 
     status: int
@@ -17,10 +17,10 @@ class Ran(NamedTuple):
     errors: bytes
 
 
-def ran(program: object, words: Sequence[object], script: bytes = b"", **how: Any) -> Ran:
+def run_program(program: object, words: Sequence[object], script: bytes = b"", **how: Any) -> Result:
     """A run of the program to its end. Its words are texts, paths, or bytes."""
-    ended = bytes_of(program, words, script, **how)
-    return Ran(ended.returncode, ended.stdout or b"", ended.stderr or b"")
+    ended = run_bytes(program, words, script, **how)
+    return Result(ended.returncode, ended.stdout or b"", ended.stderr or b"")
 
 
 def content(path: Path) -> Optional[bytes]:

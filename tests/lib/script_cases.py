@@ -14,7 +14,7 @@ from pathlib import Path
 from typing import Iterator, List, Optional, Tuple
 
 from lib import TESTS, TOP
-from lib.program import Ran, content
+from lib.program import Result, content
 
 SCRIPTS = TESTS / "program/scripts"
 
@@ -25,7 +25,7 @@ class Stored:
     def __init__(self, path: Path) -> None:
         self.path, self.script = path, path.read_bytes()
         status, expected, out, errors = map(self.beside, ("status", "expected", "out", "stderr"))
-        self.wanted = Ran(int(status or 0), (expected or b"") + (out or b""), errors or b"")
+        self.wanted = Result(int(status or 0), (expected or b"") + (out or b""), errors or b"")
         self.is_saved = self.beside("saved") is not None
 
     def __str__(self) -> str:

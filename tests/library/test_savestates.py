@@ -1,4 +1,4 @@
-"""Savestates: the same bytes from C, C++, Python, Rust and JavaScript, and a play of two machines over them.
+"""Savestates: the same bytes from C, C++, Python, Rust and JavaScript, and two machines that exchange them.
 
 They fail if a language writes other bytes than C, takes bytes that it should refuse, changes a machine when
 it refuses them, or if two machines differ whose steps are cut differently (savestates.c, whose numbers are
@@ -13,28 +13,13 @@ import pytest
 
 import rsp
 from lib import TOP
-from lib.library.programs import HERE, built, by_both, main_of, passes, said_by
+from lib.library.programs import HERE, built, passes
 from lib.library.savestates import IMAGE, STEPS, TEXT
 from lib.pages import page
 from lib.processes import STRICT, compiled, run, succeeds
 
 pytestmark = [pytest.mark.needs("cc"), pytest.mark.usefixtures("library")]
 PLAY = HERE / "savestates.c"
-PROGRAM = """
-static const uint8_t text[] = TEXT;
-static uint8_t image[256], bytes[10000];
-static uint32_t words[1024];
-brsp_machine m = BRSP_NONE;
-brsp_assembled out;
-brsp_stop stop;
-size_t length;
-for (int i = 0; i < 256; i++) image[i] = (uint8_t)i;
-if (brsp_new(&m, image, 256, 5) || brsp_assemble(0, text, sizeof text - 1, words, 1024, &out)) return 1;
-if (brsp_load_words(&m, BRSP_IMEM, 0, words, out.count) || brsp_run(&m, 1000, &stop)) return 1;
-if (brsp_save_state(&m, bytes, sizeof bytes, &length)) return 1;
-for (size_t i = 0; i < length; i++) printf("%02x", bytes[i]);
-brsp_free(&m);
-"""
 IN_CPP = """#include "brsp.hpp"
 #include <cstdio>
 int main()
@@ -73,10 +58,6 @@ console.log(JSON.stringify({{ all, wrong, others: [...others, parts_of(made, 264
 """
 
 
-def quoted(text: str) -> str:
-    return '"' + text.replace("\n", "\\n") + '"'
-
-
 @pytest.fixture(scope="module")
 def machine() -> rsp.Machine:
     made = rsp.Machine(IMAGE, 5)
@@ -85,28 +66,19 @@ def machine() -> rsp.Machine:
     return made
 
 
-@by_both
-def test_c(compiler: str, machine: rsp.Machine, folder: Path) -> None:
-    text = main_of(PROGRAM.replace("TEXT", quoted(TEXT)))
-    assert said_by(folder, text, compiler) == machine.save_state().hex()
-
-
 @pytest.mark.needs("c++")
 def test_cpp(machine: rsp.Machine, folder: Path) -> None:
     source = folder / "saves.cpp"
-    source.write_text(IN_CPP.replace("TEXT", quoted(TEXT)))
+    source.write_text(IN_CPP.replace("TEXT", json.dumps(TEXT)))
     words = ("-std=c++17", *STRICT, source, TOP / "library/c/libbrsp.a")
     saved, why = succeeds(compiled(folder / "saves", *words, compiler="c++")).splitlines()
     assert saved == machine.save_state().hex()
     assert why == "load_state: there are fewer bytes, or more, than the savestate says"
 
 
-@by_both
-def test_play(compiler: str, folder: Path) -> None:
+def test_play(folder: Path) -> None:
     """Two machines over 10,000 slices; and each fault of a savestate in C."""
-    if compiler == "c++":
-        pytest.skip("compound literals are of C alone")
-    passes(built(folder, PLAY, compiler=compiler))
+    passes(built(folder, PLAY))
 
 
 @pytest.mark.outside("it takes an hour")
@@ -175,11 +147,11 @@ def test_js(machine: rsp.Machine, folder: Path) -> None:
     for name, part in zip(("state", "0", "1", "2"), parts):
         (folder / name).write_bytes(part)
     (folder / "saves.mjs").write_text(IN_JS)
-    said = json.loads(succeeds("node", "saves.mjs", cwd=folder))
+    output = json.loads(succeeds("node", "saves.mjs", cwd=folder))
     assert (folder / "saved").read_bytes() == machine.save_state()
-    assert said["all"] == [it.hex() for it in parts]
+    assert output["all"] == [it.hex() for it in parts]
     lengths = [f"there are {it} bytes, not 8976 and those of the image" for it in (9, 9231, 9232)]
     image = "its image has 256 bytes, and that of the machine 264"
     version = "the savestate has version 16777217, not 1"
-    assert said["wrong"] == ["the bytes don't begin with RSPS", *lengths[:2]]
-    assert said["others"] == [version, lengths[2], "byte 705 isn't 0", image]
+    assert output["wrong"] == ["the bytes don't begin with RSPS", *lengths[:2]]
+    assert output["others"] == [version, lengths[2], "byte 705 isn't 0", image]

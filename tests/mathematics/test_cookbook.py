@@ -12,7 +12,7 @@ from typing import Any, Callable, Dict, List, Tuple
 
 import pytest
 
-from lib.numbers import clamped, edged, fixed, halves, packed
+from lib.fixed_point import clamp, join_halves, pack_halves, random_half, read_halves
 from lib.pages import page
 
 ROUNDS = 20
@@ -23,7 +23,7 @@ FACTORS = [math.sqrt(0.5) / 2] + [0.5] * 7  # of the frequencies of a cosine tra
 
 def fixed_at(memory: bytes, high: int, low: int, count: int) -> List[int]:
     """Numbers whose whole parts are at `high` and whose fractions are at `low`, times 65536."""
-    return fixed(halves(memory, high, count), halves(memory, low, count))
+    return join_halves(read_halves(memory, high, count), read_halves(memory, low, count))
 
 
 class Run:
@@ -53,32 +53,32 @@ def vector_numbers(choose: Random) -> Loads:
     for _ in range(4):
         rows += [choose.choice((0, 1, -1, choose.randrange(-8192, 8192))) for _ in range(8)]
         rows += [choose.randrange(65536) for _ in range(8)]
-    return [("dmem", 0, packed(rows) + packed(edged(choose) for _ in range(16)))]
+    return [("dmem", 0, pack_halves(rows) + pack_halves(random_half(choose) for _ in range(16)))]
 
 
 def see_vector(run: Run) -> None:
     rows = [fixed_at(run.before["dmem"], 32 * k, 32 * k + 16, 8) for k in range(4)]
     for pair in (0x080, 0x090):
-        points = halves(run.before["dmem"], pair, 8)
+        points = read_halves(run.before["dmem"], pair, 8)
         sums = [sum(rows[k][lane] * points[lane // 4 * 4 + k] for k in range(4)) for lane in range(8)]
-        wanted = [clamped(number // 65536) for number in sums]
-        assert halves(run.dmem, pair + 32) == wanted, f"pair at {pair:03x}"
+        wanted = [clamp(number // 65536) for number in sums]
+        assert read_halves(run.dmem, pair + 32) == wanted, f"pair at {pair:03x}"
 
 
 def see_fir(run: Run) -> None:
-    taps, samples = halves(run.before["dmem"], 0, 8), halves(run.before["dmem"], 0x10, 24)
+    taps, samples = read_halves(run.before["dmem"], 0, 8), read_halves(run.before["dmem"], 0x10, 24)
     for n in range(16):
         exact = sum(Fraction(taps[k], 32768) * samples[n + 8 - k] for k in range(8))
-        wanted = clamped(math.floor(exact + Fraction(1, 2)))
-        assert halves(run.dmem, 0x60 + 2 * n, 1) == [wanted], f"y[{n}]"
+        wanted = clamp(math.floor(exact + Fraction(1, 2)))
+        assert read_halves(run.dmem, 0x60 + 2 * n, 1) == [wanted], f"y[{n}]"
 
 
 def see_idct(run: Run) -> None:
     for row in range(8):
-        row_of = halves(run.before["dmem"], 0x80 + 16 * row)
+        row_of = read_halves(run.before["dmem"], 0x80 + 16 * row)
         # A factor is rounded to 1/32768, and the sum to a whole number.
         most = 0.5 + sum(abs(it) for it in row_of) / 65536 + 1e-6
-        for x, got in enumerate(halves(run.dmem, 0x100 + 16 * row, 8)):
+        for x, got in enumerate(read_halves(run.dmem, 0x100 + 16 * row, 8)):
             angles = ((2 * x + 1) * u * math.pi / 16 for u in range(8))
             waves = (factor * it * math.cos(angle) for factor, it, angle in zip(FACTORS, row_of, angles))
             exact = max(-32768, min(32767, sum(waves)))
@@ -86,10 +86,10 @@ def see_idct(run: Run) -> None:
 
 
 def see_transpose(run: Run) -> None:
-    block = [halves(run.before["dmem"], 16 * row, 8) for row in range(8)]
+    block = [read_halves(run.before["dmem"], 16 * row, 8) for row in range(8)]
     for row in range(8):
         wanted = [block[column][row] for column in range(8)]
-        assert halves(run.dmem, 0x100 + 16 * row) == wanted, f"row {row}"
+        assert read_halves(run.dmem, 0x100 + 16 * row) == wanted, f"row {row}"
 
 
 def perspective_numbers(choose: Random) -> Loads:
@@ -97,8 +97,8 @@ def perspective_numbers(choose: Random) -> Loads:
     for _ in range(8):
         near, far = (choose.randrange(65536, most * 65536) for most in (4, 64))
         depths.append(choose.choice((65536, 65537, 32 * 65536, near, far)))
-    points = packed(edged(choose) for _ in range(16))
-    return [("dmem", 0, points + packed(depth >> 16 for depth in depths) + packed(depths))]
+    points = pack_halves(random_half(choose) for _ in range(16))
+    return [("dmem", 0, points + pack_halves(depth >> 16 for depth in depths) + pack_halves(depths))]
 
 
 def see_perspective(run: Run) -> None:
@@ -112,7 +112,7 @@ def see_perspective(run: Run) -> None:
         inverse = Fraction(65536 * 65536, depths[lane])
         assert abs(inverse - ones[lane]) <= 5, f"1 / w, lane {lane}"
     for what, place, result in (("x", 0x00, 0x50), ("y", 0x10, 0x70)):
-        numbers, got = halves(run.before["dmem"], place, 8), fixed_at(run.dmem, result, result + 16, 8)
+        numbers, got = read_halves(run.before["dmem"], place, 8), fixed_at(run.dmem, result, result + 16, 8)
         for lane in range(8):
             exact = Fraction(numbers[lane] * 65536 * 65536, depths[lane])
             assert abs(exact - got[lane]) <= 5 * abs(numbers[lane]) + 1, f"{what} / w, lane {lane}"
@@ -128,7 +128,13 @@ def clip_numbers(choose: Random) -> Loads:
         return [*(choose.choice(it) for it in sides), w]
 
     pairs = [point() + point() for _ in range(2)]
-    return [("dmem", 0, b"".join(packed(number >> 16 for number in pair) + packed(pair) for pair in pairs))]
+    return [
+        (
+            "dmem",
+            0,
+            b"".join(pack_halves(number >> 16 for number in pair) + pack_halves(pair) for pair in pairs),
+        )
+    ]
 
 
 def see_clip(run: Run) -> None:
@@ -137,10 +143,10 @@ def see_clip(run: Run) -> None:
         at = number // 2 * 32 + number % 2 * 8
         *sides, w = fixed_at(run.before["dmem"], at, at + 16, 4)
         codes.append(sum((side <= -w) << i | (side >= w) << i + 8 for i, side in enumerate(sides)))
-    assert halves(run.dmem, 0x40, 4) == codes, "codes"
+    assert read_halves(run.dmem, 0x40, 4) == codes, "codes"
     common = codes[0] & codes[1] & codes[2] & codes[3]
     some = codes[0] | codes[1] | codes[2] | codes[3]
-    assert halves(run.dmem, 0x48, 2) == [common, some], "common and any"
+    assert read_halves(run.dmem, 0x48, 2) == [common, some], "common and any"
 
 
 def see_copy(run: Run) -> None:
@@ -152,9 +158,9 @@ def see_copy(run: Run) -> None:
 
 
 def see_task(run: Run) -> None:
-    one, two = halves(run.before["rdram"], 0x300, 8), halves(run.before["rdram"], 0x310, 8)
-    wanted = [clamped(a + b) for a, b in zip(one, two)]
-    assert halves(run.rdram, 0x380) == wanted, "the mixed sound"
+    one, two = read_halves(run.before["rdram"], 0x300, 8), read_halves(run.before["rdram"], 0x310, 8)
+    wanted = [clamp(a + b) for a, b in zip(one, two)]
+    assert read_halves(run.rdram, 0x380) == wanted, "the mixed sound"
 
 
 def see_scalar(run: Run) -> None:
@@ -165,16 +171,18 @@ def see_scalar(run: Run) -> None:
 # Each example: what is loaded over its numbers, and what sees what it has left.
 EXAMPLES: Dict[str, Tuple[Callable[[Random], Loads], Callable[[Run], None]]] = {
     "vector": (vector_numbers, see_vector),
-    "fir": (lambda it: [("dmem", 0, packed(edged(it) for _ in range(32)))], see_fir),
+    "fir": (lambda it: [("dmem", 0, pack_halves(random_half(it) for _ in range(32)))], see_fir),
     "idct": (
-        lambda it: [("dmem", 0x80, packed(it.choice((0, it.randrange(-4096, 4096))) for _ in range(64)))],
+        lambda it: [
+            ("dmem", 0x80, pack_halves(it.choice((0, it.randrange(-4096, 4096))) for _ in range(64)))
+        ],
         see_idct,
     ),
     "transpose": (lambda it: [("dmem", 0, it.randbytes(128))], see_transpose),
     "perspective": (perspective_numbers, see_perspective),
     "clip": (clip_numbers, see_clip),
     "copy": (lambda it: [("rdram", 0x1000, it.randbytes(256))], see_copy),
-    "task": (lambda it: [("rdram", 0x300, packed(edged(it) for _ in range(16)))], see_task),
+    "task": (lambda it: [("rdram", 0x300, pack_halves(random_half(it) for _ in range(16)))], see_task),
     "scalar": (lambda it: [("dmem", 0, it.randbytes(12))], see_scalar),
 }
 

@@ -10,7 +10,7 @@ from typing import Callable, Dict, List, Tuple
 
 import pytest
 
-from lib.numbers import clamped, edged, fixed, packed
+from lib.fixed_point import clamp, join_halves, pack_halves, random_half
 from lib.pages import block_with, replies, tables
 
 ROUNDS = 8
@@ -22,7 +22,7 @@ Wanted = Dict[int, Lanes]  # the same, or as many of their first lanes as are kn
 
 def longs(v: Given) -> List[Tuple[int, int]]:
     """The numbers of 32 bits in registers 1 and 2, each with that in 3 and 4."""
-    return [*zip(fixed(v[1], v[2]), fixed(v[3], v[4]))]
+    return [*zip(join_halves(v[1], v[2]), join_halves(v[3], v[4]))]
 
 
 def halves_of(high: int, low: int, numbers: Lanes) -> Wanted:
@@ -32,28 +32,28 @@ def halves_of(high: int, low: int, numbers: Lanes) -> Wanted:
 
 def whole_product(v: Given) -> Wanted:
     products = [it * v[2][0] for it in v[1]]
-    return {3: products, 4: [clamped(it) for it in products], **halves_of(5, 6, products)}
+    return {3: products, 4: [clamp(it) for it in products], **halves_of(5, 6, products)}
 
 
 def product_by_whole(v: Given) -> Wanted:
-    return halves_of(5, 6, [clamped(x * y, 32) for x, y in zip(fixed(v[1], v[2]), v[3])])
+    return halves_of(5, 6, [clamp(x * y, 32) for x, y in zip(join_halves(v[1], v[2]), v[3])])
 
 
 def shift_right(v: Given) -> Wanted:
     v[3] = [1 << it % 16 for it in v[3]]
     shifts = [17 - it.bit_length() for it in v[3]]
-    return halves_of(5, 6, [x >> k for x, k in zip(fixed(v[1], v[2]), shifts)])
+    return halves_of(5, 6, [x >> k for x, k in zip(join_halves(v[1], v[2]), shifts)])
 
 
 def fractions(v: Given) -> Wanted:
     sums = [a * v[2][0] + b * v[2][1] + c * v[2][2] for a, b, c in zip(v[1], v[3], v[4])]
-    return {5: [clamped((it + 16384) // 32768) for it in sums]}
+    return {5: [clamp((it + 16384) // 32768) for it in sums]}
 
 
 def long_sums(v: Given) -> Wanted:
     sums, differences = [x + y for x, y in longs(v)], [x - y for x, y in longs(v)]
-    high, low = [clamped(it >> 16) for it in sums], [it & 0xFFFF for it in sums]
-    return {5: high, 6: low, 7: [clamped(it >> 16) for it in differences], 8: differences}
+    high, low = [clamp(it >> 16) for it in sums], [it & 0xFFFF for it in sums]
+    return {5: high, 6: low, 7: [clamp(it >> 16) for it in differences], 8: differences}
 
 
 def sum_of_lanes(v: Given) -> Wanted:
@@ -91,7 +91,7 @@ def clip_codes(v: Given) -> Wanted:
 RULES: Dict[str, Callable[[Given], Wanted]] = {
     "addiu $1, $0, 5": lambda v: {1: [5] * 8},
     "vmudn $v3, $v1, $v2[0]": whole_product,
-    "vmudl $v6, $v2, $v4 ": lambda v: halves_of(5, 6, [clamped(x * y >> 16, 32) for x, y in longs(v)]),
+    "vmudl $v6, $v2, $v4 ": lambda v: halves_of(5, 6, [clamp(x * y >> 16, 32) for x, y in longs(v)]),
     "vmudn $v6, $v2, $v3": product_by_whole,
     "vmudl $v6, $v2, $v3": shift_right,
     "vmulf $v5, $v1, $v2[0]": fractions,
@@ -107,7 +107,7 @@ RULES: Dict[str, Callable[[Given], Wanted]] = {
 
 def left(program: Path, block: str, given: Given) -> Given:
     """The vector registers after a block that begins with these."""
-    loads = [f"load dmem {16 * n} {packed(lanes).hex()}" for n, lanes in given.items()]
+    loads = [f"load dmem {16 * n} {pack_halves(lanes).hex()}" for n, lanes in given.items()]
     setting = [f"lqv $v{n}[0], {16 * n}($0)" for n in given]
     code = [*setting, block.rstrip("\n"), f"mtc2 $1, $v{SCALAR}[0]", "break"]
     lines = [*loads, "asm 0", *code, "end", "run 100", "vregs", ""]
@@ -120,7 +120,7 @@ def test_idiom(start: str, program: Path) -> None:
     """The block leaves what its rule says, in each of some rounds."""
     block, random = block_with("docs/COOKBOOK.md", start), Random(start)
     for _ in range(ROUNDS):
-        given = {n: [edged(random) for _ in range(8)] for n in range(1, 8)}
+        given = {n: [random_half(random) for _ in range(8)] for n in range(1, 8)}
         wanted, found = RULES[start](given), left(program, block, given)
         has = {n: found[n][: len(lanes)] for n, lanes in wanted.items()}
         assert has == {n: [it % 65536 for it in lanes] for n, lanes in wanted.items()}, f"of {given}"

@@ -18,7 +18,7 @@ from typing import Any, Callable, Dict, List, NamedTuple, Optional, Sequence, Se
 import pytest
 
 from lib import TOP
-from lib.numbers import clamped, edged, fixed, halves, packed, signed
+from lib.fixed_point import clamp, join_halves, pack_halves, random_half, read_halves, to_signed
 from lib.pages import page
 
 ROUNDS = 25
@@ -59,7 +59,7 @@ class Wanted(NamedTuple):
 def random_state(choose: Random) -> State:
     scalars = [0] + [choose.randrange(1 << 32) for _ in range(31)]
     dmem, rdram = bytearray(choose.randbytes(4096)), choose.randbytes(RDRAM)
-    return State(dmem, rdram, scalars, [[edged(choose) for _ in range(8)] for _ in range(32)])
+    return State(dmem, rdram, scalars, [[random_half(choose) for _ in range(8)] for _ in range(32)])
 
 
 def load_lines(content: bytes) -> List[str]:
@@ -72,7 +72,7 @@ def script_of(name: str, state: State) -> List[str]:
     for n in range(1, 32):
         setting += [f"lui ${n}, {state.scalars[n] >> 16}", f"ori ${n}, ${n}, {state.scalars[n] % 65536}"]
     routine = [line.split("#")[0].strip() for line in page(f"microcode/{name}.s").splitlines()]
-    lines = [*load_lines(b"".join(map(packed, state.vectors))), "asm 0", *setting, "break", "end"]
+    lines = [*load_lines(b"".join(map(pack_halves, state.vectors))), "asm 0", *setting, "break", "end"]
     lines += [f"asm {HERE}", *routine, "break", "end", "run 1000", *load_lines(state.dmem)]
     lines += [f"pc {HERE}", "write 4 1", "run 100000", "regs", "vregs"]
     return [*lines, *(f"mem dmem {at} 256" for at in range(0, 4096, 256)), ""]
@@ -85,7 +85,7 @@ def run(rsp: Any, image: Path, name: str, state: State) -> Tuple[State, int]:
     assert (ran.status, ran.errors) == (0, b"")
     said = ran.output.decode().splitlines()
     dmem = bytearray.fromhex("".join(line.split(": ")[1] for line in said[-256:]))
-    vectors = [[signed(int(lane, 16)) for lane in line.split()[1:]] for line in said[-288:-256]]
+    vectors = [[to_signed(int(lane, 16)) for lane in line.split()[1:]] for line in said[-288:-256]]
     scalars = [int(word, 16) for line in said[-296:-288] for word in line.split()[1:]]
     stop, why, _, steps, *_ = said[-298].split()
     assert (stop, why) == ("stop", "Halted")
@@ -178,13 +178,13 @@ def clip(choose: Random, state: State) -> Wanted:
     """The codes are a number in $1, which the head says is VCC with bit 15 repeated above."""
     for lane in range(8):
         if choose.randrange(2):  # near w or -w
-            w = fixed(state.vectors[3], state.vectors[4])[lane]
+            w = join_halves(state.vectors[3], state.vectors[4])[lane]
             x = choose.choice((w, -w, w - 1, 1 - w, w + 1, -w - 1))
-            state.vectors[1][lane], state.vectors[2][lane] = signed(x >> 16), signed(x)
+            state.vectors[1][lane], state.vectors[2][lane] = to_signed(x >> 16), to_signed(x)
     codes = 0
-    for lane, (x, w) in enumerate(zip(fixed(*state.vectors[1:3]), fixed(*state.vectors[3:5]))):
+    for lane, (x, w) in enumerate(zip(join_halves(*state.vectors[1:3]), join_halves(*state.vectors[3:5]))):
         codes |= (x <= -w and (x, w) != (0, 0)) << lane | (x >= w) << 8 + lane
-    return Wanted(scalars={1: signed(codes) % (1 << 32)})
+    return Wanted(scalars={1: to_signed(codes) % (1 << 32)})
 
 
 def copy(choose: Random, state: State) -> Wanted:
@@ -198,12 +198,12 @@ def fill(choose: Random, state: State) -> Wanted:
     count = counted(choose)
     to, _ = areas(choose, count, 0)
     state.scalars[3], state.scalars[4] = to, count
-    return Wanted(count, memory={to: bytes(packed(state.vectors[1])[i % 16] for i in range(count))})
+    return Wanted(count, memory={to: bytes(pack_halves(state.vectors[1])[i % 16] for i in range(count))})
 
 
 def pairs_at(state: State, first: int, second: int, count: int) -> List[Tuple[int, int]]:
     """The samples of two sources of so many bytes."""
-    return list(zip(halves(state.dmem, first, count // 2), halves(state.dmem, second, count // 2)))
+    return list(zip(read_halves(state.dmem, first, count // 2), read_halves(state.dmem, second, count // 2)))
 
 
 def sources_of_mix(choose: Random, state: State) -> Tuple[int, int, List[Tuple[int, int]]]:
@@ -212,37 +212,41 @@ def sources_of_mix(choose: Random, state: State) -> Tuple[int, int, List[Tuple[i
     to, (first, second) = areas(choose, count, 2)
     state.scalars[1:5] = first, second, to, count
     for at in {first, second}:
-        state.dmem[at : at + count] = packed(edged(choose) for _ in range(count // 2))
+        state.dmem[at : at + count] = pack_halves(random_half(choose) for _ in range(count // 2))
     return count, to, pairs_at(state, first, second, count)
 
 
 def mix(choose: Random, state: State) -> Wanted:
     count, to, samples = sources_of_mix(choose, state)
-    state.vectors[3][1] = choose.choice((1, 1, 0, -1, edged(choose)))
+    state.vectors[3][1] = choose.choice((1, 1, 0, -1, random_half(choose)))
     v, w = state.vectors[3][:2]
-    mixed = [clamped((2 * a * v + 65536 * b * w + 32768) // 65536) for a, b in samples]
-    return Wanted(count, memory={to: packed(mixed)})
+    mixed = [clamp((2 * a * v + 65536 * b * w + 32768) // 65536) for a, b in samples]
+    return Wanted(count, memory={to: pack_halves(mixed)})
 
 
 def mix_ramp(choose: Random, state: State) -> Wanted:
     count, to, samples = sources_of_mix(choose, state)
     if choose.randrange(2):  # small steps, which leave most volumes in their range
         state.vectors[5] = [choose.choice((0, -1, 1, 100)) for _ in range(8)]
-    volumes, steps, w = fixed(*state.vectors[3:5]), fixed(*state.vectors[5:7]), state.vectors[8][0]
+    volumes, steps, w = (
+        join_halves(*state.vectors[3:5]),
+        join_halves(*state.vectors[5:7]),
+        state.vectors[8][0],
+    )
     mixed = []
     for begin in range(0, max(count // 2, 1), 8):
         mixed += [
-            clamped((2 * a * (v // 65536) + 65536 * b * w + 32768) // 65536)
+            clamp((2 * a * (v // 65536) + 65536 * b * w + 32768) // 65536)
             for (a, b), v in zip(samples[begin : begin + 8], volumes)
         ]
         sums = [v + step for v, step in zip(volumes, steps)]
-        volumes = [clamped(it // 65536) * 65536 + it % 65536 for it in sums]
-    return Wanted(count, both(3, 4, volumes), {to: packed(mixed)})
+        volumes = [clamp(it // 65536) * 65536 + it % 65536 for it in sums]
+    return Wanted(count, both(3, 4, volumes), {to: pack_halves(mixed)})
 
 
 def dot(choose: Random, state: State) -> Wanted:
     state.vectors[0], state.vectors[31] = [0] * 8, [1] * 8
-    total = clamped(sum(a * b for a, b in zip(*state.vectors[1:3])), 32)
+    total = clamp(sum(a * b for a, b in zip(*state.vectors[1:3])), 32)
     return Wanted(lanes=both(5, 6, [total] * 8))
 
 
@@ -252,7 +256,7 @@ def dot_buffers(choose: Random, state: State) -> Wanted:
     state.scalars[1], state.scalars[2], state.scalars[4] = first, second, count
     state.vectors[0], state.vectors[31] = [0] * 8, [1] * 8
     total = sum(a * b for a, b in pairs_at(state, first, second, count))
-    return Wanted(count, both(5, 6, [signed(total, 32)] * 8))
+    return Wanted(count, both(5, 6, [to_signed(total, 32)] * 8))
 
 
 def filter_four(choose: Random, state: State) -> Wanted:
@@ -261,23 +265,23 @@ def filter_four(choose: Random, state: State) -> Wanted:
     places = [at for at in range(0, 4096, 16) if at + count <= 4096]
     to = choose.choice([at for at in places if at <= source or source + count + 32 <= at])
     state.scalars[1], state.scalars[3], state.scalars[4] = source, to, count
-    state.dmem[source : source + count + 6] = packed(edged(choose) for _ in range(count // 2 + 3))
-    x = halves(state.dmem, source, count // 2 + 3)
+    state.dmem[source : source + count + 6] = pack_halves(random_half(choose) for _ in range(count // 2 + 3))
+    x = read_halves(state.dmem, source, count // 2 + 3)
     sums = [sum(state.vectors[6][k] * x[i + k] for k in range(4)) for i in range(count // 2)]
-    return Wanted(count, memory={to: packed(clamped((it + 16384) // 32768) for it in sums)})
+    return Wanted(count, memory={to: pack_halves(clamp((it + 16384) // 32768) for it in sums)})
 
 
 def multiply(choose: Random, state: State) -> Wanted:
     state.vectors[0] = [0] * 8
-    pairs = zip(fixed(*state.vectors[1:3]), fixed(*state.vectors[3:5]))
-    return Wanted(lanes=both(9, 10, [clamped(a * b // 65536, 32) for a, b in pairs]))
+    pairs = zip(join_halves(*state.vectors[1:3]), join_halves(*state.vectors[3:5]))
+    return Wanted(lanes=both(9, 10, [clamp(a * b // 65536, 32) for a, b in pairs]))
 
 
 def both(high: int, low: int, numbers: Sequence[int]) -> Dict[int, Dict[int, int]]:
     """The lanes of two registers that hold the halves of numbers."""
     return {
         high: {i: it >> 16 for i, it in enumerate(numbers)},
-        low: {i: signed(it) for i, it in enumerate(numbers)},
+        low: {i: to_signed(it) for i, it in enumerate(numbers)},
     }
 
 
@@ -313,12 +317,12 @@ def number(choose: Random) -> int:
 def reciprocal(choose: Random, state: State) -> Wanted:
     x = number(choose) * choose.choice((1, 1, -1)) - choose.randrange(2)
     state.vectors[0], state.vectors[8][:3] = [0] * 8, [2, 1, -2]
-    state.vectors[1][0], state.vectors[2][0] = x >> 16, signed(x)
+    state.vectors[1][0], state.vectors[2][0] = x >> 16, to_signed(x)
     q = quotient(x, reciprocal_of_positive)
-    rest = clamped(2 * 65536 - 2 * clamped(x * q // 65536, 32), 32)
-    better = clamped(q * rest // 65536, 32)
+    rest = clamp(2 * 65536 - 2 * clamp(x * q // 65536, 32), 32)
+    better = clamp(q * rest // 65536, 32)
     assert not x or abs(better * x - 2**31) <= 65536 + 2 * abs(x), f"the bound fails at {x}"
-    return Wanted(lanes={11: {0: better >> 16}, 12: {0: signed(better)}})
+    return Wanted(lanes={11: {0: better >> 16}, 12: {0: to_signed(better)}})
 
 
 def root_of_positive(x: int) -> int:
@@ -333,13 +337,13 @@ def root_of_positive(x: int) -> int:
 def root(choose: Random, state: State) -> Wanted:
     x = max(0, number(choose) - choose.randrange(2))
     state.vectors[0], state.vectors[8][:4] = [0] * 8, [3, -32768, -2, 512]
-    state.vectors[1][0], state.vectors[2][0] = x >> 16, signed(x)
+    state.vectors[1][0], state.vectors[2][0] = x >> 16, to_signed(x)
     q = quotient(x, root_of_positive)
-    product = clamped(x * q // 65536, 32)
-    rest = clamped(3 * 32768 - 2 * (clamped(product * q // 65536, 32) // 65536), 32)
-    better = clamped(product * rest // 65536, 32) // 128
+    product = clamp(x * q // 65536, 32)
+    rest = clamp(3 * 32768 - 2 * (clamp(product * q // 65536, 32) // 65536), 32)
+    better = clamp(product * rest // 65536, 32) // 128
     assert better**2 <= (65536 + 7) * x and (better + 1) ** 2 >= (65536 - 6) * x, f"the bound fails at {x}"
-    return Wanted(lanes={11: {0: better >> 16}, 12: {0: signed(better)}})
+    return Wanted(lanes={11: {0: better >> 16}, 12: {0: to_signed(better)}})
 
 
 def resample(choose: Random, state: State) -> Wanted:
@@ -351,21 +355,23 @@ def resample(choose: Random, state: State) -> Wanted:
 def transform(choose: Random, state: State) -> Wanted:
     matrix, points, to = (16 * choose.randrange(*it) for it in ((64,), (64, 128), (128, 254)))
     state.scalars[1:4], state.vectors[0] = [matrix, points, to], [0] * 8
-    entries = ((0, 1, -1, choose.randrange(-8192, 8192), edged(choose)) for _ in range(32))
-    state.dmem[matrix : matrix + 64] = packed(choose.choice(it) for it in entries)
-    columns = [fixed(*(halves(state.dmem, matrix + 16 * it) for it in (k, k + 4))) for k in range(4)]
-    numbers = halves(state.dmem, points)
+    entries = ((0, 1, -1, choose.randrange(-8192, 8192), random_half(choose)) for _ in range(32))
+    state.dmem[matrix : matrix + 64] = pack_halves(choose.choice(it) for it in entries)
+    columns = [
+        join_halves(*(read_halves(state.dmem, matrix + 16 * it) for it in (k, k + 4))) for k in range(4)
+    ]
+    numbers = read_halves(state.dmem, points)
     sums = [sum(columns[k][i] * numbers[i // 4 * 4 + k] for k in range(4)) for i in range(8)]
-    sums = [clamped(signed(it, 48), 32) for it in sums]
-    return Wanted(memory={to: packed(it >> 16 for it in sums) + packed(sums)})
+    sums = [clamp(to_signed(it, 48), 32) for it in sums]
+    return Wanted(memory={to: pack_halves(it >> 16 for it in sums) + pack_halves(sums)})
 
 
 def transform_fixed(choose: Random, state: State) -> Wanted:
     state.vectors[0] = [0] * 8
-    columns = [fixed(state.vectors[16 + k], state.vectors[20 + k]) for k in range(4)]
-    numbers = fixed(*state.vectors[9:11])
+    columns = [join_halves(state.vectors[16 + k], state.vectors[20 + k]) for k in range(4)]
+    numbers = join_halves(*state.vectors[9:11])
     sums = [sum(columns[k][i] * numbers[i // 4 * 4 + k] // 65536 for k in range(4)) for i in range(8)]
-    return Wanted(lanes=both(1, 2, [clamped(signed(it, 48), 32) for it in sums]))
+    return Wanted(lanes=both(1, 2, [clamp(to_signed(it, 48), 32) for it in sums]))
 
 
 MADE = (blocks, clip, copy, dot, dot_buffers, fill, mix, mix_ramp, multiply, reciprocal, resample, root)

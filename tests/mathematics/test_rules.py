@@ -12,7 +12,7 @@ from typing import Any, Dict, Iterator, List
 import pytest
 
 from lib.lanes import CLEAR, FLAGS, Flags, accumulators_of, after, case
-from lib.numbers import edged, packed, signed
+from lib.fixed_point import pack_halves, random_half, to_signed
 from lib.pages import blocks, page, tables
 from rsp_conformance import bench
 from rsp_conformance.table import ROWS, word_of
@@ -44,18 +44,18 @@ def flags_of(look: Look, at: int) -> List[bool]:
 def clip_states(choose: Random) -> Iterator[Look]:
     """Operands of which many are equal, opposite or near that, and flags."""
     for _ in range(ROUNDS):
-        a = [edged(choose) for _ in range(8)]
-        b = [choose.choice((it, -it, ~it, it + 1, 1 - it, edged(choose))) for it in a]
+        a = [random_half(choose) for _ in range(8)]
+        b = [choose.choice((it, -it, ~it, it + 1, 1 - it, random_half(choose))) for it in a]
         flags = {it: f"{choose.getrandbits(16):04x}" for it in ("vco", "vcc")}
         flags["vce"] = f"{choose.getrandbits(8):02x}"
-        yield {**bench.DEFAULT, **flags, "v1": packed(a).hex(), "v2": packed(b).hex()}
+        yield {**bench.DEFAULT, **flags, "v1": pack_halves(a).hex(), "v2": pack_halves(b).hex()}
 
 
 def divided(x: int) -> Look:
     """The state in which a long divide takes x, 32 bits: DIV_IN and lane 0 of $v2."""
     high = f"{x >> 16 & 0xFFFF:04x}"
     loaded = {"in": high, "loaded": "1", "divided": f"{high}0000"}
-    return {**bench.DEFAULT, **loaded, "v2": packed([x] + [0] * 7).hex()}
+    return {**bench.DEFAULT, **loaded, "v2": pack_halves([x] + [0] * 7).hex()}
 
 
 @pytest.mark.parametrize("name", ["vch", "vcl", "vcr"])
@@ -66,7 +66,7 @@ def test_clip(name: str, program: Path) -> None:
         before, after = look["before"], look["after"]
         for at in range(8):
             a, b = lane(before, "v1", at), lane(before, "v2", at)
-            given = (a, b, *flags_of(before, at)) if name == "vcl" else (signed(a), signed(b))
+            given = (a, b, *flags_of(before, at)) if name == "vcl" else (to_signed(a), to_signed(b))
             result, *flags = rule(*given)
             assert (lane(after, "v3", at), flags_of(after, at)) == (result % 65536, flags), f"of {given}"
 
@@ -75,16 +75,16 @@ def test_clip(name: str, program: Path) -> None:
 def test_mpeg(name: str, program: Path) -> None:
     rule, choose = page_rules()[name], Random(name)
     for _ in range(ROUNDS):
-        a, b = ([edged(choose) for _ in range(8)] for _ in range(2))
-        middles = [choose.choice((edged(choose), choose.randrange(-70, 70))) for _ in range(8)]
-        highs = [choose.choice((0, -1, it >> 15, edged(choose))) for it in middles]
+        a, b = ([random_half(choose) for _ in range(8)] for _ in range(2))
+        middles = [choose.choice((random_half(choose), choose.randrange(-70, 70))) for _ in range(8)]
+        highs = [choose.choice((0, -1, it >> 15, random_half(choose))) for it in middles]
         accs = [
             (high % 65536 << 32) + (middle % 65536 << 16) + choose.getrandbits(16)
             for high, middle in zip(highs, middles)
         ]
         (look,) = after(str(program), [case(name, a, b, accs)])
         for at, acc in enumerate(accumulators_of(look)):
-            given = (signed(a[at]), signed(b[at])) if name == "vmulq" else (signed(accs[at], 48),)
+            given = (to_signed(a[at]), to_signed(b[at])) if name == "vmulq" else (to_signed(accs[at], 48),)
             wanted, result = rule(*given)
             found = (acc % 2**48, lane(look, "v3", at))
             assert found == (wanted % 2**48, result % 65536), f"of {given}"
@@ -94,7 +94,7 @@ def test_mpeg(name: str, program: Path) -> None:
 def test_divide(name: str, program: Path) -> None:
     row, answer, choose = ROWS[name], page_rules()["answer"], Random(name)
     sizes = [choose.getrandbits(choose.randrange(1, 33)) for _ in range(300)]
-    numbers = [signed(it, 32) for it in (*sizes, 0, 1, -1, -32768, -32769, 2**31 - 1, -(2**31))]
+    numbers = [to_signed(it, 32) for it in (*sizes, 0, 1, -1, -32768, -32769, 2**31 - 1, -(2**31))]
     cases = [(row, word_of(row, FIELDS), divided(it)) for it in numbers]
     for x, look in zip(numbers, bench.observe(str(program), cases)):
         left = int(look["after"]["out"], 16) << 16 | lane(look["after"], "v3", 0)

@@ -3,9 +3,9 @@
 They fail if one isn't proved as it is written, or a text that it can't take doesn't get its sentence. The
 program rsp assembles the texts. tools/theorem runs in a temporary copy of the crates: on straight code with
 an instruction of each kind, on loops, on waits, on routines that return, and on the examples of
-docs/PROVING.md and docs/PROVING_REFERENCE.md. One `rt check` then has to prove both functions of each. It
-also has to prove what the pages state of the first example, of the loop and of the clip codes, after the
-edits that they say. Every instruction of the table is known.
+docs/PROVING.md. One `rt check` then has to prove both functions of each. It also has to prove what the page
+states of the first example and of the loop, after the edits that it says. Every instruction of the table is
+known.
 """
 
 import os
@@ -29,13 +29,13 @@ from rsp_tools.theorem.routine import module_of
 LONGEST = 1500  # seconds of a check
 pytestmark = [pytest.mark.xdist_group("theorems"), pytest.mark.timeout(LONGEST + 300)]
 NEEDS_RT = pytest.mark.needs("rt")
-PAGE, MORE = "docs/PROVING.md", "docs/PROVING_REFERENCE.md"
+PAGE = "docs/PROVING.md"
 COPIED = ("HANDLES", "crates.txt", "crates", "tools", "conformance/rsp_conformance")
 LOOPS = "down_to_zero down_by_eight up_to_end with_loop sets_count".split()
 WAITS = "signal_wait cleared_signal after_transfer".split()
 NAMES = ["straight_code", "codes_of_points", "called_routine", *LOOPS, *WAITS]
 TEXTS = {it: page(f"tests/mathematics/theorems/{it}.s") for it in NAMES}
-PAGE_LABELS = [f"docs/PROVING.md's {it}" for it in ("example", "loop", "clip codes", "loaded codes", "wait")]
+PAGE_LABELS = [f"docs/PROVING.md's {it}" for it in ("example", "loop", "wait")]
 LABELS = (*TEXTS, *PAGE_LABELS)
 # A name, a text, and a part of the sentence that refuses them.
 REFUSED = (
@@ -122,29 +122,6 @@ class Copy:
         proof.write_text(f"{kept}\n{lines}")
         return name, begun
 
-    def follow_codes(self, is_loaded: bool = False) -> Tuple[str, "Ended[str]"]:
-        """Does to the theorem of the page's clip codes what the page says, of numbers in registers or in
-        DMEM.
-        """
-        section = section_of("Clip codes", MORE)
-        name = search(r"`tools/theorem (\w+) codes\.s`", section)[1]
-        text, fields, number, lines, loaded, more = blocks_of(section)
-        if is_loaded:
-            name = f"loaded_{name}"
-            loads = re.findall(r"`(lqv .*?)`", section)
-            assert len(loads) == 2
-            text = "".join(f"{it}\n" for it in loads) + text
-            number = number.splitlines(keepends=True)[0] + loaded
-            lines = more + "".join(lines.splitlines(keepends=True)[2:])
-            lines = lines.replace("(5 ∷ 6 ∷ [])", "(1 ∷ 2 ∷ 5 ∷ 6 ∷ [])")
-        begun, module = self.begin(name, text), module_of(name)
-        spec, proof = self.crate / f"specs/{module}.antt", self.crate / f"proofs/{module}Runs.antt"
-        words = spec.read_text().replace("  -- TODO: the result\n", indent(fields, "  "))
-        spec.write_text(re.sub(r"(?m)^(-- what the \d steps from s to t do)$", rf"{number}\n\1", words))
-        kept = proof.read_text().rstrip("\n").rpartition("\n")[0]
-        proof.write_text(f"{kept}\n{indent(lines, '    ')}")
-        return name, begun
-
     def follow_wait(self) -> Tuple[str, "Ended[str]"]:
         """Begins the theorem of the page's wait, whose premise is the one that the page shows."""
         section = section_of("Waits")
@@ -171,8 +148,8 @@ class Copy:
         return name, begun
 
 
-def section_of(heading: str, name: str = PAGE) -> str:
-    return search(rf"(?ms)^## {heading}\n(.*?)^## ", page(name))[1]
+def section_of(heading: str) -> str:
+    return search(rf"(?ms)^## {heading}\n(.*?)^## ", page(PAGE))[1]
 
 
 def search(pattern: str, text: str) -> "re.Match[str]":
@@ -200,8 +177,7 @@ class Proofs(NamedTuple):
 @pytest.fixture(scope="module")
 def proofs(copy: Copy) -> Proofs:
     pairs = [(name, copy.begin(name, text)) for name, text in TEXTS.items()]
-    pairs += [copy.follow_example(), copy.follow_loop(), copy.follow_codes(), copy.follow_codes(True)]
-    pairs += [copy.follow_wait()]
+    pairs += [copy.follow_example(), copy.follow_loop(), copy.follow_wait()]
     return Proofs(dict(zip(LABELS, pairs)), copy.check(name for name, _ in pairs))
 
 

@@ -10,7 +10,7 @@ import pytest
 
 from lib import TOP
 from lib.pages import page
-from lib.plugin import FLAGS, HEADERS, HERE, Bench, begun
+from lib.plugin import FLAGS, HEADERS, HERE, Bench, start_lines
 from lib.processes import compiled, run, succeeds
 from lib.sanitizers import sanitizers
 from lib.z64 import REGISTERS
@@ -29,79 +29,80 @@ CONSTANTS = {
 FILES = ("m64p_types.h", "m64p_common.h", "m64p_plugin.h", "mupen64plus.h", "stddef.h")
 
 
-def replies_of(command: str, told: str) -> List[str]:
+def replies_of(command: str, text: str) -> List[str]:
     """The lines that a command of a script is answered by."""
     if command != "registers":
-        return [it for it in told.split(" / ") if it]
-    values = dict(it.split("=") for it in told.split())
+        return [line for line in text.split(" / ") if line]
+    values = dict(item.split("=") for item in text.split())
     return [f"{name} {values.get(name, ''):0>8}" for name in REGISTERS]
 
 
 def script(text: str) -> Any:
-    """A test's lines for the driver and what it must print, from a script of calls/calls.txt."""
+    """A test's lines for the driver and their replies, from a script of calls/calls.txt."""
     lines, replies = [], []
-    name, *commands = [it for it in text.splitlines() if not it.strip().startswith("#")]
+    name, *commands = [line for line in text.splitlines() if not line.strip().startswith("#")]
     for line in commands:
-        command, _, told = (it.strip() for it in line.partition("|"))
+        command, _, expected = (part.strip() for part in line.partition("|"))
         times, _, repeated = command.rpartition(" times ")
         first, _, option = command.partition(" ")
         if first == "task":
-            lines += begun(*filter(None, [option]))
+            lines += start_lines(*filter(None, [option]))
             replies.append("start 0")
         else:
             lines += [repeated] * int(times or 1)
-            replies += replies_of(command, told) * int(times or 1)
+            replies += replies_of(command, expected) * int(times or 1)
     return pytest.param(lines, replies, id=name)
 
 
-SCRIPTS = [script(it) for it in (HERE / "calls/calls.txt").read_text().split("\n\n")[1:]]
+SCRIPTS = [script(text) for text in (HERE / "calls/calls.txt").read_text().split("\n\n")[1:]]
 
 
-def filled(bench: Bench, lines: List[str]) -> List[str]:
+def fill(bench: Bench, lines: List[str]) -> List[str]:
     """Lines with words in place of <NAME> of microcode, and of <TEXT>."""
-    return [re.sub("<(.+?)>", lambda it: bench.words_of(str(it[1])), line) for line in lines]
+    return [re.sub("<(.+?)>", lambda match: bench.words_of(str(match[1])), line) for line in lines]
+
+
+def all_scripts(bench: Bench) -> List[str]:
+    """The lines of all scripts, one ROM after the other."""
+    return [line for it in SCRIPTS for line in (*fill(bench, it.values[0]), "close", "shutdown")]
 
 
 @pytest.mark.parametrize("lines, replies", SCRIPTS)
 def test_calls(lines: List[str], replies: List[str], bench: Bench) -> None:
-    assert bench.drive(filled(bench, lines)) == filled(bench, replies)
+    assert bench.drive(fill(bench, lines)) == fill(bench, replies)
 
 
 @pytest.mark.needs("valgrind")
 def test_under_valgrind(bench: Bench) -> None:
-    """All scripts in one run of the driver, one ROM after the other."""
-    lines = [line for it in SCRIPTS for line in (*filled(bench, it.values[0]), "close", "shutdown")]
-    got = bench.drive(lines, under=("valgrind", "-q", "--leak-check=full", "--error-exitcode=9"))
-    assert len(got) > 100
-    assert not [it for it in got if "==" in it or it.startswith("status")]
+    under = ("valgrind", "-q", "--leak-check=full", "--error-exitcode=9")
+    lines = bench.drive(all_scripts(bench), under=under)
+    assert len(lines) > 100 and not [line for line in lines if "==" in line or line.startswith("status")]
 
 
 def test_under_sanitizers(bench: Bench, folder: Path) -> None:
-    """All scripts again, one ROM after the other, by a plugin and a driver that gcc's sanitizers watch."""
-    words = sanitizers()
-    if not words:
+    """The plugin and the driver are watched by gcc's sanitizers."""
+    if not sanitizers():
         pytest.skip("the sanitizers of gcc don't run here")
-    env = {**os.environ, "CFLAGS": " ".join(("-Werror", *words))}
+    env = {**os.environ, "CFLAGS": " ".join(("-Werror", *sanitizers()))}
     succeeds(TOP / "plugin/build", folder / "plugin.so", env=env)
-    driver = compiled(folder / "driver", *FLAGS, *words, "-rdynamic", HERE / "driver.c", "-ldl", "-lpthread")
-    lines = [line for it in SCRIPTS for line in (*filled(bench, it.values[0]), "close", "shutdown")]
-    got = run(driver, folder / "plugin.so", input="".join(f"{it}\n" for it in lines), cwd=folder)
-    assert got.returncode == 0 and got.stdout.count("\n") > 100, got.stdout[-3000:]
+    options = (*FLAGS, *sanitizers(), "-rdynamic")
+    driver = compiled(folder / "driver", *options, HERE / "driver.c", "-ldl", "-lpthread")
+    ended = run(driver, folder / "plugin.so", input="\n".join([*all_scripts(bench), ""]), cwd=folder)
+    assert ended.returncode == 0 and ended.stdout.count("\n") > 100, ended.stdout[-3000:]
 
 
 @pytest.mark.parametrize(
-    "words, status, said",
+    "words, status, expected",
     [
         ("", 1, "plugin/build: library/c/libbrsp.a isn't there: run library/c/build first\n"),
         ("--what", 2, "plugin/build [OUT]: makes"),
         ("--help", 0, "plugin/build [OUT]: makes"),
     ],
 )
-def test_build_without_library(words: str, status: int, said: str, folder: Path) -> None:
-    """Without the library, and with words that it doesn't know."""
+def test_build_without_library(words: str, status: int, expected: str, folder: Path) -> None:
     shutil.copytree(TOP / "plugin", folder / "plugin", ignore=shutil.ignore_patterns("*.so"))
-    got = run(folder / "plugin/build", *words.split())
-    assert (got.returncode, got.stdout[: len(said)]) == (status, said)
+    ended = run(folder / "plugin/build", *words.split())
+    assert (ended.returncode, ended.stdout[: len(expected)]) == (status, expected)
 
 
 @pytest.mark.needs(str(HEADERS))

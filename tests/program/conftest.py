@@ -80,4 +80,4 @@ def pytest_collection_modifyitems(config: pytest.Config, items: List[Any]) -> No
     if system == "windows-x86_64":
         # Windows has no permissions of this kind.
         for module in {it.module for it in items if hasattr(it.module, "Trial")}:
-            module.Trial.mode = lambda trial, *_: trial
+            module.Trial.assert_mode = lambda trial, *_: trial

@@ -28,7 +28,7 @@ from typing import List, Sequence, Set, Tuple
 
 import pytest
 
-from lib.processes import bytes_of, run
+from lib.processes import run, run_bytes
 from rsp_conformance.table import ROWS, destination, word_of
 
 pytestmark = [pytest.mark.outside("it compares with another program, QEMU"), pytest.mark.needs("qemu-mips")]
@@ -186,7 +186,7 @@ def run_qemu(block: Block, folder: Path) -> Outcome:
     file = folder / "block"
     file.write_bytes(elf_of(block))
     file.chmod(0o700)
-    ran = bytes_of("qemu-mips", [file])
+    ran = run_bytes("qemu-mips", [file])
     assert (ran.returncode, len(ran.stdout)) == (0, SAVED + 128), (block.seed, ran.stderr)
     return struct.unpack(">32I", ran.stdout[SAVED:]), ran.stdout[:4096]
 

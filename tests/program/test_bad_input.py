@@ -1,8 +1,8 @@
 """Hostile scripts, texts, files and streams.
 
-They fail if random code isn't run, disassembled and assembled back, if a script that breaks off at a byte
-isn't answered as far as it goes, if a byte, an image or a file's name isn't refused as SCRIPT and FAULTS say,
-or if streams that are closed and files without end are answered otherwise.
+Random code is run, disassembled and assembled back; a script that breaks off at a byte is answered as far as
+it goes; bytes, images and names of files are refused as SCRIPT and FAULTS say; closed streams and files
+without end get their faults.
 """
 
 import os
@@ -27,12 +27,12 @@ TOO_LONG = b"rsp: fault 42 ScriptTooLong\n"
 
 def random_images(seed: int, count: int) -> Iterator[bytes]:
     """Random contents of IMEM: half of any words, half of words whose opcodes the machine knows."""
-    chance = random.Random(seed)
+    numbers = random.Random(seed)
     opcodes = [0, 1, 2, 3, 4, 5, 8, 13, 15, 16, 18, 18, 18, 32, 35, 40, 43, 50, 58]
     for number in range(count):
-        words = [chance.getrandbits(32) for _ in range(1024)]
+        words = [numbers.getrandbits(32) for _ in range(1024)]
         if number % 2:
-            words = [chance.choice(opcodes) << 26 | word & 0x3FFFFFF for word in words]
+            words = [numbers.choice(opcodes) << 26 | word & 0x3FFFFFF for word in words]
         yield b"".join(word.to_bytes(4, "big") for word in words)
 
 
@@ -43,9 +43,9 @@ def test_random_code_is_run(seed: int, rsp: Any) -> None:
     for image in random_images(seed, 64):
         lines += [f"load imem {at} {image[at : at + 64].hex()}" for at in range(0, len(image), 64)]
         lines += ["pc 0", "write 4 1", "run 10000"]
-    ran = rsp("run", script="\n".join([*lines, ""]).encode())
-    assert (ran.status, ran.errors) == (0, b"")
-    stops = [STOP.fullmatch(it) for it in ran.output.splitlines() if it.startswith(b"stop")]
+    result = rsp("run", script="\n".join([*lines, ""]).encode())
+    assert (result.status, result.errors) == (0, b"")
+    stops = [STOP.fullmatch(line) for line in result.output.splitlines() if line.startswith(b"stop")]
     assert len(stops) == 64 and all(stop and int(stop[2]) <= 10000 for stop in stops)
 
 
@@ -53,15 +53,15 @@ def test_random_code_is_run(seed: int, rsp: Any) -> None:
 def test_random_words_come_back(seed: int, rsp: Any, folder: Path) -> None:
     for image in random_images(seed, 64):
         (folder / "image").write_bytes(image)
-        listed = rsp("dis", "image")
-        assert (listed.status, listed.errors) == (0, b"")
-        (folder / "source").write_bytes(listed.output)
+        listing = rsp("dis", "image")
+        assert (listing.status, listing.errors) == (0, b"")
+        (folder / "source").write_bytes(listing.output)
         assert rsp("asm", "source", "words") == (0, b"ok 1024 words\n", b"")
         assert content(folder / "words") == image
 
 
-# What a last line is answered that breaks off inside a number and is a command all the same: the script, the
-# line's place in it and its text. The replies were worked by hand.
+# The replies to last lines that break off inside a number and are commands all the same: by the script, the
+# index of the line and its text. They were worked out by hand.
 SHORTER_NUMBERS = {
     ("blocks/block", 6, b"mem imem 0 1"): b"000000: 24\n",
     ("runs/watch", 2, b"run 1"): b"stop Limit steps 1 pc 004\n",
@@ -76,9 +76,9 @@ SHORTER_NUMBERS = {
 
 
 def cut_reply(name: str, place: int, cut: bytes, line: bytes) -> bytes:
-    """What the first bytes of a line outside of a block are answered.
+    """The reply to the first bytes of a line outside of a block.
 
-    BadCommand until all its words have begun, and then, for the bytes that a load ends with, BadNumber at an
+    It is BadCommand until all words have begun, and then, for the bytes at the end of a load, BadNumber at an
     odd number of digits. Other last words are in SHORTER_NUMBERS.
     """
     if not cut or (name, place, cut) in SHORTER_NUMBERS:
@@ -90,11 +90,11 @@ def cut_reply(name: str, place: int, cut: bytes, line: bytes) -> bytes:
 
 
 def prefix_replies(name: str, script: bytes, replies: bytes, length: int) -> bytes:
-    """What the first bytes of a script must print.
+    """The replies to the first bytes of a script.
 
-    Each of its lines outside of a block, but for `asm`, has one stored reply, and so has the `end` of a
-    block. Lines that are whole, the last one with or without LF, keep theirs. A block that is open at the
-    end, with K lines, is answered `fault 10 BadLine line K+1`; a cut line is one of them.
+    Each of its lines outside of a block, except `asm`, has one stored reply, and so has the `end` of a block.
+    Whole lines, the last one with or without LF, keep their replies. A block that is open at the end, with K
+    lines, gets `fault 10 BadLine line K+1`; a cut line is one of them.
     """
     lines = script.split(b"\n")
     *whole, cut = script[:length].split(b"\n")
@@ -109,10 +109,10 @@ def prefix_replies(name: str, script: bytes, replies: bytes, length: int) -> byt
             block += 1
         else:
             answered, block = answered + 1, None
-    told = b"".join(replies.splitlines(keepends=True)[:answered])
+    whole_replies = b"".join(replies.splitlines(keepends=True)[:answered])
     if block is not None:
-        return told + b"fault 10 BadLine line %d\n" % (block + bool(cut) + 1)
-    return told + cut_reply(name, len(whole), cut, lines[len(whole)] if cut else b"")
+        return whole_replies + b"fault 10 BadLine line %d\n" % (block + bool(cut) + 1)
+    return whole_replies + cut_reply(name, len(whole), cut, lines[len(whole)] if cut else b"")
 
 
 @pytest.mark.parametrize("name", ("blocks/block", "runs/watch", "registers/task-run"))
@@ -121,8 +121,8 @@ def test_prefixes(name: str, rsp: Any, folder: Path) -> None:
     stored = Stored(SCRIPTS / f"{name}.script")
     words, script, replies = stored.words(folder), stored.script, stored.wanted.output
     for length in range(len(script) + 1):
-        ran = rsp(*words, script=script[:length])
-        assert ran == (0, prefix_replies(name, script, replies, length), b""), f"the first {length} bytes"
+        result = rsp(*words, script=script[:length])
+        assert result == (0, prefix_replies(name, script, replies, length), b""), f"the first {length} bytes"
 
 
 # Bytes and encodings.
@@ -148,12 +148,12 @@ def test_bytes_of_a_script(script: bytes, replies: bytes, rsp: Any) -> None:
 
 def test_each_byte(rsp: Any) -> None:
     """In a comment and in a block a tab and 20 to 7e are text, and a CR before LF is dropped."""
-    others = [it for it in range(256) if it != 0x0A]
-    script = b"".join(b"#%c\nasm 0\n#%c\nend\n" % (it, it) for it in others)
-    is_text = [it in (0x09, 0x0D) or 0x20 <= it <= 0x7E for it in others]
+    others = [byte for byte in range(256) if byte != 0x0A]
+    script = b"".join(b"#%c\nasm 0\n#%c\nend\n" % (byte, byte) for byte in others)
     refused = NOT_TEXT + b"fault 10 BadLine line 1\n"
-    told = [b"ok 0 words\n" if it else refused for it in is_text]
-    assert rsp("run", script=script) == (0, b"".join(told), b"")
+    are_text = (byte in (0x09, 0x0D) or 0x20 <= byte <= 0x7E for byte in others)
+    replies = [b"ok 0 words\n" if is_text else refused for is_text in are_text]
+    assert rsp("run", script=script) == (0, b"".join(replies), b"")
 
 
 BAD_LINE, NO_UTF_8 = b"10 BadLine line 2", b"33 NotText"
@@ -165,10 +165,10 @@ TEXTS_OF_BYTES = {
 }
 
 
-@pytest.mark.parametrize("it", TEXTS_OF_BYTES, ids=bytes.hex)
-def test_bytes_of_a_text(it: bytes, rsp: Any, folder: Path) -> None:
-    (folder / "source").write_bytes(b"nop\nnop # " + it + b"\nfoo\n")
-    assert rsp("asm", "source", "words") == (1, b"", b"rsp: fault " + TEXTS_OF_BYTES[it] + b"\n")
+@pytest.mark.parametrize("text", TEXTS_OF_BYTES, ids=bytes.hex)
+def test_bytes_of_a_text(text: bytes, rsp: Any, folder: Path) -> None:
+    (folder / "source").write_bytes(b"nop\nnop # " + text + b"\nfoo\n")
+    assert rsp("asm", "source", "words") == (1, b"", b"rsp: fault " + TEXTS_OF_BYTES[text] + b"\n")
     assert content(folder / "words") is None
 
 
@@ -178,16 +178,13 @@ def test_bytes_of_a_text(it: bytes, rsp: Any, folder: Path) -> None:
 @pytest.mark.parametrize("length", (0, 8, 56, 63, 65, 8388607))
 def test_image_of_a_wrong_size(length: int, rsp: Any, folder: Path) -> None:
     (folder / "image").write_bytes(bytes(length))
-    ran = rsp("run", "--rdram", "image", "--save", "saved", script=b"step\n")
-    assert ran == (1, b"", b"rsp: fault 7 SizeFault\n") and content(folder / "saved") is None
+    result = rsp("run", "--rdram", "image", "--save", "saved", script=b"step\n")
+    assert result == (1, b"", b"rsp: fault 7 SizeFault\n") and content(folder / "saved") is None
 
 
 LONG, DEEP = "n" * 256, "n/" * 2100 + "n"  # longer than a name and a path may be
-# Commands with a name that no file can have, or that is taken otherwise, and the name. `source` is a file.
-READS, WRITES = (
-    "run --rdram {}|dis {}|asm {} words",
-    "run --save {}|asm source {}",
-)
+# Commands with a name that no file can have, or that is an option's, and the names. `source` is a file.
+READS, WRITES = "run --rdram {}|dis {}|asm {} words", "run --save {}|asm source {}"
 NO_FILES = {
     READS: ("-", ".", "..", "source/", "source/x", LONG, DEEP),
     WRITES: (".", "..", "source/", "source/x", "new/", LONG, DEEP),
@@ -202,9 +199,9 @@ NO_FILES = {
 )
 def test_name_of_no_file(line: str, name: str, rsp: Any, folder: Path) -> None:
     (folder / "source").write_bytes(b"nop\n")
-    ran = rsp(*(it.format(name) for it in line.split()))
+    result = rsp(*(word.format(name) for word in line.split()))
     verb = "write" if line in WRITES else "read"
-    assert ran == (1, b"", f"rsp: cannot {verb} {name}\n".encode())
+    assert result == (1, b"", f"rsp: cannot {verb} {name}\n".encode())
     assert [*os.listdir(folder)] == ["source"] and content(folder / "source") == b"nop\n"
 
 
@@ -222,9 +219,9 @@ def test_named_pipe(words: str, rsp: Any, folder: Path) -> None:
     os.mkfifo(pipe)
     sender = threading.Thread(target=lambda: pipe.write_bytes(b"nop\n" * 16), daemon=True)
     sender.start()
-    ran = rsp(*words.split(), script=b"mem rdram 60 4\nmem rdram 64 1\n")
+    result = rsp(*words.split(), script=b"mem rdram 60 4\nmem rdram 64 1\n")
     sender.join(20)
-    assert ran == (0, OF_A_PIPE[words], b"")
+    assert result == (0, OF_A_PIPE[words], b"")
 
 
 # Which stream is closed, the command, and how it ends.
@@ -238,13 +235,12 @@ CLOSED = {
 }
 
 
-@pytest.mark.parametrize("stream, words, ended", CLOSED.values(), ids=CLOSED)
-def test_closed_stream(stream: int, words: str, ended: Any, rsp: Any, folder: Path) -> None:
-    """No file that is opened takes the closed stream's place: none gets replies or messages."""
+@pytest.mark.parametrize("stream, words, expected", CLOSED.values(), ids=CLOSED)
+def test_closed_stream(stream: int, words: str, expected: Any, rsp: Any, folder: Path) -> None:
+    """No file that is opened takes the closed stream's number, so that none gets replies or messages."""
     (folder / "image").write_bytes(bytes(range(64)))
     (folder / "source").write_bytes(b"nop\n")
-    ran = rsp(*words.split(), script=b"step\n", preexec_fn=lambda: os.close(stream))
-    assert ran == ended
+    assert rsp(*words.split(), script=b"step\n", preexec_fn=lambda: os.close(stream)) == expected
     assert content(folder / "image") == bytes(range(64)) and content(folder / "source") == b"nop\n"
     assert content(folder / "words") == (bytes(4) if "asm" in words else None)
 
@@ -254,26 +250,26 @@ PIPES: Dict[str, Any] = {"stdin": subprocess.PIPE, "stdout": subprocess.PIPE, "s
 
 @pytest.mark.timeout(50)
 def test_pipe_that_stays_open(program: Path) -> None:
-    """It is answered at once."""
-    with subprocess.Popen([program, "run"], **PIPES) as ran:
-        assert ran.stdin and ran.stdout
-        ran.stdin.write(b"step\n")
-        ran.stdin.flush()
-        is_answered = select.select([ran.stdout], [], [], 20)[0]
-        ran.stdin.close()
-        assert is_answered and ran.stdout.readline() == b"step Done pc 004\n"
-        assert ran.wait(20) == 0
+    """A line is answered at once."""
+    with subprocess.Popen([program, "run"], **PIPES) as process:
+        assert process.stdin and process.stdout
+        process.stdin.write(b"step\n")
+        process.stdin.flush()
+        is_answered = select.select([process.stdout], [], [], 20)[0]
+        process.stdin.close()
+        assert is_answered and process.stdout.readline() == b"step Done pc 004\n"
+        assert process.wait(20) == 0
 
 
 @pytest.mark.timeout(50)
 def test_output_is_closed_early(program: Path) -> None:
-    with subprocess.Popen([program, "run"], **PIPES) as ran:
-        assert ran.stdin and ran.stdout and ran.stderr
-        ran.stdout.close()
+    with subprocess.Popen([program, "run"], **PIPES) as process:
+        assert process.stdin and process.stdout and process.stderr
+        process.stdout.close()
         with suppress(BrokenPipeError):
-            ran.stdin.write(b"vregs\n" * 1000)
-            ran.stdin.close()
-        assert (ran.stderr.read(), ran.wait(20)) == (b"rsp: fault 41 WriteFault\n", 1)
+            process.stdin.write(b"vregs\n" * 1000)
+            process.stdin.close()
+        assert (process.stderr.read(), process.wait(20)) == (b"rsp: fault 41 WriteFault\n", 1)
 
 
 # Characters that a terminal would obey, or that would begin another line, and how a message shows them.
@@ -303,11 +299,13 @@ NAMED = {
 @pytest.mark.parametrize("line", NAMED)
 def test_control_characters(line: str, name: str, rsp: Any, folder: Path) -> None:
     (folder / "source").write_bytes(b"nop\n")
-    ran = rsp(*(it.format(name) for it in line.split()))
-    told = ran.errors.decode()
-    assert told.partition("\n")[0] == NAMED[line].format(CONTROLS[name])
-    assert (ran.status, told.count("\n") == 1) == ((1, True) if told.startswith("rsp: ") else (2, False))
-    assert not re.search(r"[\x00-\x09\x0b-\x1f\x7f-\x9f]", told)
+    result = rsp(*(word.format(name) for word in line.split()))
+    errors = result.errors.decode()
+    assert errors.partition("\n")[0] == NAMED[line].format(CONTROLS[name])
+    assert (result.status, errors.count("\n") == 1) == (
+        (1, True) if errors.startswith("rsp: ") else (2, False)
+    )
+    assert not re.search(r"[\x00-\x09\x0b-\x1f\x7f-\x9f]", errors)
 
 
 def test_script_that_never_ends(rsp: Any) -> None:
@@ -319,5 +317,5 @@ def test_script_that_never_ends(rsp: Any) -> None:
 def test_full_disk(words: str, output: bytes, rsp: Any, folder: Path) -> None:
     (folder / "source").write_bytes(b"nop\n")
     full = devices.full(folder)
-    ran = rsp(*words.format(full).split(), script=b"step\n")
-    assert ran == (1, output, f"rsp: cannot write {full}\n".encode())
+    result = rsp(*words.format(full).split(), script=b"step\n")
+    assert result == (1, output, f"rsp: cannot write {full}\n".encode())

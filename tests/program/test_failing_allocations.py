@@ -2,11 +2,10 @@
 
 They fail if an answer isn't the right one, or if the answers don't come in the order of the work.
 
-The program, or a test of the files out_of_memory.rt in rsp_tests_script, rsp_tests_machine and
-rsp_tests_cli, is run again and again: the first time its first allocation fails, the next time its second,
-and so on, until a run has no more of them. The programs are taken as they are: LD_PRELOAD puts the failing
-allocator before the C library's. The crates' tests (`-k crates`) are those that `rt ci`, or `rt test` in a
-crate, has built.
+The program, or a test of the files out_of_memory.rt in rsp_tests_script, rsp_tests_machine and rsp_tests_cli,
+is run again and again: the first time its first allocation fails, the next time its second, and so on, until
+a run has no more of them. LD_PRELOAD puts the failing allocator before the C library's. The crates' tests
+(`-k crates`) are those that `rt ci`, or `rt test` in a crate, has built.
 """
 
 import re
@@ -19,8 +18,7 @@ import pytest
 
 from lib import TOP, failing
 from lib.pages import page
-from lib.processes import bytes_of
-from lib.program import Ran, need_binary
+from lib.program import Result, need_binary, run_program
 from lib.script_cases import SCRIPTS, Stored
 
 pytestmark = pytest.mark.needs("cc")
@@ -32,11 +30,11 @@ BLOCK_REPLIES = b"step Done pc 004\nok 4 words\n000000: 242100011422fffe00000000
 LISTING = b"addiu $1, $1, 1\nbne $1, $2, 0x000\nnop\nbreak\n"
 TASK = Stored(SCRIPTS / "registers/task-run.script")
 
-# What the program says while it reads its command line and its files. One allocation there only saves later
-# ones (for the list of words).
+# The answers while the program reads its command line and its files. One allocation there only saves later
+# ones (for the list of arguments).
 READING = r"(17 after 0;)+whole;(17 after 0;)+"
 
-# What a session says, made and asked line by line.
+# The answers of a session that is made and asked line by line.
 SESSION = (
     r";(no session;)+(no memory for loop: [^;]*;)+(no memory for bne [^;]*;)*(no memory for nop [^;]*;)*"
     r"(no memory for break;)*(no memory for end;)+"
@@ -106,15 +104,15 @@ def calls() -> Iterator[Path]:
 def answers_of(
     calls: Path, words: Sequence[object], script: bytes, output: bytes, written: Optional[Path] = None
 ) -> str:
-    """What the program answers as its allocations fail. `written` is a file that only a whole run writes."""
+    """The program's answers as its allocations fail. `written` is a file that only a whole run writes."""
     answers = ""
     for is_failed, ended in failing.runs(calls, words, script):
-        ran = Ran(ended.returncode, ended.stdout, ended.stderr)
-        is_whole = ran == (0, output, b"")
+        result = Result(ended.returncode, ended.stdout, ended.stderr)
+        is_whole = result == (0, output, b"")
         if not is_whole:
-            fault = re.fullmatch(rb"rsp: fault (17|43) OutOfMemory\n", ran.errors)
-            assert is_failed and fault and ran.status == 1 and output.startswith(ran.output)
-            answers += f"{fault[1].decode()} after {len(ran.output)};"
+            fault = re.fullmatch(rb"rsp: fault (17|43) OutOfMemory\n", result.errors)
+            assert is_failed and fault and result.status == 1 and output.startswith(result.output)
+            answers += f"{fault[1].decode()} after {len(result.output)};"
         elif is_failed:
             answers += "whole;"
         if written:
@@ -160,10 +158,9 @@ def test_small_stack(words: str, script: bytes, output: bytes, binary: Path, fol
     """The size that SECURITY.md says is enough."""
     size = 1024 * int(re.findall(r"`rsp` needs (\d+) KiB", page("SECURITY.md"))[0])
     (folder / "file").write_bytes(TEXT if "asm" in words else CODE)
-    command = [it.format(folder / "file") for it in words.split()]
+    arguments = [word.format(folder / "file") for word in words.split()]
     limit = {"preexec_fn": lambda: resource.setrlimit(resource.RLIMIT_STACK, (size, size))}
-    ended = bytes_of(binary, command, script, **limit)
-    assert (ended.returncode, ended.stdout, ended.stderr) == (0, output, b"")
+    assert run_program(binary, arguments, script, **limit) == (0, output, b"")
 
 
 @pytest.mark.parametrize(
@@ -175,9 +172,9 @@ def test_crates(crate: str, name: str, calls: Path) -> None:
     tests, answers = TOP / f"crates/{crate}/out/{crate}_tests", ""
     if not tests.is_file():
         pytest.skip(f"{crate} has no built tests: `rt ci` builds them, or `rt test` in its folder")
-    for is_failed, ran in failing.runs(calls, [tests, name]):
-        told, mark, _ = ran.stdout.decode().partition("\ntest result: ok")
-        assert (ran.returncode, bool(mark)) == (0, True), (ran.stdout[-200:], ran.stderr[-200:])
-        assert is_failed or not told.strip(), "it prints something though nothing fails"
-        answers += f"{told.strip()};" * is_failed
+    for is_failed, ended in failing.runs(calls, [tests, name]):
+        printed, mark, _ = ended.stdout.decode().partition("\ntest result: ok")
+        assert (ended.returncode, bool(mark)) == (0, True), (ended.stdout[-200:], ended.stderr[-200:])
+        assert is_failed or not printed.strip(), "it prints something though nothing fails"
+        answers += f"{printed.strip()};" * is_failed
     assert re.fullmatch(ANSWERS[crate][name], answers)

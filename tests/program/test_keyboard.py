@@ -1,4 +1,4 @@
-"""What is said to whoever types: the greeting of a terminal, and what `rsp run --explain` says of faults.
+"""What helps those who type: the greeting of a terminal, and what `rsp run --explain` says of faults.
 
 They fail if a terminal isn't greeted, or anything else is; if the greeting lacks a command; if an explanation
 names another line or form than docs/data has; or if standard error that takes nothing changes a run.
@@ -9,54 +9,52 @@ import pty
 import re
 import subprocess
 from pathlib import Path
-from typing import Any, List, Tuple
+from typing import Any, List
 
 import pytest
 
 from lib.pages import block_with, data
-from lib.program import ran
+from lib.program import Result, run_program
 
 STEP, STEPPED = b"step\n", b"step Done pc 004\n"
-COMMANDS = [line["Command"] for line in data("commands")]
+COMMANDS = [row["Command"] for row in data("commands")]
+PIPES = {"stdout": subprocess.PIPE, "stderr": subprocess.PIPE}
 
 
-def typed(program: Path, words: List[str], **streams: Any) -> Tuple[int, bytes, bytes]:
-    """A run in whose terminal `step` and Ctrl-D are typed. The terminal is the streams that aren't given."""
+def type_step(program: Path, *words: str, **streams: Any) -> Result:
+    """Runs the program in a terminal, which is the streams that aren't named; `step` and Ctrl-D are typed."""
     terminal, inside = pty.openpty()
     os.write(terminal, STEP + b"\4")
-    given = {name: streams.get(name, inside) for name in ("stdin", "stdout", "stderr")}
-    ended = subprocess.run([program, *words], timeout=50, **given)
+    streams = {name: streams.get(name, inside) for name in ("stdin", "stdout", "stderr")}
+    result = run_program(program, words, **streams)
     os.close(inside)
     os.close(terminal)
-    return ended.returncode, ended.stdout or b"", ended.stderr or b""
+    return result
 
 
 def test_greeting(program: Path) -> None:
     """A terminal that is standard input gets two lines, with each command's name, and the end by Ctrl-D."""
-    status, output, said = typed(program, ["run"], stdout=subprocess.PIPE, stderr=subprocess.PIPE)
+    status, output, errors = type_step(program, "run", **PIPES)
     assert (status, output) == (0, STEPPED)
-    first, second = said.decode().splitlines()
-    assert {*re.findall(r"\w+", first.partition(":")[2])} == {it.split()[0] for it in COMMANDS}
+    first, second = errors.decode().splitlines()
+    assert {*re.findall(r"\w+", first.partition(":")[2])} == {command.split()[0] for command in COMMANDS}
     assert "Ctrl-D" in second and "--explain" in second
 
 
 def test_no_greeting(program: Path, folder: Path) -> None:
     """No other standard input is greeted, nor a terminal of which no script is read."""
     (folder / "script").write_bytes(STEP)
-    pipes = {"stdout": subprocess.PIPE, "stderr": subprocess.PIPE}
-    assert typed(program, ["run", str(folder / "script")], **pipes) == (0, STEPPED, b"")
+    assert type_step(program, "run", str(folder / "script"), **PIPES) == (0, STEPPED, b"")
     missing = b"rsp: cannot read missing\n"
-    assert typed(program, ["run", "--rdram", "missing"], **pipes) == (1, b"", missing)
+    assert type_step(program, "run", "--rdram", "missing", **PIPES) == (1, b"", missing)
     with open(folder / "script", "rb") as script:
-        status, _, said = typed(program, ["run"], stdin=script, stderr=subprocess.PIPE)
-    assert (status, said) == (0, b"")
-    assert ran(program, ["run"], STEP) == (0, STEPPED, b"")
+        assert type_step(program, "run", stdin=script, stderr=subprocess.PIPE).errors == b""
+    assert run_program(program, ["run"], STEP) == (0, STEPPED, b"")
 
 
 def test_greeting_that_fails(program: Path) -> None:
     with open("/dev/full", "wb") as full:
-        status, output, _ = typed(program, ["run"], stdout=subprocess.PIPE, stderr=full)
-    assert (status, output) == (0, STEPPED)
+        assert type_step(program, "run", stdout=subprocess.PIPE, stderr=full)[:2] == (0, STEPPED)
 
 
 # Lines that are refused, with what is said after the text of the line.
@@ -76,20 +74,19 @@ REFUSED = {
 
 @pytest.mark.parametrize("line", REFUSED)
 def test_refused_command(line: str, rsp: Any) -> None:
-    told = f"line 2: fault 30 BadCommand\n  line: {line}\n  {REFUSED[line]}\n"
-    script = f"step\n{line}\n".encode()
-    assert rsp("run", "--explain", script=script) == (0, STEPPED + b"fault 30 BadCommand\n", told.encode())
+    errors = f"line 2: fault 30 BadCommand\n  line: {line}\n  {REFUSED[line]}\n".encode()
+    result = rsp("run", "--explain", script=f"step\n{line}\n".encode())
+    assert result == (0, STEPPED + b"fault 30 BadCommand\n", errors)
 
 
 @pytest.mark.parametrize("command", [it for it in COMMANDS if "ADDR" in it or it.split()[-1] in "NK"])
 def test_refused_number(command: str, rsp: Any) -> None:
     """Each command that takes a number is explained by its form and its range in the table."""
     line = re.sub(r" [A-Z]+", " x", command.replace("BANK", "dmem"))
-    told = rsp("run", "--explain", script=line.encode()).errors.decode()
-    ranges = {it["Command"].split()[0]: it["Range of its numbers"] for it in data("commands")}
-    name = command.split()[0]
-    wanted = ranges["break"] if name == "unbreak" else ranges[name]
-    assert told.startswith(f"line 1: fault 31 BadNumber\n  line: {line}\n  may be: {command}: {wanted}\n")
+    errors = rsp("run", "--explain", script=line.encode()).errors.decode()
+    ranges = {row["Command"].split()[0]: row["Range of its numbers"] for row in data("commands")}
+    range_ = ranges[command.split()[0].replace("unbreak", "break")]
+    assert errors.startswith(f"line 1: fault 31 BadNumber\n  line: {line}\n  may be: {command}: {range_}\n")
 
 
 FAULTS = [it for it in data("faults") if re.match(r"([456]|2\d) ", it["Fault"]) and it["Example"][0] != "$"]
@@ -99,14 +96,13 @@ FAULTS = [it for it in data("faults") if re.match(r"([456]|2\d) ", it["Fault"]) 
 def test_other_fault(fault: Any, rsp: Any) -> None:
     """It is explained by the words of the table, without the marks of its page."""
     lines = fault["Example"].split(" / ")
-    told = rsp("run", "--explain", script="\n".join(lines).encode()).errors.decode()
+    errors = rsp("run", "--explain", script="\n".join(lines).encode()).errors.decode()
     head = f"line {len(lines)}: fault {fault['Fault']}\n  line: {lines[-1]}\n  because: "
-    assert told.startswith(head) and told.count("\n") == 4
-    plain = [
-        re.sub(r"\[([^]]*)\]\([^)]*\)", r"\1", fault[it]).replace("`", "") for it in ("Cause", "What helps")
-    ]
-    because, help_ = re.findall(r"(?m)^  (?:because|help): (.*)$", told)
-    assert plain[0].endswith(because) and help_ == plain[1]
+    assert errors.startswith(head) and errors.count("\n") == 4
+    cells = (re.sub(r"\[([^]]*)\]\([^)]*\)", r"\1", fault[it]) for it in ("Cause", "What helps"))
+    cause, what_helps = (cell.replace("`", "") for cell in cells)
+    because, help_ = re.findall(r"(?m)^  (?:because|help): (.*)$", errors)
+    assert cause.endswith(because) and help_ == what_helps
 
 
 BLOCKS = b"""step
@@ -149,38 +145,34 @@ def test_blocks(rsp: Any, folder: Path) -> None:
 
 
 def test_more_than_twenty(rsp: Any) -> None:
-    said = rsp("run", "--explain", "--strict", script=b"foo\n" * 23)
-    assert said.status == 1 and said.errors.count(b": fault 30 BadCommand\n  line: foo\n") == 20
+    result = rsp("run", "--explain", "--strict", script=b"foo\n" * 23)
+    assert result.status == 1 and result.errors.count(b": fault 30 BadCommand\n  line: foo\n") == 20
     ending = b".. and 3 more\nrsp: faults in replies: 23, the first in line 1: fault 30 BadCommand\n"
-    assert said.errors.endswith(ending)
+    assert result.errors.endswith(ending)
 
 
 @pytest.mark.parametrize("words", (["run", "--explain"], ["run", "--explain", "--strict"]), ids=" ".join)
 def test_errors_that_fail(words: List[str], rsp: Any) -> None:
     with open("/dev/full", "wb") as full:
-        ended = rsp(*words, script=b"foo\nstep\n", stderr=full)
-    assert ended[:2] == (int("--strict" in words), b"fault 30 BadCommand\n" + STEPPED)
+        result = rsp(*words, script=b"foo\nstep\n", stderr=full)
+    assert result[:2] == (int("--strict" in words), b"fault 30 BadCommand\n" + STEPPED)
 
 
-def test_reply_comes_first(program: Path) -> None:
+def test_reply_comes_first(rsp: Any) -> None:
     """In one file the explanation follows its reply."""
-    words = [str(program), "run", "--explain"]
-    both = subprocess.run(
-        words, input=b"foo\nstep\n", stdout=subprocess.PIPE, stderr=subprocess.STDOUT, check=True
+    lines = (
+        rsp("run", "--explain", script=b"foo\nstep\n", stderr=subprocess.STDOUT).output.decode().splitlines()
     )
-    lines = both.stdout.decode().splitlines()
-    assert (
-        lines[0] == "fault 30 BadCommand"
-        and lines[1].startswith("line 1: ")
-        and lines[-1] == STEPPED.decode().strip()
+    assert (lines[0], lines[1][:8], lines[-1]) == (
+        "fault 30 BadCommand",
+        "line 1: ",
+        STEPPED.decode().strip(),
     )
 
 
 def test_page(program: Path, folder: Path) -> None:
     """The page's command prints the page's lines."""
     command = block_with("docs/SCRIPT.md", "echo 'mem dmem 0x200'")
-    shell = ["sh", "-c", f'rsp() {{ "{program}" "$@"; }}\n{command}']
-    said = subprocess.run(
-        shell, cwd=folder, stdout=subprocess.PIPE, stderr=subprocess.STDOUT, text=True, check=True
-    )
-    assert said.stdout == block_with("docs/SCRIPT.md", "echo 'mem dmem 0x200'", 1)
+    shell = ["-c", f'rsp() {{ "{program}" "$@"; }}\n{command}']
+    result = run_program("sh", shell, cwd=folder, stderr=subprocess.STDOUT)
+    assert result == (0, block_with("docs/SCRIPT.md", "echo 'mem dmem 0x200'", 1).encode(), b"")

@@ -8,7 +8,7 @@ from pathlib import Path
 import pytest
 
 from lib.sanitizers import WITHOUT_LEAKS, sanitizers
-from lib.systems.program import see_lines, see_tests
+from lib.systems.program_checks import check_command_lines, check_by_tests
 from rsp_tools.systems.program import link
 
 pytestmark = pytest.mark.needs("cc")
@@ -22,7 +22,7 @@ def in_c(library: Path, folder: Path) -> Path:
 
 @pytest.mark.timeout(600)
 def test_tests_of_the_proved_program(in_c: Path) -> None:
-    see_tests(in_c, "native", 580)
+    check_by_tests(in_c, "native", 580)
 
 
 @pytest.mark.timeout(900)
@@ -39,10 +39,10 @@ def test_under_sanitizers(
     link("cc", "posix.c", folder / "bin/rsp", *sanitizers(), library / "libbrsp.a")
     monkeypatch.setenv("ASAN_OPTIONS", WITHOUT_LEAKS["ASAN_OPTIONS"])
     (folder / "lines").mkdir()
-    see_lines(folder / "bin/rsp", program, folder / "lines")
-    see_tests(folder / "bin/rsp", "native", 880, "-k", "not older_processor and not folder_is_synced")
+    check_command_lines(folder / "bin/rsp", program, folder / "lines")
+    check_by_tests(folder / "bin/rsp", "native", 880, "-k", "not older_processor and not folder_is_synced")
 
 
 def test_command_lines(in_c: Path, program: Path, folder: Path) -> None:
     (folder / "lines").mkdir()
-    see_lines(in_c, program, folder / "lines")
+    check_command_lines(in_c, program, folder / "lines")

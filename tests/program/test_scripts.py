@@ -17,7 +17,7 @@ import pytest
 
 from lib import TOP
 from lib.processes import run
-from lib.program import Ran, content
+from lib.program import Result, content
 from lib.script_cases import Stored, faults_in, stored
 
 LONGEST_IMAGE = 8388608
@@ -45,7 +45,7 @@ def test_stored(script: Stored, rsp: Any, folder: Path) -> None:
     """Each script is answered alike however its bytes come."""
     words = script.words(folder)
 
-    def see(how: str, ran: Ran) -> None:
+    def see(how: str, ran: Result) -> None:
         assert ran == script.wanted, how
         is_kept = not script.is_saved or content(folder / "saved") == script.image()
         assert is_kept, f"{how}: the saved image isn't the one that was read"
@@ -65,7 +65,7 @@ def test_strict(script: Stored, rsp: Any, folder: Path) -> None:
     faults = [*faults_in(script.script, wanted.output)]
     assert len(faults) == wanted.output.count(b"\nfault ") + wanted.output.startswith(b"fault ")
     if faults and not wanted.status:
-        wanted = Ran(1, wanted.output, b"rsp: %s\n" % strict(len(faults), *faults[0]))
+        wanted = Result(1, wanted.output, b"rsp: %s\n" % strict(len(faults), *faults[0]))
     assert rsp(*script.words(folder), "--strict", script=script.script) == wanted
     assert not script.is_saved or content(folder / "saved") == script.image()
 

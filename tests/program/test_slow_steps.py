@@ -27,18 +27,16 @@ LENGTHS = {
 
 def script(register: int, word: int, address: int, steps: int) -> str:
     """Sets the address, and starts a DMA, again and again."""
-    high = [f"lui ${n}, {it >> 16}\nori ${n}, ${n}, {it & 0xFFFF}\n" for n, it in ((1, word), (2, address))]
-    loop = f"again: mtc0 $2, $c1\nj again\nmtc0 $1, $c{register}\n"
-    return f"asm 0\n{''.join(high)}{loop}end\nrun {steps}\n"
+    loads = (f"lui ${n}, {it >> 16}\nori ${n}, ${n}, {it & 0xFFFF}\n" for n, it in ((1, word), (2, address)))
+    return f"asm 0\n{''.join(loads)}again: mtc0 $2, $c1\nj again\nmtc0 $1, $c{register}\nend\nrun {steps}\n"
 
 
 def instructions(program: Path, text: str) -> int:
     """The host instructions of a script that runs to its limit."""
-    words = ["valgrind", "--tool=callgrind", "--callgrind-out-file=/dev/null", program, "run"]
-    said = run(*words, input=text).stdout
-    (count,) = re.findall(r"Collected : (\d+)", said)
-    assert "stop Limit" in said, said
-    return int(count)
+    command = ["valgrind", "--tool=callgrind", "--callgrind-out-file=/dev/null", program, "run"]
+    output = run(*command, input=text).stdout
+    assert "stop Limit" in output, output
+    return int(re.findall(r"Collected : (\d+)", output)[0])
 
 
 @pytest.mark.parametrize("register", (2, 3), ids=("from RDRAM", "to RDRAM"))
@@ -47,6 +45,6 @@ def test_dma_past_the_end(word: int, steps: int, register: int, program: Path) -
     start = instructions(program, script(5, word, 0, steps))  # register 5 keeps nothing, and starts no DMA
     inside = instructions(program, script(register, word, 0, steps)) - start
     assert inside > 50 * steps
-    found = {name: instructions(program, script(register, word, at, steps)) for name, at in PLACES.items()}
-    costs = {name: it - start for name, it in found.items()}
-    assert {name: it / inside for name, it in costs.items() if it > 2 * inside} == {}
+    costs = {name: instructions(program, script(register, word, at, steps)) for name, at in PLACES.items()}
+    ratios = {name: (cost - start) / inside for name, cost in costs.items()}
+    assert {name: ratio for name, ratio in ratios.items() if ratio > 2} == {}

@@ -8,39 +8,31 @@ from pathlib import Path
 
 import pytest
 
-import measure
 from lib.packages import need
-from lib.pages import page
-from lib.processes import STRICT, compiled, run
-from measure import LIBRARY, PROGRAM
-from measure.speed import LOOPS, Command, code, figure, script
+from lib.pages import data
+from lib.processes import run
+from measure import PROGRAM
+from measure.speed import LOOPS, by_calls, by_script, compile_caller, figure
 
-HEADING, *LINES = [line.split("\t") for line in page("docs/data/speed.tsv").splitlines()]
+ROWS = {row["call"]: row for row in data("speed")}
 STEPS = (20_000, 60_000)
 
 
 @pytest.fixture(scope="module")
 def caller(tmp_path_factory: pytest.TempPathFactory) -> Path:
-    """The program that makes steps by a call of the library."""
-    source = Path(measure.__file__).with_name("speed.c")
-    return compiled(tmp_path_factory.mktemp("speed") / "speed", *STRICT, source, LIBRARY)
+    return compile_caller(tmp_path_factory.mktemp("speed"))
 
 
 @pytest.mark.xdist_group("speed")
 @pytest.mark.usefixtures("program", "library")
-@pytest.mark.parametrize("line", LINES, ids=[it[0] for it in LINES])
-def test_host_instructions(line: list[str], caller: Path) -> None:
+@pytest.mark.parametrize("call", ROWS)
+def test_host_instructions(call: str, caller: Path) -> None:
     need("valgrind", "cc", "rt")
-    row = dict(zip(HEADING, line))
+    row = ROWS[call]
     kit = run("rt", "version").stdout.split()[0]
     if kit != row["kit"]:
         pytest.skip(f"the figures are those of {row['kit']} at {row['commit']}, and this is {kit}")
     for name in LOOPS:
-        text = "".join(f".word 0x{word}\n" for word in code(name).hex(" ", 4).split())
-
-        def command_of(steps: int) -> Command:
-            if row["call"] == "run":
-                return [PROGRAM, "run"], script(code(name), f"run {steps}")
-            return [caller, row["call"].removeprefix("brsp_"), 0, steps, text], b""
-
-        assert figure(command_of, *STEPS) == pytest.approx(float(row[name]), rel=0.03), name
+        how = call.removeprefix("brsp_")
+        steps = by_script(PROGRAM, name) if call == "run" else by_calls(caller, how, name)
+        assert figure(steps, *STEPS) == pytest.approx(float(row[name]), rel=0.03), name

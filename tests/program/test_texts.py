@@ -4,7 +4,6 @@ They fail if a label or an explanation is another one than ASSEMBLY's rules give
 else.
 """
 
-import os
 import random
 import re
 import subprocess
@@ -16,9 +15,9 @@ from unittest import mock
 import pytest
 
 from lib import TOP
-from lib.numbers import clamped, halves
+from lib.fixed_point import clamp, read_halves
 from lib.pages import block_with, page, tables
-from lib.processes import compiled, run
+from lib.processes import compiled
 
 ASSEMBLY, COOKBOOK = "docs/ASSEMBLY.md", "docs/COOKBOOK.md"
 MIPS = "mips-linux-gnu-gcc"
@@ -411,7 +410,6 @@ command: andi $t0, $a0, 0xff
 mark: .word 0, 0
 """
 COMPILED = "-mabi=32 -march=vr4300 -mno-abicalls -fno-pic -G0 -nostdlib -static -x assembler".split()
-ELF_FILES = "check.sh", "command.rsp", "command.out", "waits.py"
 LINKED = "-Wl,-Ttext=0x04001000,-Tdata=0x04000000,--build-id=none".split()
 
 
@@ -504,59 +502,6 @@ def test_scalar_names(files: Files) -> None:
     assert [word >> 21 & 31 for word in words] == list(numbers.values())
 
 
-# Each a part of a file or of OVERLAY, and what is there instead; then a part of what the check of it prints.
-CHECKS = {
-    "as it is": ("", "", "", ""),
-    "another reply": ("command.out", "0007", "0008", "< 000000:"),
-    "a fault": (
-        "command.rsp",
-        "jal ",
-        "jalx ",
-        ": fault 11 UnknownName line 3",
-    ),
-    "a missing wait": (
-        "overlay",
-        "command: ",
-        "command: mtc0 $zero, $2\n",
-        "AssertionError: [Missing(transfer=Transfer(place=64,",
-    ),
-    "no halt": ("command.rsp", "break", "wait: beq $0, $0, wait\nnop", "AssertionError: not halted"),
-    "one more load": (
-        "command.rsp",
-        "pc 0xf80",
-        "load imem 0xf90 1000ffff00000000\npc 0xf80",
-        "AssertionError: not halted",
-    ),
-    "one more asm": (
-        "command.rsp",
-        "pc 0xf80",
-        "asm 0xf90 # not the caller\nend: beq $0, $0, end\nnop\nend\npc 0xf80",
-        "AssertionError: not halted",
-    ),
-}
-
-
-@pytest.mark.needs("mips-linux-gnu-gcc")
-@pytest.mark.parametrize("name", CHECKS)
-def test_check_of_elf(name: str, files: Files) -> None:
-    """The cookbook's check of an ELF passes, and fails for each of these reasons."""
-    at, old, new, said = CHECKS[name]
-    shown = {it: block_with(COOKBOOK, "set -e\nmips-linux-gnu-objcopy", n) for n, it in enumerate(ELF_FILES)}
-    texts = {**shown, "overlay": OVERLAY}
-    if name != "as it is":
-        assert texts[at].count(old) == 1
-        texts[at] = texts[at].replace(old, new)
-    for it in ELF_FILES:
-        (files.folder / it).write_text(texts[it])
-    link(files.folder, texts["overlay"])
-    run_check = f'rsp() {{ "{files.program}" "$@"; }}; python3() {{ "{sys.executable}" "$@"; }}\n'
-    if said.startswith("AssertionError"):  # the replies are the changed code's
-        texts["check.sh"] = texts["check.sh"].replace("| diff command.out -", "")
-    env = {**os.environ, "PYTHONPATH": str(TOP / "library/python")}
-    ended = run("sh", "-c", run_check + texts["check.sh"], cwd=files.folder, env=env)
-    assert (ended.returncode != 0, said in ended.stdout) == (name != "as it is", True), ended.stdout
-
-
 def test_jump_of_page(files: Files) -> None:
     line = block_with(ASSEMBLY, ".word 0x09000402 #").rstrip("\n")
     assert files.text_of([0x09000402], "--labels") == [line]
@@ -574,22 +519,9 @@ def test_task_of_page(files: Files) -> None:
     subprocess.run([sys.executable, "-c", block], cwd=files.folder, check=True)
     told = files.replies("task 0x100\nrun 1000000\nmem rdram 0x8000 16\n", "--rdram", "image")
     assert told.startswith("ok\nstop Halted")
-    sums = [clamped(a + b) for a, b in zip(halves(data, 0), halves(data, 16))]
-    assert halves(bytes.fromhex(told.split(": ")[-1]), 0) == sums
+    sums = [clamp(a + b) for a, b in zip(read_halves(data, 0), read_halves(data, 16))]
+    assert read_halves(bytes.fromhex(told.split(": ")[-1]), 0) == sums
     assert len(block.strip().splitlines()) <= 12, "the page has more lines than it says"
-
-
-def test_image_of_page(files: Files) -> None:
-    """Code and data as an image, and the six lines of SCRIPT.md."""
-    choose = random.Random(9)
-    code, data = choose.randbytes(2048), choose.randbytes(4096)
-    (files.folder / "image").write_bytes(code + data)
-    shown = ("dmem 0 256", "dmem 3840 256", "imem 128 256", "imem 1920 256", "imem 2176 16")
-    script = block_with("docs/SCRIPT.md", "write 0 0x1080") + "".join(f"mem {it}\n" for it in shown)
-    told = files.replies(script, "--rdram", "image")
-    assert told.startswith("ok\n" * 6)
-    got = bytes.fromhex("".join(line.split(": ")[1] for line in told.splitlines()[6:]))
-    assert got == data[:256] + data[3840:] + code[:256] + code[1792:] + bytes(16)
 
 
 def test_jump_astray_of_page(files: Files) -> None:
@@ -600,21 +532,3 @@ def test_jump_astray_of_page(files: Files) -> None:
     told = files.shell(block_with("docs/SCRIPT.md", "(echo asm 0;")).splitlines()
     wanted = ["ok 1024 words", "ok 6 words", "stop Halted steps 6 pc 7f4", "ok", "pc 00c npc 010"]
     assert (told[:5], told[-1]) == (wanted, "000ffc: 0000000d")
-
-
-def test_registers_renamed_of_page(files: Files) -> None:
-    given = "vadd $v1, $v2, $V9[1h]\nlqv $v3[0], 16($9)\nvmudn $v9, $v12, $v0\n"
-    (files.folder / "mine.s").write_text(given)
-    files.shell(block_with("microcode/README.md", "sed -E"))
-    wanted = "vadd $v11, $v12, $V19[1h]\nlqv $v13[0], 16($19)\nvmudn $v19, $v12, $v0\n"
-    assert (files.folder / "renamed.s").read_text() == wanted
-
-
-def test_register_kept_of_page(files: Files) -> None:
-    """A routine takes a register, which is kept in DMEM meanwhile."""
-    before, after = block_with("microcode/README.md", "sqv   $v1[0], 0x300($0)").strip().splitlines()
-    setting = ["lqv $v1[0], 0($0)", *(f"ori ${n}, $0, {it}" for n, it in enumerate((32, 64, 64, 16), 1))]
-    routine, data = (TOP / "microcode/copy.s").read_text(), bytes(range(16)).hex()
-    lines = [f"load dmem 0 {data}", "asm 0", *setting, before, routine, after, "sqv $v1[0], 96($0)"]
-    told = files.replies("\n".join([*lines, "break", "end", "run 1000", "mem dmem 96 16", ""]))
-    assert told.splitlines()[-1] == f"000060: {data}"

@@ -18,7 +18,7 @@ from lib import TOP, devices
 from lib.pages import cells_of, page
 from lib.processes import Ended, run, succeeds
 from rsp_conformance import check, coverage, generate, run_programs, steps
-from rsp_conformance.commands import Complaints
+from rsp_conformance.command_line import Complaints
 from rsp_conformance.library import IMAGE, run_row
 from rsp_conformance.table import ROWS
 from rsp_conformance.vectors import VECTORS

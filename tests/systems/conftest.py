@@ -9,9 +9,9 @@ import pytest
 
 from lib.packages import need
 from lib.systems import chromium
-from lib.systems.kinds import KINDS
-from lib.systems.page import Host, Page
-from lib.systems.runners import Native, Runner
+from lib.systems.target_params import RUNNERS
+from lib.systems.page_driver import Host, Page
+from lib.systems.runners import Native, Runner, target_of
 from rsp_tools.systems import manual
 from rsp_tools.systems import web_page as pages
 from rsp_tools.systems import places
@@ -56,11 +56,10 @@ def made(request: pytest.FixtureRequest) -> Path:
 @pytest.fixture(scope="session")
 def runner(request: pytest.FixtureRequest, at: Path) -> Iterator[Runner]:
     """What compiles and runs programs for a system."""
-    kind = KINDS[request.param]
-    need(*kind.programs)
-    folder = folder_of(kind.system)
-    (at / request.param).mkdir()
-    runner = kind(folder, at / request.param)
+    name = request.param
+    folder = folder_of(target_of(name).name)
+    (at / name).mkdir(exist_ok=True)
+    runner = RUNNERS[name](name, folder, at / name)
     yield runner
     runner.stop()
 

@@ -8,7 +8,7 @@ import pytest
 from lib import TESTS
 from lib.cmake import EXAMPLE
 from lib.library import LOCKSTEP
-from lib.systems.kinds import on
+from lib.systems.target_params import COMPILED, on
 
 SOURCES = TESTS / "library/c"
 COUNTED = "-Wl,--wrap=malloc,--wrap=realloc,--wrap=free"
@@ -29,14 +29,14 @@ def test_lockstep(runner: Any) -> None:
         assert runner.run(made).stdout == LOCKSTEP, kind
 
 
-@on("linux-aarch64", "windows-x86_64", "wasm64")
+@on(*COMPILED, "wasm64")
 def test_failing_allocations(runner: Any) -> None:
     words = ("-Dmain=all_calls", "-DQUIET", "-c")
     part = runner.compile(SOURCES / "calls.c", *words, name="all_calls.o", library=[])
     runner.passes(runner.compile(SOURCES / "no_memory.c", COUNTED, str(part)))
 
 
-@on("linux-aarch64", "windows-x86_64")
+@on(*COMPILED)
 @pytest.mark.parametrize("name", ("stack", "threads"))
 def test_limits(runner: Any, name: str) -> None:
     runner.passes(runner.compile(SOURCES / f"{name}.c", *runner.threads))

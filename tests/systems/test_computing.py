@@ -18,17 +18,18 @@ import pytest
 import rsp
 from lib import TESTS, TOP
 from lib.systems.browser import Chromium
-from lib.systems.kinds import KINDS, on
+from lib.systems.target_params import RUNNERS, on
 from lib.systems.node import Node
 from lib.systems.runners import Native, Runner
 from rsp_conformance import bench, library_states, steps
-from rsp_conformance.random import Random
+from rsp_conformance.seeded_random import Random
 from rsp_conformance.corrupt import spoilt_entries
 from rsp_conformance.states import numbers_of, texts_of
 from rsp_conformance.vectors import VECTORS, entries_in, names_in
 from rsp_tools.systems import modules
 from rsp_tools.systems.__main__ import SYSTEMS
 from rsp_tools.systems.toolchain import llvm
+from rsp_tools.targets import PROCESSORS
 
 pytestmark = pytest.mark.timeout(3600)
 DATA = TESTS / "systems"
@@ -92,7 +93,7 @@ def results(runner: Runner) -> List[Tuple[Entry, bytes]]:
     return [(it, found[n * RESULT : (n + 1) * RESULT]) for n, it in enumerate(entries)]
 
 
-@on(*KINDS)
+@on(*RUNNERS)
 def test_vectors(runner: Runner) -> None:
     """Spoilt copies of one case of each instruction have to be noticed."""
     found = results(runner)
@@ -152,13 +153,15 @@ def test_all_instructions_are_traced(wanted: Lines, count: int) -> None:
 # A library with a wrong instruction: one constant of the module is another one.
 
 
-def changed(target: str, at: Path) -> modules.Module:
-    """The module of a processor in which a clamp has another bound, and the archive of it."""
-    made, text, archive = modules.module(target), at / f"planted-{target}.ll", at / f"planted-{target}.a"
-    planted, number = re.subn(FORMS[target], "splat (i16 -32767)", made.text.read_text())
+def changed(processor: str, at: Path) -> modules.Module:
+    """The module of a processor in which a clamp has another bound, and its archive."""
+    made, (text, archive) = modules.module(processor), (
+        at / f"planted-{processor}{it}" for it in (".ll", ".a")
+    )
+    planted, number = re.subn(FORMS[processor], "splat (i16 -32767)", made.text.read_text())
     assert number, "the module has the constant"
     text.write_text(planted)
-    words = [f"--target={modules.TARGETS[target]}", "-x", "ir", "-c", *made.flags, "-fPIC"]
+    words = [f"--target={PROCESSORS[processor].triple}", "-x", "ir", "-c", *made.flags, "-fPIC"]
     llvm("clang", *words, "-Wno-override-module", "-o", at / "planted.o", text)
     llvm("llvm-ar", "rcsD", archive, at / "planted.o")
     return modules.Module(text, archive, made.flags)
@@ -169,10 +172,10 @@ def test_planted_constant(runner: Runner, wanted: Lines) -> None:
     """Vectors and random programs find it."""
     at = runner.at / "planted"
     (at / "way").mkdir(parents=True)
-    SYSTEMS[runner.system].make(at / "library", at / "way", lambda target: changed(target, at))
-    kind = type(runner)
-    more = [at / "way"] if kind is Chromium else []
-    planted = kind(at / "library", at, *more)
+    SYSTEMS[runner.target.name].make(at / "library", at / "way", lambda processor: changed(processor, at))
+    planted = RUNNERS[runner.name](runner.name, at / "library", at)
+    if isinstance(planted, Chromium):
+        planted.way = at / "way"
     try:
         assert any(complaints(*it) for it in results(planted))
         got = program_of(planted)

@@ -12,8 +12,8 @@ import pytest
 from lib.hardening import check_elf
 from lib.processes import succeeds
 from lib.systems import macos
-from lib.systems.files import check_wheel, shown
-from lib.systems.kinds import of
+from lib.systems.built_files import check_wheel, symbol_names
+from lib.systems.target_params import LINUX, of
 from rsp_tools.systems import header, wasm
 from rsp_tools.systems.__main__ import SYSTEMS
 from rsp_tools.targets import CROSS
@@ -44,14 +44,14 @@ def test_macos(made: Path, folder: Path) -> None:
     macos.check(made, folder)
 
 
-@of("linux-aarch64")
+@of(*LINUX)
 def test_linux(made: Path) -> None:
     """The libraries show the calls of brsp.h alone."""
     calls, library = {*header.calls()}, made / f"lib/libbrsp.so.{header.interface()}"
     node = f"BRSP_{header.interface()}"
-    names = {it for it in shown("-D", "--defined-only", library) if not it.startswith(node)}
+    names = {it for it in symbol_names("-D", "--defined-only", library) if not it.startswith(node)}
     assert names == {f"{it}@@{node}" for it in calls}
-    assert shown("-g", "--defined-only", made / "lib/libbrsp.a") == calls
+    assert symbol_names("-g", "--defined-only", made / "lib/libbrsp.a") == calls
     assert f"[{library.name}]" in llvm("llvm-readobj", "--dynamic-table", library)
 
 
@@ -59,7 +59,7 @@ def test_linux(made: Path) -> None:
 @pytest.mark.parametrize("name", (f"lib/libbrsp.so.{header.interface()}", "bin/rsp"))
 def test_linux_needs(made: Path, name: str) -> None:
     """A library or a program needs glibc alone, and no newer one than 2.17."""
-    wants = "\n".join(shown("-D", "--undefined-only", made / name))
+    wants = "\n".join(symbol_names("-D", "--undefined-only", made / name))
     versions = [tuple(map(int, it.split("."))) for it in re.findall(r"@GLIBC_([\d.]+)", wants)]
     assert versions and max(versions) <= OLDEST
     read = llvm("llvm-readobj", "--needed-libs", "--dynamic-table", made / name)

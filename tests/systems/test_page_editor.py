@@ -10,7 +10,7 @@ from typing import Any
 import pytest
 
 from lib.pages import page as text_of
-from lib.systems.page import CONTROL, F1, FIRST, SHIFT, Host, Page, linked, the
+from lib.systems.page_driver import CONTROL, F1, FIRST, SHIFT, Host, Page, linked, the
 
 pytestmark = pytest.mark.xdist_group("page")
 # The lines that are drawn, each as its parts with their kinds.

@@ -8,7 +8,7 @@ from typing import Callable
 import pytest
 
 from lib.systems.browser import Server
-from lib.systems.page import Host, Page, linked, the
+from lib.systems.page_driver import Host, Page, linked, the
 from rsp_tools.systems import web_page as pages
 from rsp_tools.systems.toolchain import Refused
 
@@ -147,7 +147,7 @@ LACKING = {
         "rsp.js isn't served: 404 File not found. A newer page may be there: reload it.",
     ),
     "a module of the library": (
-        absent("rsp/words.js"),
+        absent("rsp/errors.js"),
         "rsp.js is served, but the browser hasn't taken it, or a module that it imports.",
     ),
 }

@@ -7,7 +7,7 @@ from typing import Any, List
 
 import pytest
 
-from lib.systems.page import CONTROL, DOWN, ENTER, SHOWN, TAB, Host, Page, the
+from lib.systems.page_driver import CONTROL, DOWN, ENTER, SHOWN, TAB, Host, Page, the
 from rsp_tools.systems import manual
 
 pytestmark = pytest.mark.xdist_group("page")

@@ -10,7 +10,7 @@ import re
 import pytest
 
 import rsp
-from lib.systems.page import CONTROL, LINES, SHOWN, Page, the
+from lib.systems.page_driver import CONTROL, LINES, SHOWN, Page, the
 
 pytestmark = pytest.mark.xdist_group("page")
 MARKED = f"[...{the('numbers')}.querySelectorAll('.fault')].map((it) => Number(it.textContent))"

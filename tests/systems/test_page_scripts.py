@@ -11,7 +11,7 @@ import pytest
 
 import rsp
 from lib.script_cases import Stored, stored
-from lib.systems.page import ENTER, LINKED, SHOWN, Host, Page, linked, the, way_of
+from lib.systems.page_driver import ENTER, LINKED, SHOWN, Host, Page, linked, the, way_of
 from rsp_tools.systems import places
 
 pytestmark = pytest.mark.xdist_group("page")

@@ -10,7 +10,7 @@ from pathlib import Path
 
 import pytest
 
-from lib.systems.page import Host, Page
+from lib.systems.page_driver import Host, Page
 from rsp_tools.systems import web_page as pages
 
 pytestmark = pytest.mark.xdist_group("page")

@@ -7,21 +7,21 @@ from typing import Any
 import pytest
 
 from lib import TESTS
-from lib.systems.kinds import on
-from lib.systems.program import see_lines, see_tests, started
+from lib.systems.target_params import COMPILED, on
+from lib.systems.program_checks import check_command_lines, check_by_tests, started
 
 pytestmark = pytest.mark.timeout(7200)
 
 
-@on("linux-aarch64", "windows-x86_64")
+@on(*COMPILED)
 def test_tests_of_the_proved_program(runner: Any, folder: Path) -> None:
-    see_tests(started(runner, folder), runner.system, 7000)
+    check_by_tests(started(runner, folder), runner.target.name, 7000)
 
 
-@on("linux-aarch64", "windows-x86_64")
+@on(*COMPILED)
 def test_command_lines(runner: Any, program: Path, folder: Path) -> None:
     (folder / "lines").mkdir()
-    see_lines(started(runner, folder), program, folder / "lines")
+    check_command_lines(started(runner, folder), program, folder / "lines")
 
 
 # Names of devices whose bytes Windows may wait for. A file can have the last four under wine.

@@ -8,16 +8,14 @@ import pytest
 
 from lib import TOP
 from lib.processes import Ended, run
-from lib.systems.kinds import SYSTEMS
 from rsp_tools.systems import modules, places
+from rsp_tools.systems.__main__ import SYSTEMS
 from rsp_tools.systems.toolchain import Refused, kit
-
-# The packages that are named where there are none.
-PACKAGES = {"linux-aarch64": "gcc-aarch64-linux-gnu", "windows-x86_64": "gcc-mingw-w64-x86-64"}
+from rsp_tools.targets import CROSS, Target
 
 
-def said(*words: str, path: str = os.environ["PATH"]) -> "Ended[str]":
-    """What tools/systems says, which must leave library/systems as it was."""
+def run_systems(*words: str, path: str = os.environ["PATH"]) -> "Ended[str]":
+    """Runs tools/systems, which must leave library/systems as it was."""
     before = sorted(places.MADE.glob("*"))
     folders = ":".join(f"{TOP}/{it}" for it in ("tools", "conformance", "library/python"))
     env = {**os.environ, "PATH": path, "PYTHONPATH": folders}
@@ -27,20 +25,21 @@ def said(*words: str, path: str = os.environ["PATH"]) -> "Ended[str]":
 
 
 def test_unknown_system() -> None:
-    ended = said("linux-arm")
-    wanted = f"there is no system linux-arm: the systems are {', '.join(SYSTEMS)}\n"
-    assert (ended.returncode, ended.stdout) == (1, f"tools/systems: {wanted}")
+    ended = run_systems("linux-arm")
+    expected = f"there is no system linux-arm: the systems are {', '.join(SYSTEMS)}\n"
+    assert (ended.returncode, ended.stdout) == (1, f"tools/systems: {expected}")
 
 
 def test_unknown_word() -> None:
-    assert said("--all").returncode == 2
+    assert run_systems("--all").returncode == 2
 
 
-@pytest.mark.parametrize("system, package", PACKAGES.items())
-def test_missing_package(system: str, package: str, folder: Path) -> None:
-    ended = said(system, path=str(folder))
-    wanted = f"{system} isn't made: it needs packages of Debian: apt-get install {package}"
-    assert ended.returncode == 1 and wanted in ended.stdout
+@pytest.mark.parametrize("target", [it for it in CROSS if it.compiler], ids=lambda it: it.name)
+def test_missing_package(target: Target, folder: Path) -> None:
+    ended = run_systems(target.name, path=str(folder))
+    package = target.packages[target.compiler]
+    expected = f"{target.name} isn't made: it needs packages of Debian: apt-get install {package}\n"
+    assert ended.returncode == 1 and expected in ended.stdout
 
 
 def test_sources_that_have_changed(monkeypatch: pytest.MonkeyPatch) -> None:

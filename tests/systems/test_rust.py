@@ -9,7 +9,7 @@ from typing import Any
 import pytest
 
 from lib.processes import succeeds
-from lib.systems.kinds import of, on
+from lib.systems.target_params import of, on
 from lib.systems.rust import TARGETS, TESTED, cargo, said
 from rsp_tools.systems import header, places
 

@@ -16,8 +16,8 @@ from lib.pages import page
 from lib.processes import compiled, succeeds
 from lib.script_cases import Stored, stored
 from lib.systems import node
-from lib.systems.kinds import JAVASCRIPT, of, on
-from lib.systems.runners import see_passed
+from lib.systems.target_params import JAVASCRIPT, of, on
+from lib.systems.runners import assert_all_passed
 from rsp_tools.systems import header, places, wasm
 from rsp_tools.systems.modules import Module
 from rsp_tools.systems.rewriting import PSHUFB, Change, rewritten
@@ -166,13 +166,13 @@ def test_scripts(runner: Any) -> None:
 @pytest.mark.parametrize("name", ("calls", "limits"))
 def test_in_javascript(runner: Any, name: str) -> None:
     """Each call in its range and out of it; memory that is given back, the stack, dropped machines."""
-    see_passed(runner.test(f"{name}.js", header.stack()).decode())
+    assert_all_passed(runner.test(f"{name}.js", header.stack()).decode())
 
 
 @on("wasm64")
 def test_little_memory(runner: Any) -> None:
     wasm.folder(runner.at / "tight", runner.objects, f"--max-memory={MOST}")
-    see_passed(runner.test("tight.js", library="/at/tight").decode())
+    assert_all_passed(runner.test("tight.js", library="/at/tight").decode())
 
 
 @pytest.mark.needs("cc")
@@ -187,4 +187,4 @@ def test_allocator(prefix: Tuple[str, ...], folder: Path) -> None:
     words = ("-std=c11", "-O2", "-g", "-Wall", "-Wextra", "-Werror")
     part = compiled(folder / "part.o", *words, *names, "-c", places.PARTS / "allocator.c")
     made = compiled(folder / "allocator", *words, TESTS / "systems/allocator.c", part)
-    see_passed(succeeds(*prefix, made))
+    assert_all_passed(succeeds(*prefix, made))

@@ -14,8 +14,8 @@ from lib import TESTS
 from lib.cmake import EXAMPLE
 from lib.hardening import SMASHED, check_pe
 from lib.processes import succeeds
-from lib.systems.files import shown
-from lib.systems.kinds import of, on
+from lib.systems.built_files import symbol_names
+from lib.systems.target_params import of, on
 from lib.systems.windows import link_for_msvc
 from rsp_tools import hardening
 from rsp_tools.systems import header, modules, objects, places
@@ -105,7 +105,7 @@ def test_pkg_config(runner: Any) -> None:
     """As in a shell of MSYS2: shared, and static by the word of the linker."""
     where = {**os.environ, "PKG_CONFIG_PATH": f"{runner.folder}/lib/pkgconfig"}
     found = succeeds("pkg-config", "--cflags", "--libs", "brsp", env=where).split()
-    shutil.copy(runner.folder / runner.dll, runner.at)
+    shutil.copy(runner.folder / runner.target.shared, runner.at)
     for words, is_shared in ((), True), (("-static",), False):
         made = runner.compile(EXAMPLE, *words, name=f"pkg-config {is_shared}", library=found)
         runner.check_lockstep(made, is_shared)
@@ -126,8 +126,10 @@ def test_static(made: Path, name: str) -> None:
     """It shows the calls alone, takes what a C library has, and has a table of each frame."""
     library = made / "lib" / name
     # Objects for MSVC share such constants.
-    assert {it for it in shown("-g", "--defined-only", library) if not it.startswith("__xmm@")} == CALLS
-    wants = shown("-u", library)
+    assert {
+        it for it in symbol_names("-g", "--defined-only", library) if not it.startswith("__xmm@")
+    } == CALLS
+    wants = symbol_names("-u", library)
     assert {"free", "malloc"} <= wants <= STATIC[name]
     assert CALLS - framed(library) <= FRAMELESS
 
@@ -136,7 +138,7 @@ def test_static(made: Path, name: str) -> None:
 def test_unchanged_module(made: Path, folder: Path) -> None:
     """What the module lacks without its changes: a function for its probes, and the tables of frames."""
     compiled = objects.compiled(modules.module("x86_64"), "x86_64", GNU, folder)
-    assert "inline-asm" in shown("-u", compiled)
+    assert "inline-asm" in symbol_names("-u", compiled)
     assert not framed(compiled)
 
 

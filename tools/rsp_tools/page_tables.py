@@ -6,6 +6,7 @@
   crates/rsp_advice/src/tables.rt  of the same tables what `--explain` says
   docs/ARCHITECTURE.md             the list of crates, from the top
   conformance/README.md            the example of a manifest
+  docs/SYSTEMS.md                  the table of systems, of the records in targets.py
 
 It fails, and writes nothing, if a page has no place for one of them. tests/docs/test_tables.py fails if a
 page differs from what this writes.
@@ -20,6 +21,7 @@ from rsp_conformance import programs
 from rsp_conformance.run_programs import short
 from rsp_conformance.vectors import VECTORS, manifest_in
 from rsp_tools import TOP
+from rsp_tools.targets import CROSS, NATIVE
 
 DATA = TOP / "docs/data"
 TABLES = {"commands": "docs/SCRIPT.md", "faults": "docs/FAULTS.md"}
@@ -27,7 +29,7 @@ ANCHOR = re.compile(r'<a id="([\w-]+)"></a>')  # by which a link leads to a plac
 ADVICE = "crates/rsp_advice/src/tables.rt"
 # The faults of replies, but for those of assembly text.
 REPLIED = {*range(4, 7), *range(20, 28), *range(30, 34)}
-LAYERS, OF_VECTORS = "docs/ARCHITECTURE.md", "conformance/README.md"
+LAYERS, OF_VECTORS, SYSTEMS = "docs/ARCHITECTURE.md", "conformance/README.md", "docs/SYSTEMS.md"
 EXAMPLE = "VCH-003"  # the case of `programs` that OF_VECTORS shows
 
 
@@ -137,11 +139,20 @@ def manifest_shown() -> Iterator[Tuple[str, str]]:
     yield r"begin at \w+, and its `vcc` is .* So the byte at \w+ is", wanted
 
 
+def systems() -> str:
+    """The rows of the systems that have tests of their own."""
+    found = [(NATIVE.title, NATIVE), *((f"{it.title}, `{it.name}`", it) for it in CROSS)]
+    return "".join(f"| {title} | {it.holds} | {it.tested} |\n" for title, it in found if it.tested)
+
+
 def made() -> Dict[str, str]:
     """Each page with what this writes, as a whole."""
     pages = {at: with_table(page(at), name) for name, at in TABLES.items()}
     layers = "".join(f"{name:19} {words}\n" for name, (words, _) in reversed(crates().items()))
     pages[LAYERS] = replaced(page(LAYERS), r"(?ms)^## Layers\n.*?^```text\n(.*?)^```$", layers)
+    pages[SYSTEMS] = replaced(
+        page(SYSTEMS), r"(?m)^\| System \| What .*\n\|[-|]+\|\n((?:\|.*\n)+)", systems()
+    )
     pages[ADVICE] = advice()
     pages[OF_VECTORS] = page(OF_VECTORS)
     for pattern, wanted in manifest_shown():

@@ -10,11 +10,7 @@ It packs what ./rsp and library/c/build build:
 
 With --systems it also makes the archives for other systems, after tools/systems has made their libraries:
 
-  linux-aarch64    .tar.gz, with the program
-  macos            .tar.gz
-  windows-x86_64   .zip, with the program
-  wasm64           .tgz, which npm installs
-  page             .zip, a folder for a web server: the machine in a browser. Its library is that of wasm64
+{systems}
 
 Each archive has its README.md, CHANGELOG.md, SHA256SUMS of its files, and COMMIT. dist/SHA256SUMS has the
 sums of what this run made. Two runs from one commit give the same bytes. Before it makes anything it names
@@ -43,8 +39,9 @@ from rsp_tools.packaging.repository import said
 from rsp_tools.systems import header, places
 from rsp_tools.systems.__main__ import SYSTEMS
 from rsp_tools.systems.toolchain import missing
+from rsp_tools.targets import CROSS, PAGE, listed
 
-OTHERS = [*SYSTEMS, "page"]
+OTHERS = [*SYSTEMS, PAGE.name]
 OBJECT = TOP / "crates/rsp_main/out/rsp_main.o"
 NEWCOMER = "tests/install/test_newcomer.py"
 # What links and packs, for any system.
@@ -171,18 +168,18 @@ def put(made: Dict[str, bytes]) -> None:
         fail(f"cannot write {path}: {fault.strerror}")
 
 
-def words() -> argparse.ArgumentParser:
-    form = argparse.RawDescriptionHelpFormatter
-    reader = argparse.ArgumentParser(prog="./release", description=__doc__, formatter_class=form)
-    reader.add_argument("--object", type=Path, default=OBJECT, help="another object file of the program")
-    reader.add_argument("--untested", action="store_true", help=f"leave out tests/all {NEWCOMER}")
+def arguments() -> argparse.Namespace:
+    form, text = argparse.RawDescriptionHelpFormatter, str(__doc__).format(systems=listed(*CROSS, PAGE))
+    parser = argparse.ArgumentParser(prog="./release", description=text, formatter_class=form)
+    parser.add_argument("--object", type=Path, default=OBJECT, help="another object file of the program")
+    parser.add_argument("--untested", action="store_true", help=f"leave out tests/all {NEWCOMER}")
     more = "also the archives of these systems, or of all if none is named"
-    reader.add_argument("--systems", nargs="*", metavar="NAME", help=more)
-    return reader
+    parser.add_argument("--systems", nargs="*", metavar="NAME", help=more)
+    return parser.parse_args()
 
 
 def main() -> None:
-    asked = words().parse_args()
+    asked = arguments()
     names = [] if asked.systems is None else [*dict.fromkeys(asked.systems)] or OTHERS
     check_names(names)
     check_packages(names, not asked.untested)

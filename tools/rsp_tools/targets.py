@@ -1,22 +1,45 @@
-"""The systems for which rsp is released, a record each.
+"""The systems for which rsp is released, a record each, and the processors for which the kit makes modules.
 
 tools/rsp_tools/systems makes their libraries, tools/rsp_tools/packaging their archives, and tests/lib/systems
-runs programs for them. A further Linux, such as riscv64, is a record here, its start file, and the README
-tools/packaging/readme/NAME.md.
+runs programs for them. A further Linux on one of these processors is a record here, its start file, and the
+README tools/packaging/readme/NAME.md.
 """
 
-from typing import Dict, Mapping, NamedTuple, Tuple
+from typing import Dict, FrozenSet, Mapping, NamedTuple, Tuple
+
+
+class Processor(NamedTuple):
+    """A processor, whose name is that of clang and of `uname -m`."""
+
+    triple: str  # of Linux, for `rattle build --target`
+    apple: str  # what macOS calls it
+    intrinsics: FrozenSet[str]  # those that its modules have. Each is an instruction on any system
+
+
+PROCESSORS: Dict[str, Processor] = {
+    "x86_64": Processor("x86_64-unknown-linux-gnu", "x86_64", frozenset({"llvm.x86.ssse3.pshuf.b.128"})),
+    "aarch64": Processor(
+        "aarch64-unknown-linux-gnu",
+        "arm64",
+        frozenset({"llvm.aarch64.neon.addp.v16i8", "llvm.aarch64.neon.tbl1.v16i8"}),
+    ),
+}
 
 
 class Target(NamedTuple):
     """A system. Fields that a system has no use for are empty."""
 
     name: str  # of the archive, and of the folder of library/systems
+    title: str  # what pages call it
+    holds: str  # what there is for it
+    tested: str = ""  # where its tests were run
     ending: str = "tar.gz"  # of the archive's file
-    processor: str = ""  # whose module of the library is compiled, as clang calls it
-    triple: str = ""  # of clang, for the compiler of Linux
-    linker: str = ""  # the emulation of ld.lld
-    start: str = ""  # the file of tools/rsp_tools/systems by which the program begins
+    triples: Mapping[str, str] = {}  # what clang calls the system, for each processor
+    # Of a Linux: the emulation of ld.lld, the file of rsp_tools/systems by which the program begins, and the
+    # words that link the program.
+    linker: str = ""
+    start: str = ""
+    linked: str = ""
     # Below the system's folder:
     shared: str = ""  # the shared library
     program: str = ""
@@ -25,19 +48,27 @@ class Target(NamedTuple):
     cmake: Tuple[str, str] = ("", "")  # CMAKE_SYSTEM_NAME, and a pattern of CMAKE_SYSTEM_PROCESSOR
     python: str = ""  # sys.platform
     wheel: Tuple[str, ...] = ()  # the tags of the wheel
-    # Debian's programs that compile C for the system, and that run it here:
+    # Debian's programs that compile C for the system, and that run it here, and the packages of these.
     compiler: str = ""
     emulator: Tuple[str, ...] = ()
+    packages: Mapping[str, str] = {}
 
     @property
     def is_linux(self) -> bool:
         return self.name.startswith("linux-")
 
+    @property
+    def processor(self) -> str:
+        """The only or the first processor."""
+        return next(iter(self.triples))
+
 
 NATIVE = Target(
     name="linux-x86_64",
-    processor="x86_64",
-    triple="x86_64-unknown-linux-gnu",
+    title="Linux on x86-64-v2",
+    holds="everything in this repository",
+    tested="on this system: all tests of the repository",
+    triples={"x86_64": "x86_64-unknown-linux-gnu"},
     shared="lib/libbrsp.so",
     program="bin/rsp",
     rust={"x86_64-unknown-linux-gnu": "libbrsp.a"},
@@ -49,10 +80,13 @@ NATIVE = Target(
 CROSS: Tuple[Target, ...] = (
     Target(
         name="linux-aarch64",
-        processor="aarch64",
-        triple="aarch64-unknown-linux-gnu",
+        title="Linux on ARM",
+        holds="`rsp`; `libbrsp.a`, `libbrsp.so.1`; glibc 2.17 or newer",
+        tested="in the emulator qemu-aarch64, not on an ARM processor",
+        triples={"aarch64": "aarch64-unknown-linux-gnu"},
         linker="aarch64linux",
         start="start_aarch64.c",
+        linked="-fPIE -pie -nostartfiles",
         shared="lib/libbrsp.so",
         program="bin/rsp",
         rust={"aarch64-unknown-linux-gnu": "libbrsp.a"},
@@ -61,10 +95,38 @@ CROSS: Tuple[Target, ...] = (
         wheel=("manylinux_2_17_aarch64", "manylinux2014_aarch64"),
         compiler="aarch64-linux-gnu-gcc",
         emulator=("qemu-aarch64", "-L", "/usr/aarch64-linux-gnu"),
+        packages={
+            "aarch64-linux-gnu-gcc": "gcc-aarch64-linux-gnu libc6-dev-arm64-cross",
+            "aarch64-linux-gnu-objdump": "binutils-aarch64-linux-gnu",
+            "qemu-aarch64": "qemu-user",
+        },
+    ),
+    Target(
+        name="linux-x86_64-musl",
+        title="Linux on x86-64-v2 with musl",
+        holds="`rsp`, which needs no other file; `libbrsp.a`, `libbrsp.so.1`",
+        tested="on this system, with musl 1.2.3",
+        triples={"x86_64": "x86_64-unknown-linux-musl"},
+        linker="elf_x86_64",
+        start="start_musl.c",
+        # A program that is static and can be at any address. musl's words for gcc have no such kind.
+        linked="-fPIE -pie -nostartfiles -l:rcrt1.o -Wl,-static,--no-dynamic-linker,-z,text,--wrap=main",
+        shared="lib/libbrsp.so",
+        program="bin/rsp",
+        rust={"x86_64-unknown-linux-musl": "libbrsp.a"},
+        cmake=("Linux", "x86_64|AMD64|amd64"),
+        python="linux",
+        wheel=("musllinux_1_2_x86_64",),
+        compiler="musl-gcc",
+        packages={"musl-gcc": "musl-tools"},
     ),
     Target(
         name="windows-x86_64",
+        title="Windows on x86-64-v2",
+        holds="`rsp.exe`; `brsp.dll`, import and static libraries for mingw and MSVC",
+        tested="under wine, not on Windows",
         ending="zip",
+        triples={"x86_64": "x86_64-w64-windows-gnu"},
         shared="bin/brsp.dll",
         program="bin/rsp.exe",
         rust={"x86_64-pc-windows-gnu": "libbrsp.a", "x86_64-pc-windows-msvc": "brsp_static.lib"},
@@ -73,17 +135,46 @@ CROSS: Tuple[Target, ...] = (
         wheel=("win_amd64",),
         compiler="x86_64-w64-mingw32-gcc",
         emulator=("wine",),
+        packages={
+            "x86_64-w64-mingw32-gcc": "gcc-mingw-w64-x86-64",
+            "x86_64-w64-mingw32-objdump": "binutils-mingw-w64-x86-64",
+            "wine": "wine wine64",
+        },
     ),
     Target(
         name="macos",
+        title="macOS 11 on ARM and x86-64-v2",
+        holds="`libbrsp.dylib` and `libbrsp.a` for both processors; no program",
+        tested="on Linux, never on a Mac: the code was taken out of the dylib, and the code for ARM ran in "
+        "qemu-aarch64",
+        triples={"x86_64": "x86_64-apple-macosx11.0.0", "aarch64": "arm64-apple-macosx11.0.0"},
         shared="lib/libbrsp.dylib",
         rust={"aarch64-apple-darwin": "libbrsp.a", "x86_64-apple-darwin": "libbrsp.a"},
         cmake=("Darwin", "x86_64|arm64"),
         python="darwin",
         wheel=("macosx_11_0_universal2",),
     ),
-    Target(name="vendor"),
-    Target(name="wasm64", ending="tgz"),
+    Target(
+        name="vendor",
+        title="other projects",
+        holds="the library as assembly, with a CMakeLists.txt: gcc or clang build it without the kit",
+    ),
+    Target(
+        name="wasm64",
+        title="browsers, Node, Deno",
+        holds="`rsp.wasm` with an ES module and its types, as an npm package",
+        tested="in Chromium and in Node 20",
+        ending="tgz",
+        packages={"cmark-gfm": "cmark-gfm", "node": "nodejs"},
+    ),
 )
-PAGE = Target(name="page", ending="zip")
+# Made with the library of wasm64.
+PAGE = Target(
+    name="page", title="a web server", holds="static files that answer scripts in a browser", ending="zip"
+)
 TARGETS: Dict[str, Target] = {it.name: it for it in (NATIVE, *CROSS, PAGE)}
+
+
+def listed(*targets: Target) -> str:
+    """The targets for a program's --help, a line each."""
+    return "\n".join(f"  {it.name:18} {it.holds.replace('`', '')}" for it in targets)

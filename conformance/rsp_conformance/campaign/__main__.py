@@ -16,12 +16,12 @@ import time
 from pathlib import Path
 from typing import Any, Callable, List, NoReturn, Tuple
 
-from rsp_conformance.commands import printable, say
-from rsp_conformance.files import FileFault, write
+from rsp_conformance.command_line import printable, say
+from rsp_conformance.safe_files import FileFault, write
 from rsp_conformance.table import ROWS as INSTRUCTIONS
 
 from . import CampaignFault
-from .folder import RANGES, Folder, given_in
+from .output_folder import RANGES, Folder, given_in
 from .report import html_table, text_table
 from .protocol import PROGRAM, VERSION, counted, name_of
 from .supervise import check

@@ -16,7 +16,7 @@ from typing import Any, Callable, Dict, Tuple
 
 import numpy as np
 import rsp
-from rsp_conformance import cases as vectors, random
+from rsp_conformance import cases as vectors, seeded_random
 from rsp_conformance.outcomes import selected
 from rsp_conformance.table import FORMS, ROWS as INSTRUCTIONS, SCALE, Row, ignored_bits, word_of
 
@@ -38,7 +38,14 @@ POOL, REGISTERS = 1024, CASE.itemsize // 8
 
 EDGES, LANES, HALVES, PLACES, FLAGS, SP_NUMBERS = (
     np.array(it, np.int64)
-    for it in (vectors.WORDS, random.LANES, vectors.HALVES, vectors.PLACES, vectors.FLAGS, vectors.SP_NUMBERS)
+    for it in (
+        vectors.WORDS,
+        seeded_random.LANES,
+        vectors.HALVES,
+        vectors.PLACES,
+        vectors.FLAGS,
+        vectors.SP_NUMBERS,
+    )
 )
 EXTREMES, DIVISORS = np.array(vectors.EXTREMES, np.uint16), np.array(vectors.DIVISORS, np.int64)
 OFFSETS, HIGH = np.array([0, 1, 63, 64, 127]), np.array([0, 0, 1, 0xFFFFF])
@@ -52,7 +59,10 @@ EDGE = LANES[np.arange(256) % len(LANES)].astype(np.uint16)
 NEAR = ((1, 0, 0), (-1, 0, 0), (-1, -1, 0), (1, 1, 0), (1, -1, 0), (-1, 1, 0), (-1, -2, 0), (1, 0, 0x8000))
 TIMES, PLUS, FLIP = (np.array(it, np.int32) for it in zip(*NEAR))
 PARTED = np.array(
-    [high << 32 | middle << 16 | low for high, middle, low in itertools.product(random.PARTS, repeat=3)],
+    [
+        high << 32 | middle << 16 | low
+        for high, middle, low in itertools.product(seeded_random.PARTS, repeat=3)
+    ],
     np.int64,
 )
 BOUNDS = (0, 1 << 31, -1 << 31, 1 << 47, 1 << 15)

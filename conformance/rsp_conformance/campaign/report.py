@@ -5,8 +5,8 @@ import json
 from pathlib import Path
 from typing import Any, Dict, Iterator, List, Tuple
 
-from rsp_conformance.commands import printable
-from rsp_conformance.files import MOST_JSON, read
+from rsp_conformance.command_line import printable
+from rsp_conformance.safe_files import MOST_JSON, read
 from rsp_conformance.table import ROWS
 
 from . import CampaignFault

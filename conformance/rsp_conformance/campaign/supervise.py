@@ -25,7 +25,7 @@ from multiprocessing import Pipe
 from typing import Iterator, Optional, Tuple
 
 from rsp_conformance import TOP
-from rsp_conformance.commands import printable
+from rsp_conformance.command_line import printable
 
 from . import CampaignFault
 from .hashes import hashes

@@ -16,7 +16,7 @@ import rsp
 
 from . import CampaignFault, Unusable, operands_read
 from .generator import END, Array, cases_of, memories_of
-from .programs import check_programs
+from .random_programs import check_programs
 from .protocol import BATCH, PROGRAM, RESERVED, SHOWN, UNDONE, UNSHOWN, Result, name_of
 from .compare import Sides, differences, in_brief, named, parts_that_differ
 from .supervise import end_with_parent

@@ -1,4 +1,5 @@
-/* The program's parts in their order. */
+/* The program's parts in their order. It is in C, over the library, because the proved program opens files by Rattle's std::fs, which
+ * the kit has only for Linux. */
 #include "program.h"
 #include <string.h>
 

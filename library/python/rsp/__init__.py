@@ -25,6 +25,7 @@ from ctypes import POINTER, Structure, addressof, byref, c_char_p, c_size_t, c_u
 from typing import (
     Any,
     Callable,
+    Container,
     Dict,
     Iterable,
     Iterator,
@@ -39,17 +40,16 @@ from typing import (
 )
 
 from . import arrays as _arrays
-from . import _explain
-from . import fields as _items
-from . import errors as _in_words
+from . import errors as _errors
+from . import fields as _fields
 from . import savestate as _savestate
 from .compare import Emulator, FirstDifference, first_difference
 from .script import Ran, ScriptError
 from .script import strict_replies as _strict_replies
 from .formatting import Difference, Part
 from .state import Accumulators, Changes, Divider, Flags, Scalars, SpWords, State, Traced, unset
-from .state import alike as _alike
 from .errors import FAULTS
+from .fields import alike as _alike
 
 __version__ = "0.9.0"
 __all__ = [
@@ -66,7 +66,7 @@ _T = TypeVar("_T")
 
 
 def __dir__() -> List[str]:
-    """What the package has for its users."""
+    """The public names of the package."""
     return sorted((*__all__, "__doc__", "__version__", "STATE"))
 
 
@@ -144,7 +144,8 @@ STATUS_WRITES = 1 << 16  # a bit of the mask `writes` of Machine.event
 
 DMEM, IMEM, RDRAM = Bank.DMEM, Bank.IMEM, Bank.RDRAM
 _REASONS = (*Reason,)  # by their numbers
-_STEP_ENDS = {it.value: it for it in (Status.OK, Status.HALTED, Status.RESERVED)}
+_HALTED = (Status.HALTED,)
+_STEP_ENDS = {status.value: status for status in (Status.OK, Status.HALTED, Status.RESERVED)}
 
 # The fields of a state that have values which no machine can have, by their numbers; sp[n] has 16 + n.
 _FIELDS = {
@@ -177,7 +178,7 @@ class AssemblyError(RspError):
     """
 
     def __init__(self, line: int, fault: int, source: str = "", allowed: str = "") -> None:
-        words = f"fault {fault} {FAULTS.get(fault, 'unknown')} line {line}: {_in_words.printable(source)}"
+        words = f"fault {fault} {FAULTS.get(fault, 'unknown')} line {line}: {_errors.printable(source)}"
         super().__init__(Status.NO_MEANING, f"assemble: {words}{f'; {allowed}' if allowed else ''}")
         self.line, self.fault, self.source, self.allowed = line, fault, source, allowed
 
@@ -332,7 +333,7 @@ _CALLS = {
     "brsp_write": [_M, _U, _U], "brsp_sp": [_M, POINTER(SpWords)], "brsp_set_sp": [_M, POINTER(SpWords)],
     "brsp_assemble": [_U, _B, _Z, _W, _Z, POINTER(_Assembled)], "brsp_text": [_U, _U, POINTER(_Line)],
     "brsp_labels": [_U, _B, _Z, POINTER(_Label), _Z, POINTER(_Z)],
-    "brsp_listing": [_M, _U, POINTER(_Line), _Z], "brsp_explain": [_U, _B, _Z, POINTER(_explain.Operand)],
+    "brsp_listing": [_M, _U, POINTER(_Line), _Z], "brsp_explain": [_U, _B, _Z, POINTER(_errors.Operand)],
     "brsp_session_new": [_M, _B, _Z],
     "brsp_session_take": [_M, c_void_p, _Z, c_void_p, c_void_p, _Z, c_void_p],
     "brsp_session_end": [_M, c_void_p, _Z, c_void_p],
@@ -355,46 +356,45 @@ _ZEROS = bytes(1 << 22)  # a session's image if none is given; no page of it is 
 _REPLIES, _ROOM = 16384, 65536  # what the library asks for, and what a session has
 
 
-def _ok(status: int, name: str = "", numbers: Sequence[int] = (), owner: str = "machine") -> None:
+def _check(status: int, call: str = "", numbers: Sequence[int] = (), owner: str = "machine") -> None:
+    """Raises RspError unless the status is OK. The message names the call and these numbers."""
     if status:
-        raise RspError(Status(status), _in_words.refusal(status, name, numbers, owner) if name else "")
+        raise RspError(Status(status), _errors.refusal(status, call, numbers, owner) if call else "")
 
 
-def _numbers(name: str, *given: Any, most: int = (1 << 32) - 1) -> Tuple[int, ...]:
-    """The arguments of a call. It refuses numbers that ctypes would cut, and a last one above `most`."""
-    numbers = _in_words.integers(name, given)
+def _numbers(call: str, *given: Any, most: int = (1 << 32) - 1) -> Tuple[int, ...]:
+    """The arguments of a call as integers. It refuses numbers that ctypes would cut, and a last one above
+    `most`."""
+    numbers = _errors.integers(call, given)
     if numbers and (min(numbers) < 0 or max(numbers) >= 1 << 32 or numbers[-1] > most):
-        _ok(Status.OUT_OF_RANGE, name, numbers)
+        _check(Status.OUT_OF_RANGE, call, numbers)
     return numbers
 
 
-def _stop(out: Any) -> Stop:
+def _stop_of(out: Any) -> Stop:
     reason = _REASONS[out.reason]
     stop = Stop(reason, out.steps, out.pc, out.watch if reason == Reason.WATCH else None)
     stop.word = out.word if reason == Reason.RESERVED else None
     return stop
 
 
-def _move_stop(out: _Move) -> Stop:
+def _move_stop_of(out: _Move) -> Stop:
     """A stop, with the move that is next."""
-    stop = _stop(out.stop)
+    stop = _stop_of(out.stop)
     if stop.reason in (Reason.MOVE, Reason.DMA):
         stop.move = Move(out.word, out.number, bool(out.writes), out.value)
     return stop
 
 
-def _words(call: str, words: Iterable[int]) -> Any:
-    items = _in_words.items_of(call, "words", words)
+def _word_array(call: str, words: Iterable[int]) -> Any:
+    """An array of C with the words."""
+    numbers = _errors.words_of(call, words)
     try:
-        held = array("I", items)
-    except (OverflowError, TypeError):
-        for n, number in enumerate(_in_words.words_of(call, "words", items)):
-            if not 0 <= number < 1 << 32:
-                raise RspError(
-                    Status.OUT_OF_RANGE, f"{call}: words[{n}] is {number}, not 0 to 4294967295"
-                ) from None
-        raise
-    return (c_uint32 * len(held)).from_buffer(held)
+        return (c_uint32 * len(numbers)).from_buffer(array("I", numbers))
+    except OverflowError:
+        n, number = next(pair for pair in enumerate(numbers) if not 0 <= pair[1] < 1 << 32)
+        text = f"{call}: words[{n}] is {number}, not {_errors.WORD.text}"
+        raise RspError(Status.OUT_OF_RANGE, text) from None
 
 
 class Words(List[int]):
@@ -409,8 +409,8 @@ class Words(List[int]):
         """The addresses of the labels of a text."""
         found, count = (_Label * (raw.count(b"\n") + 1))(), c_size_t()
         status = _lib.brsp_labels(self._origin, raw, len(raw), found, len(found), byref(count))
-        _ok(status, "assemble", [self._origin])
-        return {it.name.decode(): it.address for it in found[: count.value]}
+        _check(status, "assemble", [self._origin])
+        return {label.name.decode(): label.address for label in found[: count.value]}
 
     @property
     def labels(self) -> Dict[str, int]:
@@ -421,12 +421,12 @@ class Words(List[int]):
     def lines(self) -> List[int]:
         """The number of the line of each word, from 1."""
         name, lines = b"_", self._source.split(b"\n")
-        while name in self._source:  # a label of its own before each line gives the line's address
+        while name in self._source:  # a new label before each line gives the line's address
             name += b"_"
-        named = [b"%s%d:\n%s" % (name, number, line) for number, line in enumerate(lines, 1)]
-        labels = self._labels_of(b"\n".join([*named, name + b"0:"]))
-        places = [labels[f"{name.decode()}{number}"] for number in (*range(1, len(lines) + 1), 0)]
-        counts = ((end - begin) // 4 for begin, end in zip(places, places[1:]))
+        labelled = [b"%s%d:\n%s" % (name, number, line) for number, line in enumerate(lines, 1)]
+        labels = self._labels_of(b"\n".join([*labelled, name + b"0:"]))
+        addresses = [labels[f"{name.decode()}{number}"] for number in (*range(1, len(lines) + 1), 0)]
+        counts = ((end - begin) // 4 for begin, end in zip(addresses, addresses[1:]))
         return [number for number, count in enumerate(counts, 1) for _ in range(count)]
 
 
@@ -442,12 +442,12 @@ def assemble(text: str, origin: int = 0) -> Words:
     raw, words, out = text.encode(), (c_uint32 * 1024)(), _Assembled()
     status = _lib.brsp_assemble(origin, raw, len(raw), words, 1024, byref(out))
     if status == Status.NO_MEANING:
-        found = _explain.Operand()
+        found = _errors.Operand()
         _lib.brsp_explain(origin, raw, len(raw), byref(found))  # without memory for it `found` stays zeros
         raise AssemblyError(
-            out.line, out.fault, text.split("\n")[out.line - 1].strip(), _explain.allowed(found, out.fault)
+            out.line, out.fault, text.split("\n")[out.line - 1].strip(), _errors.allowed(found, out.fault)
         )
-    _ok(status, "assemble", [origin])
+    _check(status, "assemble", [origin])
     return Words(words[: out.count], raw, origin)
 
 
@@ -455,9 +455,8 @@ def text(word: int, address: int = 0) -> str:
     """The disassembly of a word below 2**32 for an address, a multiple of 4 below 4096."""
     word, address = _numbers("text", word, address)
     out = _Line()
-    _ok(_lib.brsp_text(word, address, byref(out)), "text", [word, address])
-    found: bytes = out.text
-    return found.decode()
+    _check(_lib.brsp_text(word, address, byref(out)), "text", [word, address])
+    return str(out.text.decode())
 
 
 def state_fault(state: State) -> Optional[str]:
@@ -465,18 +464,18 @@ def state_fault(state: State) -> Optional[str]:
     if not isinstance(state, State):
         raise TypeError(f"state_fault: state is of type {type(state).__name__}, not rsp.State")
     out = c_uint32()
-    _ok(_lib.brsp_state_fault(byref(state), byref(out)))
+    _check(_lib.brsp_state_fault(byref(state), byref(out)))
     return _FIELDS[out.value] if out.value else None
 
 
-def _made(call: str, make: Any, handle: Structure, image: Any, *more: int) -> int:
+def _fill_handle(call: str, make: Any, handle: Structure, image: Any, *more: int) -> int:
     """Fills a handle by a call that takes an image, and returns the image's length."""
-    data = _in_words.bytes_of(call, "image", image)
+    data = _errors.bytes_of(call, "image", image)
     status = make(byref(handle), data, len(data), *more)
     if status == Status.OUT_OF_RANGE and (len(data) % 8 or not 64 <= len(data) <= 1 << 23):
-        why = f"{call}: image has {len(data)} bytes, not a multiple of 8 from 64 to 8388608"
-        raise RspError(Status(status), why)
-    _ok(status, call, more)
+        text = f"{call}: image has {len(data)} bytes, not a multiple of 8 from 64 to 8388608"
+        raise RspError(Status(status), text)
+    _check(status, call, more)
     return len(data)
 
 
@@ -487,35 +486,44 @@ class _Owner:
     _owner, _refuses = "machine", "pickled"
 
     def _hold(self) -> None:
+        """Makes an empty handle."""
         self._handle, self._other, self._lock = _Handle(), _Handle(), threading.Lock()
         self._at, self._other_at = addressof(self._handle), addressof(self._other)
 
-    def _see_free(self, name: str) -> None:
+    def _check_free(self, call: str) -> None:
         """RspError if a call that may take long is at work."""
         if self._lock.locked():
-            told = f"{_in_words.call_name(name)}: another call is using the {self._owner}"
-            raise RspError(Status.NO_MACHINE, told)
+            text = f"{call}: another call is using the {self._owner}"
+            raise RspError(Status.NO_MACHINE, text)
 
-    def _alone(self, name: str, call: Callable[..., _T], *given: Any) -> _T:
+    def _check_done(self, status: int, call: str, numbers: Sequence[int] = ()) -> None:
+        """RspError if a call of the handle was refused. The message names these numbers."""
+        if status == Status.NO_MACHINE:
+            self._check_free(call)
+        _check(status, call, numbers, self._owner)
+
+    def _call(self, call: str, *given: Any, numbers: Sequence[int] = (), ends: Container[int] = ()) -> int:
+        """Makes a short call, during which no other thread runs. Returns 0, or a status of `ends`."""
+        self._check_free(call)
+        status: int = getattr(_quick, f"brsp_{call}")(self._at, *given)
+        if status and status not in ends:
+            self._check_done(status, call, numbers)
+        return status
+
+    def _call_alone(self, call: str, work: Callable[..., _T], *given: Any) -> _T:
         """Makes a call that may take long and lets other threads continue, or that frees what is held.
 
-        The call gets another handle. The owner's is empty meanwhile, so that a short call that has just
-        passed `_see_free` finds nothing. If two such calls have passed it, one waits for the other.
+        The work gets another handle. The owner's is empty meanwhile, so that a short call that has just
+        passed `_check_free` finds nothing. If two such calls have passed it, one waits for the other.
         """
-        self._see_free(name)
+        self._check_free(call)
         with self._lock:
             self._other.at = self._handle.at
             try:
                 self._handle.at = None
-                return call(self._other_at, *given)
+                return work(self._other_at, *given)
             finally:
                 self._handle.at = self._other.at
-
-    def _see_done(self, status: int, name: str, numbers: Sequence[int] = ()) -> None:
-        """RspError if a call of the handle was refused."""
-        if status == Status.NO_MACHINE:
-            self._see_free(name)
-        _ok(status, name, numbers, self._owner)
 
     def __reduce__(self) -> Any:
         raise TypeError(f"a {self._owner} can't be {self._refuses}")
@@ -545,23 +553,23 @@ class Machine(_Owner):
     def __init__(self, image: bytes = bytes(64), depth: int = 0) -> None:
         (depth,) = _numbers("Machine", depth)
         self._hold()
-        _made("Machine", _lib.brsp_new, self._handle, image, depth)
+        _fill_handle("Machine", _lib.brsp_new, self._handle, image, depth)
 
     def __repr__(self) -> str:
         try:
             pc, status = self.regs().pc, self.peek(4)
-            next_one = self.listing(pc, 1)[0].text
+            following = self.listing(pc, 1)[0].text
         except RspError as fault:
             return f"<rsp.Machine: {fault.status.name}>"
-        return f"<rsp.Machine: pc {pc:03x}, {'halted' if status & 1 else 'running'}, next {next_one}>"
+        return f"<rsp.Machine: pc {pc:03x}, {'halted' if status & 1 else 'running'}, next {following}>"
 
     def copy(self) -> "Machine":
         """A second machine with the same registers and memories. Its history has room for as many states, but
         is empty, and it has no breakpoints and no watches."""
         made = Machine.__new__(Machine)
         made._hold()
-        self._see_free("brsp_copy")
-        self._see_done(_quick.brsp_copy(made._at, self._at), "copy")
+        self._check_free("copy")
+        self._check_done(_quick.brsp_copy(made._at, self._at), "copy")
         return made
 
     def __copy__(self) -> "Machine":
@@ -572,79 +580,62 @@ class Machine(_Owner):
 
     def close(self) -> None:
         """Frees the machine. Any later call is refused with NO_MACHINE."""
-        self._alone("close", _lib.brsp_free)
+        self._call_alone("close", _lib.brsp_free)
 
-    def _call(self, name: str, *given: int) -> None:
-        numbers = _numbers(name, *given)
-        self._see_free(name)
-        self._see_done(getattr(_quick, name)(self._at, *numbers), name, numbers)
+    def _call_with(self, call: str, *given: int) -> None:
+        """Makes a short call that takes numbers."""
+        numbers = _numbers(call, *given)
+        self._call(call, *numbers, numbers=numbers)
 
-    def _look(self, name: str, out: _T, *given: int) -> _T:
-        numbers = _numbers(name, *given)
-        self._see_free(name)
-        self._see_done(getattr(_quick, name)(self._at, *numbers, byref(cast(Any, out))), name, numbers)
+    def _fill(self, call: str, out: _T, *given: int) -> _T:
+        """As `_call_with`, of a call that fills a structure or a number."""
+        numbers = _numbers(call, *given)
+        self._call(call, *numbers, byref(cast(Any, out)), numbers=numbers)
         return out
 
-    def _word(self, name: str, number: int) -> int:
-        if type(number) is not int or not 0 <= number < 1 << 32:  # the test alone costs less than _numbers
-            (number,) = _numbers(name, number)
-        out = c_uint32()
-        self._see_free(name)
-        status = getattr(_quick, name)(self._at, number, byref(out))
-        if status:
-            self._see_done(status, name, (number,))
-        return out.value
-
-    def _work(self, name: str, out: _S, *given: int) -> _S:
-        numbers = _numbers(name, *given)
-        status = self._alone(name, getattr(_lib, name), *numbers, byref(out))
-        self._see_done(status, name, numbers)
+    def _fill_alone(self, call: str, out: _S, *given: int) -> _S:
+        """As `_fill`, of a call that may take long."""
+        numbers = _numbers(call, *given)
+        status = self._call_alone(call, getattr(_lib, f"brsp_{call}"), *numbers, byref(out))
+        self._check_done(status, call, numbers)
         return out
 
     def get(self) -> State:
         """All registers."""
-        return self._look("brsp_get", unset(State))
+        return self._fill("get", unset(State))
 
     def set(self, state: State) -> None:
         """Sets all registers, and empties the history. The memories stay unchanged. OUT_OF_RANGE for a state
         that no machine can have."""
         if not isinstance(state, State):
             raise TypeError(f"set: state is of type {type(state).__name__}, not rsp.State")
-        self._see_free("brsp_set")
-        status = _quick.brsp_set(self._at, byref(state))
-        if status == Status.OUT_OF_RANGE:
-            raise RspError(Status(status), f"set: {_in_words.state_fault(state_fault(state) or '', state)}")
-        self._see_done(status, "set")
+        if self._call("set", byref(state), ends=(Status.OUT_OF_RANGE,)):
+            text = f"set: {_errors.state_fault(state_fault(state) or '', state)}"
+            raise RspError(Status.OUT_OF_RANGE, text)
 
     @property
     def image_length(self) -> int:
         """The number of bytes of the image of RDRAM."""
-        return self._look("brsp_image_length", c_size_t()).value
+        return self._fill("image_length", c_size_t()).value
 
     def load(self, bank: int, address: int, data: bytes) -> None:
         """Writes the bytes of a buffer to a memory, and empties the history. The bytes of a buffer of words
         are written in this computer's order; `load_words` writes the high byte first."""
-        bank, address = _numbers("load", bank, address)
-        raw = _in_words.bytes_of("load", "data", data)
-        self._see_free("brsp_load")
-        status = _quick.brsp_load(self._at, bank, address, raw, len(raw))
-        self._see_done(status, "load", [bank, address])
+        numbers = _numbers("load", bank, address)
+        raw = _errors.bytes_of("load", "data", data)
+        self._call("load", *numbers, raw, len(raw), numbers=numbers)
 
     def load_words(self, bank: int, address: int, words: Iterable[int]) -> None:
         """Writes words below 2**32, the high byte of each first, and empties the history."""
-        bank, address = _numbers("load_words", bank, address)
-        held = _words("load_words", words)
-        self._see_free("brsp_load_words")
-        status = _quick.brsp_load_words(self._at, bank, address, held, len(held))
-        self._see_done(status, "load_words", [bank, address])
+        numbers = _numbers("load_words", bank, address)
+        items = _word_array("load_words", words)
+        self._call("load_words", *numbers, items, len(items), numbers=numbers)
 
     def memory(self, bank: int, address: int, length: int) -> bytes:
         """A copy of `length` bytes of a memory: DMEM and IMEM have 4096, RDRAM as many as the image."""
         numbers = bank, address, length = _numbers("memory", bank, address, length, most=1 << 23)
         out = (ctypes.c_uint8 * length)()
-        self._see_free("brsp_memory")
-        status = _quick.brsp_memory(self._at, bank, address, out, length)
-        self._see_done(status, "memory", numbers)
+        self._call("memory", bank, address, out, length, numbers=numbers)
         return bytes(out)
 
     def memory_array(self, bank: int, address: int, length: int, dtype: Any = "u1") -> Any:
@@ -659,78 +650,71 @@ class Machine(_Owner):
     def memory_words(self, bank: int, address: int, count: int) -> List[int]:
         """`count` words of a memory, the high byte of each first."""
         numbers = bank, address, count = _numbers("memory_words", bank, address, count, most=1 << 21)
-        held = array("I", bytes(4 * count))
-        out = (c_uint32 * count).from_buffer(held)
-        self._see_free("brsp_memory_words")
-        status = _quick.brsp_memory_words(self._at, bank, address, out, count)
-        self._see_done(status, "memory_words", numbers)
-        return held.tolist()
+        out = (c_uint32 * count)()
+        self._call("memory_words", bank, address, out, count, numbers=numbers)
+        return out[:]
 
     def save_state(self) -> bytes:
         """A savestate: all registers and memories as bytes, which are the same in every language."""
         length = self.image_length
 
         def _read(at: int) -> bytes:
-            state, parts = unset(State), [(ctypes.c_uint8 * it)() for it in (4096, 4096, length)]
-            _ok(_lib.brsp_get(at, byref(state)), "save_state")
+            state, parts = unset(State), [(ctypes.c_uint8 * size)() for size in (4096, 4096, length)]
+            _check(_lib.brsp_get(at, byref(state)), "save_state")
             for bank, part in enumerate(parts):
-                _ok(_lib.brsp_memory(at, bank, 0, part, len(part)), "save_state")
+                _check(_lib.brsp_memory(at, bank, 0, part, len(part)), "save_state")
             return _savestate.saved(bytes(state), *map(bytes, parts))
 
-        return self._alone("save_state", _read)
+        return self._call_alone("save_state", _read)
 
     def load_state(self, data: bytes) -> None:
         """Sets all registers and memories from a savestate, and empties the history. Breakpoints and watches
         stay. OUT_OF_RANGE, and nothing is changed, for bytes that aren't a savestate of a machine with an
         image of this length."""
-        raw = _in_words.bytes_of("load_state", "data", data)
+        raw = _errors.bytes_of("load_state", "data", data)
         why = _savestate.refusal(raw, self.image_length)
         if why:
             raise RspError(Status.OUT_OF_RANGE, f"load_state: {why}")
         state = State.from_buffer_copy(_savestate.state_of(raw))
         field = state_fault(state)
         if field or state.zero:
-            told = _in_words.state_fault(field, state) if field else "byte 705 isn't 0"
-            raise RspError(Status.OUT_OF_RANGE, f"load_state: {told}")
+            why = _errors.state_fault(field, state) if field else "byte 705 isn't 0"
+            raise RspError(Status.OUT_OF_RANGE, f"load_state: {why}")
 
         def _write(at: int) -> None:
-            _ok(_lib.brsp_set(at, byref(state)), "load_state")
+            _check(_lib.brsp_set(at, byref(state)), "load_state")
             for bank, part in enumerate(_savestate.memories_of(raw)):
-                _ok(_lib.brsp_load(at, bank, 0, part, len(part)), "load_state")
+                _check(_lib.brsp_load(at, bank, 0, part, len(part)), "load_state")
 
-        self._alone("load_state", _write)
+        self._call_alone("load_state", _write)
 
     def start_task(self, address: int) -> None:
         """Starts the task whose structure of 64 bytes is at an address of RDRAM, a multiple of 8, and empties
         the history."""
-        self._call("brsp_start_task", address)
+        self._call_with("start_task", address)
 
     def set_pc(self, pc: int) -> None:
         """Sets pc to an address of IMEM, a multiple of 4 below 4096, and empties the history."""
-        self._call("brsp_set_pc", pc)
+        self._call_with("set_pc", pc)
 
     def step(self) -> Status:
         """Executes one instruction. Returns OK, or HALTED or RESERVED if the machine can't."""
         if self._lock.locked():
-            self._see_free("step")
+            self._check_free("step")
         status = _quick.brsp_step(self._at)
         if status not in _STEP_ENDS:
-            self._see_done(status, "step")
+            self._check_done(status, "step")
         return _STEP_ENDS[status]
 
     def step_changes(self) -> Optional[Changes]:
         """As `step`, but returns what the step changed, or None if the machine can't make the step."""
         out = unset(Changes)
-        self._see_free("brsp_step_changes")
-        status = _quick.brsp_step_changes(self._at, byref(out))
-        if status in (Status.HALTED, Status.RESERVED):
-            return None
-        self._see_done(status, "step_changes")
-        return out
+        ended = self._call("step_changes", byref(out), ends=_STEP_ENDS)
+        return None if ended else out
 
     def run(self, steps: int) -> Stop:
         """Makes 1 to 1000000 steps, up to the first reason to stop."""
-        return _stop(self._work("brsp_run", _Stop(), steps))
+        return _stop_of(self._fill_alone("run", _Stop(), steps))
 
     def run_until_move(self, steps: int, reads: int, writes: int) -> Stop:
         """As `run`, but also stops before an MFC0 from an SP register whose bit is set in `reads`, and before
@@ -739,7 +723,7 @@ class Machine(_Owner):
         The reason is then Reason.MOVE. It may stop there before the first step. `pass_move` steps over the
         move, and `step` executes it.
         """
-        return _move_stop(self._work("brsp_run_until_move", _Move(), steps, reads, writes))
+        return _move_stop_of(self._fill_alone("run_until_move", _Move(), steps, reads, writes))
 
     def event(self, steps: int, reads: int = 0, writes: int = 0) -> Stop:
         """Runs to the next event, for a caller that owns RDRAM. As `run_until_move`, but also stops before
@@ -751,11 +735,11 @@ class Machine(_Owner):
         With the bit STATUS_WRITES in `writes` it also stops after each MTC0 to SP_STATUS, whose step it
         makes: with Reason.INTERRUPT if that step raised the interrupt, otherwise with Reason.STATUS.
         """
-        out = self._work("brsp_event", _Reached(), steps, reads, writes)
-        stop, dma = _move_stop(out.at), out.dma
+        out = self._fill_alone("event", _Reached(), steps, reads, writes)
+        stop, dma = _move_stop_of(out.at), out.dma
         if stop.reason == Reason.DMA:
-            places = dma.address, dma.rdram, dma.length, dma.rows, dma.skip
-            stop.dma = Dma(Bank(dma.bank), *places, bool(dma.to_rdram))
+            numbers = dma.address, dma.rdram, dma.length, dma.rows, dma.skip
+            stop.dma = Dma(Bank(dma.bank), *numbers, bool(dma.to_rdram))
         stop.status, stop.interrupt = out.status, bool(out.interrupt)
         return stop
 
@@ -763,9 +747,9 @@ class Machine(_Owner):
         """As `run`, with an entry for each step that it made."""
         (steps,) = _numbers("trace", steps, most=1000000)
         out, stop = (Traced * steps)(), _Stop()
-        status = self._alone("trace", _lib.brsp_trace, out, steps, byref(stop))
-        self._see_done(status, "trace", [steps])
-        return _stop(stop), out[: stop.steps]
+        status = self._call_alone("trace", _lib.brsp_trace, out, steps, byref(stop))
+        self._check_done(status, "trace", [steps])
+        return _stop_of(stop), out[: stop.steps]
 
     def iter_trace(self, limit: int = 1000000) -> "Iterator[Traced]":
         """The entries of a trace one by one, up to a stop or `limit` steps. The machine may be up to 1024
@@ -778,7 +762,7 @@ class Machine(_Owner):
 
     def back(self, states: int) -> None:
         """Undoes 1 to 1000000 steps. SHORT_HISTORY if the history holds fewer."""
-        self._call("brsp_back", states)
+        self._call_with("back", states)
 
     def pass_move(self, value: int = 0) -> Status:
         """Steps over the MFC0 or MTC0 at pc without executing it; register rt of an MFC0 becomes the value.
@@ -786,12 +770,8 @@ class Machine(_Owner):
 
         Returns OK, or HALTED if the machine is halted. Refused if another word is at pc.
         """
-        (value,) = _numbers("pass_move", value)
-        self._see_free("pass_move")
-        status = Status(_quick.brsp_pass_move(self._at, value))
-        if status != Status.HALTED:
-            self._see_done(status, "pass_move", [value])
-        return status
+        numbers = _numbers("pass_move", value)
+        return Status(self._call("pass_move", *numbers, numbers=numbers, ends=_HALTED))
 
     def pass_dma(self) -> Status:
         """Steps over the DMA at pc, whose bytes the caller then moves. Everything is as after a step, SP
@@ -799,55 +779,46 @@ class Machine(_Owner):
 
         Returns OK, or HALTED if the machine is halted. Refused if the word at pc starts no DMA.
         """
-        self._see_free("pass_dma")
-        status = Status(_quick.brsp_pass_dma(self._at))
-        if status != Status.HALTED:
-            self._see_done(status, "pass_dma")
-        return status
+        return Status(self._call("pass_dma", ends=_HALTED))
 
     def history(self) -> int:
         """The number of steps that can be undone."""
-        return self._look("brsp_history", c_size_t()).value
+        return self._fill("history", c_size_t()).value
 
     def add_break(self, address: int) -> None:
         """Sets a breakpoint at an address of IMEM, a multiple of 4 below 4096; at most sixteen."""
-        self._call("brsp_add_break", address)
+        self._call_with("add_break", address)
 
     def drop_break(self, address: int) -> None:
         """Removes the breakpoint at an address."""
-        self._call("brsp_drop_break", address)
+        self._call_with("drop_break", address)
 
     def add_watch(self, address: int, length: int) -> int:
         """Watches 1 to 64 bytes of DMEM, and returns the watch's number, 0 to 7."""
-        numbers = address, length = _numbers("add_watch", address, length)
-        out = c_size_t()
-        self._see_free("brsp_add_watch")
-        status = _quick.brsp_add_watch(self._at, address, length, byref(out))
-        self._see_done(status, "add_watch", numbers)
-        return out.value
+        return self._fill("add_watch", c_size_t(), address, length).value
 
     def drop_watch(self, number: int) -> None:
         """Removes a watch."""
-        self._call("brsp_drop_watch", number)
+        self._call_with("drop_watch", number)
 
     def reg(self, number: int) -> int:
         """Scalar register `number`, 0 to 31."""
-        return self._word("brsp_reg", number)
+        return self._fill("reg", c_uint32(), number).value
 
     def regs(self) -> Scalars:
         """pc, npc and the scalar registers."""
-        return self._look("brsp_regs", unset(Scalars))
+        return self._fill("regs", unset(Scalars))
 
     def vreg(self, number: int) -> List[int]:
         """The eight lanes of vector register `number`, 0 to 31."""
-        return list(self._look("brsp_vreg", _Lanes(), number).lanes)
+        return list(self._fill("vreg", _Lanes(), number).lanes)
 
     def set_reg(self, number: int, value: int) -> None:
         """Sets scalar register `number`, 0 to 31, to a value below 2**32, and empties the history. Register 0
         takes only 0."""
         numbers = number, value = _numbers("set_reg", number, value)
         if number > 31 or value and not number:
-            _ok(Status.OUT_OF_RANGE, "set_reg", numbers)
+            _check(Status.OUT_OF_RANGE, "set_reg", numbers)
         self._change("set_reg", lambda state: operator.setitem(state.words, number, value))
 
     def set_vreg(self, number: int, lanes: Iterable[int]) -> None:
@@ -855,58 +826,56 @@ class Machine(_Owner):
         history. Raises ValueError for other lanes."""
         numbers = (number,) = _numbers("set_vreg", number)
         if number > 31:
-            _ok(Status.OUT_OF_RANGE, "set_vreg", numbers)
-        held = _items.taken(f"vectors[{number}]", _items.Lanes, lanes)
-        self._change("set_vreg", lambda state: _set_item(state.vectors, number, held))
+            _check(Status.OUT_OF_RANGE, "set_vreg", numbers)
+        items = _fields.taken(f"vectors[{number}]", _fields.Lanes, lanes)
+        self._change("set_vreg", lambda state: _set_item(state.vectors, number, items))
 
-    def _change(self, name: str, change: Callable[[Any], object]) -> None:
+    def _change(self, call: str, change: Callable[[Any], object]) -> None:
         """Changes the state. No other call comes in between."""
         state = unset(State)
         to = byref(state)
 
-        def _both(at: Any) -> int:
+        def _get_and_set(at: Any) -> int:
             status: int = _quick.brsp_get(at, to)
             change(state)
             return status or int(_quick.brsp_set(at, to))
 
-        self._see_done(self._alone(name, _both), name)
+        self._check_done(self._call_alone(call, _get_and_set), call)
 
     def acc(self) -> Accumulators:
         """The accumulators."""
-        return self._look("brsp_acc", unset(Accumulators))
+        return self._fill("acc", unset(Accumulators))
 
     def flags(self) -> Flags:
         """The flags."""
-        return self._look("brsp_flags", unset(Flags))
+        return self._fill("flags", unset(Flags))
 
     def divider(self) -> Divider:
         """DIV_IN, DIV_OUT, and whether DIV_IN is loaded."""
-        return self._look("brsp_divider", unset(Divider))
+        return self._fill("divider", unset(Divider))
 
     def read(self, number: int) -> int:
         """Reads SP register `number`, modulo 16, as the CPU does. A read of the semaphore, 7, takes it and
         empties the history."""
-        return self._word("brsp_read", number)
+        return self._fill("read", c_uint32(), number).value
 
     def peek(self, number: int) -> int:
         """The word that a read of SP register `number`, modulo 16, would give."""
-        return self._word("brsp_peek", number)
+        return self._fill("peek", c_uint32(), number).value
 
     def write(self, number: int, value: int) -> None:
         """Writes SP register `number`, modulo 16, as the CPU does, with its DMA, and empties the history."""
-        self._call("brsp_write", number, value)
+        self._call_with("write", number, value)
 
     def sp(self) -> SpWords:
         """All SP registers, with the interrupt flag."""
-        return self._look("brsp_sp", unset(SpWords))
+        return self._fill("sp", unset(SpWords))
 
     def set_sp(self, given: SpWords) -> None:
         """Sets all SP registers and the interrupt flag, without a DMA, and empties the history."""
         if not isinstance(given, SpWords):
             raise TypeError(f"set_sp: given is of type {type(given).__name__}, not rsp.SpWords")
-        self._see_free("brsp_set_sp")
-        status = _quick.brsp_set_sp(self._at, byref(given))
-        self._see_done(status, "set_sp")
+        self._call("set_sp", byref(given))
 
     def listing(self, address: int, count: int) -> List[Line]:
         """At most 1024 words of IMEM from an address on, a multiple of 4, with their disassembly.
@@ -916,10 +885,8 @@ class Machine(_Owner):
         """
         numbers = address, count = _numbers("listing", address, count, most=1024)
         lines = (_Line * count)()
-        self._see_free("brsp_listing")
-        status = _quick.brsp_listing(self._at, address, lines, count)
-        self._see_done(status, "listing", numbers)
-        return [Line(it.address, it.word, it.text.decode()) for it in lines]
+        self._call("listing", address, lines, count, numbers=numbers)
+        return [Line(line.address, line.word, line.text.decode()) for line in lines]
 
 
 Rsp = Machine
@@ -941,39 +908,40 @@ class Session(_Owner):
 
     def __init__(self, image: Optional[bytes] = None) -> None:
         self._hold()
-        self._length = _made(
-            "Session", _lib.brsp_session_new, self._handle, _ZEROS if image is None else image
-        )
+        data = _ZEROS if image is None else image
+        self._length = _fill_handle("Session", _lib.brsp_session_new, self._handle, data)
         self._replies = (ctypes.c_char * _ROOM)()
 
     def close(self) -> None:
         """Frees the session. Any later call is refused with NO_MACHINE."""
-        self._alone("close", _lib.brsp_session_free)
+        self._call_alone("close", _lib.brsp_session_free)
 
-    def _answer(self, name: str, call: Any, *given: Any) -> bytes:
-        def _told(at: Any) -> Tuple[int, bytes]:
+    def _answer(self, call: str, work: Any, *given: Any) -> bytes:
+        """The replies of a call that fits them into the buffer."""
+
+        def _work(at: Any) -> Tuple[int, bytes]:
             written = c_size_t()
-            status = call(at, *given, self._replies, _ROOM, byref(written))
+            status = work(at, *given, self._replies, _ROOM, byref(written))
             return status, ctypes.string_at(self._replies, written.value)
 
-        status, reply = self._alone(name, _told)
-        self._see_done(status, name)
+        status, reply = self._call_alone(call, _work)
+        self._check_done(status, call)
         return reply
 
     def _take(self, at: int, script: bytes, parts: List[bytes]) -> int:
         """Takes all lines of a script, and appends their replies in parts that fit into the buffer."""
-        take, used, written, told = _lib.brsp_session_take, c_size_t(), c_size_t(), 0
+        take, used, written, length = _lib.brsp_session_take, c_size_t(), c_size_t(), 0
         used_at, written_at, room = addressof(used), addressof(written), addressof(self._replies)
         line = _address(script)
         end = line + len(script)
         while True:
-            status: int = take(at, line, end - line, used_at, room + told, _ROOM - told, written_at)
+            status: int = take(at, line, end - line, used_at, room + length, _ROOM - length, written_at)
             if status:
                 return status
-            line, told = line + used.value, told + written.value
-            if line == end or told > _ROOM - _REPLIES:
-                parts.append(ctypes.string_at(room, told))
-                told = 0
+            line, length = line + used.value, length + written.value
+            if line == end or length > _ROOM - _REPLIES:
+                parts.append(ctypes.string_at(room, length))
+                length = 0
                 if line == end:
                     return 0
 
@@ -981,13 +949,13 @@ class Session(_Owner):
         """The replies to the lines that end in these bytes of the script. What follows the last LF waits for
         more. If this raises, replies are lost that `iter_feed` would have yielded."""
         parts: List[bytes] = []
-        status = self._alone("feed", self._take, _in_words.script_of("feed", script), parts)
-        self._see_done(status, "feed")
+        status = self._call_alone("feed", self._take, _errors.script_of("feed", script), parts)
+        self._check_done(status, "feed")
         return b"".join(parts)
 
     def iter_feed(self, script: Union[str, bytes]) -> Iterator[bytes]:
         """Yields these replies one by one. The session takes a line when its reply is asked for."""
-        raw, at, used = _in_words.script_of("feed", script), 0, c_size_t()
+        raw, at, used = _errors.script_of("feed", script), 0, c_size_t()
         begin = _address(raw)
         while True:
             rest = begin + at, len(raw) - at
@@ -1007,9 +975,9 @@ class Session(_Owner):
     def rdram(self) -> bytes:
         """A copy of the image in its present state."""
         out = ctypes.create_string_buffer(self._length)
-        self._see_free("rdram")
+        self._check_free("rdram")
         status = _quick.brsp_session_memory(self._at, Bank.RDRAM, 0, out, self._length)
-        self._see_done(status, "rdram")
+        self._check_done(status, "rdram")
         return out.raw
 
 

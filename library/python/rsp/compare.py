@@ -3,7 +3,7 @@
 from html import escape
 from typing import TYPE_CHECKING, Any, Iterator, NamedTuple, Optional, Protocol, Sequence, Tuple
 
-from . import errors as _in_words
+from . import errors as _errors
 from .formatting import Difference, Part
 from .state import State
 
@@ -75,38 +75,38 @@ class FirstDifference(NamedTuple):
         return f"<p>{escape(self._head())}</p>{self.parts._repr_html_()}"
 
 
-class _Seen(NamedTuple):
+class _Copy(NamedTuple):
     """The parts of a side that are compared: all registers, and memories from DMEM on."""
 
     state: State
     memories: Tuple[bytes, ...]
 
 
-def _seen(side: Emulator, rdram: int = 0) -> _Seen:
-    """A side with DMEM, IMEM and this many bytes of RDRAM."""
+def _copy(side: Emulator, rdram: int = 0) -> _Copy:
+    """Copies a side's registers, DMEM, IMEM and this many bytes of RDRAM."""
     lengths = (4096, 4096, rdram)[: 3 if rdram else 2]
     memories = tuple(bytes(side.memory(bank, 0, length)) for bank, length in enumerate(lengths))
-    return _Seen(side.get(), memories)
+    return _Copy(side.get(), memories)
 
 
-def _put(side: Emulator, seen: _Seen) -> None:
-    """Sets a side to what was seen. It gets a state of its own, which it may keep and change."""
-    side.set(State.from_buffer_copy(seen.state))
-    for bank, data in enumerate(seen.memories):
+def _restore(side: Emulator, copy: _Copy) -> None:
+    """Sets a side to a copy. It gets a state of its own, which it may keep and change."""
+    side.set(State.from_buffer_copy(copy.state))
+    for bank, data in enumerate(copy.memories):
         side.load(bank, 0, data)
 
 
-def _quadwords(mine: Sequence[bytes], its: Sequence[bytes]) -> Iterator[Part]:
+def _quadwords(ours: Sequence[bytes], theirs: Sequence[bytes]) -> Iterator[Part]:
     """The quadwords of memories that differ."""
-    for name, here, there in zip(_in_words.BANKS, mine, its):
+    for name, here, there in zip(_errors.BANKS, ours, theirs):
         for at in range(0, len(here), QUADWORD) if here != there else ():
-            value, other = (int.from_bytes(it[at : at + QUADWORD], "big") for it in (here, there))
+            value, other = (int.from_bytes(data[at : at + QUADWORD], "big") for data in (here, there))
             if value != other:
                 yield Part(f"{name} {at:03x}", value, other, 2 * QUADWORD)
 
 
-def _parts(mine: _Seen, its: _Seen) -> Difference:
-    return Difference([*mine.state.diff(its.state), *_quadwords(mine.memories, its.memories)])
+def _parts(ours: _Copy, theirs: _Copy) -> Difference:
+    return Difference([*ours.state.diff(theirs.state), *_quadwords(ours.memories, theirs.memories)])
 
 
 def _step(
@@ -118,16 +118,18 @@ def _step(
     if machine.step() != 0:
         return False, None
     emulator.run(1)
-    mine, its = _seen(machine, rdram), _seen(emulator, rdram)
-    return True, FirstDifference(number, *line, before, _parts(mine, its)) if mine != its else None
+    ours, theirs = _copy(machine, rdram), _copy(emulator, rdram)
+    if ours == theirs:
+        return True, None
+    return True, FirstDifference(number, *line, before, _parts(ours, theirs))
 
 
 def _narrowed(
-    machine: "Machine", emulator: Emulator, before: _Seen, steps: range, parts: Difference
+    machine: "Machine", emulator: Emulator, before: _Copy, steps: range, parts: Difference
 ) -> FirstDifference:
     """The step of a stretch after which they differ, or the whole stretch if no step alone shows it."""
     for side in machine, emulator:
-        _put(side, before)
+        _restore(side, before)
     (line,) = machine.listing(before.state.pc, 1)
     for number in steps:
         _, found = _step(machine, emulator, number)
@@ -154,34 +156,34 @@ def first_difference(
     """
     from . import RspError, Status  # which are made after this module is loaded
 
-    every, limit = _in_words.integers("first_difference", (every, limit))
-    if not 1 <= every <= 1000000 or not 0 <= limit < _in_words.BELOW:
-        words = _in_words.refusal(Status.OUT_OF_RANGE, "first_difference", (every, limit))
-        raise RspError(Status.OUT_OF_RANGE, words)
+    every, limit = _errors.integers("first_difference", (every, limit))
+    if not 1 <= every <= 1000000 or not 0 <= limit < _errors.BELOW:
+        text = _errors.refusal(Status.OUT_OF_RANGE, "first_difference", (every, limit))
+        raise RspError(Status.OUT_OF_RANGE, text)
     rdram, steps = machine.image_length, 0
-    seen = _seen(machine, rdram)
-    _put(emulator, seen)
-    its = _seen(emulator, rdram)
-    for bank, (memory, other) in enumerate(zip(seen.memories, its.memories)):
+    ours = _copy(machine, rdram)
+    _restore(emulator, ours)
+    theirs = _copy(emulator, rdram)
+    for bank, (memory, other) in enumerate(zip(ours.memories, theirs.memories)):
         if len(memory) != len(other):
-            told = f"memory({bank}, 0, {len(memory)}) has {len(other)} bytes"
-            raise ValueError(f"first_difference: the emulator's {told}")
-    if seen != its:
-        return FirstDifference(0, *machine.listing(seen.state.pc, 1)[0], seen.state, _parts(seen, its))
+            text = f"the emulator's memory({bank}, 0, {len(memory)}) has {len(other)} bytes"
+            raise ValueError(f"first_difference: {text}")
+    if ours != theirs:
+        return FirstDifference(0, *machine.listing(ours.state.pc, 1)[0], ours.state, _parts(ours, theirs))
     while steps < limit:
         made = machine.run_until_move(min(every, limit - steps), 0, LENGTHS).steps
         if made:
             emulator.run(made)
-            before, its = seen, _seen(emulator)
-            # A DMA alone changes the machine's IMEM.
-            seen = _Seen(machine.get(), (machine.memory(0, 0, 4096), before.memories[1]))
-            if seen != its:
+            before, theirs = ours, _copy(emulator)
+            # Only a DMA changes the machine's IMEM.
+            ours = _Copy(machine.get(), (machine.memory(0, 0, 4096), before.memories[1]))
+            if ours != theirs:
                 stretch = range(steps + 1, steps + made + 1)
-                return _narrowed(machine, emulator, before, stretch, _parts(seen, its))
+                return _narrowed(machine, emulator, before, stretch, _parts(ours, theirs))
         else:  # it is before a DMA, or can't continue
-            goes_on, found = _step(machine, emulator, steps + 1, rdram)
-            if found or not goes_on:
+            is_made, found = _step(machine, emulator, steps + 1, rdram)
+            if found or not is_made:
                 return found
-            made, seen = 1, _seen(machine)
+            made, ours = 1, _copy(machine)
         steps += made
     return None

@@ -97,19 +97,19 @@ def main() -> int:
     parser.add_argument("script", metavar="SCRIPT", type=Path)
     parser.add_argument("--rdram", metavar="FILE", type=Path, help="the image, instead of zeros")
     parser.add_argument("--fail-unexecuted", action="store_true")
-    given = parser.parse_args()
+    options = parser.parse_args()
     try:
-        image = given.rdram.read_bytes() if given.rdram else bytes(1 << 22)
-        found = counted(given.script.read_text(), image)
-        for it in found.faults:
-            print(f"rsp.counts: {it}", file=sys.stderr)
+        image = options.rdram.read_bytes() if options.rdram else bytes(1 << 22)
+        found = counted(options.script.read_text(), image)
+        for fault in found.faults:
+            print(f"rsp.counts: {fault}", file=sys.stderr)
         print("\n".join(report(found)), flush=True)
     except BrokenPipeError:
         os.dup2(os.open(os.devnull, os.O_WRONLY), 1)  # so that Python's end writes nothing to the closed pipe
         return 0
-    except (OSError, ValueError, rsp.RspError) as fault:
-        sys.exit(f"rsp.counts: {fault}")
-    return int(given.fail_unexecuted and bool(found.unexecuted()))
+    except (OSError, ValueError, rsp.RspError) as error:
+        sys.exit(f"rsp.counts: {error}")
+    return int(options.fail_unexecuted and bool(found.unexecuted()))
 
 
 if __name__ == "__main__":

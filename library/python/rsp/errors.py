@@ -1,9 +1,10 @@
-"""Refusals in words: what a call was given, and what it takes."""
+"""Why calls are refused: the ranges of their arguments, and messages."""
 
 import operator
-from typing import Any, Dict, List, Mapping, NamedTuple, Sequence, Tuple
+from ctypes import Structure, c_int64, c_size_t, c_uint32
+from typing import Any, Dict, NamedTuple, Sequence, Tuple
 
-from .fields import list_of
+from .fields import alike, list_of
 from .formatting import SP_NAMES
 
 BELOW = 1 << 32
@@ -16,7 +17,7 @@ FAULTS = {
 
 def printable(text: str) -> str:
     """A line with each character that would control a terminal as its escape: \\x1b."""
-    return "".join(it if it.isprintable() or it == "\t" else ascii(it)[1:-1] for it in text)
+    return "".join(char if char.isprintable() or char == "\t" else ascii(char)[1:-1] for char in text)
 
 
 class Range(NamedTuple):
@@ -48,6 +49,7 @@ ARGUMENTS: Dict[str, Dict[str, Range]] = {
     "run_until_move": {"steps": COUNT, "reads": MASK, "writes": MASK},
     "event": {"steps": COUNT, "reads": MASK, "writes": EVENT_MASK},
     "trace": {"steps": COUNT},
+    "iter_trace": {"limit": WORD},
     "back": {"states": COUNT},
     "pass_move": {"value": WORD},
     "add_break": {"address": PLACE},
@@ -100,47 +102,35 @@ SENTENCES = {
 }
 
 
-def call_name(name: str) -> str:
-    """The name in Python of a call of the library."""
-    return {"brsp_new": "Machine"}.get(name) or (name[5:] if name.startswith("brsp_") else name)
-
-
-def named(call: str, numbers: Sequence[Any]) -> Mapping[str, Any]:
-    """The numbers by the names of the call's arguments."""
-    names = [*ARGUMENTS.get(call, {})]
-    return dict(zip(names + [f"argument {n + 1}" for n in range(len(names), len(numbers))], numbers))
-
-
 def out_of_range(call: str, numbers: Sequence[int]) -> str:
     """The first number that isn't in its range, or what is wrong with all of them."""
-    ranges = ARGUMENTS.get(call, {})
-    given = named(call, numbers)
-    for name, number in given.items():
-        allowed = ranges.get(name, WORD)
+    values: Dict[str, Any] = {}
+    for (name, allowed), number in zip(ARGUMENTS.get(call, {}).items(), numbers):
         if number not in allowed.numbers:
             return f"{name} is {int(number)}, not {allowed.text}"
-    words = {**given, "bank": BANKS[given["bank"]]} if "bank" in given else given
-    return TOGETHER.get(call, "a number is out of its range").format(**words)
+        values[name] = BANKS[number] if name == "bank" else number
+    return TOGETHER.get(call, "a number is out of its range").format(**values)
 
 
-def refusal(status: int, name: str, numbers: Sequence[int] = (), owner: str = "machine") -> str:
+def refusal(status: int, call: str, numbers: Sequence[int] = (), owner: str = "machine") -> str:
     """Why a call was refused, in a sentence."""
-    call = call_name(name)
     if status in (OUT_OF_RANGE, OTHER_WORD):
         return f"{call}: {out_of_range(call, numbers)}"
     return f"{call}: {SENTENCES.get(status, 'refused').format(*numbers, owner=owner)}"
 
 
-def integers(name: str, numbers: Sequence[Any]) -> Tuple[int, ...]:
-    """The arguments as integers. TypeError names the first that is none."""
+def integers(call: str, numbers: Sequence[Any], item: str = "") -> Tuple[int, ...]:
+    """Numbers as integers: the arguments of a call, or the items of one. TypeError names the first that is no
+    integer; `item` names an item by its index."""
     try:
         return tuple(map(operator.index, numbers))
     except TypeError:
-        call = call_name(name)
-        first, value = next(
-            (it, value) for it, value in named(call, numbers).items() if not hasattr(value, "__index__")
-        )
-        raise TypeError(f"{call}: {first} is of type {type(value).__name__}, not an integer") from None
+        names = [item.format(n) for n in range(len(numbers))] if item else [*ARGUMENTS[call]]
+        for name, value in zip(names, numbers):
+            if not hasattr(value, "__index__"):
+                text = f"{call}: {name} is of type {type(value).__name__}, not an integer"
+                raise TypeError(text) from None
+        raise
 
 
 def bytes_of(call: str, name: str, data: Any) -> bytes:
@@ -160,21 +150,12 @@ def script_of(call: str, script: Any) -> bytes:
     return script.encode() if isinstance(script, str) else bytes_of(call, "script", script)
 
 
-def items_of(call: str, name: str, words: Any) -> List[Any]:
-    """The items of an iterable."""
-    items: Any = words if type(words) is list else list_of(words)
+def words_of(call: str, words: Any) -> Tuple[int, ...]:
+    """The items of an iterable as integers."""
+    items = list_of(words)
     if items is None:
-        raise TypeError(f"{call}: {name} is of type {type(words).__name__}, not a list of integers")
-    return list(items)
-
-
-def words_of(call: str, name: str, items: List[Any]) -> Tuple[int, ...]:
-    """Items as integers. TypeError names the first that is none."""
-    try:
-        return tuple(map(operator.index, items))
-    except TypeError:
-        n, item = next((n, it) for n, it in enumerate(items) if not hasattr(it, "__index__"))
-        raise TypeError(f"{call}: {name}[{n}] is of type {type(item).__name__}, not an integer") from None
+        raise TypeError(f"{call}: words is of type {type(words).__name__}, not a list of integers")
+    return integers(call, items, "words[{}]")
 
 
 # What `set` takes in a field.
@@ -194,3 +175,42 @@ def state_fault(field: str, state: Any) -> str:
         return f"{field} is {value}, not {FIELDS[field]}"
     number = int(field[3:-1])
     return f"{field} is {state.sp[number]:#x}, which {SP_NAMES[number]} can't hold"
+
+
+class Operand(Structure):
+    """`brsp_operand` of brsp.h."""
+
+    _fields_ = [*alike(c_int64, "low", "high"), ("number", c_size_t), *alike(c_uint32, "kind", "step")]
+
+
+# By the numbers of BRSP_OPERAND_ in brsp.h. A range follows what ends with a comma.
+_NUMBER = "a number or a label,"
+_VECTOR = "a vector register, $v0 to $v31"
+_FORMS = (
+    "nothing",
+    _NUMBER,
+    "a scalar register, $0 to $31 or as $t0, but not $v0 and $v1",
+    *[_NUMBER] * 6,
+    "an SP register, $c0 to $c15",
+    "$vco, $vcc or $vce",
+    _VECTOR,
+    f"{_VECTOR}, with a byte, [0] to [15], or none",
+    f"{_VECTOR}, with an element, [v], [0q], [1q], [0h] to [3h] or [0] to [7], or none",
+    f"{_VECTOR}, with a lane, [0] to [7]",
+)
+_MEMORY = (7, 8)
+_BAD_OPERAND, _LABEL_MISSING = 12, 15
+
+
+def allowed(found: Operand, fault: int) -> str:
+    """Which operand is at fault, and what it may be; nothing if none is."""
+    if not found.number:
+        return ""
+    span = f"{found.low} to {found.high}" if found.step else ""
+    span += f", a multiple of {found.step}" if found.step > 1 else ""
+    if fault == _BAD_OPERAND:
+        form = _FORMS[found.kind] if found.kind < len(_FORMS) else "another one"
+        span = f"{form} {span}".strip() + ", and a scalar register in parentheses" * (found.kind in _MEMORY)
+    elif fault == _LABEL_MISSING:
+        span = f"the label of a line, or {span}"
+    return f"operand {found.number} may be {span}"

@@ -3,7 +3,7 @@
 import ctypes
 import operator
 from array import array as numbers_of
-from typing import TYPE_CHECKING, Any, ClassVar, Iterator, List, Sequence, Union
+from typing import TYPE_CHECKING, Any, ClassVar, Iterator, List, Sequence, Tuple, Union
 
 
 def _number(name: str, kind: Any, value: Any) -> int:
@@ -17,6 +17,11 @@ def _number(name: str, kind: Any, value: Any) -> int:
         return number
     hint = f"; & {most:#x} makes it one" if number < 0 else ""
     raise ValueError(f"{name} is {number}, not 0 to {most}{hint}")
+
+
+def alike(kind: Any, *names: str) -> List[Tuple[str, Any]]:
+    """Fields of one type."""
+    return [(name, kind) for name in names]
 
 
 def list_of(value: Any) -> Any:
@@ -35,7 +40,7 @@ def taken(name: str, kind: Any, value: Any) -> Any:
         try:
             return kind.from_buffer_copy(numbers_of(CODES[kind._type_], value))
         except (TypeError, OverflowError):
-            pass  # one of them is no number or doesn't fit, which is said below
+            pass  # one of them is no number or doesn't fit: the end of this function says which
     if issubclass(kind, ctypes.Structure):
         raise TypeError(f"{name} is of type {type(value).__name__}, not rsp.{kind.__name__}")
     if not issubclass(kind, ctypes.Array):
@@ -73,8 +78,9 @@ class Items:
         if len(values) != len(places):
             raise ValueError(f"{len(values)} values are for {len(places)} items")
         items: Any = ctypes.Array
-        for n, it in [(n, taken(self._name.format(n), self._type_, it)) for n, it in zip(places, values)]:
-            items.__setitem__(self, n, it)
+        checked = [taken(self._name.format(n), self._type_, value) for n, value in zip(places, values)]
+        for n, value in zip(places, checked):
+            items.__setitem__(self, n, value)
 
     def _places(self, index: Union[int, slice]) -> Sequence[int]:
         """The numbers of the items that an index means."""

@@ -89,8 +89,9 @@ def acc(accumulators: Any) -> List[str]:
 
 def scalar_parts(state: Any) -> Named:
     """The name, the value and the digits of pc, npc and each scalar register."""
-    counters = ("pc", state.pc, 3), ("npc", state.npc, 3)
-    return chain(counters, zip(SCALAR_NAMES, array("I", bytes(state.words)), repeat(8)))
+    return chain(
+        _field_parts(state, pc=3, npc=3), zip(SCALAR_NAMES, array("I", bytes(state.words)), repeat(8))
+    )
 
 
 def vector_parts(vectors: Any) -> Named:
@@ -104,27 +105,25 @@ def acc_parts(accumulators: Any) -> Named:
         yield f"accumulator {lane}", high << 32 | middle << 16 | low, 12
 
 
+def _field_parts(structure: Any, **digits: int) -> Named:
+    """Those of fields, which have the names of the parts."""
+    return ((name, getattr(structure, name), count) for name, count in digits.items())
+
+
 def flag_parts(flags: Any) -> Named:
-    """Those of VCO, VCC and VCE."""
-    yield "vco", flags.vco, 4
-    yield "vcc", flags.vcc, 4
-    yield "vce", flags.vce, 2
+    """Those of VCO, VCC and VCE, also of an entry of a trace."""
+    return _field_parts(flags, vco=4, vcc=4, vce=2)
 
 
 def traced_parts(entry: Any) -> Named:
     """Those of an entry of a trace."""
-    yield "pc", entry.pc, 3
-    yield "word", entry.word, 8
+    yield from _field_parts(entry, pc=3, word=8)
     yield "scalar register", entry.scalar, 2
     yield "value", entry.value, 8
     yield "vector register", entry.vector, 2
-    for lane, value in enumerate(entry.lanes):
-        yield f"lane {lane}", value, 4
-    yield "vco", entry.vco, 4
-    yield "vcc", entry.vcc, 4
-    yield "vce", entry.vce, 2
-    yield "stored", entry.stored, 1
-    yield "address", entry.address, 3
+    yield from ((f"lane {lane}", value, 4) for lane, value in enumerate(entry.lanes))
+    yield from flag_parts(entry)
+    yield from _field_parts(entry, stored=1, address=3)
 
 
 def traced(entry: Any) -> str:
@@ -132,8 +131,7 @@ def traced(entry: Any) -> str:
     scalar = f" ${entry.scalar} {entry.value:08x}" if entry.scalar else ""
     vector = f" $v{entry.vector} " + " ".join(f"{it:04x}" for it in entry.lanes) if entry.vector < 32 else ""
     store = f" stored {entry.address:03x}" if entry.stored else ""
-    flags = f"vco {entry.vco:04x} vcc {entry.vcc:04x} vce {entry.vce:02x}"
-    return f"{entry.pc:03x} {entry.word:08x}{scalar}{vector}{store} {flags}"
+    return f"{entry.pc:03x} {entry.word:08x}{scalar}{vector}{store} {line(flag_parts(entry))}"
 
 
 def rest_parts(changes: Any) -> Named:
@@ -177,6 +175,6 @@ def state_parts(state: Any) -> Named:
     )
 
 
-def line(parts: Named) -> str:
+def line(parts: Iterable[Tuple[str, int, int]]) -> str:
     """Names with their values in one line."""
     return " ".join(f"{name} {value:0{digits}x}" for name, value, digits in parts)

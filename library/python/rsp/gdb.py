@@ -111,6 +111,11 @@ def _description() -> Tuple[bytes, List[_Register]]:
 _XML, _REGISTERS = _description()
 
 
+def _hex(text: str) -> bytes:
+    """A text as packets have it."""
+    return text.encode().hex().encode()
+
+
 def _place(address: int) -> Tuple[rsp.Bank, int]:
     """The memory of an address, and the address there. RDRAM is in KSEG0 and KSEG1, as for the CPU, and the
     SP's memories are there and at 0x04000000. Below 0x4000 are DMEM and IMEM too, as microcode has them. GDB
@@ -126,7 +131,7 @@ def _place(address: int) -> Tuple[rsp.Bank, int]:
     return rsp.RDRAM, physical
 
 
-def _two(numbers: str) -> Tuple[int, int]:
+def _pair(numbers: str) -> Tuple[int, int]:
     """The two numbers of a packet."""
     found = re.fullmatch("([0-9a-f]{1,16}),([0-9a-f]{1,16})", numbers)
     if not found:
@@ -135,7 +140,7 @@ def _two(numbers: str) -> Tuple[int, int]:
 
 
 def _number(text: str) -> int:
-    """A number of a command, as scripts have them."""
+    """The number that a text is, as in scripts."""
     if not re.fullmatch("[0-9]{1,16}|0x[0-9a-fA-F]{1,16}", text):
         raise ValueError(f"{text[:80]} isn't a number")
     return int(text, 16 if "x" in text else 10)
@@ -184,35 +189,37 @@ class Stub:
 
     def _numbers(self) -> List[int]:
         """The state as a list, with the accumulators once more as numbers of 48 bits."""
-        v = [*_STATE.unpack(bytes(self.line.machine.get()))]
-        parts = zip(*(v[n : n + 8] for n in range(_ACCUMULATORS, _FLAGS, 8)))
-        return v + [
-            (high << 32 | middle << 16 | low) - ((high & 0x8000) << 33) for high, middle, low in parts
-        ]
+        numbers = [*_STATE.unpack(bytes(self.line.machine.get()))]
+        for high, middle, low in zip(*(numbers[n : n + 8] for n in range(_ACCUMULATORS, _FLAGS, 8))):
+            numbers.append((high << 32 | middle << 16 | low) - ((high & 0x8000) << 33))
+        return numbers
 
     def _values(self) -> List[Tuple[Optional[bytes], int]]:
-        v = self._numbers()
+        """The bytes of each of GDB's registers, or None if the machine hasn't it, and how many they are."""
+        numbers = self._numbers()
         for number in (_PC, _PC + 1):
-            v[number] |= _IMEM
-        return [
-            (None if it.at is None else struct.pack(f">{it.form}", *v[it.at : it.at + len(it.form)]), it.size)
-            for it in _REGISTERS
-        ]
+            numbers[number] |= _IMEM
+        values: List[Tuple[Optional[bytes], int]] = []
+        for form, at, size in _REGISTERS:
+            raw = None if at is None else struct.pack(f">{form}", *numbers[at : at + len(form)])
+            values.append((raw, size))
+        return values
 
     def _set_register(self, rest: str) -> bytes:
         number, raw = (bytes.fromhex(it.rjust(len(it) + len(it) % 2, "0")) for it in rest.split("="))
         form, at, _ = _REGISTERS[int.from_bytes(number, "big")]
         if at is None:
             raise ValueError
-        v = self._numbers()
-        v[at : at + len(form)] = struct.unpack(f">{form}", raw)
+        numbers = self._numbers()
+        numbers[at : at + len(form)] = struct.unpack(f">{form}", raw)
         if at in (_PC, _PC + 1):
-            v[at] &= 0xFFC
+            numbers[at] &= 0xFFC
         if at == _PC:
-            v[at + 1] = (v[at] + 4) & 0xFFC
-        v[_ACCUMULATORS:_FLAGS] = [it >> shift & 0xFFFF for shift in (32, 16, 0) for it in v[_NUMBERS:]]
-        v[0] = 0
-        self.line.machine.set(rsp.State.from_buffer_copy(_STATE.pack(*v[:_NUMBERS])))
+            numbers[at + 1] = (numbers[at] + 4) & 0xFFC
+        parts = [value >> shift & 0xFFFF for shift in (32, 16, 0) for value in numbers[_NUMBERS:]]
+        numbers[_ACCUMULATORS:_FLAGS] = parts
+        numbers[0] = 0
+        self.line.machine.set(rsp.State.from_buffer_copy(_STATE.pack(*numbers[:_NUMBERS])))
         self.line.changed()
         return b"OK"
 
@@ -225,16 +232,16 @@ class Stub:
                 b"PacketSize=%x;QStartNoAckMode+;qXfer:features:read+;ReverseStep+;ReverseContinue+" % _PACKET
             )
         if name == "Xfer" and more.startswith("features:read:target.xml:"):
-            at, length = _two(more.split(":")[-1])
+            at, length = _pair(more.split(":")[-1])
             return (b"m" if at + length < len(_XML) else b"l") + _XML[at : at + length]
         if name.startswith("Rcmd,"):
-            told = self._monitor(bytes.fromhex(name[5:]).decode("latin-1").split() or ["help"])
-            return told.encode().hex().encode() or b"OK"
+            words = bytes.fromhex(name[5:]).decode("latin-1").split()
+            return _hex(self._monitor(words or ["help"])) or b"OK"
         if name == "rsp.goto":
-            return self._goto().encode().hex().encode() if self._goal >= 0 else b""
+            return _hex(self._goto()) if self._goal >= 0 else b""
         if name == "rsp.text":
-            word, address = _two(more)
-            return _text(word, address & 0xFFC).encode().hex().encode()
+            word, address = _pair(more)
+            return _hex(_text(word, address & 0xFFC))
         return {"fThreadInfo": b"m1", "sThreadInfo": b"l", "C": b"QC1", "Attached": b"1"}.get(name, b"")
 
     def _mode(self, rest: str) -> bytes:
@@ -242,7 +249,7 @@ class Stub:
         return b"OK" if rest == "StartNoAckMode" else b""
 
     def _memory(self, rest: str) -> bytes:
-        address, length = _two(rest)
+        address, length = _pair(rest)
         bank, at = _place(address)
         end = self.line.machine.image_length if bank == rsp.RDRAM else 4096
         return self.line.machine.memory(bank, at, min(length, max(end - at, 1), 0x1F00)).hex().encode()
@@ -254,7 +261,7 @@ class Stub:
 
     def _store(self, rest: str) -> bytes:
         head, raw = rest.split(":", 1)
-        (address, length), data = _two(head), bytes.fromhex(raw)
+        (address, length), data = _pair(head), bytes.fromhex(raw)
         if len(data) != length:
             raise ValueError
         if data:
@@ -265,7 +272,7 @@ class Stub:
     def _point(self, rest: str, remove: bool) -> bytes:
         """Sets or removes a breakpoint or a watch."""
         kind, numbers = rest.split(";")[0].split(",", 1)
-        at, size = _two(numbers)
+        at, size = _pair(numbers)
         bank, low = (rsp.IMEM, at) if at < 4096 and kind in "01" else _place(at)
         if kind in "01":
             if bank != rsp.IMEM:
@@ -280,7 +287,7 @@ class Stub:
             if bank != rsp.DMEM or not 0 < size <= 4096 - low:
                 return self._refused("only bytes of DMEM can be watched, so none of RDRAM or IMEM")
             parts = {(low + n, min(64, size - n)): at for n in range(0, size, 64)}
-            kept = {it: told for it, told in self._watches.items() if it not in parts}
+            kept = {watch: address for watch, address in self._watches.items() if watch not in parts}
             if not remove and len(kept) + len(parts) > 8:
                 return self._refused("there are at most eight watches of at most 64 bytes")
             self._watches = kept if remove else {**kept, **parts}
@@ -334,9 +341,9 @@ class Stub:
         return self._stopped("interrupted" if self._was_interrupted else "")
 
     def _stopped(self, why: str = "", watch: Optional[Watch] = None) -> bytes:
-        told = f"watch:{self._watches[watch]:x};" if watch else "replaylog:begin;" * (why == "begin")
+        reason = f"watch:{self._watches[watch]:x};" if watch else "replaylog:begin;" * (why == "begin")
         pc = _IMEM + self.line.machine.regs().pc
-        return f"T{_SIGNALS.get(why, 5):02x}{told}25:{pc:08x};thread:1;".encode()
+        return f"T{_SIGNALS.get(why, 5):02x}{reason}25:{pc:08x};thread:1;".encode()
 
     def _goto(self) -> str:
         """Goes towards the goal. GDB sends no Ctrl-C while it waits for the reply to `monitor`, so this takes
@@ -356,9 +363,9 @@ class Stub:
         rows = sorted(self.line.counts(least).items())
         return "".join(f"{n:9} {at:03x} {_text(words[at // 4], at)}\n" for at, n in rows)
 
-    def _shown(self, words: Sequence[str]) -> Optional[str]:
+    def _query_machine(self, name: str, *operands: str) -> Optional[str]:
         """The reply to a command that changes nothing, or None if there is no such command."""
-        machine, name, given = self.line.machine, words[0], words[1:]
+        machine = self.line.machine
         state = machine.get()
         texts: Dict[str, Callable[..., Any]] = {
             "when": lambda: f"step {self.line.step}",
@@ -368,28 +375,28 @@ class Stub:
             "vregs": lambda: "\n".join(vregs(state.vectors)),
             "acc": machine.acc,
             "flags": lambda: f"{state.flags} {state.divider}",
-            "sp": lambda: "".join(f"c{n} {it:08x}\n" for n, it in enumerate(state.sp))
+            "sp": lambda: "".join(f"c{n} {word:08x}\n" for n, word in enumerate(state.sp))
             + f"interrupt {state.interrupt}",
-            "mem": lambda *it: _memory_lines(machine, *it),
+            "mem": lambda bank, start, length: _memory_lines(machine, bank, start, length),
             "dis": lambda at, count: "\n".join(map(str, machine.listing(_number(at), _number(count)))),
         }
-        return f"{texts[name](*given)}\n" if name in texts else None
+        return f"{texts[name](*operands)}\n" if name in texts else None
 
     def _monitor(self, words: Sequence[str]) -> str:
-        name, *given = words
+        name, *operands = words
         self._goal = -1
         try:
             if name in ("task", "pc", "load", "write", "read"):
-                told = _change(self.line.machine, *words)
-                if name != "read" or _number(given[0]) == 7:  # which takes the semaphore
+                reply = _change(self.line.machine, *words)
+                if name != "read" or _number(operands[0]) == 7:  # which takes the semaphore
                     self.line.changed()
-                return told
-            if name == "goto" and len(given) == 1:
-                self._goal = _number(given[0])
+                return reply
+            if name == "goto" and len(operands) == 1:
+                self._goal = _number(operands[0])
                 return self._goto()
             if name == "counts":
-                return self._counts(*map(_number, given))
-            return self._shown(words) or _HELP
+                return self._counts(*map(_number, operands))
+            return self._query_machine(*words) or _HELP
         except TypeError:  # too many words, or too few
             return _HELP
         except (rsp.RspError, ValueError) as fault:
@@ -417,7 +424,7 @@ def _memory_lines(machine: rsp.Machine, bank: str, start: str, length: str) -> s
     return "\n".join(f"{at + n:06x}: {raw[n : n + 16].hex()}" for n in range(0, most, 16))
 
 
-def _change(machine: rsp.Machine, name: str, *given: str) -> str:
+def _change(machine: rsp.Machine, name: str, *operands: str) -> str:
     """Carries out a command of scripts that changes the machine, and returns its reply."""
     calls: Dict[str, Callable[..., Optional[int]]] = {
         "task": lambda at: machine.start_task(_number(at)),
@@ -426,8 +433,8 @@ def _change(machine: rsp.Machine, name: str, *given: str) -> str:
         "write": lambda number, value: machine.write(_number(number), _number(value)),
         "read": lambda number: machine.read(_number(number)),
     }
-    told = calls[name](*given)
-    return "ok\n" if told is None else f"c{given[0]} {told:08x}\n"
+    value = calls[name](*operands)
+    return "ok\n" if value is None else f"c{operands[0]} {value:08x}\n"
 
 
 def after_script(script: bytes, image: bytes) -> rsp.Machine:
@@ -488,7 +495,7 @@ class Wire:
 
 def _serve(line: rsp.Timeline, source: int, sink: Callable[[bytes], object]) -> None:
     wire = Wire(source, sink)
-    stub = Stub(line, wire.interrupted, lambda told: wire.send(b"O" + told.encode().hex().encode()))
+    stub = Stub(line, wire.interrupted, lambda text: wire.send(b"O" + _hex(text)))
     try:
         while not stub.ended:
             packet = wire.packet(lambda: not stub.no_ack)
@@ -507,12 +514,12 @@ def _bytes(path: str, most: int) -> bytes:
         return file.read(most + 1)
 
 
-def _machine(given: argparse.Namespace) -> rsp.Machine:
+def _machine(options: argparse.Namespace) -> rsp.Machine:
     """The machine of the options."""
-    image = _bytes(given.rdram, 8 << 20) if given.rdram else bytes(8 << 20)
-    machine = after_script(_bytes(given.script, 1 << 20), image) if given.script else rsp.Machine(image)
-    if given.task:
-        machine.start_task(_number(given.task))
+    image = _bytes(options.rdram, 8 << 20) if options.rdram else bytes(8 << 20)
+    machine = after_script(_bytes(options.script, 1 << 20), image) if options.script else rsp.Machine(image)
+    if options.task:
+        machine.start_task(_number(options.task))
     return machine
 
 
@@ -535,13 +542,13 @@ def main() -> None:
     parser.add_argument("--task", metavar="ADDR", help="starts the task there, after the script")
     parser.add_argument("--port", metavar="N", help="listens on port N of 127.0.0.1 instead, for one GDB")
     parser.add_argument("--side", action="store_true", help="prints the path of the file for GDB's option -x")
-    given = parser.parse_args()
-    if given.side:
+    options = parser.parse_args()
+    if options.side:
         print(Path(__file__).with_name("gdb_side.py"))
         return
     try:
-        port = _number(given.port) if given.port else None
-        line = rsp.Timeline(_machine(given))
+        port = _number(options.port) if options.port else None
+        line = rsp.Timeline(_machine(options))
         if port is None:
             signal.signal(signal.SIGINT, signal.SIG_IGN)  # GDB sends Ctrl-C as a byte
             _serve(line, 0, lambda raw: os.write(1, raw))

@@ -19,14 +19,13 @@ def text(_: object, info: Any) -> Any:
     if info.address >> 12 != IMEM >> 12 or not isinstance(link, gdb.RemoteTargetConnection):
         return None
     word = bytes(info.read_memory(4)).hex()
-    told = bytes.fromhex(
-        (link.send_packet(f"qrsp.text:{word},{info.address & 0xFFC:x}") or b"").decode()
-    ).decode()
-    target = re.search(r"^(?:b(?!reak)|j(?:al)? ).*0x([0-9a-f]{3})$", told)
+    reply = link.send_packet(f"qrsp.text:{word},{info.address & 0xFFC:x}") or b""
+    line = bytes.fromhex(reply.decode()).decode()
+    target = re.search(r"^(?:b(?!reak)|j(?:al)? ).*0x([0-9a-f]{3})$", line)
     if target:
         label = gdb.execute(f"output/a {IMEM + int(target[1], 16)}", to_string=True).partition(" ")[2]
-        told += f" {label}" if label else ""
-    return gdb.disassembler.DisassemblerResult(4, told) if told else None
+        line += f" {label}" if label else ""
+    return gdb.disassembler.DisassemblerResult(4, line) if line else None
 
 
 class Id:
@@ -89,7 +88,7 @@ class Caller:
 
 
 class Frames:
-    """A filter that changes no frame. With one, `backtrace` doesn't tell of identical frames at its end."""
+    """A filter that changes no frame. With it, `backtrace` doesn't report identical frames at its end."""
 
     name, priority, enabled = "rsp", 1, True
 
@@ -101,17 +100,17 @@ class Frames:
 def arrive() -> None:
     """After `monitor`. GDB sends no Ctrl-C while it waits for a reply, so the stub goes to a step in parts,
     and between them Ctrl-C ends this. GDB doesn't expect that `monitor` changes registers."""
-    link, told = gdb.selected_inferior().connection, ""
+    link, reply = gdb.selected_inferior().connection, ""
     try:
         while isinstance(link, gdb.RemoteTargetConnection):
             more = bytes.fromhex((link.send_packet("qrsp.goto") or b"").decode())
             if not more:
                 break
-            told = more.decode()
+            reply = more.decode()
     except KeyboardInterrupt:
         pass
     finally:
-        gdb.write(told)
+        gdb.write(reply)
         gdb.execute("maintenance flush register-cache", to_string=True)
 
 

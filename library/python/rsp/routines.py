@@ -148,12 +148,12 @@ def _values(machine: "Machine") -> Dict[str, Any]:
     return values
 
 
-def _shown(premise: str, values: Dict[str, Any]) -> str:
+def _with_values(premise: str, values: Dict[str, Any]) -> str:
     """The premise, and what the registers in it hold."""
     parts = []
     for part in dict.fromkeys(re.findall(r"\$v\d+(?:\[\d\])?|\$\d+|\b(?:pc|npc|status|rdram)\b", premise)):
-        held = eval(_code(part), {}, values)
-        parts.append(f"{part} is {held if isinstance(held, list) else hex(held)}")
+        value = eval(_code(part), {}, values)
+        parts.append(f"{part} is {value if isinstance(value, list) else hex(value)}")
     return f"{premise}: {', '.join(parts)}"
 
 
@@ -171,9 +171,8 @@ def broken(machine: "Machine", name: str) -> Tuple[str, ...]:
     if name not in PREMISES:
         raise ValueError(f"broken: there is no routine {name}")
     values = _values(machine)
-    return tuple(
-        _shown(it, values) for it in (*_EVERYWHERE, *PREMISES[name]) if not eval(_CODES[it], {}, values)
-    )
+    premises = (*_EVERYWHERE, *PREMISES[name])
+    return tuple(_with_values(it, values) for it in premises if not eval(_CODES[it], {}, values))
 
 
 def entries(machine: "Machine", limit: int = 1000000) -> Iterator[Entry]:

@@ -1,21 +1,21 @@
-"""What a script has answered and left, and the first fault among its replies."""
+"""The result of a script, and the first fault among its replies."""
 
 import re
 import struct
 from typing import TYPE_CHECKING, Any, Iterator, List, Union
 
-from . import errors as _in_words
+from . import errors as _errors
 
 if TYPE_CHECKING:
     from . import Machine, Session
 
-# The lines of a script that ask for all that its machine is, but RDRAM.
+# The lines of a script whose replies are the whole machine, except RDRAM.
 _BANKS = "".join(f"mem {bank} {at} 256\n" for bank in ("dmem", "imem") for at in range(0, 4096, 256))
 ASKED = f"\n{_BANKS}regs\nvregs\nacc\nflags\nsp\n".encode()
 STATE = struct.Struct("<32I256H24H2HBx5H17I")  # a State as a list of numbers; where some of them are:
 ACCUMULATORS, PC = 288, 318
 _FAULT = b"fault "
-_SHOWN = 80  # how much of a line a message shows
+_EXCERPT = 80  # how many characters of a line a message shows
 
 
 class ScriptError(Exception):
@@ -27,8 +27,8 @@ class ScriptError(Exception):
     """
 
     def __init__(self, line: int, text: str, reply: str, replies: bytes = b"") -> None:
-        shown = _in_words.printable(text[:_SHOWN])
-        super().__init__(f"line {line}: {reply}: {shown}".rstrip(": "))
+        excerpt = _errors.printable(text[:_EXCERPT])
+        super().__init__(f"line {line}: {reply}: {excerpt}".rstrip(": "))
         self.line, self.text, self.reply = line, text, reply
         self.fault, self.replies = int(reply.split()[1]), replies or f"{reply}\n".encode()
 
@@ -75,19 +75,22 @@ class Ran:
 
 
 def strict_replies(session: "Session", script: Union[str, bytes]) -> bytes:
-    """The replies to a whole script. Raises ScriptError at the first one that is a fault."""
-    raw = _in_words.script_of("run_script", script)
-    lines, told = raw.split(b"\n"), []
+    """The replies to a whole script. Raises ScriptError at the first one that is a fault.
+
+    It ends there because the lines after it rest on a line that wasn't carried out.
+    """
+    raw = _errors.script_of("run_script", script)
+    lines, replies = raw.split(b"\n"), []
     block = 0  # the number of the line `asm` of the block that is open
     for number, reply in enumerate(session.iter_feed(raw), 1):
-        told.append(reply)
+        replies.append(reply)
         if reply.startswith(_FAULT):
-            raise _fault(lines, number, block, told)
+            raise _fault(lines, number, block, replies)
         block = 0 if reply else block or _opened(lines, number)
-    told.append(session.end())
-    if told[-1].startswith(_FAULT):
-        raise _fault(lines, len(lines), block or _opened(lines, len(lines)), told)
-    return b"".join(told)
+    replies.append(session.end())
+    if replies[-1].startswith(_FAULT):
+        raise _fault(lines, len(lines), block or _opened(lines, len(lines)), replies)
+    return b"".join(replies)
 
 
 def machine_of(replies: bytes, rdram: bytes) -> "Machine":
@@ -95,16 +98,17 @@ def machine_of(replies: bytes, rdram: bytes) -> "Machine":
     from . import DMEM, IMEM, Machine, State  # here, because the package is made of this module
 
     lines = replies.decode().splitlines()
-    banks = bytes.fromhex("".join(it.partition(": ")[2] for it in lines[-579:-67]))
-    registers = " ".join(it.partition(" ")[2] for it in lines[-67:])
-    pc, npc, *v = (int(it, 16) for it in re.findall(r"\b[0-9a-f]+\b", registers))
-    acc = v[ACCUMULATORS:][:8]
-    v[ACCUMULATORS : ACCUMULATORS + 8] = [it >> n & 0xFFFF for n in (32, 16, 0) for it in acc]
-    v[PC:PC] = [pc, npc]
+    banks = bytes.fromhex("".join(line.partition(": ")[2] for line in lines[-579:-67]))
+    registers = " ".join(line.partition(" ")[2] for line in lines[-67:])
+    pc, npc, *numbers = (int(digits, 16) for digits in re.findall(r"\b[0-9a-f]+\b", registers))
+    acc = numbers[ACCUMULATORS:][:8]
+    parts = [value >> shift & 0xFFFF for shift in (32, 16, 0) for value in acc]
+    numbers[ACCUMULATORS : ACCUMULATORS + 8] = parts
+    numbers[PC:PC] = [pc, npc]
     machine = Machine(rdram)
     machine.load(DMEM, 0, banks[:4096])
     machine.load(IMEM, 0, banks[4096:])
-    machine.set(State.from_buffer_copy(STATE.pack(*v)))
+    machine.set(State.from_buffer_copy(STATE.pack(*numbers)))
     return machine
 
 
@@ -113,10 +117,9 @@ def _opened(lines: List[bytes], number: int) -> int:
     return number if lines[number - 1].partition(b"#")[0].split()[:1] == [b"asm"] else 0
 
 
-def _fault(lines: List[bytes], number: int, block: int, told: List[bytes]) -> ScriptError:
+def _fault(lines: List[bytes], number: int, block: int, replies: List[bytes]) -> ScriptError:
     """The error of the last reply, to a line. A fault of a block counts from the line after `asm`."""
-    words = told[-1].decode().split()
+    words = replies[-1].decode().split()
     line = block + int(words[-1]) if words[-2] == "line" else number
-    text = b"".join(lines[line - 1 : line])
-    shown = text.decode("ascii", "backslashreplace").strip()
-    return ScriptError(line, shown, " ".join(words), b"".join(told))
+    text = b"".join(lines[line - 1 : line]).decode("ascii", "backslashreplace").strip()
+    return ScriptError(line, text, " ".join(words), b"".join(replies))

@@ -1,23 +1,23 @@
 """Registers as plain structures. A field is checked as it is set, `==` compares bytes, and `print` shows what
 the session shows."""
 
-from ctypes import Structure, c_uint8, c_uint16, c_uint32
-from typing import TYPE_CHECKING, Any, ClassVar, Dict, Iterator, List, Tuple, Type, TypeVar
+from ctypes import Structure
+from typing import TYPE_CHECKING, Any, ClassVar, Dict, Iterator, List, Type, TypeVar
 
 from . import formatting
-from .fields import Lanes, Sp, SpItems, StoredBytes, Vectors, Words, taken
+from .fields import taken
 from .formatting import Difference, Part
 
-if TYPE_CHECKING:
-    from . import typed
+if TYPE_CHECKING:  # the types of fields as a type checker sees them, and as ctypes does
+    from .typed import U8, U16, U32, Lanes, Sp, SpItems, StoredBytes, Vectors, Words
+else:
+    from ctypes import c_uint8 as U8
+    from ctypes import c_uint16 as U16
+    from ctypes import c_uint32 as U32
+
+    from .fields import Lanes, Sp, SpItems, StoredBytes, Vectors, Words
 
 _P = TypeVar("_P", bound="Plain")
-Fields = List[Tuple[str, Any]]
-
-
-def alike(kind: Any, *names: str) -> Fields:
-    """Fields of one type."""
-    return [(name, kind) for name in names]
 
 
 class Plain(Structure):
@@ -28,12 +28,16 @@ class Plain(Structure):
 
     def __init_subclass__(cls, **words: Any) -> None:
         super().__init_subclass__(**words)
-        own = {name: kind for name, kind in cls.__dict__.get("_fields_", ()) if name != "zero"}
-        cls._kinds = {**cls._kinds, **own}
+        cls._add_kinds(dict(cls.__dict__.get("_fields_", ())))
+
+    @classmethod
+    def _add_kinds(cls, kinds: Dict[str, Any]) -> None:
+        """Notes the types of the class's own fields, except the one that fills a gap."""
+        cls._kinds = {**cls._kinds, **{name: kind for name, kind in kinds.items() if name != "zero"}}
 
     @classmethod
     def _title(cls) -> str:
-        """Its name in messages."""
+        """The name in messages."""
         return f"rsp.{cls.__name__}" if cls.__module__ == __name__ else cls.__name__
 
     @classmethod
@@ -69,13 +73,13 @@ class Plain(Structure):
         if bytes(both[0]) == bytes(both[1]):
             return True
         # The byte `zero` of a state has no meaning, so states whose bytes differ may be equal still.
-        return all(getattr(self, it) == getattr(other, it) for it in self._kinds)
+        return all(getattr(self, name) == getattr(other, name) for name in self._kinds)
 
     __hash__ = None  # type: ignore[assignment]
 
     def __repr__(self) -> str:
-        held = ", ".join(f"{name}={getattr(self, name)!r}" for name in self._kinds)
-        return f"{type(self).__name__}({held})"
+        fields = ", ".join(f"{name}={getattr(self, name)!r}" for name in self._kinds)
+        return f"{type(self).__name__}({fields})"
 
     def _parts(self) -> formatting.Named:
         """The name, the value and the hexadecimal digits of each part."""
@@ -85,7 +89,7 @@ class Plain(Structure):
         return formatting.line(self._parts())
 
     def _repr_html_(self) -> str:
-        return formatting.table(it.split() for it in str(self).splitlines())
+        return formatting.table(line.split() for line in str(self).splitlines())
 
     def diff(self: _P, other: _P) -> Difference:
         """The parts in which they differ, each with its name and both values."""
@@ -95,57 +99,62 @@ class Plain(Structure):
         return Difference(Part(*mine[:2], its[1], mine[2]) for mine, its in pairs if mine != its)
 
 
-class Scalars(Plain):
-    """The scalar registers `words`, 32 numbers below 2**32, and the addresses pc and npc, multiples of 4
-    below 4096."""
+def structure(cls: Type[_P]) -> Type[_P]:
+    """Makes the annotations of a class the fields of the structure, in their order."""
+    cls._fields_ = [*cls.__annotations__.items()]
+    cls._add_kinds(cls.__annotations__)
+    return cls
 
-    _fields_ = [("words", Words), *alike(c_uint16, "pc", "npc")]
-    if TYPE_CHECKING:
-        words: typed.NumbersField
-        pc: int
-        npc: int
 
-    def _parts(self) -> formatting.Named:
-        return formatting.scalar_parts(self)
+class _Counters(Plain):
+    """A structure with a pc and an npc, which its `repr` shows."""
 
     def __repr__(self) -> str:
         return f"<{self._title()}: pc {self.pc:03x}, npc {self.npc:03x}>"
+
+
+@structure
+class Scalars(_Counters):
+    """The scalar registers `words`, 32 numbers below 2**32, and the addresses pc and npc, multiples of 4
+    below 4096."""
+
+    words: Words
+    pc: U16
+    npc: U16
+    _parts = formatting.scalar_parts
 
     def __str__(self) -> str:
         return "\n".join(formatting.regs(self))
 
 
+@structure
 class Accumulators(Plain):
     """Bits 47 to 32, 31 to 16 and 15 to 0 of the eight accumulators: eight numbers below 65536 each."""
 
-    _fields_ = [("high", Lanes), ("middle", Lanes), ("low", Lanes)]
-    if TYPE_CHECKING:
-        high: typed.NumbersField
-        middle: typed.NumbersField
-        low: typed.NumbersField
+    high: Lanes
+    middle: Lanes
+    low: Lanes
+    _parts = formatting.acc_parts
 
     def __iter__(self) -> Iterator[int]:
         """The eight accumulators as numbers of 48 bits, lane 0 first."""
         return (value for _, value, _ in formatting.acc_parts(self))
 
-    def _parts(self) -> formatting.Named:
-        return formatting.acc_parts(self)
-
     def __str__(self) -> str:
         return "\n".join(formatting.acc(self))
 
 
+@structure
 class Flags(Plain):
     """Flags, numbers below 256, bit i for lane i. VCO is `carry` in bits 0 to 7 and `differ` (not-equal) in 8
     to 15, VCC `compare` and `clip`, VCE `extra`."""
 
-    _fields_ = [*alike(c_uint8, "carry", "differ", "compare", "clip", "extra")]
-    if TYPE_CHECKING:
-        carry: int
-        differ: int
-        compare: int
-        clip: int
-        extra: int
+    carry: U8
+    differ: U8
+    compare: U8
+    clip: U8
+    extra: U8
+    _parts = formatting.flag_parts
 
     @property
     def vco(self) -> int:
@@ -162,40 +171,34 @@ class Flags(Plain):
         """VCE, which is `extra`."""
         return self.extra
 
-    def _parts(self) -> formatting.Named:
-        return formatting.flag_parts(self)
 
-
+@structure
 class Divider(Plain):
     """What divide instructions leave for the next one: `input` (DIV_IN) and `output` (DIV_OUT), below 65536,
     and `loaded`, 1 if DIV_IN is loaded, otherwise 0."""
 
-    _fields_ = [*alike(c_uint16, "input", "output", "loaded")]
-    if TYPE_CHECKING:
-        input: int
-        output: int
-        loaded: int
-
-    def _parts(self) -> formatting.Named:
-        return formatting.divider_parts(self)
+    input: U16
+    output: U16
+    loaded: U16
+    _parts = formatting.divider_parts
 
 
+@structure
 class SpWords(Plain):
     """`words`, the sixteen SP registers as `peek` gives them, and `interrupt`, 1 if the interrupt flag is
     set, otherwise 0."""
 
-    _fields_ = [("words", SpItems), ("interrupt", c_uint32)]
-    if TYPE_CHECKING:
-        words: typed.NumbersField
-        interrupt: int
+    words: SpItems
+    interrupt: U32
 
     def _parts(self) -> formatting.Named:
         return formatting.sp_parts(self.words, self.interrupt)
 
     def __str__(self) -> str:
-        return "\n".join(f"{name} {value:0{digits}x}" for name, value, digits in self._parts())
+        return "\n".join(formatting.line([part]) for part in self._parts())
 
 
+@structure
 class Traced(Plain):
     """An entry of a trace: the `word` at `pc` that a step executed, and what it wrote.
 
@@ -205,24 +208,18 @@ class Traced(Plain):
     the step. For a store `stored` is 1, and `address` its address in DMEM. Fields without a meaning are 0.
     """
 
-    _fields_ = [
-        *alike(c_uint32, "word", "value"),
-        *alike(c_uint16, "pc", "address", "vco", "vcc"),
-        *alike(c_uint8, "vce", "scalar", "vector", "stored"),
-        ("lanes", Lanes),
-    ]
-    if TYPE_CHECKING:
-        word: int
-        value: int
-        pc: int
-        address: int
-        vco: int
-        vcc: int
-        vce: int
-        scalar: int
-        vector: int
-        stored: int
-        lanes: typed.NumbersField
+    word: U32
+    value: U32
+    pc: U16
+    address: U16
+    vco: U16
+    vcc: U16
+    vce: U8
+    scalar: U8
+    vector: U8
+    stored: U8
+    lanes: Lanes
+    _parts = formatting.traced_parts
 
     @property
     def text(self) -> str:
@@ -231,13 +228,11 @@ class Traced(Plain):
 
         return text(self.word, self.pc)
 
-    def _parts(self) -> formatting.Named:
-        return formatting.traced_parts(self)
-
     def __str__(self) -> str:
         return formatting.traced(self)
 
 
+@structure
 class Changes(Plain):
     """What a step changed: its entry in a trace, `traced`; and after the step pc, npc, the `divider` and the
     `accumulators`.
@@ -248,37 +243,22 @@ class Changes(Plain):
     change; and memories that a DMA changes.
     """
 
-    _fields_ = [
-        ("traced", Traced),
-        *alike(c_uint16, "pc", "npc"),
-        ("divider", Divider),
-        ("quadword", c_uint16),
-        ("accumulators", Accumulators),
-        ("bytes", StoredBytes),
-    ]
-    if TYPE_CHECKING:
-        traced: Traced
-        pc: int
-        npc: int
-        divider: Divider
-        quadword: int
-        accumulators: Accumulators
-        bytes: typed.NumbersField
-
-    def _parts(self) -> formatting.Named:
-        return formatting.changed_parts(self)
+    traced: Traced
+    pc: U16
+    npc: U16
+    divider: Divider
+    quadword: U16
+    accumulators: Accumulators
+    bytes: StoredBytes
+    _parts = formatting.changed_parts
 
     def __str__(self) -> str:
-        return "\n".join(
-            [
-                str(self.traced),
-                *formatting.acc(self.accumulators),
-                formatting.line(formatting.rest_parts(self)),
-            ]
-        )
+        rest = formatting.line(formatting.rest_parts(self))
+        return "\n".join([str(self.traced), *formatting.acc(self.accumulators), rest])
 
 
-class State(Plain):
+@structure
+class State(_Counters):
     """All registers. `State()` is the state of a new machine, and keywords set fields in it; if npc isn't
     given, it is 4 after pc.
 
@@ -288,27 +268,17 @@ class State(Plain):
     array takes a list. `print` shows the lines of `regs`, `vregs` and `flags` in scripts.
     """
 
-    _fields_ = [
-        ("words", Words),
-        ("vectors", Vectors),
-        ("accumulators", Accumulators),
-        ("flags", Flags),
-        ("zero", c_uint8),
-        ("divider", Divider),
-        *alike(c_uint16, "pc", "npc"),
-        ("sp", Sp),
-        ("interrupt", c_uint32),
-    ]
-    if TYPE_CHECKING:
-        words: typed.NumbersField
-        vectors: typed.VectorsField
-        accumulators: Accumulators
-        flags: Flags
-        divider: Divider
-        pc: int
-        npc: int
-        sp: typed.NumbersField
-        interrupt: int
+    words: Words
+    vectors: Vectors
+    accumulators: Accumulators
+    flags: Flags
+    zero: U8
+    divider: Divider
+    pc: U16
+    npc: U16
+    sp: Sp
+    interrupt: U32
+    _parts = formatting.state_parts
 
     def __init__(self, *values: Any, **fields: Any) -> None:
         super().__init__(*values, **fields)
@@ -318,16 +288,9 @@ class State(Plain):
         if "npc" not in given:
             self.npc = (self.pc + 4) % 4096
 
-    def _parts(self) -> formatting.Named:
-        return formatting.state_parts(self)
-
-    def __repr__(self) -> str:
-        return f"<{self._title()}: pc {self.pc:03x}, npc {self.npc:03x}>"
-
     def __str__(self) -> str:
-        return "\n".join(
-            [*formatting.regs(self), *formatting.vregs(self.vectors), f"{self.flags} {self.divider}"]
-        )
+        lines = [*formatting.regs(self), *formatting.vregs(self.vectors), f"{self.flags} {self.divider}"]
+        return "\n".join(lines)
 
 
 def unset(kind: Type[_P]) -> _P:

@@ -1,8 +1,12 @@
-"""The arrays of a state as a type checker sees them: items are numbers, and a field takes a list too."""
+"""The fields of a structure as a type checker sees them: items are numbers, and a field takes a list too."""
 
 from typing import Any, Iterable, Iterator, List, Union, overload
 
 from .fields import Items
+
+U8 = int
+U16 = int
+U32 = int
 
 class Numbers(Items):
     """An array of numbers."""
@@ -13,7 +17,7 @@ class Numbers(Items):
     @overload
     def __getitem__(self, index: slice) -> List[int]: ...
 
-class Vectors(Items):
+class VectorItems(Items):
     """The vector registers."""
 
     def __iter__(self) -> Iterator[Numbers]: ...
@@ -28,8 +32,14 @@ class NumbersField:
     def __get__(self, state: object, kind: Any = None) -> Numbers: ...
     def __set__(self, state: object, value: Union[Numbers, Iterable[int]]) -> None: ...
 
-class VectorsField:
+class Vectors:
     """The field of all vector registers."""
 
-    def __get__(self, state: object, kind: Any = None) -> Vectors: ...
-    def __set__(self, state: object, value: Union[Vectors, Iterable[Iterable[int]]]) -> None: ...
+    def __get__(self, state: object, kind: Any = None) -> VectorItems: ...
+    def __set__(self, state: object, value: Union[VectorItems, Iterable[Iterable[int]]]) -> None: ...
+
+Lanes = NumbersField
+Sp = NumbersField
+SpItems = NumbersField
+StoredBytes = NumbersField
+Words = NumbersField

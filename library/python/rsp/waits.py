@@ -33,7 +33,7 @@ is under way when the program ends is reported only if you ask for that, because
 from typing import Iterator, List, Mapping, NamedTuple, Optional, Sequence, Set, Tuple
 
 from . import DMEM, IMEM, Move, Reason, Machine, Status
-from . import errors as _in_words
+from . import errors as _errors
 
 __all__ = ["AHEAD", "Missing", "Transfer", "causes", "missing"]
 
@@ -58,7 +58,7 @@ class Transfer(NamedTuple):
 
     def __str__(self) -> str:
         last = (self.address + self.length - 1) % 4096
-        here = f"{_in_words.BANKS[self.bank]} {self.address:03x} to {last:03x}"
+        here = f"{_errors.BANKS[self.bank]} {self.address:03x} to {last:03x}"
         return f"the transfer of {self.place:03x}, {'from' if self.to_rdram else 'to'} {here}"
 
     def turned(self, memory: bytes) -> bytes:
@@ -100,11 +100,11 @@ class Missing(NamedTuple):
 
 
 class _Walk:
-    """A machine on its way, and the transfers that are under way, in their order.
+    """A machine, and the transfers that are under way, in their order.
 
-    `read` is None, or the address of the last read of a copy, which gets another answer than the machine. A
-    copy has made so many `reads`, and `has_parted` says whether its way is another one than the machine's.
-    The twin shows which bytes an instruction touches: it makes the same step over other bytes.
+    `read` is None, or the address of the last read of a copy, which gets another answer than the machine.
+    `reads` is the number of reads that the copy has made, and `has_parted` whether it has left the machine's
+    way. The twin shows which bytes an instruction touches: it makes the same step over other bytes.
     """
 
     def __init__(
@@ -117,56 +117,57 @@ class _Walk:
         self._code = machine.memory_words(IMEM, 0, 1024)
 
     def step(self) -> Tuple[List[Missing], bool]:
-        """Makes a step: what it lacks, and whether another one follows."""
+        """Makes a step. Returns what is missing before it, and whether another step follows."""
         pc = self.machine.regs().pc
-        word, found = self._code[pc // 4], self._fetched(pc)
+        word, found = self._code[pc // 4], self._fetch(pc)
         if word >> 26 == _COP0:
             stop = self.machine.run_until_move(1, _READS, _WRITES)
             if stop.move and not stop.steps:  # after a step it is the move that comes next
-                more, goes_on = self._move(pc, stop.move)
+                more, continues = self._move(pc, stop.move)
             else:
-                more, goes_on = [], stop.steps == 1
+                more, continues = [], stop.steps == 1
         elif word >> 26 in _TOUCHING:
-            more, goes_on = self._touched(pc, word, word >> 26 in _STORES)
+            more, continues = self._load_or_store(pc, word, word >> 26 in _STORES)
         else:
-            more, goes_on = [], self.machine.step() is Status.OK
+            more, continues = [], self.machine.step() is Status.OK
         if self.transfers and self.machine.peek(_STATUS) & 1:
-            more, goes_on = more + [self._named(it, pc, "ends") for it in self.transfers], False
-        return found + more, goes_on
+            more, continues = more + [self._missing(it, pc, "ends") for it in self.transfers], False
+        return found + more, continues
 
-    def _named(self, transfer: Transfer, pc: int, what: str) -> Missing:
+    def _missing(self, transfer: Transfer, pc: int, what: str) -> Missing:
         return Missing(transfer, pc, self.machine.listing(pc, 1)[0].text, what, self._read)
 
-    def _fetched(self, pc: int) -> List[Missing]:
+    def _fetch(self, pc: int) -> List[Missing]:
         brought = [it for it in self.transfers if it.bank == IMEM and not it.to_rdram]
-        return [self._named(it, pc, "is fetched") for it in brought if (pc - it.address) % 4096 < it.length]
+        return [self._missing(it, pc, "is fetched") for it in brought if (pc - it.address) % 4096 < it.length]
 
-    def _touched(self, pc: int, word: int, stores: bool) -> Tuple[List[Missing], bool]:
-        """Makes the step of a load or a store. A byte that is loaded shows in registers, if it is inverted in
-        the twin; one that is stored is the same in both, if it was inverted. A table of what each vector load
-        touches would repeat the instructions' rules, and could be wrong."""
+    def _load_or_store(self, pc: int, word: int, stores: bool) -> Tuple[List[Missing], bool]:
+        """Makes the step of a load or a store. The twin makes it with the transfer's bytes inverted: then a
+        byte that is loaded gives other registers, and a byte that is stored is the same in both. A table of
+        the bytes of each vector load would repeat the instructions' rules, and could be wrong."""
         before, dmem = self.machine.get(), self.machine.memory(DMEM, 0, 4096)
-        goes_on = self.machine.step() is Status.OK
+        continues = self.machine.step() is Status.OK
         after, stored = self.machine.get(), self.machine.memory(DMEM, 0, 4096)
         found = []
-        for it in self.transfers:
-            if it.bank != DMEM or it.to_rdram and not stores:
+        for transfer in self.transfers:
+            if transfer.bank != DMEM or transfer.to_rdram and not stores:
                 continue
             self._twin.set(before)
-            self._twin.load(DMEM, 0, it.inverted(dmem))
+            self._twin.load(DMEM, 0, transfer.inverted(dmem))
             self._twin.load_words(IMEM, pc, [word])
             self._twin.step()
-            pairs = zip(it.turned(stored)[: it.length], it.turned(self._twin.memory(DMEM, 0, 4096)))
+            bytes_of_twin = transfer.turned(self._twin.memory(DMEM, 0, 4096))
+            pairs = zip(transfer.turned(stored)[: transfer.length], bytes_of_twin)
             if any(a == b for a, b in pairs) if stores else after != self._twin.get():
-                found.append(self._named(it, pc, "stores" if stores else "loads"))
-        return found, goes_on
+                found.append(self._missing(transfer, pc, "stores" if stores else "loads"))
+        return found, continues
 
     def _move(self, pc: int, move: Move) -> Tuple[List[Missing], bool]:
-        """A write of one of the SP registers 0 to 3, or a read that says what is under way."""
+        """Makes a write of one of the SP registers 0 to 3, or a read that says what is under way."""
         if move.writes:
-            return self._written(pc, move), True
+            return self._write(pc, move), True
         if self._read is None:
-            found = [it for count in range(len(self.transfers)) for it in self._followed(pc, count + 1)]
+            found = [it for count in range(len(self.transfers)) for it in self._follow(pc, count + 1)]
             self.transfers.clear()
             return found, self.machine.step() is Status.OK
         if pc in self._asked and self.has_parted:
@@ -178,28 +179,28 @@ class _Walk:
         self.machine.pass_move({_STATUS: status, _FULL: is_full}.get(move.number, 1))
         return [], True
 
-    def _followed(self, pc: int, count: int) -> List[Missing]:
-        """What is missing if the last `count` transfers are still under way at a read."""
+    def _follow(self, pc: int, count: int) -> List[Missing]:
+        """Returns what is missing if the last `count` transfers are still under way at a read."""
         copy = _Walk(self.machine.copy(), self._twin, self.transfers[-count:], pc)
         found: List[Missing] = []
         untested: List[Missing] = []  # what is missing since the last read
         beside: Optional[Machine] = self.machine.copy()  # until the ways part
         for _ in range(AHEAD):
             reads = copy.reads
-            more, goes_on = copy.step()
+            more, continues = copy.step()
             if copy.reads > reads:
                 found, untested = found + untested, []
             untested += more
             if beside and beside.step() is Status.OK and beside.regs().pc != copy.machine.regs().pc:
                 untested = [it for it in untested if it.what != "loads"]
                 beside, copy.has_parted = None, True
-            if not goes_on:
+            if not continues:
                 break
         return found + untested
 
-    def _written(self, pc: int, move: Move) -> List[Missing]:
+    def _write(self, pc: int, move: Move) -> List[Missing]:
         full = self.transfers[1:]
-        found = [self._named(full[-1], pc, "writes a DMA register")] if full else []
+        found = [self._missing(full[-1], pc, "writes a DMA register")] if full else []
         at, length = self.machine.peek(0), (move.value & 0xFFF | 7) + 1
         if 1 << move.number & _ORDERS:
             size = min(4096, length * ((move.value >> 12 & 0xFF) + 1))
@@ -213,10 +214,11 @@ class _Walk:
 def causes(machine: Machine, limit: int = 1000000, at_end: bool = False) -> Iterator[Missing]:
     """As `missing`, but only the first of all instructions that do the same before a transfer's end."""
     known: Set[Tuple[int, str]] = set()
-    for it in missing(machine, limit, at_end):
-        if (it.transfer.place, it.what) not in known:
-            known.add((it.transfer.place, it.what))
-            yield it
+    for found in missing(machine, limit, at_end):
+        cause = found.transfer.place, found.what
+        if cause not in known:
+            known.add(cause)
+            yield found
 
 
 def missing(machine: Machine, limit: int = 1000000, at_end: bool = False) -> Iterator[Missing]:
@@ -228,21 +230,21 @@ def missing(machine: Machine, limit: int = 1000000, at_end: bool = False) -> Ite
     ends without an error: `machine.peek(4) & 1` is 1 only if the program has halted. A step takes some
     microseconds while a transfer is under way.
     """
-    (left,) = _in_words.integers("missing", (limit,))
+    (left,) = _errors.integers("missing", (limit,))
     twin = Machine()
-    told: Set[Tuple[int, int, str]] = set()
+    reported: Set[Tuple[int, int, str]] = set()
     while left > 0:
         stop = machine.run_until_move(min(left, 1000000), 0, _ORDERS)
         left -= stop.steps
         if stop.reason in (Reason.HALT, Reason.RESERVED):
             return
-        walk, goes_on = _Walk(machine, twin, [], None), stop.reason is Reason.MOVE
-        while goes_on and left > 0:
-            found, goes_on = walk.step()
+        walk, continues = _Walk(machine, twin, [], None), stop.reason is Reason.MOVE
+        while continues and left > 0:
+            found, continues = walk.step()
             left -= 1
-            for it in found:
-                key = it.transfer.place, it.place, it.what
-                if key not in told and (at_end or it.what != "ends"):
-                    told.add(key)
-                    yield it
-            goes_on = goes_on and bool(walk.transfers)
+            for missed in found:
+                key = missed.transfer.place, missed.place, missed.what
+                if key not in reported and (at_end or missed.what != "ends"):
+                    reported.add(key)
+                    yield missed
+            continues = continues and bool(walk.transfers)

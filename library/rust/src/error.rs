@@ -1,6 +1,6 @@
 //! Why a call was refused.
 
-use crate::words::refusal;
+use crate::refusals::refusal;
 use crate::{raw, Fault, Operand};
 use std::error::Error;
 use std::fmt;

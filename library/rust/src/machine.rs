@@ -2,11 +2,11 @@
 
 use crate::error::{done, right_version};
 use crate::raw;
+use crate::refusals::state_refusal;
 use crate::shapes::{
     Accumulators, Bank, Changes, DivideState, Event, FlagBits, Line, MoveEnd, Reason, Scalars, SpWords, State, StepEnd, Stop, Traced,
 };
 use crate::texts::{seen, NO_LINE};
-use crate::words::state_refusal;
 use crate::{RspError, Status};
 use std::cell::UnsafeCell;
 use std::ptr;

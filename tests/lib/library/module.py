@@ -1,4 +1,4 @@
-"""What the tests of the Python module `rsp` share: a machine with a program, and calls that are refused."""
+"""Helpers for tests of the Python module `rsp`: a machine with a program, and calls that are refused."""
 
 import re
 import shutil
@@ -11,15 +11,15 @@ import rsp
 from lib import TOP
 
 
-def refused(status: rsp.Status, call: Callable[..., Any], *words: Any) -> None:
-    """That a call is refused with this status."""
+def assert_refused(status: rsp.Status, call: Callable[..., Any], *words: Any) -> None:
+    """Asserts that a call is refused with this status."""
     with pytest.raises(rsp.RspError) as caught:
         call(*words)
     assert caught.value.status is status
 
 
-def raised(kind: Type[BaseException], text: str, call: Callable[..., Any], *words: Any) -> None:
-    """That a call raises this kind of error and no narrower one, with this text in its message."""
+def assert_raises(kind: Type[BaseException], text: str, call: Callable[..., Any], *words: Any) -> None:
+    """Asserts that a call raises this kind of error and no narrower one, with this text in its message."""
     with pytest.raises(kind, match=re.escape(text)) as caught:
         call(*words)
     assert caught.type is kind

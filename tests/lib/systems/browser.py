@@ -62,16 +62,15 @@ class Chromium(Runner):
     objects of which the library was linked: those of the folder `way`, or such that are made of the
     sources."""
 
-    system = "wasm64"
     programs = ("rt", *chromium.PROGRAMS)
-    ending = ".wasm"
 
-    def __init__(self, folder: Path, at: Path, way: Optional[Path] = None) -> None:
-        super().__init__(folder, at)
-        self.way = way
+    def __init__(self, name: str, folder: Path, at: Path) -> None:
+        super().__init__(name, folder, at)
+        self.ending = ".wasm"
+        self.way: Optional[Path] = None
         self.server = Server({"tests": PAGES, "at": at, "library": folder})
-        for name in HEADERS:
-            (at / f"{name}.h").write_text('#include "libc.h"\n')
+        for header in HEADERS:
+            (at / f"{header}.h").write_text('#include "libc.h"\n')
 
     @cached_property
     def driver(self) -> Any:

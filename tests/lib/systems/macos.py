@@ -3,7 +3,7 @@
 import re
 from pathlib import Path
 
-from lib.systems.files import shown
+from lib.systems.built_files import symbol_names
 from rsp_tools.systems import header
 from rsp_tools.systems.toolchain import llvm
 
@@ -17,8 +17,8 @@ def check_processor(folder: Path, at: Path, processor: str) -> None:
     parts = [at / f"{processor}-{it}" for it in ("libbrsp.dylib", "libbrsp.a")]
     for part, name in zip(parts, ("libbrsp.dylib", "libbrsp.a")):
         llvm("llvm-lipo", folder / "lib" / name, "-thin", processor, "-output", part)
-        assert shown("-g", "--defined-only", part) == {f"_{it}" for it in header.calls()}, part
-        wants = shown("-u", part) - {"dyld_stub_binder"}
+        assert symbol_names("-g", "--defined-only", part) == {f"_{it}" for it in header.calls()}, part
+        wants = symbol_names("-u", part) - {"dyld_stub_binder"}
         assert wants and wants <= WANTED[processor], part
     read = llvm("llvm-objdump", "--macho", "--private-headers", parts[0])
     named = re.findall(r"cmd LC_(?:ID|LOAD)_DYLIB\n.*\n +name (\S+) ", read)

@@ -9,7 +9,7 @@ from typing import List
 
 import pytest
 
-from lib.processes import bytes_of, run, succeeds
+from lib.processes import run, run_bytes, succeeds
 from lib.systems.runners import LONGEST, Runner
 from rsp_tools.systems import places
 
@@ -59,11 +59,10 @@ class Node(Runner):
     """This machine's Node. The paths of tests are those of the server for Chromium: `/library` is the folder
     of the library, `/at` that of a test's files."""
 
-    system = "wasm64"
     programs = ("node",)
 
-    def __init__(self, folder: Path, at: Path) -> None:
-        super().__init__(folder, at)
+    def __init__(self, name: str, folder: Path, at: Path) -> None:
+        super().__init__(name, folder, at)
         shutil.copytree(PAGES, at / "tests")
         (at / "package.json").write_text('{ "type": "module" }')
 
@@ -77,7 +76,7 @@ class Node(Runner):
     def test(self, name: str, *words: object, library: str = "/library") -> bytes:
         """What a test in JavaScript says, which has to end well."""
         given = [*command(), "--expose-gc", "node.mjs", name, *map(self.url, (library, *words))]
-        ended = bytes_of(given[0], given[1:], cwd=self.at / "tests", timeout=LONGEST)
+        ended = run_bytes(given[0], given[1:], cwd=self.at / "tests", timeout=LONGEST)
         assert ended.returncode == 0, f"{name}: {ended.stdout[-1000:]!r}{ended.stderr[-2000:]!r}"
         return ended.stdout
 

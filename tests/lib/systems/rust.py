@@ -27,7 +27,7 @@ def said(script: Path, target: str) -> Tuple[int, str]:
 
 def cargo(runner: Runner, *words: str, at: Path, **more: str) -> str:
     """What cargo says in a folder that builds for a runner's target and runs there."""
-    target, package = TESTED[runner.system]
+    target, package = TESTED[runner.target.name]
     folder, named = rust_for(target), f"CARGO_TARGET_{target.upper().replace('-', '_')}"
     if not folder:
         pytest.skip(f"there is no Rust for {target} (Debian's packages cargo and {package})")

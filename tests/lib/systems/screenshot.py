@@ -8,7 +8,7 @@ import tempfile
 from pathlib import Path
 
 from lib.systems import chromium
-from lib.systems.page import Host, Page, the
+from lib.systems.page_driver import Host, Page, the
 from rsp_tools import TOP
 from rsp_tools.systems import web_page as pages
 

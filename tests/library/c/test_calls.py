@@ -46,7 +46,7 @@ def test_page(compiler: str, folder: Path) -> None:
     begin = "static const uint8_t image[64] = { 0 };\nbrsp_machine m = BRSP_NONE;\n"
     begin += "if (brsp_new(&m, image, 64, 100) != BRSP_OK) return 1;\n"
     program = main_of(begin + "\n".join(blocks_of(section)))
-    assert said_by(folder, program, compiler).splitlines() == lines and len(lines) == 9
+    assert lines and said_by(folder, program, compiler).splitlines() == lines
 
 
 @pytest.mark.needs("c++")

@@ -92,8 +92,3 @@ def test_standard(folder: Path) -> None:
     source.write_text('#include "brsp.hpp"\n')
     ran = run("c++", "-std=c++14", f"-I{TOP / 'library/c'}", "-fsyntax-only", source)
     assert ran.returncode != 0 and "brsp.hpp needs C++17 or later" in ran.stdout
-
-
-def test_lines() -> None:
-    for name in ("brsp.hpp", "brsp_compare.h"):
-        assert [it for it in page(f"library/c/{name}").splitlines() if len(it) > 110] == []

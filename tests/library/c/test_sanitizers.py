@@ -15,7 +15,7 @@ from lib.library import LOCKSTEP
 from lib.library.programs import HERE, built, passes
 from lib.pages import block_with
 from lib.processes import compiled, succeeds
-from lib.program import ran
+from lib.program import run_program
 from lib.sanitizers import sanitizers
 from lib.script_cases import stored
 from rsp_tools.systems import places
@@ -51,7 +51,7 @@ def test_scripts(words: Tuple[str, ...], folder: Path) -> None:
     session, image = built(folder, HERE / "script.c", *words), folder / "image"
     for script in stored():
         image.write_bytes(script.image() or bytes(4194304))
-        assert ran(session, [7, image, "/dev/null"], script.script) == script.wanted, script
+        assert run_program(session, [7, image, "/dev/null"], script.script) == script.wanted, script
 
 
 def test_allocator(words: Tuple[str, ...], folder: Path) -> None:

@@ -10,7 +10,7 @@ import pytest
 
 from lib.library.programs import HERE, built
 from lib.packages import need
-from lib.program import content, ran
+from lib.program import content, run_program
 from lib.script_cases import Stored, stored
 
 # The most bytes of a call; with 0 they are 1 to 97, in a fixed disorder.
@@ -30,7 +30,7 @@ def test_script(script: Stored, session: Path, folder: Path) -> None:
     image, read, saved = script.image(), folder / "image", folder / "saved"
     read.write_bytes(NO_IMAGE if image is None else image)
     for piece in PIECES:
-        got = ran(session, [piece, read, saved if script.is_saved else "/dev/null"], script.script)
+        got = run_program(session, [piece, read, saved if script.is_saved else "/dev/null"], script.script)
         assert got == script.wanted, f"{piece} bytes a call"
         is_kept = not script.is_saved or content(saved) == content(read)
         assert is_kept, f"{piece} bytes a call: the image isn't the one that was read"

@@ -17,7 +17,7 @@ pytestmark = pytest.mark.needs("node")
 STRANGE = "\0\x1b\x7f\x9b\xa0\xad\u2028\u2029\u202e\u3000\ue000\ufeff"
 PLAIN = " \t\\'\"\xfc\u20ac\U0001f600"
 SAYING = f"""
-import {{ AssemblyError, ScriptError }} from "{TOP}/library/js/words.js";
+import {{ AssemblyError, ScriptError }} from "{TOP}/library/js/errors.js";
 const line = %s;
 const errors = [new AssemblyError(2, 10, line, "more"), new ScriptError(3, line, "fault 33 NotText")];
 console.log(JSON.stringify(errors.flatMap((it) => [it.message, it.source ?? it.text])));

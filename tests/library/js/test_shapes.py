@@ -32,10 +32,10 @@ FIELDS = {
     "INTERRUPT": "interrupt",
     "SP": "sp[0]",
 }
-# A module that tells the numbers and the layouts of shapes.js, and the calls of words.js.
+# A module that tells the numbers and the layouts of shapes.js, and the calls of errors.js.
 TELLING = f"""
 import * as shapes from "{FOLDER}/shapes.js";
-import {{ ARGUMENTS }} from "{FOLDER}/words.js";
+import {{ ARGUMENTS }} from "{FOLDER}/errors.js";
 const layout = (it) => {{
   const {{ size, fields }} = shapes.layout(it);
   return [size, fields.map((it) => [it.name, it.offset, it.size])];

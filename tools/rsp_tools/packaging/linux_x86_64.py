@@ -1,5 +1,9 @@
 """What the archive for Linux on x86-64 holds: what is installed, the Python wheel, the Rust crate, the plugin
-of mupen64plus, and parts of the repository."""
+of mupen64plus, and parts of the repository.
+
+It is laid out like /usr/local, so that its folders can be copied into any prefix: brsp.pc finds the prefix by
+its own place. libbrsp.a is also in the Rust crate, which so works when somebody copies only the crate.
+"""
 
 import tempfile
 from pathlib import Path

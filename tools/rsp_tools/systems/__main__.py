@@ -1,23 +1,16 @@
-"""tools/systems [SYSTEM..]: makes the library, and the program for two, for other systems than Linux on
-x86-64, or for those that are named.
+"""tools/systems [SYSTEM..]: makes the library, and for some the program, for the systems that are named, or
+for all other systems than Linux on x86-64 with glibc:
 
-  linux-aarch64    library/systems/linux-aarch64: rsp, which is the proved program, libbrsp.a, libbrsp.so.1,
-                   pkg-config, CMake, and the Python wheel; glibc 2.17
-  windows-x86_64   library/systems/windows-x86_64: rsp.exe, a program in C over the library, brsp.dll, an
-                   import library and a static one for mingw and for MSVC, CMake, and the Python wheel
-  macos            library/systems/macos: libbrsp.dylib and libbrsp.a for Intel and ARM, pkg-config, CMake,
-                   and the Python wheel; macOS 11. Never run on a Mac
-  wasm64           library/systems/wasm64: rsp.wasm for browsers, Node 24 and Deno, with an ES module and its
-                   types, as a package of npm; and of it library/systems/page, static files that answer
-                   scripts in a browser
-  vendor           library/systems/vendor: the library as assembly for Linux and macOS on x86-64 and ARM, and
-                   for Windows, with a CMakeLists.txt: gcc or clang build it without the kit
+{systems}
 
-It wants a clone whose library is built (library/c/build), for linux-aarch64 also the program (./rsp run), the
+Each is a folder library/systems/SYSTEM. wasm64 also makes library/systems/page, files that answer scripts in
+a browser. The libraries for C come with files for pkg-config and CMake, and with the Python wheel.
+
+It needs a clone whose library is built (library/c/build), for another Linux also the program (./rsp run), the
 kit, and packages of Debian that it names. Each system takes some minutes of processor. The same sources of
-the same commit give the same bytes, since a wheel has the time of the commit. What the kit's `rattle build`
+the same commit give the same bytes, because a wheel has the time of the commit. What the kit's `rattle build`
 hands to clang is kept until a source changes. The status is 0 if all are made, 1 if one isn't, 2 if the words
-are wrong. What isn't made leaves what was there."""
+are wrong. If a system isn't made, its folder stays as it was."""
 
 import argparse
 import os
@@ -29,7 +22,7 @@ from functools import partial
 from pathlib import Path
 from typing import Callable, Dict, Mapping, NamedTuple, Tuple
 
-from rsp_tools.targets import CROSS, Target
+from rsp_tools.targets import CROSS, Target, listed
 
 from . import linux, macos, manual, vendor, web_page, places, wasm, windows
 from .modules import Source, module
@@ -37,8 +30,8 @@ from .toolchain import Refused, missing
 
 
 class System(NamedTuple):
-    """How a system's folder is made, the programs of Debian's packages that make it, and the folders that are
-    made of it."""
+    """How a system's folder is made, the programs of Debian's packages that make it, and how further folders
+    are made of it, by their names."""
 
     make: Callable[[Path, Path, Source], None]
     programs: Tuple[str, ...] = ()
@@ -61,7 +54,7 @@ SYSTEMS: Dict[str, System] = {it.name: system_of(it) for it in CROSS}
 
 
 def put(made: Path, to: Path) -> None:
-    """Puts a folder in the place of another."""
+    """Replaces a folder by another."""
     old = to.with_name(f".{to.name}.old")
     shutil.rmtree(old, ignore_errors=True)
     if to.exists():
@@ -71,7 +64,7 @@ def put(made: Path, to: Path) -> None:
 
 
 def make(name: str) -> None:
-    """Makes a system's folder, and those of it, beside their places, and only then puts them there."""
+    """Makes a system's folder, and those that are made of it, beside their places, and then moves them."""
     system = SYSTEMS[name]
     absent = missing(*system.programs)
     if absent:
@@ -97,10 +90,10 @@ def report(name: str) -> None:
 
 def main() -> int:
     """The program. The status."""
-    form = argparse.RawDescriptionHelpFormatter
-    reader = argparse.ArgumentParser(prog="tools/systems", description=__doc__, formatter_class=form)
-    reader.add_argument("systems", nargs="*", metavar="SYSTEM")
-    names = reader.parse_args().systems or [*SYSTEMS]
+    form, text = argparse.RawDescriptionHelpFormatter, str(__doc__).format(systems=listed(*CROSS))
+    parser = argparse.ArgumentParser(prog="tools/systems", description=text, formatter_class=form)
+    parser.add_argument("systems", nargs="*", metavar="SYSTEM")
+    names = parser.parse_args().systems or [*SYSTEMS]
     signal.signal(signal.SIGINT, lambda *_: sys.exit(130))
     if unknown := [it for it in names if it not in SYSTEMS]:
         sys.exit(f"tools/systems: there is no system {unknown[0]}: the systems are {', '.join(SYSTEMS)}")
@@ -109,8 +102,8 @@ def main() -> int:
         try:
             make(name)
             report(name)
-        except (Refused, OSError) as fault:
-            print(f"tools/systems: {name} isn't made: {fault}", file=sys.stderr)
+        except (Refused, OSError) as error:
+            print(f"tools/systems: {name} isn't made: {error}", file=sys.stderr)
             status = 1
     return status
 

@@ -58,7 +58,7 @@ def scripts(page: str) -> Iterator[Example]:
 
 def idioms(page: str) -> Iterator[Example]:
     """The cookbook's blocks of text, by the heading or the bold words before each, assembled and listed."""
-    section = page[page.index("## Idioms") : page.index("## Macros")]
+    section = page[page.index("## Idioms") : page.index("## Your microcode in CI")]
     title = ""
     for head, bold, text in re.findall(
         r"(?ms)^### (.*?)$|(?<=\n\n)\*\*(.*?)\*\*|^```asm\n(.*?)^```$", section

@@ -1,5 +1,5 @@
-"""The library for Linux on another processor: the archive that the kit itself makes, with a heap, and with
-the calls of brsp.h alone to be seen; and the proved program."""
+"""The library for another Linux: the archive that the kit itself makes, with a heap, which shows only the
+calls of brsp.h; and the proved program."""
 
 import shutil
 from pathlib import Path
@@ -18,7 +18,7 @@ def make(target: Target, out: Path, at: Path, source: Source = module) -> None:
     """Writes the folder of a target, from the modules of a source. `at` is for files on the way."""
     shown = [f"--keep-global-symbol={it}" for it in header.calls()]
     soname = f"libbrsp.so.{header.interface()}"
-    words = [f"--target={target.triple}", "-O2", "-fPIC", "-ffreestanding"]
+    words = [f"--target={target.triples[target.processor]}", "-O2", "-fPIC", "-ffreestanding"]
     words += hardening.words(target.name, "compile")
     llvm("clang", *words, "-c", "-o", at / "heap.o", places.PARTS / "heap.c")
     archive = source(target.processor).archive
@@ -30,9 +30,7 @@ def make(target: Target, out: Path, at: Path, source: Source = module) -> None:
     words = ["-shared", f"-Wl,-soname,{soname}", *hardening.words(target.name, "link"), LINKED]
     words.append(f"-Wl,--version-script={places.HEADER.with_name('brsp.map')}")
     call(target.compiler, *words, "-o", out / "lib" / soname, at / "rsp.o")
-    shutil.copy(
-        out / "lib" / soname, out / "lib" / "libbrsp.so"
-    )  # a link would do, but `rt ci` refuses links
+    shutil.copy(out / "lib" / soname, out / target.shared)  # a link would do, but `rt ci` refuses links
     packages.header(out)
     packages.pkg_config(out)
     packages.cmake(out, target, LIBRARY=soname, SONAME=soname)
@@ -42,7 +40,7 @@ def make(target: Target, out: Path, at: Path, source: Source = module) -> None:
 
 
 def link_program(target: Target, to: Path, *objects: Path) -> None:
-    """Links the proved program for any glibc since 2.17."""
+    """Links the proved program."""
     to.parent.mkdir()
-    words = ["-O2", "-fPIE", "-pie", "-nostartfiles", "-s", *hardening.words(target.name), LINKED]
+    words = ["-O2", *target.linked.split(), "-s", *hardening.words(target.name), LINKED]
     call(target.compiler, *words, "-o", to, places.PARTS / target.start, *objects)

@@ -2,9 +2,9 @@
 macOS, and linked against the names that libSystem.tbd lists."""
 
 from pathlib import Path
-from typing import Dict, List
+from typing import List
 
-from rsp_tools.targets import TARGETS
+from rsp_tools.targets import PROCESSORS, TARGETS
 
 from . import header, packages, places
 from .modules import Source, module
@@ -12,8 +12,6 @@ from .objects import compiled
 from .toolchain import Word, llvm
 
 OLDEST = "11.0"
-# What Apple calls the processors.
-ARCHITECTURES: Dict[str, str] = {"x86_64": "x86_64", "aarch64": "arm64"}
 
 
 def link(architecture: str, made: Path, at: Path) -> Path:
@@ -29,10 +27,10 @@ def link(architecture: str, made: Path, at: Path) -> Path:
 
 def make(out: Path, at: Path, source: Source = module) -> None:
     """Writes the library's folder, from the modules of a source. `at` is for files on the way."""
-    shared, static = [], []
-    for processor, architecture in ARCHITECTURES.items():
-        target = f"{architecture}-apple-macosx{OLDEST}.0"
-        made = compiled(source(processor), processor, target, at)
+    target, shared, static = TARGETS["macos"], [], []
+    for processor, triple in target.triples.items():
+        architecture = PROCESSORS[processor].apple
+        made = compiled(source(processor), processor, triple, at)
         shared.append(link(architecture, made, at))
         static.append(at / f"{architecture}.a")
         llvm("llvm-ar", "rcsD", "--format=darwin", static[-1], made)
@@ -41,5 +39,5 @@ def make(out: Path, at: Path, source: Source = module) -> None:
     llvm("llvm-lipo", "-create", *static, "-output", out / "lib" / "libbrsp.a")
     packages.header(out)
     packages.pkg_config(out)
-    packages.cmake(out, TARGETS["macos"], LIBRARY="libbrsp.dylib", SONAME="@rpath/libbrsp.dylib")
-    packages.wheel(out, out / "lib" / "libbrsp.dylib", "libbrsp.dylib", TARGETS["macos"].wheel)
+    packages.cmake(out, target, LIBRARY="libbrsp.dylib", SONAME="@rpath/libbrsp.dylib")
+    packages.wheel(out, out / "lib" / "libbrsp.dylib", "libbrsp.dylib", target.wheel)

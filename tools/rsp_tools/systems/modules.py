@@ -1,9 +1,9 @@
-"""The modules of the library that `rattle build` hands to clang, for x86-64 and for ARM, and the program's
-object for ARM.
+"""The modules of the library that `rattle build` hands to clang for each processor, and the program's
+objects.
 
 The kit has no command that gives them. It takes the folder of its toolchain by a word, though, so here a
 folder of links stands for it, with a program `clang` that keeps its input. A module is kept until a source
-of the library or the kit changes. """
+of the library or the kit changes."""
 
 import shutil
 import subprocess
@@ -11,13 +11,11 @@ import tempfile
 from pathlib import Path
 from typing import Callable, Dict, List, NamedTuple
 
-from rsp_tools import targets
 from rsp_tools.build import Build, over_libraries
+from rsp_tools.targets import PROCESSORS
 
 from . import places
 from .toolchain import Refused, kit, llvm
-
-TARGETS: Dict[str, str] = {it.processor: it.triple for it in targets.TARGETS.values() if it.is_linux}
 
 
 class Module(NamedTuple):
@@ -59,10 +57,10 @@ def mark(crate: Crate) -> str:
     return f"{build.marked()}\n{build.made_of()}"
 
 
-def words_of(crate: Crate, target: str, toolchain: Path, out: Path) -> List[str]:
-    """The words of `rattle build`, as `rt` has them, with a target and a toolchain."""
+def words_of(crate: Crate, processor: str, toolchain: Path, out: Path) -> List[str]:
+    """The words of `rattle build`, as `rt` has them, with a processor and a toolchain."""
     words = [*over_libraries("build", crate.name), *f"{crate.words} --backend llvm --jobs 2".split()]
-    words += ["--incremental", str(incremental(crate)), "--target", TARGETS[target]]
+    words += ["--incremental", str(incremental(crate)), "--target", PROCESSORS[processor].triple]
     return [*words, "--toolchain", str(toolchain), "-o", str(out)]
 
 
@@ -82,8 +80,8 @@ def incremental(crate: Crate) -> Path:
     return places.KEPT / f"{crate.name}-incremental"
 
 
-def take(crate: Crate, target: str, folder: Path) -> None:
-    """Has the kit build a crate for a target, and leaves what it makes and its module in a folder."""
+def take(crate: Crate, processor: str, folder: Path) -> None:
+    """Has the kit build a crate for a processor, and leaves what it makes and its module in a folder."""
     kept, found = incremental(crate), crate.out / "incremental"
     if not kept.is_dir() and found.is_dir():
         # A check over what the crate's own check found takes a minute, and leaves that as it was. After
@@ -91,7 +89,7 @@ def take(crate: Crate, target: str, folder: Path) -> None:
         shutil.copytree(found, kept, symlinks=True)
     link_toolchain(folder / "toolchain")
     ended = subprocess.run(
-        words_of(crate, target, folder / "toolchain", folder / "made"),
+        words_of(crate, processor, folder / "toolchain", folder / "made"),
         cwd=crate.out.parent,
         stdin=subprocess.DEVNULL,
         capture_output=True,
@@ -100,12 +98,12 @@ def take(crate: Crate, target: str, folder: Path) -> None:
     )
     if ended.returncode or not (folder / "module").is_file():
         last = "\n".join((ended.stdout + ended.stderr).strip().splitlines()[-20:])
-        raise Refused(f"`rattle build` for {TARGETS[target]} ended with status {ended.returncode}:\n{last}")
+        raise Refused(f"`rattle build` for {processor} ended with status {ended.returncode}:\n{last}")
 
 
 def flags(words: List[str]) -> List[str]:
-    """Of the words that the kit gives clang, how it optimizes, on any processor. Refused if it doesn't say
-    so as it did."""
+    """The words by which the kit has clang optimize, on any processor, among all words that it gives clang.
+    Refused if they aren't of the form that is known."""
     passed = [it for word, it in zip(words, words[1:]) if word == "-mllvm" and "x86" not in it]
     if "-O3" not in words or not passed:
         raise Refused(f"the kit gives clang other words than these rules were written for: {' '.join(words)}")
@@ -115,8 +113,8 @@ def flags(words: List[str]) -> List[str]:
 
 def is_kept(folder: Path, made_of: str) -> bool:
     """Whether a folder has what was made of these sources."""
-    told = folder / "mark"
-    return told.is_file() and told.read_text(errors="surrogateescape") == made_of
+    path = folder / "mark"
+    return path.is_file() and path.read_text(errors="surrogateescape") == made_of
 
 
 def keep(folder: Path, made_of: str, files: Dict[str, Path]) -> None:
@@ -128,12 +126,12 @@ def keep(folder: Path, made_of: str, files: Dict[str, Path]) -> None:
     folder.joinpath("mark").write_text(made_of, errors="surrogateescape")
 
 
-def module(target: str) -> Module:
-    """The module for a processor, x86_64 or aarch64, made again if a source has changed."""
-    made_of, kept = mark(LIBRARY), places.KEPT / target
+def module(processor: str) -> Module:
+    """The module for a processor, made again if a source has changed."""
+    made_of, kept = mark(LIBRARY), places.KEPT / processor
     if not is_kept(kept, made_of):
         with tempfile.TemporaryDirectory() as at:
-            take(LIBRARY, target, Path(at))
+            take(LIBRARY, processor, Path(at))
             as_text = ["-S", "-emit-llvm", "-Xclang", "-disable-llvm-passes", "-Wno-override-module"]
             llvm("clang", "-x", "ir", Path(at, "module"), *as_text, "-o", Path(at, "module.ll"))
             names = {"module.ll": "module.ll", "module.words": "module.words", "librsp_c.a": "made"}
@@ -142,11 +140,11 @@ def module(target: str) -> Module:
     return Module(kept / "module.ll", kept / "librsp_c.a", flags(given))
 
 
-def program(target: str) -> Path:
+def program(processor: str) -> Path:
     """The object of the proved program for a processor, made again if a source has changed."""
-    made_of, kept = mark(PROGRAM), places.KEPT / f"{PROGRAM.name}-{target}"
+    made_of, kept = mark(PROGRAM), places.KEPT / f"{PROGRAM.name}-{processor}"
     if not is_kept(kept, made_of):
         with tempfile.TemporaryDirectory() as at:
-            take(PROGRAM, target, Path(at))
+            take(PROGRAM, processor, Path(at))
             keep(kept, made_of, {"rsp_main.o": Path(at, "made")})
     return kept / "rsp_main.o"

@@ -7,6 +7,8 @@ import subprocess
 from pathlib import Path
 from typing import Dict, Union
 
+from rsp_tools.targets import TARGETS
+
 Word = Union[str, Path]
 
 # The rules on modules were written for what this version of the kit's clang reads and writes.
@@ -16,14 +18,7 @@ PACKAGES: Dict[str, str] = {
     "ar": "binutils",
     "ld": "binutils",
     "objcopy": "binutils",
-    "aarch64-linux-gnu-gcc": "gcc-aarch64-linux-gnu libc6-dev-arm64-cross",
-    "aarch64-linux-gnu-objdump": "binutils-aarch64-linux-gnu",
-    "x86_64-w64-mingw32-objdump": "binutils-mingw-w64-x86-64",
-    "qemu-aarch64": "qemu-user",
-    "x86_64-w64-mingw32-gcc": "gcc-mingw-w64-x86-64",
-    "wine": "wine wine64",
-    "cmark-gfm": "cmark-gfm",
-    "node": "nodejs",
+    **{program: package for target in TARGETS.values() for program, package in target.packages.items()},
 }
 
 

@@ -5,36 +5,30 @@ with the heap inside. CMakeLists.txt chooses among them; it also makes the progr
 
 import shutil
 from pathlib import Path
-from typing import Dict, NamedTuple, Tuple
+from typing import Dict, Tuple
 
-from . import macos, packages, places, program
+from rsp_tools.targets import TARGETS
+
+from . import packages, places, program
 from .header import filled
-from .modules import TARGETS, Source
+from .modules import Source
 from .modules import module as module_of
 from .objects import compiled
-from .rewriting import STACK_PROBES, UNWIND_TABLES, Change
+from .rewriting import STACK_PROBES, UNWIND_TABLES
 from .windows import GNU
 
 
-class Assembly(NamedTuple):
-    """A processor's module for one target of clang."""
-
-    processor: str
-    target: str
-    changes: Tuple[Change, ...] = ()
-
-
-# By the name of the file, which CMakeLists.txt makes of CMAKE_SYSTEM_NAME and of the processor.
-FILES: Dict[str, Assembly] = {
-    **{f"Linux-{processor}": Assembly(processor, triple) for processor, triple in TARGETS.items()},
-    "Windows-x86_64": Assembly("x86_64", GNU, (STACK_PROBES, UNWIND_TABLES)),
-    **{
-        f"Darwin-{name}": Assembly(processor, f"{name}-apple-macosx{macos.OLDEST}.0")
-        for processor, name in macos.ARCHITECTURES.items()
-    },
-}
+def files() -> Dict[str, Tuple[str, str]]:
+    """The processor and clang's triple of each file, by its name, which CMakeLists.txt makes of
+    CMAKE_SYSTEM_NAME and of the processor. Two systems may have the same file."""
+    found: Dict[str, Tuple[str, str]] = {}
+    for target in TARGETS.values():
+        for processor, triple in target.triples.items():
+            found.setdefault(f"{target.cmake[0]}-{triple.partition('-')[0]}", (processor, triple))
+    return found
 
 
+FILES = files()
 # What GNU's assembler lacks: the first lets lld merge functions, the others say where an epilogue is, which
 # no table of frames of this version holds.
 LACKING = (".addrsig", ".seh_startepilogue", ".seh_endepilogue")
@@ -42,11 +36,11 @@ LACKING = (".addrsig", ".seh_startepilogue", ".seh_endepilogue")
 
 def assembly(name: str, at: Path, source: Source) -> str:
     """The text of a file. For Windows GNU's assembler can't read a section for each function."""
-    processor, target, changes = FILES[name]
-    module = source(processor)
-    if target == GNU:
+    processor, triple = FILES[name]
+    module, changes = source(processor), (STACK_PROBES, UNWIND_TABLES)
+    if triple == GNU:
         module = module._replace(flags=[it for it in module.flags if not it.endswith("-sections")])
-    made = compiled(module, processor, target, at, changes, kind="-S")
+    made = compiled(module, processor, triple, at, changes if triple == GNU else (), kind="-S")
     lines = made.read_text().splitlines(keepends=True)
     return "".join(it for it in lines if not it.lstrip().startswith(LACKING))
 

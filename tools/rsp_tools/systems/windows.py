@@ -1,5 +1,6 @@
 """The library for Windows on x86-64: the module of Linux on the same processor, compiled for mingw and for
-MSVC. One brsp.dll is for both, and each has an import library and a static one. Then the program over it."""
+MSVC. One brsp.dll is for both, because no call takes or returns what belongs to a C library, such as a FILE;
+each has an import library and a static one. Then the program over it."""
 
 from pathlib import Path
 
@@ -12,11 +13,11 @@ from .objects import compiled
 from .rewriting import STACK_PROBES, UNWIND_TABLES
 from .toolchain import call, llvm
 
-GNU, MSVC = "x86_64-w64-windows-gnu", "x86_64-pc-windows-msvc"
+TARGET = TARGETS["windows-x86_64"]
+GNU, MSVC = TARGET.triples["x86_64"], "x86_64-pc-windows-msvc"
 # Two links give the same bytes without their time, and with an address that isn't made of the file's name.
 SAME = "-Wl,--no-insert-timestamp"
 BASE = "-Wl,--image-base,0x180000000"
-SYSTEM = "windows-x86_64"
 SMALL = "-Wl,--gc-sections"
 
 
@@ -37,16 +38,16 @@ def resources(at: Path, file: str, kind: str) -> Path:
 
 def link_dll(to: Path, at: Path, made: Path, exports: Path) -> None:
     """Links brsp.dll of an object of the library."""
-    words = ["-shared", "-static-libgcc", "-s", SAME, BASE, SMALL, *hardening.words(SYSTEM, "link")]
+    words = ["-shared", "-static-libgcc", "-s", SAME, BASE, SMALL, *hardening.words(TARGET.name, "link")]
     properties = resources(at, to.name, "VFT_DLL")
-    call("x86_64-w64-mingw32-gcc", *words, "-o", to, made, properties, exports)
+    call(TARGET.compiler, *words, "-o", to, made, properties, exports)
 
 
 def link_program(to: Path, at: Path, library: Path) -> None:
     """Links rsp.exe over the static library."""
     properties = resources(at, to.name, "VFT_APP")
-    words = ["-municode", "-static", SAME, SMALL, *hardening.words(SYSTEM)]
-    program.link("x86_64-w64-mingw32-gcc", "windows.c", to, library, properties, *words)
+    words = ["-municode", "-static", SAME, SMALL, *hardening.words(TARGET.name)]
+    program.link(TARGET.compiler, "windows.c", to, library, properties, *words)
 
 
 def make(out: Path, at: Path, source: Source = module) -> None:
@@ -67,5 +68,5 @@ def make(out: Path, at: Path, source: Source = module) -> None:
     link_program(out / "bin" / "rsp.exe", at, out / "lib" / "libbrsp.a")
     packages.header(out)
     packages.pkg_config(out, rpath="")
-    packages.cmake(out, TARGETS[SYSTEM])
-    packages.wheel(out, out / "bin" / "brsp.dll", "brsp.dll", TARGETS[SYSTEM].wheel, out / "bin" / "rsp.exe")
+    packages.cmake(out, TARGET)
+    packages.wheel(out, out / "bin" / "brsp.dll", "brsp.dll", TARGET.wheel, out / "bin" / "rsp.exe")

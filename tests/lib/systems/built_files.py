@@ -26,7 +26,7 @@ import rsp
 """
 
 
-def shown(*words: object) -> Set[str]:
+def symbol_names(*words: object) -> Set[str]:
     """The names that llvm-nm lists."""
     lines = llvm("llvm-nm", *map(str, words)).splitlines()
     return {it.split()[-1] for it in lines if it and not it.endswith(":")}

@@ -1,7 +1,7 @@
-/** Refusals in words: what a call was given, and what it takes. */
+/** Why calls are refused: the ranges of their arguments, the errors, and their messages. */
 
 import { Bank, FAULTS, Fault, Status } from "./shapes.js";
-import { SP_NAMES, hex } from "./shown.js";
+import { SP_NAMES, hex } from "./formatting.js";
 
 const range = (low, high, step = 1) => ({
   has: (n) => n >= low && n <= high && (n - low) % step === 0,

@@ -14,7 +14,7 @@ from typing import Dict, Iterator, List, Optional, Tuple
 
 from lib import TESTS
 from lib.processes import run
-from lib.program import Ran, content, ran
+from lib.program import Result, content, run_program
 from lib.systems.runners import Runner
 
 FILES = ("scripts", "bad_input", "saves", "texts")
@@ -43,7 +43,7 @@ def started(runner: Runner, folder: Path) -> Path:
     return to
 
 
-def see_tests(program: Path, system: str, seconds: int, *more: str) -> None:
+def check_by_tests(program: Path, system: str, seconds: int, *more: str) -> None:
     """The proved program's tests, on a program for a system. It must have ended after so many seconds."""
     files = [TESTS / f"program/test_{it}.py" for it in FILES]
     words = ("-q", f"--program={program}", f"--left-out={system}", f"--timeout={seconds}", *more)
@@ -61,20 +61,20 @@ def command_lines() -> Iterator[List[str]]:
         yield [*[first] * (choose.random() < 0.8), *choose.choices(WORDS, k=choose.randrange(6))]
 
 
-def answered(program: Path, line: List[str], folder: Path) -> Tuple[Ran, Dict[str, Optional[bytes]]]:
+def answered(program: Path, line: List[str], folder: Path) -> Tuple[Result, Dict[str, Optional[bytes]]]:
     """What a program says of a command line, and the files that it leaves. Of a refusal, and of the help of
     `help`, only the first line of the errors."""
     for path in folder.iterdir():
         path.unlink()
     for name, data in GIVEN.items():
         (folder / name).write_bytes(data)
-    got = ran(program, line, b"step\n", cwd=folder)
+    got = run_program(program, line, b"step\n", cwd=folder)
     if got.errors.startswith(b"error: ") or "help" in line[:2]:
         got = got._replace(errors=got.errors.split(b"\n")[0])
     return got, {it.name: content(it) for it in folder.iterdir()}
 
 
-def see_lines(program: Path, proved: Path, folder: Path) -> None:
+def check_command_lines(program: Path, proved: Path, folder: Path) -> None:
     """Command lines, of which both programs have to make the same."""
     differ = []
     for line in command_lines():

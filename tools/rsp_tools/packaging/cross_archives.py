@@ -8,7 +8,7 @@ from typing import Callable, Iterator, Mapping, Sequence
 from rsp_tools.packaging import install_tree, repository
 from rsp_tools.packaging.release_info import About
 from rsp_tools.packaging.install_tree import File
-from rsp_tools.targets import TARGETS
+from rsp_tools.targets import PROCESSORS, TARGETS
 from rsp_tools.systems.toolchain import llvm
 
 # What those for C, Python and Rust hold of the repository; and what was run on Linux on x86-64 alone.
@@ -22,8 +22,6 @@ PARTS_OF: Mapping[str, Sequence[str]] = {
     "vendor": "docs examples/c examples/first.rsp CHANGELOG.md".split(),
     "page": ["CHANGELOG.md"],
 }
-# Rust 1.63 takes no library that is for two processors, as those for macOS are.
-THIN = {"aarch64-apple-darwin": "arm64", "x86_64-apple-darwin": "x86_64"}
 Thin = Callable[[Path, str], bytes]
 
 
@@ -43,10 +41,14 @@ def thinned(library: Path, processor: str) -> bytes:
 
 def of_rust(system: str, folder: Path, thin: Thin) -> Iterator[File]:
     """The static libraries, where the Rust crate looks for them."""
-    for target, name in TARGETS[system].rust.items():
+    target = TARGETS[system]
+    for triple, name in target.rust.items():
         library = folder / "lib" / name
-        data = thin(library, THIN[target]) if target in THIN else library.read_bytes()
-        yield File(f"library/rust/lib/{target}/{name}", data)
+        if len(target.triples) > 1:  # Rust 1.63 takes no library that is for two processors
+            data = thin(library, PROCESSORS[triple.partition("-")[0]].apple)
+        else:
+            data = library.read_bytes()
+        yield File(f"library/rust/lib/{triple}/{name}", data)
 
 
 def contents(system: str, folder: Path, about: About, thin: Thin = thinned) -> Iterator[File]:

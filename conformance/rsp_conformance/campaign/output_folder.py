@@ -7,8 +7,8 @@ import re
 from pathlib import Path
 from typing import Any, Dict, List
 
-from rsp_conformance.commands import printable
-from rsp_conformance.files import MOST_JSON, make_folder, read, write
+from rsp_conformance.command_line import printable
+from rsp_conformance.safe_files import MOST_JSON, make_folder, read, write
 from rsp_conformance.table import ROWS
 
 from . import CampaignFault

@@ -1,4 +1,4 @@
-//! Refusals in words: what a call was given, and what it takes.
+//! Why calls are refused: the ranges of their arguments, and messages.
 
 use crate::shapes::Field;
 use crate::{State, Status};
