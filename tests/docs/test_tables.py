@@ -1,7 +1,7 @@
 """The tables of docs/data against the program, and what pages have of them.
 
 It fails if the program does something else than a line of a table says, or if a page isn't what
-`tools/python rsp_tools.page_tables` makes of the tables, of crates.txt, of the vectors and of the systems.
+`tools/python rsp_tools.page_tables` makes of the tables, of crates.txt and of the systems.
 
   docs/data/instructions.tsv   each instruction's word, and its worked case, stepped once
   docs/data/commands.tsv       each command's sample, and how many lines it is answered with
