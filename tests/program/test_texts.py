@@ -397,7 +397,7 @@ def overlay(files: Files) -> Files:
     """The files with an ELF, and what the page makes of it up to the cleared code."""
     link(files.folder, OVERLAY)
     names = files.run_shell(block_with(ASSEMBLY, "mips-linux-gnu-objcopy -O binary -j .text"))
-    for form in "04000008 . mark", "04001000 T _start", "04001014 t add":
+    for form in "04000008 . mark", "04001000 T _start", "04001014 t add", "04001040 t command":
         assert re.search(rf"(?m)^{form}$", names), names
     files.run_shell(block_with(ASSEMBLY, "python3 -c 'code"))
     return files
