@@ -28,24 +28,20 @@ for name, register in (("SP_STATUS", 4), ("SP_DMA_BUSY", 6)):
     STOPS[f"a read of {name}"] = SETTING % 0 + f"mfc0 $4, $c{register}\n{TURN}"
 
 
+def driven(bench: Bench, plugin: Path, lines: Sequence[str], rounds: int, tasks: int) -> int:
+    """Host instructions of tasks whose rounds are as many as ff0 says."""
+    script = [*lines, f"put dmem ff0 {rounds:x} 128000", f"tasks {tasks}", ""]
+    return host_instructions(([bench.driver, plugin], "\n".join(script).encode()), EXACT)
+
+
 def per_round(bench: Bench, plugin: Path, lines: Sequence[str], short: int = 500, long: int = 1500) -> float:
-    """Host instructions for each of the rounds whose number is in ff0."""
-
-    def counted(rounds: int) -> int:
-        script = [*start_lines(), *lines, f"put dmem ff0 {rounds:x} 128000", "tasks 1", ""]
-        return host_instructions(([bench.driver, plugin], "\n".join(script).encode()), EXACT)
-
-    return (counted(long) - counted(short)) / (long - short)
+    costs = [driven(bench, plugin, [*start_lines(), *lines], rounds, 1) for rounds in (short, long)]
+    return (costs[1] - costs[0]) / (long - short)
 
 
 def per_task(bench: Bench, plugin: Path, lines: Sequence[str], options: Sequence[str]) -> float:
-    """Host instructions for each task, of three rounds."""
-
-    def counted(tasks: int) -> int:
-        script = [*start_lines(*options), *lines, "put dmem ff0 3 128000", f"tasks {tasks}", ""]
-        return host_instructions(([bench.driver, plugin], "\n".join(script).encode()), EXACT)
-
-    return (counted(30) - counted(10)) / 20
+    costs = [driven(bench, plugin, [*start_lines(*options), *lines], 3, tasks) for tasks in (10, 30)]
+    return (costs[1] - costs[0]) / 20
 
 
 def print_steps(bench: Bench) -> None:
