@@ -17,6 +17,7 @@ from lib.processes import run, succeeds
 from lib.user import User
 from rsp_tools import release
 from rsp_tools.build import LOGIC
+from rsp_tools.targets import CROSS
 
 FEW = "sh dirname readlink python3".split()
 LINKERS = "git cc ar ld objcopy".split()
@@ -69,8 +70,9 @@ def test_no_kit() -> None:
 def test_missing_packages(folder: Path) -> None:
     """All of them are in one line: those that link, and those of each system."""
     said = refused("--untested", "--systems", path=path_with(folder, *FEW))
-    named = "git gcc binutils gcc-aarch64-linux-gnu libc6-dev-arm64-cross gcc-mingw-w64-x86-64 cmark-gfm"
-    assert said == f"release: packages of Debian are missing: apt-get install {named}\n"
+    compilers = " ".join(it.packages[it.compiler] for it in CROSS if it.compiler)
+    names = f"git gcc binutils {compilers} cmark-gfm"
+    assert said == f"release: packages of Debian are missing: apt-get install {names}\n"
 
 
 @pytest.mark.needs(*LINKERS)
@@ -87,7 +89,7 @@ def test_packages_of_the_newcomer(monkeypatch: pytest.MonkeyPatch) -> None:
     lost = "/usr/include/mupen64plus", "/usr/bin/pkg-config"
     monkeypatch.setattr(packages, "is_here", lambda tool: tool not in lost)
     assert sorted(needed_packages.missing()) == ["libmupen64plus-dev", "pkg-config"]
-    monkeypatch.setattr(release, "said", lambda *_: "libmupen64plus-dev pkg-config")
+    monkeypatch.setattr(release, "output_of", lambda *_: "libmupen64plus-dev pkg-config")
     monkeypatch.setattr(release, "missing", lambda *_: "")
     monkeypatch.setattr(shutil, "which", str)
     release.check_packages([], False)

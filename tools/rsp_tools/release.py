@@ -35,7 +35,7 @@ from rsp_tools.packaging import release_info, archives, install_tree, archive_fo
 from rsp_tools.packaging.release_info import About
 from rsp_tools.packaging.archives import Archive
 from rsp_tools.packaging.link import linked_program
-from rsp_tools.packaging.repository import said
+from rsp_tools.packaging.repository import output_of
 from rsp_tools.systems import header, places
 from rsp_tools.systems.__main__ import SYSTEMS
 from rsp_tools.systems.toolchain import missing
@@ -106,7 +106,7 @@ def check_packages(names: List[str], is_tested: bool) -> None:
     packages = missing(
         *PROGRAMS, *(program for it in libraries_of(names) for program in SYSTEMS[it].programs)
     )
-    more = said("tools/python", "lib.install.needed_packages") if is_tested else ""
+    more = output_of("tools/python", "lib.install.needed_packages") if is_tested else ""
     if packages:
         both = " ".join(dict.fromkeys([*packages.split(), *more.split()]))
         fail(f"packages of Debian are missing: apt-get install {both}")
@@ -183,11 +183,11 @@ def main() -> None:
     names = [] if asked.systems is None else [*dict.fromkeys(asked.systems)] or OTHERS
     check_names(names)
     check_packages(names, not asked.untested)
-    if said("git", "status", "--porcelain"):
+    if output_of("git", "status", "--porcelain"):
         fail("the work tree differs from its commit")
     version, day = install_tree.version()
     check_versions()
-    check_day(day, said("git", "tag", "--points-at", "HEAD").split())
+    check_day(day, output_of("git", "tag", "--points-at", "HEAD").split())
     if asked.object == OBJECT:
         succeed("./rsp has built nothing", "./rsp", "run")
     succeed("library/c/build has built nothing", "library/c/build")

@@ -3,7 +3,7 @@
 from typing import NamedTuple, Tuple
 
 from rsp_tools.packaging import install_tree
-from rsp_tools.packaging.repository import committed, said
+from rsp_tools.packaging.repository import committed, output_of
 
 
 class About(NamedTuple):
@@ -23,5 +23,5 @@ class About(NamedTuple):
 
 def of_head() -> About:
     """A release of the newest commit."""
-    commit = said("git", "rev-parse", "HEAD")
-    return About(*install_tree.version(), commit, committed(), said("rt", "version"))
+    commit = output_of("git", "rev-parse", "HEAD")
+    return About(*install_tree.version(), commit, committed(), output_of("rt", "version"))

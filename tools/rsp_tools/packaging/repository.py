@@ -11,8 +11,8 @@ from rsp_tools.packaging.install_tree import File, file
 OF_CONFORMANCE = ("conformance/", "docs/CAMPAIGN.md")
 
 
-def said(*words: str) -> str:
-    """What a command says at the top of the repository."""
+def output_of(*words: str) -> str:
+    """The output of a command at the top of the repository."""
     return subprocess.run(words, cwd=TOP, capture_output=True, text=True, check=True).stdout.strip()
 
 
@@ -22,12 +22,12 @@ def committed() -> int:
     repository, whose commits aren't its own: there it fails as without git."""
     if not (TOP / ".git").exists():
         raise FileNotFoundError(f"{TOP} isn't a repository of git")
-    return int(said("git", "log", "-1", "--format=%ct"))
+    return int(output_of("git", "log", "-1", "--format=%ct"))
 
 
 def names(*parts: str) -> Iterator[str]:
     """The files of these parts, or of all, that are no links."""
-    listed = said("git", "ls-files", "-z", "--", *parts).split("\0")
+    listed = output_of("git", "ls-files", "-z", "--", *parts).split("\0")
     yield from (it for it in listed if it and not (TOP / it).is_symlink())
 
 
