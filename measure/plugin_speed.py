@@ -12,7 +12,7 @@ from pathlib import Path
 from typing import List, Sequence
 
 from lib.plugin import CORE, HEADERS, Z64, Bench, speed_task, start_lines
-from measure import add_program, need, parser_of
+from measure import PROGRAM, need, parser_of
 from measure.speed import DATA, LOOPS, PROLOGUE, host_instructions, print_heading, print_row
 
 # Signals of check mode need exact registers under valgrind.
@@ -90,11 +90,10 @@ def main() -> None:
     parser = parser_of(__doc__)
     rom = "print the seconds from the emulator's start to the ROM's end, 1,000 tasks of 67,000 instructions"
     parser.add_argument("--rom", action="store_true", help=rom)
-    add_program(parser)
     arguments = parser.parse_args()
     need("valgrind", Z64, *((HEADERS, CORE, "mips-linux-gnu-gcc") if arguments.rom else ()))
     with tempfile.TemporaryDirectory() as folder:
-        bench = Bench(Path(folder), arguments.program)
+        bench = Bench(Path(folder), PROGRAM)
         for print_part in [print_seconds] if arguments.rom else [print_steps, print_stops, print_tasks]:
             print_part(bench)
             print()
