@@ -45,7 +45,7 @@ def variants(valid: Dict[str, Any], malformed: Dict[str, List[Any]]) -> Dict[str
 HASHES = {"emulator": "a", "library": "b"}
 TASK = {"instruction": "vadd", "seed": "1", "start": 0, "size": 20}
 RESULT: Dict[str, Any] = {**nothing(), **TASK, "count": 20, "hashes": HASHES}
-WRONG_PARTS = {
+WRONG_PARTS: Dict[str, List[Any]] = {
     **{
         "instruction": [5, [], "../vadd"],
         "seed": [None],
@@ -108,7 +108,7 @@ SETTINGS: Dict[str, Any] = {
     **{"generator": 2, "emulator": "mine", "instructions": ["vadd"], "seed": "1", "cases": 20, "size": 20},
     **{"programs": 0, "programs_size": 1, "steps": 5, "hashes": HASHES},
 }
-WRONG_SETTINGS = {
+WRONG_SETTINGS: Dict[str, List[Any]] = {
     "steps": ["x", None, 0, math.inf, 0.5, True, 1 << 53],
     "instructions": [None, "vadd", [], ["v"], [5], [["vadd"]], {"vadd": 1, "v": 2}],
 }

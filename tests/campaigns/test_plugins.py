@@ -73,7 +73,7 @@ def test_table_of_z64(folder: Path) -> None:
 
 @pytest.mark.needs(Z64)
 @pytest.mark.parametrize(
-    "block", [it for it in blocks_in("docs/CAMPAIGN.md") if "/campaign plugin:" in it.text], ids=str
+    "block", [block for block in blocks_in("docs/CAMPAIGN.md") if "campaign plugin:" in block.text], ids=str
 )
 def test_example_of_page(block: Block, folder: Path) -> None:
     """The commands for z64 print what the page shows."""
