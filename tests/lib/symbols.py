@@ -9,7 +9,7 @@ OLDEST = (2, 17)  # glibc's version of 2012, and that of the wheel's tag, manyli
 
 
 def check_needs(file: Path) -> None:
-    """Asserts that a file only needs the C library, and no newer symbol of glibc than the wheel's tag says."""
+    """Asserts that a file only needs the C library, and that the wheel's tag allows its symbols of glibc."""
     libraries = re.findall(r"NEEDED +(\S+)", succeeds("objdump", "-p", file))
     versions = re.findall(r"\bGLIBC_([\d.]+)", succeeds("objdump", "-T", file))
     newest = max((tuple(map(int, version.split("."))) for version in versions), default=())
