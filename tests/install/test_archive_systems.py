@@ -24,7 +24,7 @@ from lib.install.unpacked import (
     check_date_of_wheel,
     check_pack,
     date,
-    given,
+    archives_for,
     unpacked,
 )
 from lib.library import LOCKSTEP
@@ -149,7 +149,7 @@ def test_wheel_where_there_is_no_git(folder: Path, monkeypatch: pytest.MonkeyPat
 @pytest.fixture
 def packed_for(request: pytest.FixtureRequest, system: str) -> Path:
     """The archive for a system."""
-    found = given(request.config, system)
+    found = archives_for(request.config, system)
     if not found:
         pytest.skip(f"--archive names none for {system}: `./release --systems {system}` makes one")
     return found[0]

@@ -12,7 +12,7 @@ import pytest
 
 from lib import TESTS, TOP
 from lib.cmake import EXAMPLE
-from lib.install.unpacked import check_common, given, unpacked
+from lib.install.unpacked import archives_for, check_common, unpacked
 from lib.library import LOCKSTEP
 from lib.pages import page
 from lib.processes import STRICT, compiled, run, run_bytes, succeeds
@@ -76,7 +76,7 @@ def test_clone(library: Path, folder: Path) -> None:
 
 @pytest.fixture
 def packed(request: pytest.FixtureRequest) -> Path:
-    found = given(request.config, "vendor")
+    found = archives_for(request.config, "vendor")
     if not found:
         pytest.skip("--archive names none for vendor: `./release --systems vendor` makes one")
     return found[0]
