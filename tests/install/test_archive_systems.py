@@ -54,7 +54,7 @@ SHELLS = """
 share/man/man1/rsp.1 share/bash-completion/completions/rsp share/zsh/site-functions/_rsp
 share/fish/vendor_completions.d/rsp.fish
 """
-# What tools/systems makes for an archive that isn't in the record of its system, and what more an archive has.
+# What tools/systems makes for an archive beside what the record names, and what more an archive has.
 MADE = {
     "windows-x86_64": "lib/libbrsp.dll.a lib/brsp.lib",
     "vendor": "CMakeLists.txt include/brsp.h include/brsp.hpp include/brsp_compare.h program/main.c "
@@ -112,8 +112,7 @@ def stand_in(system: str, folder: Path) -> None:
         path.parent.mkdir(parents=True, exist_ok=True)
         path.write_text(name)
     if system in rust.TARGETS:
-        packages.header(folder)
-        packages.cmake(folder, TARGETS[system], LIBRARY="", SONAME="")
+        packages.describe(folder, TARGETS[system])
         packages.wheel(folder, folder / made_files(system)[0], "library", TARGETS[system].wheel)
 
 
@@ -190,8 +189,8 @@ def test_crate(top: Path, folder: Path, system: str) -> None:
     succeeds("rustc", "--edition", "2021", "-o", folder / "script", crate / "build.rs", cwd=top, env=where)
     listed = succeeds("cargo", "package", "--list", "--allow-dirty", "--offline", cwd=crate, env=own)
     for target, name in TARGETS[system].rust.items():
-        status, said = rust.said(folder / "script", target)
-        assert status == 0 and f"cargo:rustc-link-search=native={crate}/lib/{target}\n" in said
+        status, output = rust.build_script(folder / "script", target)
+        assert status == 0 and f"cargo:rustc-link-search=native={crate}/lib/{target}\n" in output
         assert f"lib/{target}/{name}" in listed.splitlines()
 
 

@@ -18,6 +18,7 @@ from lib.processes import run, succeeds
 from lib.user import User
 from rsp_tools import release
 from rsp_tools.build import LOGIC
+from rsp_tools.targets import CROSS
 
 FEW = "sh dirname readlink python3".split()
 LINKERS = "git cc ar ld objcopy".split()
@@ -68,8 +69,9 @@ def test_no_kit() -> None:
 def test_missing_packages(folder: Path) -> None:
     """All of them are in one line: those that link, and those of each system."""
     output = refused("--untested", "--systems", path=path_with(folder, *FEW))
-    cross = "gcc-aarch64-linux-gnu libc6-dev-arm64-cross musl-tools gcc-mingw-w64-x86-64 cmark-gfm"
-    assert output == f"release: packages of Debian are missing: apt-get install git gcc binutils {cross}\n"
+    compilers = " ".join(system.packages[system.compiler] for system in CROSS if system.compiler)
+    names = f"git gcc binutils {compilers} cmark-gfm"
+    assert output == f"release: packages of Debian are missing: apt-get install {names}\n"
 
 
 @pytest.mark.needs(*LINKERS)

@@ -91,10 +91,14 @@ def command_forms() -> List[Tuple[str, str, str]]:
     return [(name, line["Command"], plain(same[name])) for name, line in lines.items() if name != "end"]
 
 
-def fault_texts() -> List[Tuple[int, str, str]]:
-    """Each fault of a reply: its number, its cause, and what helps."""
+def fault_texts(is_replied: bool = True) -> List[Tuple[int, str, str]]:
+    """Each fault, or only each fault of a reply: its number, its cause, and what helps."""
     lines = [(int(line["Fault"].split()[0]), line) for line in data("faults")]
-    return [(n, plain(line["Cause"]), plain(line["What helps"])) for n, line in lines if n in REPLIED]
+    return [
+        (n, plain(line["Cause"]), plain(line["What helps"]))
+        for n, line in lines
+        if n in REPLIED or not is_replied
+    ]
 
 
 def static(name: str, record: str, fields: Sequence[str], rows: Sequence[Tuple[Any, ...]]) -> str:

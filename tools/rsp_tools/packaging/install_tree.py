@@ -7,7 +7,7 @@ from typing import Callable, Iterable, Iterator, List, NamedTuple, NoReturn, Opt
 
 from rsp_tools import TOOLS, TOP
 from rsp_tools.systems import header
-from rsp_tools.targets import NATIVE
+from rsp_tools.targets import NATIVE, Target
 
 # The script `rsp` of an archive. On another processor an emulator may run the program; if none does, what the
 # shell says of it doesn't name the processor.
@@ -29,7 +29,7 @@ RPATH = " -Wl,-rpath,${libdir}"
 # What pkg-config and CMake read, and the templates in tools/packaging.
 TEMPLATES = {
     "lib/pkgconfig/brsp.pc": "brsp.pc.in",
-    "lib/cmake/brsp/brspConfig.cmake": "brspConfig-unix.cmake.in",
+    "lib/cmake/brsp/brspConfig.cmake": "brspConfig-{kind}.cmake.in",
     "lib/cmake/brsp/brspConfigVersion.cmake": "brspConfigVersion.cmake.in",
 }
 
@@ -107,20 +107,33 @@ def names() -> List[str]:
     return [*(f"include/{name}" for name in HEADERS), *libraries, *TEMPLATES, *shares, "bin/rsp"]
 
 
+def headers() -> Iterator[File]:
+    """brsp.h, its class for C++, what compares machines, and savestates."""
+    yield from (File(f"include/{it}", (TOP / "library/c" / it).read_bytes()) for it in HEADERS)
+
+
+def descriptions(
+    target: Target, library: str, soname: str, prefix: str = "${pcfiledir}/../..", rpath: str = RPATH
+) -> Iterator[File]:
+    """What pkg-config and CMake read of a library, which is this file in lib/ and has this SONAME. brsp.pc
+    finds its own folder, unless it names a prefix. By `rpath` a program finds the library."""
+    kind, (system, processors) = "windows" if target.python == "win32" else "unix", target.cmake
+    words = {"LIBRARY": library, "SONAME": soname, "SYSTEM": system, "PROCESSORS": processors}
+    for name, template in TEMPLATES.items():
+        path = TOOLS / "packaging" / template.format(kind=kind)
+        text = header.filled(path, PREFIX=prefix, RPATH=rpath, **words)
+        yield File(name, text.encode(errors="surrogateescape"))
+
+
 def contents(prefix: str, program: Optional[bytes], rpath: str = RPATH) -> Iterator[File]:
     """Each file. `prefix` and `rpath` are what brsp.pc says, and `program` the bytes of the program, if there
     is one."""
     library = TOP / "library/c"
-    for name in HEADERS:
-        yield File(f"include/{name}", (library / name).read_bytes())
+    yield from headers()
     yield File("lib/libbrsp.a", (library / "libbrsp.a").read_bytes())
     yield File(f"lib/{soname()}", (library / soname()).read_bytes(), True)
     yield File("lib/libbrsp.so", soname())
-    system, processors = NATIVE.cmake
-    words = {"LIBRARY": soname(), "SONAME": soname(), "SYSTEM": system, "PROCESSORS": processors}
-    for name, template in TEMPLATES.items():
-        text = header.filled(TOOLS / "packaging" / template, PREFIX=prefix, RPATH=rpath, **words)
-        yield File(name, text.encode(errors="surrogateescape"))
+    yield from descriptions(NATIVE, soname(), soname(), prefix, rpath)
     yield from shared()
     if program:
         yield File("bin/rsp", program, True)
