@@ -91,7 +91,7 @@ def library_repository() -> Iterator[ToyRepository]:
 @pytest.fixture
 def repository(request: pytest.FixtureRequest, what: str) -> ToyRepository:
     """That of the program or of the library."""
-    built: ToyRepository = request.getfixturevalue(f"{what}_tree")
+    built: ToyRepository = request.getfixturevalue(f"{what}_repository")
     return built
 
 
