@@ -69,7 +69,7 @@ def test_no_kit() -> None:
 def test_missing_packages(folder: Path) -> None:
     """All of them are in one line: those that link, and those of each system."""
     output = refused("--untested", "--systems", path=path_with(folder, *FEW))
-    compilers = " ".join(system.packages[system.compiler] for system in CROSS if system.compiler)
+    compilers = " ".join(target.packages[target.compiler] for target in CROSS if target.compiler)
     names = f"git gcc binutils {compilers} cmark-gfm"
     assert output == f"release: packages of Debian are missing: apt-get install {names}\n"
 

@@ -374,6 +374,10 @@ _start: lw $a0, 0($0)
     break
 add: jr $ra
     addu $v0, $a0, $a1
+    .org 0x40
+command: andi $t0, $a0, 0xff
+    jr $ra
+    sw $t0, 12($0)
     .data
     .word 30, 12
 mark: .word 0, 0
@@ -392,7 +396,7 @@ def overlay(files: Files) -> Files:
     """The files with an ELF, and what the page makes of it up to the cleared code."""
     link(files.folder, OVERLAY)
     names = files.run_shell(block_with(ASSEMBLY, "mips-linux-gnu-objcopy -O binary -j .text"))
-    for form in "04000008 . mark", "04001000 T _start", "04001014 t add":
+    for form in "04000008 . mark", "04001000 T _start", "04001014 t add", "04001040 t command":
         assert re.search(rf"(?m)^{form}$", names), names
     files.run_shell(block_with(ASSEMBLY, "python3 -c 'code"))
     return files
