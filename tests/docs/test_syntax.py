@@ -1,22 +1,12 @@
-"""What docs/ASSEMBLY.md and docs/data/syntax.tsv say of other assemblers' syntax.
+"""Lines in the syntax of other assemblers: those of docs/data/syntax.tsv and of docs/ASSEMBLY.md.
 
-<<<<<<< HEAD
-It fails if the program takes a line that the table says is refused, refuses one that either says is taken, or
-makes another word of a line that means something else. tests/program/explanations.tsv has what `--explain`
-says of the refused ones.
-=======
-It fails if the program takes what is said to be refused, refuses what is said to be taken, makes another word
-of a line that means something else, or doesn't explain what to write for a line that it refuses.
->>>>>>> origin/main
+It fails if the program takes what is said to be refused, refuses what is said to be taken, or makes another word
+of a line that means something else. tests/program/explanations.tsv has what `--explain` says of refused lines.
 """
 
 import re
 from pathlib import Path
-<<<<<<< HEAD
 from typing import Dict
-=======
-from typing import Any, Dict
->>>>>>> origin/main
 
 import pytest
 
@@ -27,7 +17,6 @@ PAGE, HEADING = "docs/ASSEMBLY.md", "## Coming from another assembler"
 
 @pytest.mark.parametrize("line", data("syntax"), ids=lambda line: line["Line"])
 def test_line(line: Dict[str, str], program: Path) -> None:
-<<<<<<< HEAD
     """A line has its reply and its word. The page shows the lines that mean something else."""
     printed = replies(program, f"asm 0\nx: {line['Line']}\nend\ndis 0 1\n")
     assert printed.startswith(line["Answer"])
@@ -37,28 +26,8 @@ def test_line(line: Dict[str, str], program: Path) -> None:
 
 
 def test_page(program: Path) -> None:
-    """The statements in the last column, what to write instead, are taken."""
+    """What the page says to write is assembled."""
     cells = [cells[-1] for cells in tables(PAGE, HEADING)]
     lines = [line for cell in cells for line in re.findall(r"`([.\w]+ \S[^`]*)`", cell)]
-    refused = [line for line in lines if not replies(program, f"asm 0\n{line}\nend\n").startswith("ok")]
-    assert len(lines) >= 5 and not refused
-=======
-    printed = replies(program, f"asm 0\nx: {line['Line']}\nend\ndis 0 1\n")
-    assert printed.startswith(line["Answer"])
-    assert line["Word"] == "-" or f"\n000 {line['Word']} " in printed
-
-
-def test_page(program: Path) -> None:
-    """What the page says to write is assembled."""
-    cells = [cells[-1] for cells in tables("docs/ASSEMBLY.md", "## Coming from another assembler")]
-    lines = [line for cell in cells for line in re.findall(r"`([.\w]+ \S[^`]*)`", cell)]
     printed = replies(program, "".join(f"asm 0\n{line}\nend\n" for line in lines))
-    assert lines and printed == "ok 1 words\n" * len(lines)
-
-
-@pytest.mark.parametrize("line", REFUSED)
-def test_explanation(line: str, rsp: Any, folder: Path) -> None:
-    """`rsp asm --explain` says what to write instead of a line that is refused."""
-    (folder / "text").write_text(f"x: {line}\n")
-    assert "\n  write: " in rsp("asm", "text", "words", "--explain").errors.decode()
->>>>>>> origin/main
+    assert len(lines) >= 5 and printed == "ok 1 words\n" * len(lines)
