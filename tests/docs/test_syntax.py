@@ -1,7 +1,7 @@
 """Lines in the syntax of other assemblers: those of docs/data/syntax.tsv and of docs/ASSEMBLY.md.
 
-It fails if the program takes what is said to be refused, refuses what is said to be taken, or makes another word
-of a line that means something else. tests/program/explanations.tsv has what `--explain` says of refused lines.
+It fails if the program takes what is said to be refused, refuses what is said to be taken, or makes another
+word of a line that means something else. What `--explain` says is in tests/program/explanations.tsv.
 """
 
 import re
