@@ -362,7 +362,8 @@ def test_explanation_of_size(rsp: Any, folder: Path) -> None:
 # Blocks of pages.
 
 
-# An overlay as libdragon links it, which adds two words of its data. `mark` is a label of data.
+# An overlay as libdragon links it: what begins at 0 adds two words of its data, and a command at 040 stores
+# a part of its first word. `mark` is a label of data.
 OVERLAY = """
     .set noreorder
     .text
