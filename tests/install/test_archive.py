@@ -285,12 +285,3 @@ def test_crate_beside_the_archive(archive: Path, cargo: str) -> None:
             succeeds(cargo, "run", "--quiet", "--offline", cwd=mine, env=rust_environment(cargo))
             == "Halt 1234\n"
         )
-
-
-@pytest.mark.needs("cargo")
-def test_least_rustc(archive: Path) -> None:
-    """That which the crate names builds it too, where it is here."""
-    (least,) = re.findall(r'(?m)^rust-version = "(.*)"$', (archive / "library/rust/Cargo.toml").read_text())
-    versions = [succeeds("rustc", "--version", env=rust_environment(cargo)) for cargo in cargos()]
-    if not any(version.startswith(f"rustc {least}.") for version in versions):
-        pytest.skip(f"there is no rustc {least}")
