@@ -1,10 +1,9 @@
 """Prints what the plugin takes, beside Debian's z64.
 
 These are host instructions, as valgrind's callgrind counts them: of each emulated instruction of the three
-loops of measure.speed; of a loop with one stop of the run, also on a machine alone that has all RDRAM
-inside and doesn't stop; and of a task, also in check mode. A figure is the difference between a long and a
-short run, divided by that of their counts. It needs library/c/build, valgrind and z64, and with --rom
-mupen64plus and a compiler for MIPS.
+loops of measure.speed; of a loop with one stop of the run; and of a task, also in check mode. A figure is the
+difference between a long and a short run, divided by that of their counts. It needs library/c/build, valgrind
+and z64, and with --rom mupen64plus and a compiler for MIPS.
 """
 
 import re
@@ -12,9 +11,8 @@ import tempfile
 from pathlib import Path
 from typing import List, Sequence
 
-from lib.plugin import CORE, FLAGS, HEADERS, HERE, Z64, Bench, start_lines, speed_task
-from lib.processes import compiled
-from measure import LIBRARY, add_program, need, parser_of
+from lib.plugin import CORE, HEADERS, Z64, Bench, speed_task, start_lines
+from measure import add_program, need, parser_of
 from measure.speed import DATA, LOOPS, PROLOGUE, host_instructions, print_heading, print_row
 
 # Signals of check mode need exact registers under valgrind.
@@ -67,9 +65,6 @@ def print_stops(bench: Bench) -> None:
     print_heading("Host instructions of six instructions, one of them", STOPS)
     for title, plugin in (("the plugin", bench.plugin), ("z64", Z64)):
         print_row(title, [per_round(bench, plugin, [f"put imem 0 {words}"]) for words in codes])
-    alone = compiled(bench.folder / "alone", *FLAGS, HERE / "alone.c", LIBRARY)
-    counts = [[host_instructions(([alone, n, *words.split()], b"")) for n in (500, 1500)] for words in codes]
-    print_row("the machine alone", [(long - short) / 1000 for short, long in counts])
 
 
 def print_tasks(bench: Bench) -> None:

@@ -1,4 +1,4 @@
-"""Drives `rsp run` over pipes: sets a state of the machine by microcode, and reads it.
+"""Drives `rsp run` over pipes: sets a state of the machine by microcode, and queries it.
 
 A state is a dict of texts, all in hexadecimal, as in the vectors:
   pc npc          three digits
@@ -8,8 +8,8 @@ A state is a dict of texts, all in hexadecimal, as in the vectors:
   vco vcc vce     four, four, two digits
   in out loaded   the divider: four, four, one digit
   c0 .. c15       eight digits, the SP registers, and `interrupt`, one digit
-  dmem imem rdram {address: bytes}; all other bytes are 0, but for the word of IMEM at pc
-  divided         no state: the number that was divided last, which says how `out` can be made
+  dmem imem rdram {address: bytes}; all other bytes are 0, except the word of IMEM at pc
+  divided         not part of the state: the number that was divided last, from which `out` can be made
 """
 
 import itertools
@@ -20,14 +20,14 @@ from rsp_conformance.states import Texts
 from rsp_conformance.table import Row, uses_memory
 
 Observed = Tuple[Row, int, Texts]  # a case: the instruction, its word, and the state before it
-Looks = Dict[str, Any]  # what was seen of a case: `text` and `step`, and the states `before` and `after`
+Observation = Dict[str, Any]  # of a case: the replies `text` and `step`, and the states `before` and `after`
 
 LONGEST_SCRIPT = 1000000
 # Of SP_STATUS: halted, broke, the interrupt, ..
 ALL_CLEAR = sum(1 << bit for bit in (0, 2, 3, 5, 7, *range(9, 24, 2)))
 
-# RDRAM holds what every case begins with: the setting program, its data, and zeros. A case's own bytes are at
-# WINDOW.
+# RDRAM contains what each case begins with: the setting program, its data, and zeros. A case's own bytes are
+# at WINDOW.
 PROGRAM, DATA, ZEROS, WINDOW = 0x0000, 0x1000, 0x2000, 0x10000
 WINDOW_LENGTH = 512
 
@@ -37,9 +37,9 @@ LOADING = 12  # the address of the word that loads the divider, if it is to be l
 
 
 def setting_program() -> Iterator[str]:
-    """Sets the divider, the accumulators, the flags and all registers from its data.
+    """The text that sets the divider, the accumulators, the flags and all registers from its data.
 
-    It has no branch and no end.
+    It has no branch, and doesn't end by BREAK.
     """
     yield f"lqv $v1[0], {DIVISOR}($0)"
     yield "vrcph $v2[0], $v1[0]    # the number's high half"
@@ -56,20 +56,20 @@ def setting_program() -> Iterator[str]:
 
 
 def accumulator_program(
-    value: str, ones: str, base: str, ones_base: str, place: int, ones_place: int
+    value: str, ones: str, base: str, ones_base: str, offset: int, ones_offset: int
 ) -> Iterator[str]:
-    """Sets the accumulators to three vectors at `place`: the high part plus the top bit of the middle one,
-    the middle one, and the low one. A high part can't be set by one instruction: high * 65536 is added as
-    high * (7fff + 7fff + 2), which `ones` holds beside the 1.
+    """The text that sets the accumulators to three vectors at `offset`: the high part plus the top bit of the
+    middle part, the middle part, and the low part. No single instruction sets a high part, so high * 65536 is
+    added as high * (7fff + 7fff + 2), with the factors and the 1 in `ones`.
     """
-    yield f"lqv {ones}[0], {ones_place}({ones_base})"
-    yield f"lqv {value}[0], {place}({base})"
+    yield f"lqv {ones}[0], {ones_offset}({ones_base})"
+    yield f"lqv {value}[0], {offset}({base})"
     yield f"vmudh $v0, {value}, {ones}[0]"
     yield f"vmadh $v0, {value}, {ones}[0]"
     yield f"vmadh $v0, {value}, {ones}[1]"
-    yield f"lqv {value}[0], {place + 16}({base})"
+    yield f"lqv {value}[0], {offset + 16}({base})"
     yield f"vmadh $v0, {value}, {ones}[2]"
-    yield f"lqv {value}[0], {place + 32}({base})"
+    yield f"lqv {value}[0], {offset + 32}({base})"
     yield f"vmadn $v0, {value}, {ones}[2]"
 
 
@@ -86,9 +86,9 @@ def accumulator_data(accumulators: Iterable[str]) -> Tuple[str, str, str]:
 
 
 def default_state() -> Texts:
-    """The state that the vectors leave out.
+    """The values that the vectors leave out.
 
-    Each register has a value of its own, so that a wrong one is noticed.
+    Each register has another value, so that a wrong register is noticed.
     """
     state: Texts = {"pc": "000", "npc": "004"}
     state.update({f"r{n}": f"{n * 0x01010101:08x}" for n in range(32)})
@@ -121,49 +121,49 @@ class Script:
 
     def __init__(self) -> None:
         self.lines: List[str] = []
-        # What the reply is, None if nothing is wanted of it, and its number of lines.
-        self.looks: List[Tuple[Any, int]] = []
+        # The label of each line's reply, None if nobody reads the reply, and its number of lines.
+        self.replies: List[Tuple[Any, int]] = []
         self.size = 0  # in bytes
 
-    def say(self, line: str, replies: int = 1, wanted: Any = None) -> None:
+    def add(self, line: str, reply_lines: int = 1, label: Any = None) -> None:
         self.lines.append(line)
-        self.looks.append((wanted, replies))
+        self.replies.append((label, reply_lines))
         self.size += len(line) + 1
 
-    def assemble(self, place: int, lines: Iterable[str]) -> None:
-        for line in (f"asm {place}", *lines):
-            self.say(line, 0)
-        self.say("end")
+    def assemble(self, address: int, lines: Iterable[str]) -> None:
+        for line in (f"asm {address}", *lines):
+            self.add(line, 0)
+        self.add("end")
 
     def load(self, bank: str, address: int, text: str) -> None:
-        """Loads bytes, which are text in hexadecimal."""
+        """Loads bytes, given as text in hexadecimal."""
         for at in range(0, len(text), 200):
-            self.say(f"load {bank} {address + at // 2} {text[at:at + 200]}")
+            self.add(f"load {bank} {address + at // 2} {text[at:at + 200]}")
 
     def copy(self, rdram: int, bank: str, to_rdram: bool = False) -> None:
         """Moves 4096 bytes between RDRAM and a memory of the processor."""
-        self.say(f"write 0 {0x1000 if bank == 'imem' else 0}")
-        self.say(f"write 1 {rdram}")
-        self.say(f"write {3 if to_rdram else 2} 4095")
+        self.add(f"write 0 {0x1000 if bank == 'imem' else 0}")
+        self.add(f"write 1 {rdram}")
+        self.add(f"write {3 if to_rdram else 2} 4095")
 
-    def memory(self, bank: str, address: int, length: int, wanted: Any) -> None:
+    def memory(self, bank: str, address: int, length: int, label: Any) -> None:
         for at in range(address, address + length, 256):
             count = min(256, address + length - at)
-            self.say(f"mem {bank} {at} {count}", (count + 15) // 16, wanted)
+            self.add(f"mem {bank} {at} {count}", (count + 15) // 16, label)
 
     def append(self, other: "Script", number: int) -> None:
-        """Appends the script of a case, whose wanted replies are then named by the case's number."""
+        """Appends the script of a case, whose labels then begin with the case's number."""
         self.lines += other.lines
-        self.looks += [(wanted and (number, *wanted), count) for wanted, count in other.looks]
+        self.replies += [(label and (number, *label), count) for label, count in other.replies]
         self.size += other.size
 
 
 class RspError(Exception):
-    """A program that doesn't do what `rsp` does, or a state that it can't be in, as a sentence."""
+    """Why a program doesn't answer as `rsp` does, or can't be brought into a state, as a sentence."""
 
 
 def refusal_of(program: str) -> Optional[str]:
-    """Why a program doesn't serve as `rsp`, or None. It is given a script of one line."""
+    """Why a program can't be used as `rsp`, or None. It is tried with a script of one line."""
     try:
         ended = subprocess.run([program, "run"], input=b"pc 0\n", capture_output=True)
     except FileNotFoundError:
@@ -173,32 +173,32 @@ def refusal_of(program: str) -> Optional[str]:
         return f"{program} can't be started: {fault.strerror}"
     if ended.stdout == b"ok\n":
         return None
-    told = ended.stderr.decode(errors="replace").strip().split("\n")[0]
-    told = told or f"it answers `pc 0` by {ended.stdout[:40]!r}"
-    return f"{program} doesn't run scripts as rsp does: {told}"
+    message = ended.stderr.decode(errors="replace").strip().split("\n")[0]
+    message = message or f"it answers `pc 0` by {ended.stdout[:40]!r}"
+    return f"{program} doesn't run scripts as rsp does: {message}"
 
 
 def run_script(program: str, script: Script) -> Iterator[Tuple[Any, List[str]]]:
-    """Runs a script by one `rsp run` over pipes, and yields the wanted replies: (what it is, its lines)."""
+    """Runs a script by one `rsp run` over pipes, and yields the replies with a label: (label, lines)."""
     text = "".join(line + "\n" for line in script.lines)
     ended = subprocess.run([program, "run"], input=text.encode(), capture_output=True)
     if ended.returncode != 0:
         raise RspError(f"rsp run ended with status {ended.returncode}: {ended.stderr.decode()}")
     replies = ended.stdout.decode().split("\n")[:-1]
     at = 0
-    for line, (wanted, count) in zip(script.lines, script.looks):
-        here = replies[at : at + count]
-        if len(here) < count or any(reply.startswith("fault") for reply in here[:1]):
-            raise RspError(f"`{line}` was answered by {here}")
+    for line, (label, count) in zip(script.lines, script.replies):
+        reply = replies[at : at + count]
+        if len(reply) < count or any(text.startswith("fault") for text in reply[:1]):
+            raise RspError(f"`{line}` was answered by {reply}")
         at += count
-        if wanted is not None:
-            yield wanted, here
+        if label is not None:
+            yield label, reply
     if at != len(replies):
         raise RspError(f"more replies than were expected: {replies[at:]}")
 
 
 def prelude(data: str = DEFAULT_DATA) -> Script:
-    """What each script begins with: the setting program in RDRAM, and its data, that of the default state."""
+    """The beginning of each script, which puts the setting program and its data into RDRAM."""
     script = Script()
     script.assemble(0, setting_program())
     script.copy(PROGRAM, "imem", to_rdram=True)
@@ -210,66 +210,66 @@ def prelude(data: str = DEFAULT_DATA) -> Script:
 SETTING_STEPS = sum(1 for _ in setting_program())
 
 
-def set_state(script: Script, state: Texts, word: int, there: str = DEFAULT_DATA) -> None:
-    """Brings the machine into a state by microcode, with `word` at pc. `there` is the data of the prelude."""
-    script.say(f"write 4 {ALL_CLEAR}")
+def set_state(script: Script, state: Texts, word: int, prelude_data: str = DEFAULT_DATA) -> None:
+    """Brings the machine into a state by microcode, with `word` at pc."""
+    script.add(f"write 4 {ALL_CLEAR}")
     script.copy(PROGRAM, "imem")
     script.copy(DATA, "dmem")
     data = data_of(state)
     for at in range(0, len(data), 8):
-        if data[at : at + 8] != there[at : at + 8]:
+        if data[at : at + 8] != prelude_data[at : at + 8]:
             script.load("dmem", at // 2, data[at : at + 8])
     if state["loaded"] == "1":
         script.assemble(LOADING, ["vrcph $v2[0], $v1[2]"])
-    script.say("pc 0")
-    script.say(f"run {SETTING_STEPS}")
+    script.add("pc 0")
+    script.add(f"run {SETTING_STEPS}")
     script.copy(ZEROS, "imem")
     script.copy(ZEROS, "dmem")
     for bank in ("dmem", "imem", "rdram"):
         for address, text in state.get(bank, {}).items():
             script.load(bank, int(address, 16), text)
-    set_place(script, state)
+    set_pc(script, state)
     script.load("imem", int(state["pc"], 16), f"{word:08x}")
     set_sp(script, state)
 
 
-def set_place(script: Script, state: Texts) -> None:
-    """Sets pc and npc. If npc isn't pc + 4, a jump before pc is stepped over, and its word is cleared."""
+def set_pc(script: Script, state: Texts) -> None:
+    """Sets pc and npc. If npc isn't pc + 4, a jump before pc is executed, and its word is then restored."""
     pc, npc = int(state["pc"], 16), int(state["npc"], 16)
     if npc == (pc + 4) % 4096:
-        script.say(f"pc {pc}")
+        script.add(f"pc {pc}")
         return
     before = (pc - 4) % 4096
-    kept = state.get("imem", {}).get(f"{before:03x}", "00000000")[:8]
+    old_word = state.get("imem", {}).get(f"{before:03x}", "00000000")[:8]
     script.assemble(before, [f"j {npc}"])
-    script.say(f"pc {before}")
-    script.say("step")
-    script.load("imem", before, kept)
+    script.add(f"pc {before}")
+    script.add("step")
+    script.load("imem", before, old_word)
 
 
 def set_sp(script: Script, state: Texts) -> None:
-    """Sets the SP registers that can be set: all but 2 and 3, and what a write can set of the status."""
+    """Sets the SP registers except 2 and 3, and those bits of the status that a write can set."""
     for number in (0, 1, *range(8, 16)):
-        script.say(f"write {number} {int(state[f'c{number}'], 16)}")
+        script.add(f"write {number} {int(state[f'c{number}'], 16)}")
     status = int(state["c4"], 16)
     pairs = int(state["interrupt"]) << 4 | (status >> 5 & 1) << 6 | (status >> 6 & 1) << 8
     for signal in range(8):
         pairs |= (status >> 7 + signal & 1) << 10 + 2 * signal
-    script.say(f"write 4 {pairs}")
-    script.say("read 7" if state["c7"] == "00000001" else "write 7 0")
+    script.add(f"write 4 {pairs}")
+    script.add("read 7" if state["c7"] == "00000001" else "write 7 0")
 
 
-def look(script: Script, banks: Sequence[str], wanted: str) -> None:
-    """Looks at all that a program can see."""
+def query_state(script: Script, banks: Sequence[str], label: str) -> None:
+    """Shows all registers, and these memories."""
     for command, lines in (("regs", 9), ("vregs", 32), ("acc", 8), ("flags", 1), ("sp", 17)):
-        script.say(command, lines, (wanted, command))
+        script.add(command, lines, (label, command))
     for bank in banks:
         start, length = (WINDOW, WINDOW_LENGTH) if bank == "rdram" else (0, 4096)
-        script.memory(bank, start, length, (wanted, bank))
+        script.memory(bank, start, length, (label, bank))
 
 
-def read_look(state: Texts, kind: str, lines: List[str]) -> None:
-    """Puts the reply to a command that shows something into a state.
+def read_reply(state: Texts, kind: str, lines: List[str]) -> None:
+    """Puts the reply to a command of `query_state` into a state.
 
     A memory becomes a list of texts, one for each line.
     """
@@ -308,7 +308,7 @@ def sparse(old: List[str], new: List[str], start: int = 0) -> Dict[str, str]:
 
 
 def differences(old: Texts, new: Texts) -> Texts:
-    """What two states differ in, as a state that names only what `new` has otherwise."""
+    """The values of `new` that differ from those of `old`, as a state."""
     found: Texts = {}
     for key, value in new.items():
         if isinstance(value, list):
@@ -324,47 +324,51 @@ BANKS = ("dmem", "imem", "rdram")
 
 
 def banks_of(row: Row, state: Texts) -> List[str]:
-    """The memories that a case's instruction could change, and those that its state names."""
-    could = BANKS if row.name == "mtc0" else BANKS[:1] if uses_memory(row) else ()
-    return [bank for bank in BANKS if bank in could or bank in state]
+    """The memories that a case's instruction may change, and those that its state names."""
+    changed = BANKS if row.name == "mtc0" else BANKS[:1] if uses_memory(row) else ()
+    return [bank for bank in BANKS if bank in changed or bank in state]
 
 
-def observe(program: str, cases: Iterable[Observed]) -> Iterator[Looks]:
-    """Makes one step of each case."""
+def observe(program: str, cases: Iterable[Observed]) -> Iterator[Observation]:
+    """Makes one step of each case, and yields what is seen of it."""
     for script, count in joined(itertools.starmap(script_of_case, cases), prelude):
-        yield from answers(program, script, count)
+        yield from observations(program, script, count)
 
 
 def joined(scripts: Iterable[Script], begin: Callable[[], Script]) -> Iterator[Tuple[Script, int]]:
-    """Few long scripts of many, each with how many it has after its beginning."""
-    whole, count = begin(), 0
+    """Joins scripts of cases to long ones, each of which begins with `begin()`: pairs of a script and the
+    number of its cases.
+    """
+    joint, count = begin(), 0
     for script in scripts:
-        if whole.size + script.size > LONGEST_SCRIPT:
-            yield whole, count
-            whole, count = begin(), 0
-        whole.append(script, count)
+        if joint.size + script.size > LONGEST_SCRIPT:
+            yield joint, count
+            joint, count = begin(), 0
+        joint.append(script, count)
         count += 1
-    yield whole, count
+    yield joint, count
 
 
 def script_of_case(row: Row, word: int, state: Texts) -> Script:
+    """Sets the state of a case, and queries it before and after the step."""
     script = Script()
     set_state(script, state, word)
-    script.say(f"dis {int(state['pc'], 16)} 1", 1, ("text", "text"))
+    script.add(f"dis {int(state['pc'], 16)} 1", 1, ("text", "text"))
     banks = banks_of(row, state)
-    look(script, banks, "before")
-    script.say("step", 1, ("step", "step"))
-    look(script, banks, "after")
+    query_state(script, banks, "before")
+    script.add("step", 1, ("step", "step"))
+    query_state(script, banks, "after")
     if "rdram" in banks:
         script.load("rdram", WINDOW, "00" * WINDOW_LENGTH)
     return script
 
 
-def answers(program: str, script: Script, count: int) -> Iterator[Looks]:
-    found: List[Looks] = [{"before": {}, "after": {}} for _ in range(count)]
+def observations(program: str, script: Script, count: int) -> Iterator[Observation]:
+    """Runs a script of cases, and yields what is seen of each."""
+    found: List[Observation] = [{"before": {}, "after": {}} for _ in range(count)]
     for (number, when, kind), lines in run_script(program, script) if count else ():
         if when in ("before", "after"):
-            read_look(found[number][when], kind, lines)
+            read_reply(found[number][when], kind, lines)
         else:
             found[number][when] = lines[0]
     yield from found

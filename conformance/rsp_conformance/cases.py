@@ -5,7 +5,7 @@ The same row, seed and number give the same case, on every version of Python.
 
 from typing import Any, Callable, Dict, Iterator, List, Optional, Sequence, Tuple
 
-from rsp_conformance.wanted_lanes import TRIES, aim, near
+from rsp_conformance.wanted_lanes import TRIES, near, set_wanted_lanes
 from rsp_conformance.seeded_random import LANES, Random
 from rsp_conformance.outcomes import lanes_of, possible, result_of, selected, signed
 from rsp_conformance.states import Texts
@@ -34,10 +34,10 @@ WINDOW_LENGTH = 48
 
 
 class Case:
-    """An instruction's fields, its word, and the state before it: what differs from the default."""
+    """An instruction's fields, its word, and the values of the state before it that aren't the default."""
 
-    window = 0  # the address of the memory of a case in a program
-    place = 0  # the address of its word there
+    window = 0  # the address of its memory in a program
+    pc = 0  # the address of its word there
 
     def __init__(self, name: str, row: Row, fields: Fields, before: Texts, word: int) -> None:
         self.name, self.row, self.fields, self.before, self.word = name, row, fields, before, word
@@ -49,7 +49,7 @@ def text_of_lanes(lanes: List[int]) -> str:
 
 
 def relate(random: Random, vs: List[int], vt: List[int], element: int) -> None:
-    """Makes half of the lanes of vs close to a limit of the comparisons with the selected lane."""
+    """Makes half of the lanes of vs close to the limits of a comparison with the selected lane."""
     for lane in range(8):
         b = vt[selected(element, lane)]
         if random.one_in(2):
@@ -62,7 +62,7 @@ def flags(random: Random) -> Texts:
 
 
 def vector_state(random: Random) -> Texts:
-    """Accumulators and flags of their own, which no instruction that keeps them may lose."""
+    """Accumulators and flags other than the default, which most instructions have to preserve."""
     state = {f"a{lane}": f"{random.accumulator():012x}" for lane in range(8)}
     return {**state, **flags(random)}
 
@@ -79,14 +79,14 @@ def divisor(random: Random) -> int:
 
 
 def divider(random: Random, number: int) -> Texts:
-    """The divider: what was divided last (its `in` and `out`), and whether another number is loaded."""
+    """The divider: the number that was divided last, and whether another number is loaded."""
     divided = f"{divisor(random):08x}"
     loaded = f"{divisor(random) >> 16:04x}" if number % 2 else divided[:4]
     return {"divided": divided, "loaded": str(number % 2), "in": loaded}
 
 
-# How many cases of an instruction, by its name or form, come before those of its pairs: of a base $0, of
-# equal registers, of the lane that is read and written, and of the divider's state, each with each element.
+# How many cases of an instruction, by its name or form, come before those of its pairs: of each element with
+# a base $0, with equal registers, with the lane that is read and written, or with the divider's state.
 UNPAIRED = {"vector": 32, "lane": 40, "ltv": 32, "stv": 32, "vector load": 20, "vector store": 20}
 
 
@@ -95,31 +95,30 @@ def unpaired(row: Row) -> int:
 
 
 def paired_elements(row: Row) -> Sequence[int]:
-    """The elements of the cases that are about pairs."""
+    """The elements of the cases that test pairs."""
     return elements_of(row) if row.form in UNPAIRED else ()
 
 
 def paired_element(row: Row, number: int) -> Optional[int]:
-    """The element of a case that is about a pair; None of any other."""
-    at, elements = unpaired(row), paired_elements(row)
-    place = number % (at + len(elements)) - at
-    return elements[place] if place >= 0 else None
+    """The element of a case that tests a pair; None for any other case."""
+    first, elements = unpaired(row), paired_elements(row)
+    index = number % (first + len(elements)) - first
+    return elements[index] if index >= 0 else None
 
 
 def element_of(row: Row, number: int) -> int:
-    """The element of a case: every other case takes each lane for itself, the others have all the rest in
-    turn.
+    """The element of a case: in every other case each lane takes itself, and the others take turns.
 
-    VSAR has three that read a part.
+    VSAR has three elements that read a part.
     """
     if row.name == "vsar":
         return 8 + number // 2 % 3 if number % 2 == 0 else number // 2 % 16
     return number // 2 % 2 if number % 2 == 0 else 2 + number // 2 % 14
 
 
-# Cases that are given and not drawn, by instruction and number: a and b of each lane, and the flags before.
+# Cases that are fixed and not random, by instruction and number: a and b of each lane, and the flags before.
 # A new case's number is the number of lines of vectors/steps/NAME.jsonl, plus 1 if that is odd: in a case
-# with an even number each lane is taken for itself, and vs isn't vt. The odd ones between them are drawn.
+# with an even number each lane takes itself, and vs isn't vt. The odd ones between them are random.
 GIVEN = {
     ("vch", 48): (0x7FFF, 0x8000, {"vco": "ffff", "vcc": "ffff", "vce": "ff"}),
 }
@@ -135,7 +134,7 @@ def make_equal(row: Row, random: Random, element: int) -> Made:
 
 
 def make_changing(row: Row, random: Random, element: int) -> Made:
-    """A case with vt = vd of a computing instruction: each lane of vt that another lane takes changes."""
+    """A case with vt = vd, in which each lane of vt that another lane takes changes."""
     vs, vt = random.some(2, 32)
     fields = {"e": element, "vs": vs, "vt": vt, "vd": vt}
     for _ in range(TRIES):
@@ -162,15 +161,15 @@ def make_vector(row: Row, random: Random, number: int, window: int) -> Made:
     vs, vt = random.lanes(), random.lanes()
     before = vector_state(random)
     if number % 2 == 0 and row.name != "vsar" and possible(row.name):
-        aim(row.name, random, number // 2, fields, vs, vt, before, LANES, EXTREMES)
+        set_wanted_lanes(row.name, random, number // 2, fields, vs, vt, before, LANES, EXTREMES)
     else:
         if not row.name.startswith("vm") and not random.one_in(3):
             relate(random, vs, vt, fields["e"])
         lane = random.below(8)
         vs[lane], vt[selected(fields["e"], lane)] = EXTREMES[number // 2 % len(EXTREMES)]
-    if given := GIVEN.get((row.name, number)):
-        vs, vt = [given[0]] * 8, [given[1]] * 8
-        before.update(given[2])
+    if fixed := GIVEN.get((row.name, number)):
+        vs, vt = [fixed[0]] * 8, [fixed[1]] * 8
+        before.update(fixed[2])
     if random.one_in(4):
         before.update(divider(random, number))
     before[f"v{fields['vs']}"] = text_of_lanes(vs)
@@ -179,9 +178,9 @@ def make_vector(row: Row, random: Random, number: int, window: int) -> Made:
 
 
 def dividend(random: Random, number: int, is_long: bool) -> int:
-    """A number to divide: by eights of cases one of each branch of the divider's rule, then any.
+    """A number to divide: for every eight cases one of the next branch of the divider's rule, then any.
 
-    Its leading zeros are even and odd in turn.
+    The number of its leading zeros is even and odd in turn.
     """
     branch = number // 8 % (len(DIVIDENDS) + 1)
     for _ in range(TRIES):
@@ -193,12 +192,12 @@ def dividend(random: Random, number: int, is_long: bool) -> int:
     return int(x)
 
 
-# The numbers of the cases that meet each entry of a divide table, beside the others: the first is of entry 0.
+# The numbers of the cases of `--entries`, which read each entry of a divide table. The first reads entry 0.
 ENTRIES = range(1 << 20, (1 << 20) + 512)
 
 
 def dividend_of(row: Row, entry: int) -> int:
-    """A number whose nine bits below the leading one, and leading zeros, select an entry of the table."""
+    """A number whose leading zeros and nine bits below the leading one select an entry of the table."""
     return 2 * (512 + entry - 1) if row.name == "vrsq" and entry % 2 else 512 + entry
 
 
@@ -207,7 +206,7 @@ def make_lane(row: Row, random: Random, number: int, window: int) -> Made:
     fields["vt"], fields["vd"] = random.some(2, 32)
     loaded = 1 if number // 8 % 6 == 4 else number + number // 8 + 1
     element = paired_element(row, number)
-    if element is not None:  # that lane of one register; else an odd element goes with nothing loaded
+    if element is not None:  # of one register; and an odd element also with a loaded half
         fields, loaded = {**fields, "e": element, "de": element % 8}, element
     if random.one_in(5) or element is not None:
         fields["vd"] = fields["vt"]
@@ -262,8 +261,8 @@ def make_immediate(row: Row, random: Random, number: int, window: int) -> Made:
     return fields, {f"r{fields['s']}": f"{s:08x}"}
 
 
-def places(random: Random) -> Texts:
-    """pc and npc: any, and now and then a delay slot, whose npc isn't pc + 4."""
+def program_counters(random: Random) -> Texts:
+    """Any pc and npc, and sometimes those of a delay slot, whose npc isn't pc + 4."""
     pc = random.pick(PLACES) if random.one_in(3) else 4 * random.below(1024)
     npc = 4 * random.below(1024) if random.one_in(4) else (pc + 4) % 4096
     return {"pc": f"{pc:03x}", "npc": f"{npc:03x}"}
@@ -276,7 +275,7 @@ def make_branch(row: Row, random: Random, number: int, window: int) -> Made:
         t = s
     if row.name.endswith("al") and number % 4 == 2:  # register 31 is tested before the link is written
         fields["s"], s = 31, random.below(1 << 31) | (number // 4 % 2) << 31
-    before = places(random)
+    before = program_counters(random)
     if row.form == "branch two":
         before[f"r{fields['t']}"] = f"{t:08x}"
     before[f"r{fields['s']}"] = f"{s:08x}"
@@ -287,7 +286,7 @@ def make_jump_register(row: Row, random: Random, number: int, window: int) -> Ma
     fields = {"s": random.below(32), "d": random.pick((31, 31, 0, random.below(32)))}
     if random.one_in(4):
         fields["d"] = fields["s"]
-    return fields, {**places(random), f"r{fields['s']}": word(random)}
+    return fields, {**program_counters(random), f"r{fields['s']}": word(random)}
 
 
 def status(random: Random) -> Texts:
@@ -313,7 +312,7 @@ def make_to_sp(row: Row, random: Random, number: int, window: int) -> Made:
 
 
 def transfer(random: Random, before: Texts) -> int:
-    """A DMA of few bytes, within the part of RDRAM that is compared, on rows that lie apart."""
+    """A DMA of few bytes, in separate rows, within the part of RDRAM that is compared."""
     value = random.below(9) << 23 | random.below(4) << 12 | random.below(25)
     inside = random.pick((0, 0x1000)) | random.pick((0xFF0, 0xFF8, 8 * random.below(512)))
     before["c0"], before["c1"] = f"{inside:08x}", f"{0x10000 + 8 * random.below(16):08x}"
@@ -324,21 +323,18 @@ def transfer(random: Random, before: Texts) -> int:
 
 
 def memory_at(address: int, text: str) -> Dict[str, str]:
-    """Bytes at an address of a memory that wraps, as a state names them."""
+    """Bytes at an address of a memory that wraps, in the form of a state."""
     first = 2 * (4096 - address)
     return {f"{address:03x}": text[:first], **({"000": text[first:]} if text[first:] else {})}
 
 
 def address_in(random: Random, number: int, window: int) -> int:
-    """An address in the middle of a window of 48 bytes, each byte of a quadword in its turn.
-
-    The last one comes where DMEM ends first (number 3).
-    """
+    """An address in the middle of a window: each byte of a quadword in turn, the last one in case 3."""
     return (window + 16 + (number * 7 + number // 16 + 10) % 16) % 4096
 
 
 def base_of(random: Random, address: int, offset: int) -> str:
-    """A base register for an address: the bits above DMEM's twelve don't count."""
+    """The value of a base register for an address, with any bits above the twelve of DMEM."""
     high = random.pick((0, 0, random.below(1 << 20)))
     return f"{(address + (high << 12) - offset) % 2**32:08x}"
 
@@ -373,53 +369,62 @@ def make_vector_memory(row: Row, random: Random, number: int, window: int) -> Ma
     return fields, before
 
 
-# What makes the fields of a case and the state before it, by the instruction's form.
+# The functions that make the fields of a case and the state before it, by the instruction's form.
 MAKERS: Dict[str, Callable[[Row, Random, int, int], Made]] = {
     "shift": make_shift,
     "three": make_three,
     "immediate": make_immediate,
-    "upper": lambda row, it, number, window: ({"t": it.below(32), "imm": it.mixed(HALVES, 16)}, {}),
+    "upper": lambda row, random, number, window: (
+        {"t": random.below(32), "imm": random.mixed(HALVES, 16)},
+        {},
+    ),
     **dict.fromkeys(("load", "store"), make_scalar_memory),
     **dict.fromkeys(("branch one", "branch two"), make_branch),
-    "jump": lambda row, it, number, window: ({"target": it.pick((0, 1, 0x3FF, it.below(1024)))}, places(it)),
+    "jump": lambda row, random, number, window: (
+        {"target": random.pick((0, 1, 0x3FF, random.below(1024)))},
+        program_counters(random),
+    ),
     **dict.fromkeys(("jump register", "link register"), make_jump_register),
-    "break": lambda row, it, number, window: ({}, {**places(it), **status(it)}),
-    "from sp": lambda row, it, number, window: ({"c": number % 16, "t": it.below(32)}, sp_state(it)),
+    "break": lambda row, random, number, window: ({}, {**program_counters(random), **status(random)}),
+    "from sp": lambda row, random, number, window: (
+        {"c": number % 16, "t": random.below(32)},
+        sp_state(random),
+    ),
     "to sp": make_to_sp,
     **dict.fromkeys(("from vector", "to vector"), make_move),
     **dict.fromkeys(("from control", "to control"), make_control),
     "vector": make_vector,
     "lane": make_lane,
-    "nothing": lambda row, it, number, window: ({}, {**vector_state(it), **divider(it, number)}),
+    "nothing": lambda row, random, number, window: ({}, {**vector_state(random), **divider(random, number)}),
     **dict.fromkeys(("vector load", "vector store"), make_vector_memory),
 }
 
 
-# The elements of the cases in which a lane takes another lane of vt, which the instruction changes.
+# The elements of the cases in which a lane takes another lane of vt that the instruction changes.
 CHANGING = range(2, 16)
 
 
 def changing_numbers(row: Row) -> range:
-    """The numbers of these cases, after those of the pairs. VEQ keeps each lane that takes itself."""
-    given = (number + 1 for name, number in GIVEN if name == row.name)
-    first = max((unpaired(row) + len(paired_elements(row)), *given))
+    """The numbers of these cases, after those of the pairs. VEQ changes no lane that takes itself."""
+    fixed = (number + 1 for name, number in GIVEN if name == row.name)
+    first = max((unpaired(row) + len(paired_elements(row)), *fixed))
     return range(first, first + len(CHANGING) * (reads_other_lanes(row) and row.name != "veq"))
 
 
 def small_count(row: Row) -> int:
-    """How many cases of an instruction the small set has."""
+    """The number of cases of an instruction in the small set."""
     return changing_numbers(row).stop
 
 
 def reached_windows(row: Row) -> List[int]:
-    """The windows whose middle a vector load or store reaches from base $0: those nearest to 0 first."""
+    """The windows whose middle a vector load or store reaches from base $0, those nearest to 0 first."""
     reach = 64 * SCALE[row.name[1]]
     ends = zip(range(32, reach - 31, WINDOW_LENGTH), range(4016, 4079 - reach, -WINDOW_LENGTH))
     return [WRAPPING, *(window for pair in ends for window in pair)]
 
 
 def window_of(row: Row, seed: str, number: int) -> int:
-    """The address of the memory of a case, if nothing else chooses it."""
+    """The address of the memory of a case outside programs."""
     random = Random(seed, row.name, number, "window")
     if uses_memory(row) and paired_element(row, number) is not None:
         return int(random.pick(reached_windows(row)))
@@ -427,8 +432,7 @@ def window_of(row: Row, seed: str, number: int) -> int:
 
 
 def choices(row: Row, fields: Dict[str, Any], pc: Any, npc: Any, address: Any) -> Iterator[Tuple[str, Any]]:
-    """What of a case these documents chose themselves, since nothing that is published settles it, and
-    whether it holds.
+    """The rules of an instruction that we chose ourselves, each with whether a case depends on it.
 
     All numbers may be arrays.
     """
@@ -450,7 +454,7 @@ def choices(row: Row, fields: Dict[str, Any], pc: Any, npc: Any, address: Any) -
 
 
 def choice_of(row: Row, case: Case) -> Optional[str]:
-    """The first that holds of a case, or None."""
+    """The first choice that a case depends on, or None."""
     pc, address = int(case.before.get("pc", "000"), 16), 0
     npc = int(case.before["npc"], 16) if "npc" in case.before else (pc + 4) % 4096
     if row.name in ("ltv", "stv"):
@@ -460,7 +464,7 @@ def choice_of(row: Row, case: Case) -> Optional[str]:
 
 
 def make_case(row: Row, seed: str, number: int, window: Optional[int] = None) -> Case:
-    """The case of an instruction with this seed and number. If a window is named, its memory is there."""
+    """The case of an instruction with this seed and number. Its memory is at the window, if one is passed."""
     random = Random(seed, row.name, number)
     if window is None:
         window = window_of(row, seed, number)
@@ -468,8 +472,8 @@ def make_case(row: Row, seed: str, number: int, window: Optional[int] = None) ->
     if (to := destination(row)) and number % 5 == 1:
         fields[to] = 0
     before.pop("r0", None)  # it is always 0
-    made = word_of(row, {name: fields[name] for name in FORMS[row.form]})
+    word = word_of(row, {name: fields[name] for name in FORMS[row.form]})
     if number % 10 == 9:
-        made |= random.below(1 << 32) & ignored_bits(row)
+        word |= random.below(1 << 32) & ignored_bits(row)
     text = f"entry-{ENTRIES.index(number):03d}" if number in ENTRIES else f"{number:03d}"
-    return Case(f"{row.name.upper()}-{text}", row, fields, before, made)
+    return Case(f"{row.name.upper()}-{text}", row, fields, before, word)

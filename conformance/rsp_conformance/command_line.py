@@ -1,4 +1,4 @@
-"""What the commands share: how words are read, and how checks are counted and printed."""
+"""What the commands share: their parser, the counting of checks, and output that is safe for a terminal."""
 
 import argparse
 import os
@@ -7,35 +7,35 @@ from typing import Iterable, List, Optional
 
 from rsp_conformance import TOP
 
-Complaints = List[str]  # of a check: it has passed if there are none
+Complaints = List[str]  # of a check, which has passed if there are none
 PROGRAM = str(TOP / "rsp")
-MOST_SAID = 64  # complaints of a check
+MOST_NAMED = 64  # differences of a case or a program that are named
 
 
-def reader(name: str, doc: Optional[str]) -> argparse.ArgumentParser:
-    """A reader of a command's words, whose --help shows the module's text."""
+def parser_of(command: str, doc: Optional[str]) -> argparse.ArgumentParser:
+    """A parser of a command's arguments, whose --help shows the module's docstring."""
     raw = argparse.RawDescriptionHelpFormatter
-    return argparse.ArgumentParser(f"conformance/{name}", description=doc, formatter_class=raw)
+    return argparse.ArgumentParser(f"conformance/{command}", description=doc, formatter_class=raw)
 
 
-def unless(is_right: object, complaint: str) -> Complaints:
-    """A check with one complaint, if it isn't right."""
+def complaint_unless(is_right: object, complaint: str) -> Complaints:
+    """A check with one complaint if it isn't right."""
     return [] if is_right else [complaint]
 
 
-def brief(what: str, found: Complaints) -> Complaints:
-    """The first complaints of a case or program, and how many more there are: each byte may differ."""
-    more = len(found) - MOST_SAID
-    return [*found[:MOST_SAID], f"{what}: {more} more differences"] if more > 0 else found
+def first_complaints(name: str, complaints: Complaints) -> Complaints:
+    """The first complaints of a case or a program, and the number of the others."""
+    more = len(complaints) - MOST_NAMED
+    return [*complaints[:MOST_NAMED], f"{name}: {more} more differences"] if more > 0 else complaints
 
 
 def printable(text: str) -> str:
-    """A text of somebody else on one line, each character that controls a terminal as its escape: \\x1b."""
-    return "".join(it if it.isprintable() else it.encode("unicode_escape").decode() for it in text)
+    """A text on one line, with each character that controls a terminal as its escape, such as \\x1b."""
+    return "".join(c if c.isprintable() else c.encode("unicode_escape").decode() for c in text)
 
 
-def say(text: str) -> None:
-    """Writes to standard output at once. If it takes nothing more, the command ends with a sentence."""
+def write_output(text: str) -> None:
+    """Writes to standard output at once. If that fails, the command ends with a sentence."""
     try:
         print(text, end="", flush=True)
     except OSError as fault:
@@ -43,14 +43,14 @@ def say(text: str) -> None:
         sys.exit(f"standard output can't be written: {fault.strerror}")
 
 
-def counted(checks: Iterable[Complaints], start: str = "") -> int:
-    """Prints the complaints of checks, and how many passed.
+def print_checks(checks: Iterable[Complaints], prefix: str = "") -> int:
+    """Prints the complaints of checks, and how many checks passed.
 
-    Returns the status: 0 if none failed and one passed.
+    Returns the exit status: 0 if at least one passed and none failed.
     """
     passed = failed = 0
-    for found in checks:
-        say("".join(f"{start}{printable(complaint)}\n" for complaint in found))
-        passed, failed = passed + (not found), failed + bool(found)
-    say(f"{passed} passed, {failed} failed\n")
+    for complaints in checks:
+        write_output("".join(f"{prefix}{printable(complaint)}\n" for complaint in complaints))
+        passed, failed = passed + (not complaints), failed + bool(complaints)
+    write_output(f"{passed} passed, {failed} failed\n")
     return int(failed > 0 or not passed)

@@ -1,4 +1,4 @@
-"""False copies of true cases, which a runner has to notice."""
+"""False copies of true cases, in which a runner has to find a difference."""
 
 from typing import Iterator
 
@@ -12,12 +12,12 @@ def changed_digit(text: str, random: Random) -> str:
 
 
 def spoilt_entries(entry: Entry, random: Random) -> Iterator[Entry]:
-    """Three false copies of a case: after its step a digit is changed, a byte dropped, a part dropped."""
+    """Three false copies of a case, whose state after has a changed digit, lacks a byte, or lacks a part."""
     after = entry["after"]
     key = random.pick(sorted(key for key in after if key not in ("loaded", "interrupt")))
     parts = after[key] if isinstance(after[key], dict) else after
     name = random.pick(sorted(parts)) if parts is not after else key
     text = parts[name]
-    without = {it: value for it, value in parts.items() if it != name}
+    without = {other: value for other, value in parts.items() if other != name}
     for false in ({**parts, name: changed_digit(text, random)}, {**parts, name: text[2:]}, without):
         yield {**entry, "after": false if parts is after else {**after, key: false}}

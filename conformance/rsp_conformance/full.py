@@ -1,5 +1,5 @@
-"""`full`: the cases of `steps` with whole states of numbers, a JSON array for each instruction, as the
-runners of other processors' tests read them. They aren't stored, because they are five times as long.
+"""`full`: the cases of `steps` with whole states of numbers, a JSON array for each instruction, in the form
+of single-step tests of other processors. The files aren't stored, because they are five times as long.
 """
 
 import json
@@ -14,7 +14,7 @@ Memories = Dict[str, List[List[int]]]
 
 
 def bytes_of(pieces: Dict[str, str]) -> Dict[int, int]:
-    """The bytes of pieces {address: bytes}, by their addresses."""
+    """The bytes of {address: bytes}, each by its own address."""
     return {
         int(at, 16) + i: byte for at, text in pieces.items() for i, byte in enumerate(bytes.fromhex(text))
     }
@@ -23,7 +23,7 @@ def bytes_of(pieces: Dict[str, str]) -> Dict[int, int]:
 def memories(entry: Entry) -> Tuple[Memories, Memories]:
     """The bytes of `ram` and of RDRAM before and after a case.
 
-    Each address that one names the other names too; all else is 0.
+    Both list the same addresses, and all other bytes are 0.
     """
     before, after = entry["before"], entry["after"]
     code = {before.get("pc", "000"): entry["word"]}
@@ -39,7 +39,7 @@ def memories(entry: Entry) -> Tuple[Memories, Memories]:
 
 
 def case_of(entry: Entry) -> Dict[str, Any]:
-    """A case of `steps` as one of `full`."""
+    """A case of `steps` in the form of `full`."""
     before = {**bench.DEFAULT, **entry["before"]}
     old, new = memories(entry)
     case = {"name": entry["name"], "word": int(entry["word"], 16), "text": entry["text"]}

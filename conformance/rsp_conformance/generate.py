@@ -25,16 +25,16 @@ from typing import Callable, Dict, Iterator, List, Optional, Sequence, Tuple
 
 from rsp_conformance import bench, flat, full, hexadecimal, run_programs, steps
 from rsp_conformance.cases import ENTRIES, small_count
-from rsp_conformance.command_line import PROGRAM, printable, reader, say
-from rsp_conformance.safe_files import FileFault, make_folder, write
+from rsp_conformance.command_line import PROGRAM, parser_of, printable, write_output
+from rsp_conformance.safe_files import FileFault, make_folder, write_file
 from rsp_conformance.table import ROWS, Row
 from rsp_conformance.vectors import VectorsFault, entries_in, names_in
 
 SEED = "1"
 DIVIDES = ("vrcp", "vrsq")  # the instructions whose cases meet all entries of a table
 
-# Forms that are made of `steps`: the suffix of a file, and what it holds.
-MORE: Dict[str, Tuple[str, Callable[[List[steps.Entry]], bytes]]] = {
+# The forms that are made of `steps`: the suffix of a file, and its content.
+FORMS: Dict[str, Tuple[str, Callable[[List[steps.Entry]], bytes]]] = {
     "full": ("json", lambda entries: full.full_text(entries).encode()),
     "flat": ("bin", flat.flat_bytes),
     "hex": ("hex", hexadecimal.hex_bytes),
@@ -44,19 +44,19 @@ MORE: Dict[str, Tuple[str, Callable[[List[steps.Entry]], bytes]]] = {
 def write_forms(name: str, entries: List[steps.Entry], of: Path, out: Path, more: Sequence[str]) -> None:
     """Writes more forms of an instruction's vectors, whose programs are in the folder `of`."""
     for form in more:
-        suffix, made = MORE[form]
-        write(out / form / f"{name}.{suffix}", made(entries))
+        suffix, content = FORMS[form]
+        write_file(out / form / f"{name}.{suffix}", content(entries))
     if "hex" in more:
         hexadecimal.write_programs(of / "programs", name, out / "hex")
-        hexadecimal.write_places(out / "hex")
+        hexadecimal.write_offsets(out / "hex")
 
 
 def write_row(program: str, row: Row, seed: str, numbers: range, out: Path, more: Sequence[str]) -> None:
     """Writes the files of an instruction."""
     text, name = steps.row_text(program, row, seed, numbers), row.name.upper()
-    write(out / "steps" / f"{name}.jsonl", text)
+    write_file(out / "steps" / f"{name}.jsonl", text)
     for file, content in run_programs.row_files(program, row, seed, numbers).items():
-        write(out / "programs" / file, content)
+        write_file(out / "programs" / file, content)
     write_forms(name, steps.read_row(text), out, out, more)
 
 
@@ -70,17 +70,19 @@ def generate(
     for name in ("steps", "programs", *more):
         make_folder(out / name)
     with ThreadPoolExecutor() as workers:
-        todo = [(program, row, seed, numbers or range(small_count(row)), out, more) for row in rows]
-        made = [(it[1], workers.submit(write_row, *it)) for it in todo]
-        for row, task in made:
+        tasks = {
+            row: workers.submit(write_row, program, row, seed, numbers or range(small_count(row)), out, more)
+            for row in rows
+        }
+        for row, task in tasks.items():
             try:
                 task.result()
-            except bench.RspError as error:
-                yield f"{row.name.upper()}: {error}"
+            except bench.RspError as fault:
+                yield f"{row.name.upper()}: {fault}"
 
 
-def formed(of: Path, names: Sequence[str], out: Path, more: Sequence[str]) -> int:
-    """Writes forms of the cases of `steps` in a folder. Returns the number of instructions."""
+def write_all_forms(of: Path, names: Sequence[str], out: Path, more: Sequence[str]) -> int:
+    """Writes forms of the vectors in a folder, and returns the number of instructions."""
     found = names_in(of, names)
     for form in more:
         make_folder(out / form)
@@ -90,14 +92,14 @@ def formed(of: Path, names: Sequence[str], out: Path, more: Sequence[str]) -> in
 
 
 def refusal_of(args: argparse.Namespace) -> Optional[str]:
-    """Why these words give nothing, as a sentence."""
+    """Why these arguments are refused, as a sentence; None if they aren't."""
     if args.of and (args.cases is not None or args.entries or not args.more):
         return "--of is for --full, --flat or --hex, without --cases and --entries"
     if unknown := [name for name in args.names if name.lower() not in ROWS]:
         return f"the instruction table has no {unknown[0]}"
     if args.cases is not None and args.cases < 1:
         return "--cases is 1 or more"
-    if args.entries and (args.cases is not None or {it.lower() for it in args.names} - {*DIVIDES}):
+    if args.entries and (args.cases is not None or {name.lower() for name in args.names} - {*DIVIDES}):
         return "--entries is for VRCP and VRSQ, without --cases"
     if args.out.lower() in ROWS:
         how = f"write ./{args.out} for a folder of that name"
@@ -106,35 +108,36 @@ def refusal_of(args: argparse.Namespace) -> Optional[str]:
 
 
 def main() -> None:
-    words = reader("generate", __doc__)
-    words.add_argument("--full", action="append_const", const="full", dest="more", default=[])
-    words.add_argument("--flat", action="append_const", const="flat", dest="more")
-    words.add_argument("--hex", action="append_const", const="hex", dest="more")
-    words.add_argument("--cases", type=int)
-    words.add_argument("--entries", action="store_true")
-    words.add_argument("--seed", default=SEED)
-    words.add_argument("--program", default=PROGRAM)
-    words.add_argument("--of", type=Path, metavar="FOLDER")
-    words.add_argument("out", metavar="OUT")
-    words.add_argument("names", nargs="*", metavar="NAME")
-    args = words.parse_args()
+    parser = parser_of("generate", __doc__)
+    parser.add_argument("--full", action="append_const", const="full", dest="more", default=[])
+    parser.add_argument("--flat", action="append_const", const="flat", dest="more")
+    parser.add_argument("--hex", action="append_const", const="hex", dest="more")
+    parser.add_argument("--cases", type=int)
+    parser.add_argument("--entries", action="store_true")
+    parser.add_argument("--seed", default=SEED)
+    parser.add_argument("--program", default=PROGRAM)
+    parser.add_argument("--of", type=Path, metavar="FOLDER")
+    parser.add_argument("out", metavar="OUT")
+    parser.add_argument("names", nargs="*", metavar="NAME")
+    args = parser.parse_args()
     if refusal := refusal_of(args):
         sys.exit(printable(f"generate: {refusal}"))
     rows = [ROWS[name.lower()] for name in args.names or (DIVIDES if args.entries else ROWS)]
     numbers = ENTRIES if args.entries else args.cases and range(args.cases)
     try:
         if args.of:
-            say(f"{formed(args.of, args.names, Path(args.out), args.more)} instructions\n")
+            count = write_all_forms(args.of, args.names, Path(args.out), args.more)
+            write_output(f"{count} instructions\n")
             return
-        errors = list(generate(args.program, rows, args.seed, numbers, Path(args.out), args.more))
+        faults = list(generate(args.program, rows, args.seed, numbers, Path(args.out), args.more))
     except OSError as fault:
         sys.exit(printable(f"generate: {fault.filename or args.out} can't be written: {fault.strerror}"))
     except (FileFault, VectorsFault) as fault:
         sys.exit(printable(f"generate: {fault}"))
-    say("".join(f"{printable(it)}\n" for it in errors))
-    count = len(numbers) if numbers else "20 to 63"
-    say(f"{len(rows) - len(errors)} of {len(rows)} instructions, {count} cases each\n")
-    sys.exit(1 if errors else 0)
+    write_output("".join(f"{printable(fault)}\n" for fault in faults))
+    cases = len(numbers) if numbers else "20 to 63"
+    write_output(f"{len(rows) - len(faults)} of {len(rows)} instructions, {cases} cases each\n")
+    sys.exit(1 if faults else 0)
 
 
 if __name__ == "__main__":

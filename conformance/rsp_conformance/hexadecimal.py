@@ -1,14 +1,14 @@
-"""`hex`: cases and memories as lines of hexadecimal digits, and the places of a state's fields, for HDLs."""
+"""`hex`: cases and memories as lines of hexadecimal digits, and the offsets of a state's fields, for HDLs."""
 
 from pathlib import Path
 from typing import Iterator, List, Tuple
 
-from rsp_conformance.safe_files import read, write
+from rsp_conformance.safe_files import read_file, write_file
 from rsp_conformance.flat import BANKS, FIELDS, STATE, states_of
 from rsp_conformance.steps import Entry
 
 STATE_BITS = 8 * STATE.size
-# The parts of a line from its last digit on, and the bits of each.
+# The parts of a line from its last digit on, each with its number of bits.
 PARTS = {"after": STATE_BITS, "before": STATE_BITS, "choice": 4, "word": 32, "name": 128}
 HEAD = (
     "Made by conformance/generate --hex: where the parts of a line begin, and the fields of a state, by bits."
@@ -25,18 +25,18 @@ def line_of(entry: Entry) -> str:
 
 def hex_bytes(entries: List[Entry]) -> bytes:
     """The file of an instruction, without the cases that need or change memories."""
-    whole = [it for it in entries if not {*BANKS} & {*it["before"], *it["after"]}]
-    return "".join(map(line_of, whole)).encode()
+    shown = [entry for entry in entries if not {*BANKS} & {*entry["before"], *entry["after"]}]
+    return "".join(map(line_of, shown)).encode()
 
 
 def write_programs(folder: Path, name: str, out: Path) -> None:
     """Writes the memories of an instruction's programs, a word a line."""
     for path in folder.glob(f"{name}-*.*"):
-        write(out / f"{path.name}.hex", read(path).hex("\n", 4) + "\n")
+        write_file(out / f"{path.name}.hex", read_file(path).hex("\n", 4) + "\n")
 
 
-def places() -> Iterator[Tuple[str, int]]:
-    """Constants: where each part and each field begins, and how many numbers of how many bits it has."""
+def offsets() -> Iterator[Tuple[str, int]]:
+    """Constants of each part and each field: its offset, the bits of a number, and the count of numbers."""
     yield from (("BRSP_STATE_BITS", STATE_BITS), ("BRSP_LINE_BITS", sum(PARTS.values())))
     for sizes in ({part: (1, bits) for part, bits in PARTS.items()}, FIELDS):
         at = 0
@@ -46,9 +46,9 @@ def places() -> Iterator[Tuple[str, int]]:
             at += count * bits
 
 
-def write_places(out: Path) -> None:
+def write_offsets(out: Path) -> None:
     """Writes brsp_state.svh and brsp_state.vhd."""
     for suffix, (comment, form) in FORMS.items():
-        lines = [form.format(*it) for it in places()]
+        lines = [form.format(*constant) for constant in offsets()]
         lines = ["package brsp_state is", *lines, "end package;"] if suffix == "vhd" else lines
-        write(out / f"brsp_state.{suffix}", "\n".join([f"{comment} {HEAD}", *lines, ""]))
+        write_file(out / f"brsp_state.{suffix}", "\n".join([f"{comment} {HEAD}", *lines, ""]))

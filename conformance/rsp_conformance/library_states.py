@@ -1,10 +1,10 @@
-"""States of the library, from the numbers of `full` and back."""
+"""Converts states between the numbers of `full` and the library's structure."""
 
 import rsp
 
 from rsp_conformance.states import Numbers
 
-# The name in `full`, the field of a state that has it, and its field there if it is a structure.
+# The names in `full` of the fields of a state's divider, and of its flags, low byte first.
 DIVIDER = {"div_in": "input", "div_out": "output", "div_loaded": "loaded"}
 FLAGS = {"vco": ("carry", "differ"), "vcc": ("compare", "clip")}
 PARTS = {"high": 32, "middle": 16, "low": 0}
@@ -27,7 +27,7 @@ def state_of(numbers: Numbers) -> rsp.State:
 
 
 def numbers_of(state: rsp.State) -> Numbers:
-    """And back."""
+    """The numbers of the library's state."""
     accumulators, flags = state.accumulators, state.flags
     triples = zip(accumulators.high, accumulators.middle, accumulators.low)
     return {

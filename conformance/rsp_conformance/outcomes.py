@@ -1,7 +1,7 @@
-"""What can happen in a lane of a computing instruction, decided from the numbers that the lane reads.
+"""The outcomes of a lane of a computing instruction, decided from the numbers that the lane reads.
 
-KINDS has the outcomes of each instruction, and IMPOSSIBLE those that its rule can't give. coverage.py counts
-them in the vectors, and aims.py makes lanes that have them.
+KINDS lists the outcomes of each instruction, and IMPOSSIBLE those that its rule can't give. coverage.py
+counts them in the vectors, and wanted_lanes.py makes lanes that have them.
 """
 
 from collections import namedtuple
@@ -11,11 +11,11 @@ from typing import Any, Callable, Dict, Iterable, Iterator, List, Tuple
 from rsp_conformance.states import Texts
 
 Number = Callable[[Any], Any]  # of a lane, or of a case
-# a, b: the operands, unsigned; sa, sb: signed. acc: signed. odd: whether vs has an odd number. e: the
-# element.
+# a and b are the operands, unsigned; sa and sb are the same, signed; acc is signed; odd says whether the
+# number of vs is odd; e is the element.
 Lane = namedtuple("Lane", "a b sa sb acc carry unequal compare clip extra odd e")
-# text: what happens. when: whether it does in a lane. result: what the lane's result is if it does; None if
-# the outcome doesn't say. group: what names it together with others in a table.
+# An outcome: its text, the condition `when`, the lane's result if the condition holds (None if the outcome
+# doesn't determine it), and the name of its group in coverage.tsv.
 Kind = namedtuple("Kind", "text when result group", defaults=(None, None))
 
 FLAGS = {
@@ -25,17 +25,17 @@ FLAGS = {
     "clip": ("vcc", 8),
     "extra": ("vce", 0),
 }
-LIMIT = 1 << 47  # an accumulator is below it, and not below its opposite
+LIMIT = 1 << 47  # an accumulator is at least -LIMIT, and below LIMIT
 
 
 def signed(number: Any, bits: int = 16) -> Any:
-    """The number with a sign that has the same low bits; of an array, each."""
+    """The signed number with the same low bits. The number may be an array."""
     half = 1 << bits - 1
     return (number & 2 * half - 1 ^ half) - half
 
 
 def selected(element: int, lane: int) -> int:
-    """The lane that an element of a computing instruction takes for a lane."""
+    """The lane of vt that an element of a computing instruction selects for a lane."""
     if element < 2:
         return lane
     if element < 4:
@@ -53,7 +53,8 @@ def wrapped(number: int) -> int:
     return (number + LIMIT) % (2 * LIMIT) - LIMIT
 
 
-# Of an accumulator: the least high part that is kept, what a smaller and a larger one give, and what is kept.
+# How an accumulator is clamped: its least high part that isn't clamped, the results of smaller and of larger
+# ones, and the result that isn't clamped.
 Clamp = Tuple[int, int, int, Number]
 SIGNED: Clamp = (-32768, 0x8000, 0x7FFF, lambda acc: acc >> 16)
 UNSIGNED: Clamp = (0, 0, 0xFFFF, lambda acc: acc >> 16)
@@ -63,67 +64,73 @@ LOW: Clamp = (-32768, 0, 0xFFFF, lambda acc: acc)
 def clamps(total: Number, clamp: Clamp) -> List[Kind]:
     least, below, above, kept = clamp
     return [
-        Kind(f"clamped up to {below:04x}", lambda it: wrapped(total(it)) >> 16 < least, lambda it: below),
-        Kind(f"clamped down to {above:04x}", lambda it: wrapped(total(it)) >> 16 > 32767, lambda it: above),
+        Kind(
+            f"clamped up to {below:04x}", lambda lane: wrapped(total(lane)) >> 16 < least, lambda lane: below
+        ),
+        Kind(
+            f"clamped down to {above:04x}",
+            lambda lane: wrapped(total(lane)) >> 16 > 32767,
+            lambda lane: above,
+        ),
         Kind(
             "not clamped",
-            lambda it: least <= wrapped(total(it)) >> 16 <= 32767,
-            lambda it: kept(wrapped(total(it))),
+            lambda lane: least <= wrapped(total(lane)) >> 16 <= 32767,
+            lambda lane: kept(wrapped(total(lane))),
         ),
     ]
 
 
 def signs(product: Number) -> List[Kind]:
     return [
-        Kind("product below 0", lambda it: product(it) < 0),
-        Kind("product 0", lambda it: product(it) == 0),
-        Kind("product above 0", lambda it: product(it) > 0),
+        Kind("product below 0", lambda lane: product(lane) < 0),
+        Kind("product 0", lambda lane: product(lane) == 0),
+        Kind("product above 0", lambda lane: product(lane) > 0),
     ]
 
 
 def wraps(total: Number) -> List[Kind]:
     return [
-        Kind("wraps past the top", lambda it: total(it) >= LIMIT),
-        Kind("wraps past the bottom", lambda it: total(it) < -LIMIT),
-        Kind("doesn't wrap", lambda it: -LIMIT <= total(it) < LIMIT),
+        Kind("wraps past the top", lambda lane: total(lane) >= LIMIT),
+        Kind("wraps past the bottom", lambda lane: total(lane) < -LIMIT),
+        Kind("doesn't wrap", lambda lane: -LIMIT <= total(lane) < LIMIT),
     ]
 
 
 PRODUCTS: Dict[str, Tuple[Number, Clamp]] = {
-    "f": (lambda it: 2 * it.sa * it.sb, SIGNED),
-    "u": (lambda it: 2 * it.sa * it.sb, UNSIGNED),
-    "l": (lambda it: it.a * it.b >> 16, LOW),
-    "m": (lambda it: it.sa * it.b, SIGNED),
-    "n": (lambda it: it.a * it.sb, LOW),
-    "h": (lambda it: it.sa * it.sb << 16, SIGNED),
+    "f": (lambda lane: 2 * lane.sa * lane.sb, SIGNED),
+    "u": (lambda lane: 2 * lane.sa * lane.sb, UNSIGNED),
+    "l": (lambda lane: lane.a * lane.b >> 16, LOW),
+    "m": (lambda lane: lane.sa * lane.b, SIGNED),
+    "n": (lambda lane: lane.a * lane.sb, LOW),
+    "h": (lambda lane: lane.sa * lane.sb << 16, SIGNED),
 }
 
 
 def multiply(letter: str) -> List[Kind]:
     product, clamp = PRODUCTS[letter]
     rounding = 32768 if letter in "fu" else 0
-    return [*clamps(lambda it: product(it) + rounding, clamp), *signs(product)]
+    return [*clamps(lambda lane: product(lane) + rounding, clamp), *signs(product)]
 
 
 def multiply_and_add(letter: str) -> List[Kind]:
     product, clamp = PRODUCTS[letter]
 
-    def total(it: Lane) -> Any:
-        return it.acc + product(it)
+    def total(lane: Lane) -> Any:
+        return lane.acc + product(lane)
 
     return [*clamps(total, clamp), *signs(product), *wraps(total)]
 
 
 def rounding(negative: bool) -> List[Kind]:
-    """VRNDP (of accumulators that aren't negative) and VRNDN."""
+    """The outcomes of VRNDN (negative accumulators) and VRNDP."""
 
-    def total(it: Lane) -> Any:
-        return it.acc + (it.sb << 16 * it.odd) if (it.acc < 0) == negative else it.acc
+    def total(lane: Lane) -> Any:
+        return lane.acc + (lane.sb << 16 * lane.odd) if (lane.acc < 0) == negative else lane.acc
 
     return [
-        Kind("b is added", lambda it: (it.acc < 0) == negative and not it.odd),
-        Kind("b times 65536 is added", lambda it: (it.acc < 0) == negative and it.odd),
-        Kind("the accumulator is kept", lambda it: (it.acc < 0) != negative),
+        Kind("b is added", lambda lane: (lane.acc < 0) == negative and not lane.odd),
+        Kind("b times 65536 is added", lambda lane: (lane.acc < 0) == negative and lane.odd),
+        Kind("the accumulator is kept", lambda lane: (lane.acc < 0) != negative),
         *clamps(total, SIGNED),
         *wraps(total),
     ]
@@ -132,116 +139,127 @@ def rounding(negative: bool) -> List[Kind]:
 def halves(number: Number) -> List[Kind]:
     """The results of VMULQ and VMACQ: half of a number, clamped, and its low four bits cleared."""
     return [
-        Kind("half clamped up to 8000", lambda it: number(it) >> 1 < -32768, lambda it: 0x8000),
-        Kind("half clamped down to 7fff", lambda it: number(it) >> 1 > 32767, lambda it: 0x7FF0),
+        Kind("half clamped up to 8000", lambda lane: number(lane) >> 1 < -32768, lambda lane: 0x8000),
+        Kind("half clamped down to 7fff", lambda lane: number(lane) >> 1 > 32767, lambda lane: 0x7FF0),
         Kind(
             "half not clamped",
-            lambda it: -32768 <= number(it) >> 1 <= 32767,
-            lambda it: number(it) >> 1 & 0xFFF0,
+            lambda lane: -32768 <= number(lane) >> 1 <= 32767,
+            lambda lane: number(lane) >> 1 & 0xFFF0,
         ),
     ]
 
 
-def quantised(it: Lane) -> Any:
-    return it.sa * it.sb + (31 if it.sa * it.sb < 0 else 0)
+def quantised(lane: Lane) -> Any:
+    return lane.sa * lane.sb + (31 if lane.sa * lane.sb < 0 else 0)
 
 
-def oddified(it: Lane) -> Any:
-    p = it.acc >> 16
+def oddified(lane: Lane) -> Any:
+    p = lane.acc >> 16
     return p if p & 32 else p + 32 if p < 0 else p - 32 if p >= 32 else p
 
 
 ODDIFYING = [
-    Kind("bit 5 is set", lambda it: it.acc >> 16 & 32),
-    Kind("32 is added", lambda it: not it.acc >> 16 & 32 and it.acc < 0),
-    Kind("32 is taken away", lambda it: not it.acc >> 16 & 32 and it.acc >> 16 >= 32),
-    Kind("below 32, and kept", lambda it: 0 <= it.acc >> 16 < 32),
+    Kind("bit 5 is set", lambda lane: lane.acc >> 16 & 32),
+    Kind("32 is added", lambda lane: not lane.acc >> 16 & 32 and lane.acc < 0),
+    Kind("32 is taken away", lambda lane: not lane.acc >> 16 & 32 and lane.acc >> 16 >= 32),
+    Kind("below 32, and kept", lambda lane: 0 <= lane.acc >> 16 < 32),
 ]
 
 
 def sums(number: Number) -> List[Kind]:
-    """VADD and VSUB."""
+    """The outcomes of VADD and VSUB."""
     return [
-        Kind("clamped up to 8000", lambda it: number(it) < -32768, lambda it: 0x8000),
-        Kind("clamped down to 7fff", lambda it: number(it) > 32767, lambda it: 0x7FFF),
-        Kind("not clamped, carry clear", lambda it: -32768 <= number(it) <= 32767 and not it.carry, number),
-        Kind("not clamped, carry set", lambda it: -32768 <= number(it) <= 32767 and it.carry, number),
+        Kind("clamped up to 8000", lambda lane: number(lane) < -32768, lambda lane: 0x8000),
+        Kind("clamped down to 7fff", lambda lane: number(lane) > 32767, lambda lane: 0x7FFF),
+        Kind(
+            "not clamped, carry clear",
+            lambda lane: -32768 <= number(lane) <= 32767 and not lane.carry,
+            number,
+        ),
+        Kind("not clamped, carry set", lambda lane: -32768 <= number(lane) <= 32767 and lane.carry, number),
     ]
 
 
 ABSOLUTE = [
-    Kind("a below 0", lambda it: it.sa < 0 and it.b != 0x8000, lambda it: -it.b),
-    Kind("a below 0, b 8000", lambda it: it.sa < 0 and it.b == 0x8000, lambda it: 0x7FFF),
-    Kind("a 0", lambda it: it.a == 0, lambda it: 0),
-    Kind("a above 0", lambda it: it.sa > 0, lambda it: it.b),
+    Kind("a below 0", lambda lane: lane.sa < 0 and lane.b != 0x8000, lambda lane: -lane.b),
+    Kind("a below 0, b 8000", lambda lane: lane.sa < 0 and lane.b == 0x8000, lambda lane: 0x7FFF),
+    Kind("a 0", lambda lane: lane.a == 0, lambda lane: 0),
+    Kind("a above 0", lambda lane: lane.sa > 0, lambda lane: lane.b),
 ]
 ADD_CARRY = [
-    Kind("carry becomes set", lambda it: it.a + it.b > 65535, lambda it: it.a + it.b),
-    Kind("carry becomes clear", lambda it: it.a + it.b <= 65535, lambda it: it.a + it.b),
+    Kind("carry becomes set", lambda lane: lane.a + lane.b > 65535, lambda lane: lane.a + lane.b),
+    Kind("carry becomes clear", lambda lane: lane.a + lane.b <= 65535, lambda lane: lane.a + lane.b),
 ]
 SUBTRACT_CARRY = [
-    Kind("a below b: carry, not-equal", lambda it: it.a < it.b, lambda it: it.a - it.b),
-    Kind("a equals b: neither", lambda it: it.a == it.b, lambda it: 0),
-    Kind("a above b: not-equal", lambda it: it.a > it.b, lambda it: it.a - it.b),
+    Kind("a below b: carry, not-equal", lambda lane: lane.a < lane.b, lambda lane: lane.a - lane.b),
+    Kind("a equals b: neither", lambda lane: lane.a == lane.b, lambda lane: 0),
+    Kind("a above b: not-equal", lambda lane: lane.a > lane.b, lambda lane: lane.a - lane.b),
 ]
 
 
 a_of, b_of = attrgetter("a"), attrgetter("b")
 
 
-def minus_b(it: Lane) -> Any:
-    return -it.b
+def minus_b(lane: Lane) -> Any:
+    return -lane.b
 
 
 def ordered(less: Number, equal_and_both: Number, equal: Number, greater: Number) -> List[Kind]:
-    """VLT and VGE, by the operand that each outcome gives."""
+    """The outcomes of VLT and VGE, each with the operand that is its result."""
     return [
-        Kind("a below b", lambda it: it.sa < it.sb, less),
-        Kind("equal, both flags", lambda it: it.a == it.b and it.carry and it.unequal, equal_and_both),
-        Kind("equal, carry alone", lambda it: it.a == it.b and it.carry and not it.unequal, equal),
-        Kind("equal, not-equal alone", lambda it: it.a == it.b and not it.carry and it.unequal, equal),
-        Kind("equal, no flag", lambda it: it.a == it.b and not it.carry and not it.unequal, equal),
-        Kind("a above b", lambda it: it.sa > it.sb, greater),
+        Kind("a below b", lambda lane: lane.sa < lane.sb, less),
+        Kind(
+            "equal, both flags", lambda lane: lane.a == lane.b and lane.carry and lane.unequal, equal_and_both
+        ),
+        Kind("equal, carry alone", lambda lane: lane.a == lane.b and lane.carry and not lane.unequal, equal),
+        Kind(
+            "equal, not-equal alone", lambda lane: lane.a == lane.b and not lane.carry and lane.unequal, equal
+        ),
+        Kind("equal, no flag", lambda lane: lane.a == lane.b and not lane.carry and not lane.unequal, equal),
+        Kind("a above b", lambda lane: lane.sa > lane.sb, greater),
     ]
 
 
 def equality(true_if_equal: bool) -> List[Kind]:
-    """VEQ and VNE."""
+    """The outcomes of VEQ and VNE."""
     equal, differs = (a_of, b_of) if true_if_equal else (b_of, a_of)
     return [
-        Kind("equal, not-equal clear", lambda it: it.a == it.b and not it.unequal, equal),
-        Kind("equal, not-equal set", lambda it: it.a == it.b and it.unequal, differs),
-        Kind("differs, not-equal clear", lambda it: it.a != it.b and not it.unequal, differs),
-        Kind("differs, not-equal set", lambda it: it.a != it.b and it.unequal, differs),
+        Kind("equal, not-equal clear", lambda lane: lane.a == lane.b and not lane.unequal, equal),
+        Kind("equal, not-equal set", lambda lane: lane.a == lane.b and lane.unequal, differs),
+        Kind("differs, not-equal clear", lambda lane: lane.a != lane.b and not lane.unequal, differs),
+        Kind("differs, not-equal set", lambda lane: lane.a != lane.b and lane.unequal, differs),
     ]
 
 
 def with_flags(carry: int, unequal: int) -> Number:
-    return lambda it: (it.carry, it.unequal) == (carry, unequal)
+    return lambda lane: (lane.carry, lane.unequal) == (carry, unequal)
 
 
 def kinds_if(condition: Number, start: str, kinds: Iterable[Kind]) -> List[Kind]:
-    """Outcomes of those lanes alone that a condition holds of."""
+    """Outcomes restricted to the lanes for which a condition holds."""
     return [
-        Kind(f"{start}{kind.text}", lambda it, when=kind.when: condition(it) and when(it), kind.result)
+        Kind(f"{start}{kind.text}", lambda lane, when=kind.when: condition(lane) and when(lane), kind.result)
         for kind in kinds
     ]
 
 
 def by_number(number: Number, kinds: Iterable[Any]) -> List[Kind]:
-    """Outcomes by where a number is. Each of `kinds` is a text, a condition of the number, and the result."""
-    return [Kind(text, lambda it, when=when: when(number(it)), result) for text, when, result in kinds]
+    """Outcomes by a number. Each of `kinds` is a text, a condition of the number, and the result."""
+    return [Kind(text, lambda lane, when=when: when(number(lane)), result) for text, when, result in kinds]
 
 
-def sum_of(it: Lane) -> Any:
-    return it.a + it.b
+def sum_of(lane: Lane) -> Any:
+    return lane.a + lane.b
 
 
 BY_COMPARE = [
-    Kind("compare set", lambda it: it.compare, minus_b),
-    Kind("compare clear", lambda it: not it.compare, a_of),
+    Kind("compare set", lambda lane: lane.compare, minus_b),
+    Kind("compare clear", lambda lane: not lane.compare, a_of),
 ]
-BY_CLIP = [Kind("clip set", lambda it: it.clip, b_of), Kind("clip clear", lambda it: not it.clip, a_of)]
+BY_CLIP = [
+    Kind("clip set", lambda lane: lane.clip, b_of),
+    Kind("clip clear", lambda lane: not lane.clip, a_of),
+]
 WITH_EXTRA = (
     ("sum 0", lambda n: n == 0, minus_b),
     ("sum 1 to 65535", lambda n: 0 < n < 65536, minus_b),
@@ -254,15 +272,17 @@ WITHOUT_EXTRA = (
     ("another sum", lambda n: n not in (0, 65536), a_of),
 )
 BY_ORDER = [
-    Kind("a above b", lambda it: it.a > it.b, b_of),
-    Kind("equal", lambda it: it.a == it.b, b_of),
-    Kind("a below b", lambda it: it.a < it.b, a_of),
+    Kind("a above b", lambda lane: lane.a > lane.b, b_of),
+    Kind("equal", lambda lane: lane.a == lane.b, b_of),
+    Kind("a below b", lambda lane: lane.a < lane.b, a_of),
 ]
 CLIP_LOW = [
     *kinds_if(with_flags(1, 1), "carry, not-equal: ", BY_COMPARE),
-    *kinds_if(lambda it: with_flags(1, 0)(it) and it.extra, "carry, extra: ", by_number(sum_of, WITH_EXTRA)),
     *kinds_if(
-        lambda it: with_flags(1, 0)(it) and not it.extra,
+        lambda lane: with_flags(1, 0)(lane) and lane.extra, "carry, extra: ", by_number(sum_of, WITH_EXTRA)
+    ),
+    *kinds_if(
+        lambda lane: with_flags(1, 0)(lane) and not lane.extra,
         "carry, no extra: ",
         by_number(sum_of, WITHOUT_EXTRA),
     ),
@@ -279,13 +299,13 @@ DIFFERENCES = (
 
 
 def with_signs(differ: bool, below: bool) -> Number:
-    return lambda it: ((it.sa < 0) != (it.sb < 0)) == differ and (it.sb < 0) == below
+    return lambda lane: ((lane.sa < 0) != (lane.sb < 0)) == differ and (lane.sb < 0) == below
 
 
 def clip_by_signs(shift: int, sums: Iterable[Any]) -> List[Kind]:
-    """VCH and VCR: by the signs of a and b, and by their sum (plus `shift`) or their difference."""
-    apart = by_number(lambda it: it.sa + it.sb + shift, sums)
-    alike = by_number(lambda it: it.sa - it.sb, DIFFERENCES)
+    """The outcomes of VCH and VCR, by the signs of a and b, and by their sum (plus `shift`) or difference."""
+    apart = by_number(lambda lane: lane.sa + lane.sb + shift, sums)
+    alike = by_number(lambda lane: lane.sa - lane.sb, DIFFERENCES)
     kinds: List[Kind] = []
     for text, below in (("b below 0", True), ("b not below 0", False)):
         kinds += kinds_if(with_signs(True, below), f"signs differ, {text}, ", apart)
@@ -305,24 +325,24 @@ CLIP_HIGH = clip_by_signs(
 CLIP_CRIMP = clip_by_signs(
     1,
     (
-        ("sum + 1 below 0", lambda n: n < 0, lambda it: ~it.b),
-        ("sum + 1 is 0", lambda n: n == 0, lambda it: ~it.b),
+        ("sum + 1 below 0", lambda n: n < 0, lambda lane: ~lane.b),
+        ("sum + 1 is 0", lambda n: n == 0, lambda lane: ~lane.b),
         ("sum + 1 above 0", lambda n: n > 0, a_of),
     ),
 )
 MERGE = [
-    Kind("compare set", lambda it: it.compare, a_of),
-    Kind("compare clear", lambda it: not it.compare, b_of),
+    Kind("compare set", lambda lane: lane.compare, a_of),
+    Kind("compare clear", lambda lane: not lane.compare, b_of),
 ]
 
 
 def bits(operation: Callable[[int, int], int]) -> List[Kind]:
-    """The logic instructions: each pair of bits."""
+    """The outcomes of a logic instruction: each pair of bits."""
     return [
         Kind(
             f"bits {x} and {y}",
-            lambda it, x=x, y=y: (it.a ^ x - 1) & (it.b ^ y - 1) & 0xFFFF,
-            lambda it: operation(it.a, it.b),
+            lambda lane, x=x, y=y: (lane.a ^ x - 1) & (lane.b ^ y - 1) & 0xFFFF,
+            lambda lane: operation(lane.a, lane.b),
         )
         for x in (0, 1)
         for y in (0, 1)
@@ -330,10 +350,10 @@ def bits(operation: Callable[[int, int], int]) -> List[Kind]:
 
 
 READING = [
-    Kind("the high part", lambda it: it.e == 8, lambda it: it.acc >> 32),
-    Kind("the middle part", lambda it: it.e == 9, lambda it: it.acc >> 16),
-    Kind("the low part", lambda it: it.e == 10, lambda it: it.acc),
-    Kind("no part", lambda it: it.e not in (8, 9, 10), lambda it: 0),
+    Kind("the high part", lambda lane: lane.e == 8, lambda lane: lane.acc >> 32),
+    Kind("the middle part", lambda lane: lane.e == 9, lambda lane: lane.acc >> 16),
+    Kind("the low part", lambda lane: lane.e == 10, lambda lane: lane.acc),
+    Kind("no part", lambda lane: lane.e not in (8, 9, 10), lambda lane: 0),
 ]
 
 KINDS: Dict[str, List[Kind]] = {
@@ -343,11 +363,11 @@ KINDS: Dict[str, List[Kind]] = {
     **{f"vmad{letter}": multiply_and_add(letter) for letter in "lmnh"},
     "vrndp": rounding(False),
     "vrndn": rounding(True),
-    "vmulq": [*signs(lambda it: it.sa * it.sb), *halves(quantised)],
+    "vmulq": [*signs(lambda lane: lane.sa * lane.sb), *halves(quantised)],
     "vmacq": [*ODDIFYING, *halves(oddified)],
     "vsar": READING,
-    "vadd": sums(lambda it: it.sa + it.sb + it.carry),
-    "vsub": sums(lambda it: it.sa - it.sb - it.carry),
+    "vadd": sums(lambda lane: lane.sa + lane.sb + lane.carry),
+    "vsub": sums(lambda lane: lane.sa - lane.sb - lane.carry),
     "vabs": ABSOLUTE,
     "vaddc": ADD_CARRY,
     "vsubc": SUBTRACT_CARRY,
@@ -390,13 +410,13 @@ def possible(name: str) -> List[Kind]:
 
 
 def result_of(name: str, lane: Lane) -> int:
-    """The lane's result by its outcome."""
+    """The lane's result, by its outcome."""
     results = (kind.result(lane) for kind in KINDS[name] if kind.result and kind.when(lane))
     return int(next(results)) % 65536
 
 
 def lanes_of(fields: Dict[str, int], before: Texts) -> Iterator[Lane]:
-    """What each lane of a case reads: `before` is a whole state, of texts."""
+    """What each lane of a case reads. `before` is a whole state of texts."""
     vs, vt = (before[f"v{fields[name]}"] for name in ("vs", "vt"))
     flags = [int(before[key], 16) >> shift for key, shift in FLAGS.values()]
     for lane in range(8):

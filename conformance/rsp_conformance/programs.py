@@ -1,8 +1,8 @@
-"""`programs`: whole programs for machines that can only run microcode. Each holds many cases of one
-instruction, and stores what they left. Each case has its own copy of the code around it, which sets and
-saves the registers: with a loop or a call, the cases of every instruction would depend on branches.
+"""`programs`: whole programs for machines that can only run microcode. Each has many cases of one
+instruction, and stores their results. Each case has its own copy of the code that sets and saves the
+registers: with a loop or a call, the cases of every instruction would depend on branches.
 
-This file writes their text and their data; run_programs.py runs them.
+This file writes their text and their data, and run_programs.py runs them.
 """
 
 import copy
@@ -18,7 +18,7 @@ from rsp_conformance.table import Row, uses_memory, word_of
 Layout = List[Tuple[str, int, int]]  # the fields that a case stores: what, offset, length
 
 MEMORY = 4096
-ONES = 16  # the address of the numbers that a program sets its accumulators with
+ONES = 16  # the address of the numbers with which a program sets its accumulators
 FIRST_FREE = 32  # bytes 0 to 15 and those from WRAPPING on are the window of a case that wraps
 REACHED = 17  # how many windows a program keeps for cases whose base is $0
 LAST_WORD = 1016  # a case that would pass it goes to the next program
@@ -35,35 +35,29 @@ class Full(Exception):
 
 
 class Program:
-    """A program in the making: the lines of its text, its data, and its cases.
+    """A program that is being written: the lines of its text, its data, and its cases.
 
-    `reached` are windows at both ends of DMEM that it keeps for the cases whose base is $0, the wrapping one
-    first.
+    `reached` are the windows at both ends of DMEM that are reserved for the cases whose base is $0, the
+    wrapping window first.
     """
 
     def __init__(self, reached: Sequence[int] = (WRAPPING,)) -> None:
         self.lines: List[str] = []
-        self.places = 0  # the words that the lines make
+        self.words = 0  # that the lines make
         self.data = bytearray(MEMORY)
         self.data[ONES : ONES + 16] = bytes.fromhex(ONES_DATA)
-        self.free, self.end = FIRST_FREE, min(it for it in reached if it >= MEMORY // 2)
-        self.free += sum(WINDOW_LENGTH for it in reached if it < MEMORY // 2)
+        self.free, self.end = FIRST_FREE, min(window for window in reached if window >= MEMORY // 2)
+        self.free += sum(WINDOW_LENGTH for window in reached if window < MEMORY // 2)
         self.cases: List[Dict[str, Any]] = []
         self.layouts: Dict[str, Layout] = {}
         self.reached = [*reached]
 
-    def copy(self) -> "Program":
-        made = copy.copy(self)
-        made.lines, made.data, made.cases = [*self.lines], bytearray(self.data), [*self.cases]
-        made.layouts, made.reached = {**self.layouts}, [*self.reached]
-        return made
-
     def emit(self, *lines: str) -> None:
         self.lines += lines
-        self.places += sum(1 for line in lines if not line.endswith(":"))
+        self.words += sum(1 for line in lines if not line.endswith(":"))
 
     def take(self, length: int, alignment: int) -> int:
-        """The address of so many bytes of DMEM."""
+        """Reserves bytes of DMEM, and returns their address."""
         at = (self.free + alignment - 1) // alignment * alignment
         if at + length > self.end:
             raise Full
@@ -79,7 +73,7 @@ class Program:
     def window(self, wrapping: bool, from_zero: bool) -> int:
         """The address of the memory of a case that loads or stores.
 
-        One case of a program has the one that wraps.
+        Only one case of a program has the wrapping window.
         """
         if from_zero and not self.reached:
             raise Full
@@ -88,28 +82,29 @@ class Program:
         return self.take(WINDOW_LENGTH, 16)
 
     def layout(self, fields: Layout) -> str:
-        """The name of a layout."""
-        known = next((name for name, it in self.layouts.items() if it == fields), None)
+        """The name of a layout, which is added if it is new."""
+        known = next((name for name, layout in self.layouts.items() if layout == fields), None)
         name = known or f"L{len(self.layouts)}"
         self.layouts[name] = fields
         return name
 
     def test(self, case: Case, word: int) -> None:
-        """Emits the word that a case is about."""
-        case.place, case.word = 4 * self.places, word
+        """Emits the word that a case tests."""
+        case.pc, case.word = 4 * self.words, word
         self.emit(f".word 0x{word:08x}")
 
     def close(self, case: Case, at: int, fields: Layout) -> None:
-        what = {"name": case.name, "pc": f"{case.place:03x}", "word": f"{case.word:08x}", "text": ""}
-        entry = {**what, "at": f"{at:03x}", "layout": self.layout(fields)}
-        # What these choose can't be seen here.
+        """Adds a case, whose results are at an address."""
+        entry = {"name": case.name, "pc": f"{case.pc:03x}", "word": f"{case.word:08x}", "text": ""}
+        entry.update(at=f"{at:03x}", layout=self.layout(fields))
+        # The programs don't show the choices of the other forms.
         if case.choice and case.row.form not in (*JUMPS, *SP_MOVES, "break"):
             entry["choice"] = case.choice
         self.cases.append(entry)
 
 
 class Saved:
-    """What a case leaves in DMEM: fields one after the other from an address on."""
+    """The results of a case in DMEM: fields one after the other."""
 
     def __init__(self, program: Program, vectors: int = 0, halves: int = 0, words: int = 0) -> None:
         self.program, self.fields = program, []  # type: Program, Layout
@@ -117,7 +112,7 @@ class Saved:
         self.start = self.at = program.take(length, 16 if vectors else 4)
 
     def field(self, what: str, length: int) -> int:
-        """The address of the next field."""
+        """Adds a field, and returns its address."""
         at = self.at
         self.fields.append((what, at - self.start, length))
         self.at += length
@@ -139,12 +134,12 @@ class Saved:
 
 
 def keys(case: Case, letter: str) -> List[str]:
-    """The scalar or vector registers that a case names."""
+    """The keys of the scalar or vector registers that a case sets."""
     return [key for key in case.before if key[0] == letter and key[1:].isdigit()]
 
 
 def set_up(program: Program, case: Case) -> None:
-    """Sets what a case names: flags, accumulators, the divider if it is stored too, then its registers."""
+    """Sets the state of a case: flags, accumulators, the divider if it is stored too, then the registers."""
     before = {**bench.DEFAULT, **case.before}
     if "vco" in case.before:
         at = program.put(before["vco"] + before["vcc"] + "00" + before["vce"] + "0000")
@@ -175,10 +170,9 @@ def set_scalars(program: Program, case: Case) -> None:
 
 
 def begun(program: Program, case: Case, vectors: int = 0, halves: int = 0, words: int = 0) -> Saved:
-    """Sets a case up, executes its word, and takes room for what it leaves. $1 has the address of vectors."""
+    """Sets up a case, executes its word, and reserves DMEM for its results. $1 has the address of vectors."""
     for address, text in case.before.get("dmem", {}).items():
         program.data[int(address, 16) : int(address, 16) + len(text) // 2] = bytes.fromhex(text)
-    # Halves, then the flags that are set, end at a multiple of 16.
     saved = Saved(program, vectors, halves, words)
     set_up(program, case)
     program.test(case, case.word)
@@ -203,7 +197,7 @@ def add_computing(program: Program, case: Case) -> None:
 
 
 def save_divider(program: Program, case: Case, saved: Saved) -> None:
-    """What can be seen of the divider: DIV_OUT by VRCPH, which loads; or what is loaded, by VRCPL of 1."""
+    """Stores what shows of the divider: DIV_OUT by VRCPH, or the loaded half by VRCPL of 1."""
     program.emit("addiu $2, $0, 1", "mtc2 $2, $v2[0]")
     if int(case.name[-1]) % 2 == 0:
         program.emit("vrcph $v1[0], $v2[0]", "mfc2 $2, $v1[0]")
@@ -235,7 +229,7 @@ def add_store(program: Program, case: Case) -> None:
 
 
 def add_vectors(program: Program, case: Case) -> None:
-    """A case whose result is in the vector registers that it names."""
+    """A case whose result is in the vector registers that it sets."""
     registers = keys(case, "v")
     saved = begun(program, case, vectors=len(registers))
     for number, register in enumerate(registers):
@@ -244,7 +238,7 @@ def add_vectors(program: Program, case: Case) -> None:
 
 
 def add_jump(program: Program, case: Case) -> None:
-    """A branch or jump, forward or backward. The path that was taken is a number that its steps add up."""
+    """A branch or jump, forward or backward. The words that are executed add up a number, which is stored."""
     fields, row = case.fields, case.row
     by_register = row.form in ("jump register", "link register")
     if by_register and fields["s"] == 0:
@@ -254,9 +248,9 @@ def add_jump(program: Program, case: Case) -> None:
     backward, label = int(case.name[-1]) % 2 == 1, case.name.lower().replace("-", "")
     setting = {*keys(case, "r")} | ({f"r{fields['s']}"} if by_register else set())
     program.emit(f"addiu ${path}, $0, 0")
-    # The words that come before the test: those that load, and those of a backward jump's target.
-    place = 4 * (program.places + len(setting) + (5 if backward else 0))
-    target = place - 12 if backward else place + 12
+    # Before the tested word come those that load, and those of a backward jump's target.
+    pc = 4 * (program.words + len(setting) + (5 if backward else 0))
+    target = pc - 12 if backward else pc + 12
     if by_register:
         key = f"r{fields['s']}"
         case.before[key] = f"{int(case.before.get(key, '0'), 16) & 0xFFFFF003 | target:08x}"
@@ -264,7 +258,7 @@ def add_jump(program: Program, case: Case) -> None:
     if backward:
         program.emit(f"beq $0, $0, {label}over", "nop", f"addiu ${path}, ${path}, 4")
         program.emit(f"beq $0, $0, {label}out", "nop", f"{label}over:")
-    program.test(case, word_of(row, {**fields, "imm": (target - place - 4) // 4, "target": target // 4}))
+    program.test(case, word_of(row, {**fields, "imm": (target - pc - 4) // 4, "target": target // 4}))
     program.emit(f"addiu ${path}, ${path}, 1", f"addiu ${path}, ${path}, 2", f"{label}out:")
     links = row.name == "jal" or row.name.endswith("zal") or row.form == "link register"
     saved = Saved(program, words=1 + links)
@@ -301,7 +295,7 @@ def add_sp(program: Program, case: Case) -> None:
 
 
 def add_break(program: Program, case: Case) -> None:
-    """BREAK ends its program: what follows it isn't executed. In the second program it is in a delay slot."""
+    """BREAK ends its program. In the second program it is in a delay slot."""
     saved = Saved(program, words=2)
     program.emit("addiu $2, $0, 1", "addiu $3, $0, 2")
     saved.word("before", 2)
@@ -328,24 +322,24 @@ ADDERS: Dict[str, Callable[[Program, Case], None]] = {
 
 
 def with_case(program: Program, row: Row, seed: str, number: int) -> Program:
-    """The program with a case more."""
-    program, from_zero = program.copy(), paired_element(row, number) is not None
+    """A copy of the program with another case. Raises Full if it has no room."""
+    program, from_zero = copy.deepcopy(program), paired_element(row, number) is not None
     window = program.window(number % 4 == 3, from_zero) if uses_memory(row) else 0
     case = make_case(row, seed, number, window)
     case.window = window
     ADDERS[row.form](program, case)
-    if program.places > LAST_WORD:
+    if program.words > LAST_WORD:
         raise Full
     return program
 
 
 def begun_program(row: Row) -> Program:
-    """A program without a case."""
+    """A program without cases."""
     return Program(reached_windows(row)[:REACHED]) if "vector" in row.form and uses_memory(row) else Program()
 
 
 def programs_of(row: Row, seed: str, numbers: range) -> Iterator[Program]:
-    """The programs that hold these cases. A BREAK ends its own; cases of changing_numbers begin new ones."""
+    """The programs with these cases. Each BREAK and changing_numbers begin a new one."""
     program = begun_program(row)
     for number in numbers[:2] if row.form == "break" else numbers:
         try:

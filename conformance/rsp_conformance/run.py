@@ -1,20 +1,21 @@
 """conformance/run [--program PROGRAM] [FOLDER] [NAME..]: runs test vectors on a program that answers scripts
 as rsp does, and names what differs. It fails if a state does.
 
-PROGRAM is, if none is named, the file rsp in the folder above, which a clone and an archive for Linux have.
-The archive of the vectors has none: name bin/rsp of an archive for Linux. FOLDER is one that
+The default of PROGRAM is the file rsp in the folder above, which a clone and an archive for Linux have. The
+archive of the vectors has none: name bin/rsp of an archive for Linux. FOLDER is one that
 `conformance/generate` made (vectors/ beside this command). NAME is an instruction; without one all
 instructions of FOLDER are run. The last line is `N passed, M failed`, of cases and of whole programs. The
-status is 0 if none failed and one passed. This is also an example of a runner: one for another machine
-replaces bench.py alone.
+status is 0 if none failed and one passed. This is also an example of a runner: one for another machine only
+has another bench.py.
 """
 
+import itertools
 import sys
 from pathlib import Path
 from typing import Iterator
 
 from rsp_conformance import bench, run_programs, steps
-from rsp_conformance.command_line import PROGRAM, Complaints, counted, printable, reader
+from rsp_conformance.command_line import PROGRAM, Complaints, parser_of, print_checks, printable
 from rsp_conformance.safe_files import FileFault
 from rsp_conformance.vectors import VECTORS, VectorsFault, entries_in, manifest_in, names_in
 
@@ -28,22 +29,20 @@ def run_row(program: str, folder: Path, name: str) -> Iterator[Complaints]:
         raise VectorsFault(f"{name}: {fault}") from None
     except OSError as fault:
         raise VectorsFault(f"{fault.filename or folder} can't be read: {fault.strerror}") from None
-    except (ArithmeticError, LookupError, ValueError, TypeError, AttributeError) as fault:
-        what = f"{type(fault).__name__} {fault}"
-        raise VectorsFault(f"{name}: one of its cases or programs isn't one: {what}") from None
 
 
 def main() -> None:
-    words = reader("run", __doc__)
-    words.add_argument("--program", default=PROGRAM)
-    words.add_argument("folder", nargs="?", type=Path, default=VECTORS, metavar="FOLDER")
-    words.add_argument("names", nargs="*", metavar="NAME")
-    args = words.parse_args()
+    parser = parser_of("run", __doc__)
+    parser.add_argument("--program", default=PROGRAM)
+    parser.add_argument("folder", nargs="?", type=Path, default=VECTORS, metavar="FOLDER")
+    parser.add_argument("names", nargs="*", metavar="NAME")
+    args = parser.parse_args()
     try:
         names = names_in(args.folder, args.names)
         if refusal := bench.refusal_of(args.program):
             raise VectorsFault(refusal)
-        sys.exit(counted(it for name in names for it in run_row(args.program, args.folder, name)))
+        rows = (run_row(args.program, args.folder, name) for name in names)
+        sys.exit(print_checks(itertools.chain.from_iterable(rows)))
     except (VectorsFault, FileFault) as fault:
         sys.exit(printable(f"run: {fault}"))
 

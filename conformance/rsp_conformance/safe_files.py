@@ -1,4 +1,4 @@
-"""Files of folders that may be somebody else's: read up to a limit, and written whole."""
+"""Files in folders that may be somebody else's: read up to a limit, and written whole or not at all."""
 
 import contextlib
 import os
@@ -6,8 +6,8 @@ import secrets
 from pathlib import Path
 from typing import Union
 
-# Of a file that is read, and of one that is a single value of JSON, which may take 25 times as much memory.
-# What is made here has some 10 KB, and 16 MiB or 3 MiB with 20000 cases.
+# The limit of a file, and that of one JSON value, which may take 25 times as much memory. The files that are
+# made here have some 10 KB, and 16 MiB or 3 MiB with 20000 cases.
 MOST_BYTES, MOST_JSON = 1 << 24, 1 << 22
 
 
@@ -15,8 +15,8 @@ class FileFault(Exception):
     """Why a file can't be read or written, as a sentence."""
 
 
-def read(path: Path, most: int = MOST_BYTES) -> bytes:
-    """The bytes of a file. What one could wait for is refused, and what would fill the memory."""
+def read_file(path: Path, most: int = MOST_BYTES) -> bytes:
+    """The bytes of a file. Pipes and devices are refused, and files that are too long."""
     if path.exists() and not path.is_file():
         raise FileFault(f"{path} is no file")
     try:
@@ -28,23 +28,23 @@ def read(path: Path, most: int = MOST_BYTES) -> bytes:
 
 
 def make_folder(path: Path) -> None:
-    """Makes a folder, if it isn't there. A link in its place, which could lead anywhere, is refused."""
+    """Makes a folder, if it isn't there. A link is refused, because it could lead anywhere."""
     if path.is_symlink():
         raise FileFault(f"{path} is a link, and has to be a folder")
     path.mkdir(parents=True, exist_ok=True)
 
 
-def write(path: Path, content: Union[str, bytes]) -> None:
-    """Writes a file whole or not at all. A link of its name is replaced, and not followed.
+def write_file(path: Path, content: Union[str, bytes]) -> None:
+    """Writes a file whole or not at all. If a link has its name, the link is replaced, and not followed.
 
-    Nobody can guess the name that it has until it is whole, and "x" opens no file that is there.
+    Until the file is whole, it has a name that nobody can guess, and "x" doesn't open an existing file.
     """
-    waiting = path.with_name(f".{path.name}.{secrets.token_hex(8)}")
+    temporary = path.with_name(f".{path.name}.{secrets.token_hex(8)}")
     try:
-        with open(waiting, "xb") as file:
+        with open(temporary, "xb") as file:
             file.write(content.encode() if isinstance(content, str) else content)
-        os.replace(waiting, path)
+        os.replace(temporary, path)
     except OSError as fault:
         with contextlib.suppress(OSError):
-            waiting.unlink()
+            temporary.unlink()
         raise FileFault(f"{path} can't be written: {fault.strerror}") from None

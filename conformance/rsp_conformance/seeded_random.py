@@ -1,4 +1,4 @@
-"""splitmix64: a small generator of numbers that is the same on every machine and version of Python."""
+"""splitmix64: a small generator of numbers that are the same on every machine and version of Python."""
 
 from typing import Any, List, Sequence
 
@@ -8,7 +8,7 @@ PARTS = (0, 1, 0x1F, 0x20, 0x7FFF, 0x8000, 0xFFDF, 0xFFFF)
 
 
 class Random:
-    """Numbers that the seeds decide."""
+    """A generator whose numbers depend only on its seeds."""
 
     def __init__(self, *seeds: object) -> None:
         self.state = 0
@@ -34,11 +34,11 @@ class Random:
         return self.below(count) == 0
 
     def mixed(self, edges: Sequence[int], bits: int) -> int:
-        """An edge value, or any."""
+        """An edge value or any value, equally often."""
         return self.below(1 << bits) if self.one_in(2) else int(self.pick(edges))
 
     def some(self, count: int, size: int) -> List[int]:
-        """`count` different numbers below `size`."""
+        """Different numbers below `size`."""
         left = list(range(size))
         return [left.pop(self.below(len(left))) for _ in range(count)]
 
@@ -46,10 +46,10 @@ class Random:
         return "".join(f"{self.below(256):02x}" for _ in range(count))
 
     def lanes(self) -> List[int]:
-        """A vector register: eight lanes. Some have one lane often."""
-        one = self.mixed(LANES, 16)
+        """The eight lanes of a vector register. In one of eight registers most lanes are equal."""
+        repeated = self.mixed(LANES, 16)
         often = self.one_in(8)
-        return [one if often and not self.one_in(4) else self.mixed(LANES, 16) for _ in range(8)]
+        return [repeated if often and not self.one_in(4) else self.mixed(LANES, 16) for _ in range(8)]
 
     def accumulator(self) -> int:
         if self.one_in(3):

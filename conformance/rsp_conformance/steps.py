@@ -4,28 +4,28 @@ import json
 from typing import Any, Dict, Iterable, Iterator, List
 
 from rsp_conformance import bench
-from rsp_conformance.bench import Looks
+from rsp_conformance.bench import Observation
 from rsp_conformance.cases import Case, make_case
-from rsp_conformance.command_line import brief
+from rsp_conformance.command_line import first_complaints
 from rsp_conformance.states import Texts
 from rsp_conformance.table import ROWS, Row
 
-Entry = Dict[str, Any]  # a case as a file has it
+Entry = Dict[str, Any]  # a line of a file of `steps`
 
 
-def checked_before(case: Case, look: Texts) -> Texts:
-    """The state before a case as the machine shows it, which has to be the one that was to be set."""
+def checked_before(case: Case, found: Texts) -> Texts:
+    """The state before a case, after a check that the machine is in this state."""
     before = dict(case.before)
     if "divided" in before:
-        before["out"] = look["out"]
+        before["out"] = found["out"]
     for key in bench.DEFAULT:
-        if look[key] != (wanted := before.get(key, bench.DEFAULT[key])):
-            raise bench.RspError(f"{case.name}: {key} was to be {wanted}, and is {look[key]}")
+        if found[key] != (expected := before.get(key, bench.DEFAULT[key])):
+            raise bench.RspError(f"{case.name}: {key} was to be {expected}, and is {found[key]}")
     return {key: value for key, value in before.items() if value != bench.DEFAULT.get(key)}
 
 
-def entry_of(case: Case, found: Looks) -> Entry:
-    """A case as a file has it."""
+def entry_of(case: Case, found: Observation) -> Entry:
+    """A case in the form of `steps`."""
     before = checked_before(case, found["before"])
     after = bench.differences(found["before"], found["after"])
     _, word, text = found["text"].split(" ", 2)
@@ -42,10 +42,10 @@ def row_text(program: str, row: Row, seed: str, numbers: range) -> str:
     cases = [make_case(row, seed, number) for number in numbers]
     found = bench.observe(program, [(row, case.word, {**bench.DEFAULT, **case.before}) for case in cases])
     lines = []
-    for case, looks in zip(cases, found):
-        if not looks["step"].startswith("step Done"):
-            raise bench.RspError(f"{case.name}: {looks['step']}")
-        lines.append(json.dumps(entry_of(case, looks), separators=(",", ":")) + "\n")
+    for case, observation in zip(cases, found):
+        if not observation["step"].startswith("step Done"):
+            raise bench.RspError(f"{case.name}: {observation['step']}")
+        lines.append(json.dumps(entry_of(case, observation), separators=(",", ":")) + "\n")
     return "".join(lines)
 
 
@@ -53,25 +53,25 @@ def read_row(text: str) -> List[Entry]:
     return [json.loads(line) for line in text.splitlines()]
 
 
-def complaints(entry: Entry, look: Texts) -> List[str]:
-    """How a machine's state after a case differs from what the case says: a text for each difference."""
+def complaints(entry: Entry, got: Texts) -> List[str]:
+    """How a machine's state after a case differs from the expected one: a text for each difference."""
     expected, found = {**bench.DEFAULT, **entry["before"], **entry["after"]}, []
     for key in bench.DEFAULT:
-        if look[key] != expected[key]:
-            found += named(entry, key, expected[key], look[key])
+        if got[key] != expected[key]:
+            found += register_complaints(entry, key, expected[key], got[key])
     for bank in bench.BANKS:
-        if bank in look:
-            found += memory_complaints(entry, bank, look[bank])
+        if bank in got:
+            found += memory_complaints(entry, bank, got[bank])
         elif entry["after"].get(bank):
-            found.append(f"{entry['name']} ({entry['text']}), {bank}: it wasn't looked at")
+            found.append(f"{entry['name']} ({entry['text']}), {bank}: it wasn't compared")
     return found
 
 
 FLAG_NAMES = {"vco": ("carry", "not-equal"), "vcc": ("compare", "clip"), "vce": ("extra",)}
 
 
-def named(entry: Entry, key: str, expected: str, got: str) -> List[str]:
-    """The lanes, flags or whole numbers in which two values differ."""
+def register_complaints(entry: Entry, key: str, expected: str, got: str) -> List[str]:
+    """The lanes, flags or whole numbers in which two values of a register differ."""
     start = f"{entry['name']} ({entry['text']})"
     if len(expected) != len(got):
         return [f"{start}, {key}: expected {expected}, got {got}"]
@@ -91,7 +91,7 @@ def named(entry: Entry, key: str, expected: str, got: str) -> List[str]:
 
 
 def memory_complaints(entry: Entry, bank: str, lines: List[str]) -> List[str]:
-    """The bytes of a memory that aren't as a case says.
+    """The bytes of a memory that aren't the expected ones.
 
     `lines` are the replies of `mem`, from the window on for RDRAM.
     """
@@ -118,21 +118,21 @@ def row_of(entry: Entry) -> Row:
 
 
 def observed_of(entry: Entry) -> bench.Observed:
-    """A case as `observe` takes it. A memory that only `after` names is looked at, too."""
+    """A case in the form that `observe` takes. A memory that only `after` names is queried too."""
     named: Texts = {bank: {} for bank in bench.BANKS if bank in entry["after"]}
     return row_of(entry), int(entry["word"], 16), {**bench.DEFAULT, **named, **entry["before"]}
 
 
 def run_entries(program: str, entries: List[Entry]) -> Iterator[List[str]]:
-    """Runs cases as files have them, and yields the complaints of each."""
+    """Runs cases of `steps`, and yields the complaints of each."""
     return complaints_of(entries, bench.observe(program, map(observed_of, entries)))
 
 
-def complaints_of(entries: List[Entry], observed: Iterable[Looks]) -> Iterator[List[str]]:
+def complaints_of(entries: List[Entry], observed: Iterable[Observation]) -> Iterator[List[str]]:
     """The complaints of each case, from what was seen of it."""
-    for entry, looks in zip(entries, observed):
-        what = f"{entry['name']} ({entry['text']})"
-        if not looks["step"].startswith("step Done"):
-            yield [f"{what}: {looks['step']}"]
+    for entry, observation in zip(entries, observed):
+        name = f"{entry['name']} ({entry['text']})"
+        if not observation["step"].startswith("step Done"):
+            yield [f"{name}: {observation['step']}"]
         else:
-            yield brief(what, complaints(entry, looks["after"]))
+            yield first_complaints(name, complaints(entry, observation["after"]))

@@ -1,14 +1,13 @@
-"""The instruction table: what selects each instruction, and which bits its fields are.
+"""The instruction table: the bits that select each instruction, and those of its fields, to make its words.
 
-docs/INSTRUCTIONS.md says the same in words. Here it serves to make words, so that each instruction can be
-given cases.
+docs/INSTRUCTIONS.md lists them too.
 """
 
 from typing import Any, Dict, Iterator, NamedTuple, Optional, Tuple
 
 
 class Row(NamedTuple):
-    """Its name in lower case, as in assembly text; what the fields are; and the bits that select it."""
+    """An instruction: its name in lower case, the form of its fields, and the bits that select it."""
 
     name: str
     form: str
@@ -16,7 +15,7 @@ class Row(NamedTuple):
     value: int
 
 
-# The fields of a form: the number of each one's lowest bit, and how many bits it has.
+# The fields of each form, each with the number of its lowest bit, and its count of bits.
 T, D, S, IMM = (16, 5), (11, 5), (21, 5), (0, 16)
 FORMS: Dict[str, Dict[str, Tuple[int, int]]] = {
     "shift": {"t": T, "d": D, "sa": (6, 5)},
@@ -49,7 +48,7 @@ OPCODE = 0xFC000000
 MOVE = 0xFFE00000
 COMPUTING = 0xFE00003F
 MEMORY = 0xFC00F800
-HALVES = 0xFC00FB80  # LFV and SFV: only the elements 0 and 8 are theirs
+HALVES = 0xFC00FB80  # LFV and SFV, which have only the elements 0 and 8
 
 SCALE = {"b": 1, "s": 2, "l": 4, "d": 8, "q": 16, "r": 16, "p": 8, "u": 8, "h": 16, "f": 16, "w": 16, "t": 16}
 MPEG = ("vrndp", "vrndn", "vmulq", "vmacq")
@@ -115,10 +114,7 @@ ROWS = {row.name: row for row in all_rows()}
 
 
 def word_of(row: Row, fields: Dict[str, Any]) -> Any:
-    """The canonical word of an instruction with these fields, each taken modulo its width.
-
-    They may be arrays.
-    """
+    """The canonical word with these fields, each taken modulo its width. They may be arrays."""
     word: Any = row.value
     for name, (low, width) in FORMS[row.form].items():
         word |= (fields[name] & (1 << width) - 1) << low
@@ -134,7 +130,7 @@ def ignored_bits(row: Row) -> int:
 
 
 def row_of(word: int) -> Optional[Row]:
-    """The instruction of a word, also if bits of it that are ignored are set; None of a reserved word."""
+    """The instruction of a word, also if ignored bits are set; None for a reserved word."""
     return next((row for row in ROWS.values() if word & row.mask == row.value), None)
 
 

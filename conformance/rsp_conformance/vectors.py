@@ -1,24 +1,40 @@
-"""A folder of test vectors: the instructions that it has, their cases, and their programs."""
+"""A folder of test vectors: its instructions, their cases and their programs, each checked as it is read."""
 
 import json
 import re
 from pathlib import Path
-from typing import Any, Dict, List, Sequence, Set
+from typing import Any, Dict, List, Sequence
 
 from rsp_conformance import HERE, bench
-from rsp_conformance.safe_files import MOST_JSON, read
+from rsp_conformance.safe_files import MOST_JSON, read_file
 from rsp_conformance.steps import Entry
 from rsp_conformance.table import ROWS
 
 VECTORS = HERE / "vectors"  # the small set
+MEMORY = 4096
+# The addresses that are compared after a case. In RDRAM they are those of the window.
+MEMORIES = {
+    "dmem": range(MEMORY),
+    "imem": range(MEMORY),
+    "rdram": range(bench.WINDOW, bench.WINDOW + bench.WINDOW_LENGTH),
+}
+LONGEST_LINE = 1 << 17  # in bytes; a case with all bytes of memories has a third of them
 
 
 class VectorsFault(Exception):
     """Why a folder's vectors can't be run, as a sentence."""
 
 
+class Malformed(ValueError):
+    """Why a case or a program can't be run, as a sentence."""
+
+
+# What the checks below raise for JSON that has other parts than it should.
+MALFORMED = (ValueError, KeyError, TypeError, AttributeError, RecursionError)
+
+
 def names_in(folder: Path, wanted: Sequence[str] = ()) -> List[str]:
-    """The instructions to run: those that are wanted, or all."""
+    """The instructions to run: the wanted ones, or all that the folder has."""
     found = sorted(path.stem for path in (folder / "steps").glob("*.jsonl"))
     if not folder.is_dir():
         raise VectorsFault(f"there is no folder {folder}")
@@ -37,174 +53,123 @@ def names_in(folder: Path, wanted: Sequence[str] = ()) -> List[str]:
 
 def memory_in(path: Path) -> bytes:
     """The bytes of a memory."""
-    if len(data := read(path)) != MEMORY:
+    if len(data := read_file(path)) != MEMORY:
         raise VectorsFault(f"{path} hasn't the 4096 bytes of a memory")
     return data
 
 
-# The addresses that are compared after a case: of RDRAM those of its own bytes.
-MEMORIES = {
-    "dmem": range(4096),
-    "imem": range(4096),
-    "rdram": range(bench.WINDOW, bench.WINDOW + bench.WINDOW_LENGTH),
-}
-MEMORY = 4096
-LONGEST_LINE, LONGEST_TEXT = 1 << 17, 100  # a line in bytes: a case with all bytes of memories has a third
-KEYS = {
-    "before": {*bench.DEFAULT, "divided", *MEMORIES},
-    "after": {*bench.DEFAULT, *MEMORIES},
-    "case": {"name", "word", "text", "choice", "before", "after"},
-    "manifest": {"row", "programs"},
-    "program": {"name", "steps", "layouts", "cases"},
-    "case of a program": {"name", "pc", "word", "text", "at", "layout", "choice"},
-}
-
-
-class Wrong(ValueError):
-    """Why a case or a program isn't one, as a sentence."""
-
-
-def unless(is_right: bool, why: str) -> None:
-    """Wrong, if it isn't right."""
+def require(is_right: object, why: str) -> None:
+    """Raises Malformed if something isn't right."""
     if not is_right:
-        raise Wrong(why)
+        raise Malformed(why)
 
 
-def check_keys(what: str, found: Dict[str, Any]) -> None:
-    """Wrong or AttributeError, if a key isn't known: what it says would be checked by nobody."""
-    for key in found.keys() - KEYS[what]:
-        raise Wrong(f"{what} has the unknown key {key!r:.40}")
+def check_form(what: str, value: Any, form: Any) -> None:
+    """Raises one of MALFORMED unless a value has a form: a regular expression of a text, the forms of the
+    values of keys, or the form of each item of a list. An unknown key is refused, because nothing would
+    compare its value.
+    """
+    if isinstance(form, str):
+        is_right = isinstance(value, str) and re.fullmatch(form, value)
+        require(is_right, f"{what} is {value!r:.40}, and hasn't the form {form}")
+    elif isinstance(form, dict):
+        for key, part in value.items():
+            require(key in form, f"{what} has the unknown key {key!r:.40}")
+            check_form(f"{key} of {what}", part, form[key])
+    else:
+        require(isinstance(value, list), f"{what} is {value!r:.40}, and not a list")
+        for part in value:
+            check_form(what, part, form[0])
 
 
-def is_short(text: Any) -> bool:
-    """Whether this is a text that each difference may repeat."""
-    return isinstance(text, str) and len(text) <= LONGEST_TEXT
+TEXT = "(?s:.{0,100})"  # which each difference may repeat
+WORD, ADDRESS = "[0-9a-f]{8}", "[0-9a-f]{3}"
+STATE = {
+    **{key: f"[0-9a-f]{{{len(text)}}}" for key, text in bench.DEFAULT.items()},
+    **dict.fromkeys(("pc", "npc"), "[0-9a-f]{2}[048c]"),
+}
+CASE = {"name": "[^\ud800-\udfff]{0,100}", "word": WORD, "text": TEXT, "choice": TEXT}
+PROGRAM_CASE = {**CASE, "pc": ADDRESS, "at": ADDRESS, "layout": TEXT}
 
 
-def check_texts(case: Dict[str, Any]) -> None:
-    """Wrong, if the name or the text of a case is none, or is long."""
-    for key in ("name", "text"):
-        told = f"{key} is {case[key]!r:.40}, and not a text of at most {LONGEST_TEXT} characters"
-        unless(is_short(case[key]), told)
-
-
-def is_hexadecimal(text: Any) -> bool:
-    return isinstance(text, str) and {*text} <= {*"0123456789abcdef"}
-
-
-def check_digits(what: str, text: Any, digits: int) -> None:
-    """Wrong, if this isn't a number as `steps` has it."""
-    is_right = is_hexadecimal(text) and len(text) == digits
-    unless(is_right, f"{what} is {text!r:.40}, and not {digits} of the digits 0 to 9 and a to f")
-
-
-def check_bytes(bank: str, address: str, text: Any) -> None:
-    """Wrong, if these are no bytes of a memory that are compared."""
-    is_right = is_hexadecimal(text) and len(text) % 2 == 0
-    unless(is_right, f"{bank} {address!r:.40} is {text!r:.40}, and not bytes in hexadecimal")
-    unless(is_hexadecimal(address) and 0 < len(address) <= 6, f"{bank} has the address {address!r:.40}")
-    at, count, known = int(address, 16), len(text) // 2, MEMORIES[bank]
-    is_right = known.start <= at <= at + count <= known.stop
-    unless(is_right, f"{bank} {address!r} isn't in {known.start:03x} to {known.stop - 1:03x}")
-
-
-def check_state(when: str, state: Dict[str, Any]) -> None:
-    """Wrong, TypeError or AttributeError, if a state names what none has, or isn't as `steps` has it."""
-    check_keys(when, state)
-    for key, value in state.items():
-        if key not in MEMORIES:
-            check_digits(f"{key} of {when}", value, len(bench.DEFAULT.get(key, "divided!")))
-        if key in ("pc", "npc"):
-            is_right = int(value, 16) % 4 == 0
-            unless(is_right, f"{key} of {when} is {value!r}, and not a multiple of 4")
-        for address, text in value.items() if key in MEMORIES else ():
-            check_bytes(key, address, text)
+def check_bytes(bank: str, pieces: Any) -> None:
+    """Refuses bytes that no runner compares."""
+    compared = MEMORIES[bank]
+    for address, text in pieces.items():
+        check_form(f"{bank} {address!r:.40}", text, "([0-9a-f]{2})*")
+        check_form(f"an address of {bank}", address, "[0-9a-f]{1,6}")
+        first = int(address, 16)
+        is_right = compared.start <= first and first + len(text) // 2 <= compared.stop
+        require(is_right, f"{bank} {address!r} isn't in {compared.start:03x} to {compared.stop - 1:03x}")
 
 
 def check_entry(name: str, entry: Any) -> None:
-    """Wrong, KeyError, TypeError or AttributeError, if this is no case of an instruction."""
-    row = ROWS[name.lower()]
-    check_keys("case", entry)
-    check_digits("word", entry["word"], 8)
-    check_texts(entry)
-    is_right = entry["name"].startswith(f"{name}-") and not re.search("[\ud800-\udfff]", entry["name"])
-    unless(is_right, f"its name, {entry['name']!r:.40}, isn't one of {name}")
-    is_right = int(entry["word"], 16) & row.mask == row.value
-    unless(is_right, f"the word {entry['word']} is no {name}")
-    for when in ("before", "after"):
-        check_state(when, entry[when])
+    """Raises one of MALFORMED if this isn't a case of an instruction."""
+    states = {"before": {**STATE, "divided": WORD}, "after": STATE}
+    check_form("the case", {key: entry[key] for key in entry.keys() - states}, CASE)
+    require(entry["name"].startswith(f"{name}-"), f"its name, {entry['name']!r:.40}, isn't one of {name}")
+    row, word = ROWS[name.lower()], int(entry["word"], 16)
+    require(word & row.mask == row.value, f"the word {word:08x} is no {name}")
+    require("text" in entry, "it has no text")
+    for when, form in states.items():
+        registers = {key: text for key, text in entry[when].items() if key not in MEMORIES}
+        check_form(when, registers, form)
+        for bank in entry[when].keys() & MEMORIES:
+            check_bytes(bank, entry[when][bank])
 
 
-NO_JSON = (
-    ValueError,
-    KeyError,
-    TypeError,
-    AttributeError,
-    RecursionError,
-)  # or not of the parts that are due
-
-
-def why(fault: Exception, data: bytes) -> str:
-    """Why data isn't what it should be: a sentence, or how the data begins."""
-    return str(fault) if isinstance(fault, Wrong) else repr(data[:40].decode(errors="replace"))
+def reason_of(fault: Exception, data: bytes) -> str:
+    """Why data is malformed: a sentence, or the beginning of the data."""
+    return str(fault) if isinstance(fault, Malformed) else repr(data[:40].decode(errors="replace"))
 
 
 def entries_in(folder: Path, name: str) -> List[Entry]:
     """The cases of an instruction."""
     entries, path = [], folder / "steps" / f"{name}.jsonl"
-    for number, line in enumerate(read(path).splitlines(), 1):
+    for number, line in enumerate(read_file(path).splitlines(), 1):
         try:
-            unless(len(line) <= LONGEST_LINE, f"it has more than {LONGEST_LINE} bytes")
+            require(len(line) <= LONGEST_LINE, f"it has more than {LONGEST_LINE} bytes")
             entry = json.loads(line)
             check_entry(name, entry)
-        except NO_JSON as fault:
-            raise VectorsFault(f"{path}, line {number}: this isn't a case: {why(fault, line)}") from None
+        except MALFORMED as fault:
+            why = reason_of(fault, line)
+            raise VectorsFault(f"{path}, line {number}: this isn't a case: {why}") from None
         entries.append(entry)
     if not entries:
         raise VectorsFault(f"{path} has no case")
     return entries
 
 
-def check_layouts(layouts: Dict[str, Any]) -> None:
-    """Wrong, TypeError or ValueError, if a field of a layout has no bytes, or is longer than DMEM."""
-    for layout, fields in layouts.items():
-        for what, offset, length in fields:
-            is_right = is_short(what) and type(offset) is type(length) is int and 0 < length <= MEMORY
-            told = f"{offset!r:.40}, {length!r:.40}"
-            unless(is_right, f"layout {layout} has the field {what!r:.40}, {told}: a length is 1 to {MEMORY}")
-
-
 def check_program(entry: Any) -> None:
-    """Wrong, or one of NO_JSON, if this is no program of a manifest."""
-    check_keys("program", entry)
-    is_right = is_short(entry["name"]) and re.fullmatch(r"[\w-]+", entry["name"], re.ASCII)
-    unless(bool(is_right), f"the name {entry['name']!r:.40}")
-    check_layouts(entry["layouts"])
-    lengths = {it: sum(length for _, _, length in fields) for it, fields in entry["layouts"].items()}
+    """Raises one of MALFORMED if this isn't a program of a manifest."""
+    require(not entry.keys() - {"name", "steps", "layouts", "cases"}, f"it has the keys {[*entry]!r:.80}")
+    check_form("its name", entry["name"], "[A-Za-z0-9_-]{1,100}")
+    for layout, fields in entry["layouts"].items():
+        for field, offset, length in fields:
+            check_form(f"a field of layout {layout}", field, TEXT)
+            is_right = type(offset) is type(length) is int and 0 < length <= MEMORY
+            require(is_right, f"layout {layout} has the length {length!r:.40}, and not 1 to {MEMORY}")
+    lengths = {name: sum(field[2] for field in fields) for name, fields in entry["layouts"].items()}
+    check_form("a case", entry["cases"], [PROGRAM_CASE])
     for case in entry["cases"]:
-        check_keys("case of a program", case)
-        check_texts(case)
-        check_digits("at", case["at"], 3)
-        unless(case["layout"] in lengths, f"there is no layout {case['layout']!r:.40}")
+        is_right = {"name", "text", "at"} <= {*case} and case["layout"] in lengths
+        require(is_right, f"it has the case {case!r:.80}")
     count = sum(lengths[case["layout"]] for case in entry["cases"])
-    unless(count <= MEMORY, f"the fields of its cases have {count} bytes, and DMEM has {MEMORY}")
+    require(count <= MEMORY, f"the fields of its cases have {count} bytes, and DMEM has {MEMORY}")
 
 
 def manifest_in(folder: Path, name: str) -> Dict[str, Any]:
     """The manifest of an instruction's programs."""
     path = folder / "programs" / f"{name}.json"
-    names: Set[str] = set()
-    number, data = 0, read(path, MOST_JSON)
+    what, names, data = ": this isn't a manifest of programs", [], read_file(path, MOST_JSON)
     try:
-        found: Dict[str, Any] = json.loads(data)
-        check_keys("manifest", found)
-        for number, entry in enumerate(found["programs"], 1):
+        manifest: Dict[str, Any] = json.loads(data)
+        require(not manifest.keys() - {"row", "programs"}, f"it has the keys {[*manifest]!r:.80}")
+        for number, entry in enumerate(manifest["programs"], 1):
+            what = f", program {number}: this isn't a program"
             check_program(entry)
-            unless(entry["name"] not in names, f"{entry['name']} is there twice")
-            names.add(entry["name"])
-        return found
-    except NO_JSON as fault:
-        what = (
-            f", program {number}: this isn't a program" if number else ": this isn't a manifest of programs"
-        )
-        raise VectorsFault(f"{path}{what}: {why(fault, data)}") from None
+            require(entry["name"] not in names, f"{entry['name']} is there twice")
+            names.append(entry["name"])
+    except MALFORMED as fault:
+        raise VectorsFault(f"{path}{what}: {reason_of(fault, data)}") from None
+    return manifest

@@ -1,4 +1,4 @@
-"""Lanes that have a wanted outcome: drawn until one has it."""
+"""Lanes that have a wanted outcome: random lanes are made until one has it."""
 
 from typing import Any, Dict, List, Sequence
 
@@ -10,7 +10,7 @@ BORDERS = (0, 1 << 31, -1 << 31, LIMIT - 1, -LIMIT)  # where an accumulator is c
 
 
 def near(random: Random, b: int) -> int:
-    """A lane that is close to a limit of the comparisons with b: equal, opposite, or next to these."""
+    """A lane that is close to a limit of the comparisons with b: equal, opposite, or next to one of these."""
     return int(random.pick((b, b, -b, -b, ~b, b + 1, b - 1, -b + 1, -b - 2, b ^ 0x8000))) % 65536
 
 
@@ -21,7 +21,7 @@ def accumulator(random: Random) -> int:
     return wrapped(random.pick(BORDERS) + random.pick((distance, -distance)))
 
 
-def drawn(random: Random, edges: Sequence[int], extremes: Sequence[Any], odd: bool, e: int) -> Lane:
+def random_lane(random: Random, edges: Sequence[int], extremes: Sequence[Any], odd: bool, e: int) -> Lane:
     """A lane of any outcome."""
     b = random.mixed(edges, 16)
     how, flags = random.below(8), random.below(32)
@@ -34,30 +34,27 @@ def drawn(random: Random, edges: Sequence[int], extremes: Sequence[Any], odd: bo
     return lane_of(a, b, accumulator(random), [flags >> bit & 1 for bit in range(5)], odd, e)
 
 
-def aimed(random: Random, kind: Kind, *limits: Any) -> Lane:
-    """A lane that has an outcome; any lane if none was found."""
+def lane_with(random: Random, kind: Kind, *limits: Any) -> Lane:
+    """A lane that has an outcome, or any lane if none is found."""
     for _ in range(TRIES):
-        lane = drawn(random, *limits)
+        lane = random_lane(random, *limits)
         if kind.when(lane):
             break
     return lane
 
 
-def aim(
+def set_wanted_lanes(
     name: str, random: Random, number: int, fields: Dict[str, int], vs: List[int], vt: List[int],
     before: Dict[str, Any], edges: Sequence[int], extremes: Sequence[Any],
 ) -> None:  # fmt: skip
-    """Gives each lane of a case an outcome in its turn.
-
-    The element has to be one that takes each lane for itself.
-    """
+    """Gives each lane of a case another outcome. With the element each lane has to take itself."""
     kinds, odd = possible(name), fields["vs"] % 2 == 1
     flags = {key: int(before[key], 16) for key in ("vco", "vcc", "vce")}
     for lane in range(8):
-        one = aimed(random, kinds[(number + lane) % len(kinds)], edges, extremes, odd, fields["e"])
-        vs[lane], vt[lane] = one.a, one.b
-        before[f"a{lane}"] = f"{one.acc % (2 * LIMIT):012x}"
+        made = lane_with(random, kinds[(number + lane) % len(kinds)], edges, extremes, odd, fields["e"])
+        vs[lane], vt[lane] = made.a, made.b
+        before[f"a{lane}"] = f"{made.acc % (2 * LIMIT):012x}"
         for flag, (key, shift) in FLAGS.items():
             bit = 1 << shift + lane
-            flags[key] = flags[key] & ~bit | bit * getattr(one, flag)
+            flags[key] = flags[key] & ~bit | bit * getattr(made, flag)
     before.update({key: f"{flags[key]:0{len(before[key])}x}" for key in flags})

@@ -1,4 +1,4 @@
-"""Campaigns are run by the Python that runs the tests, which may be the only one with numpy."""
+"""Runs campaigns by the Python that runs the tests, because other ones may lack numpy."""
 
 import os
 import sys

@@ -1,9 +1,9 @@
-"""Emulators for campaigns, all of them the module `rsp`: python:emulator:CLASS in this folder.
+"""Emulators for campaigns, over the module `rsp`: python:emulator:CLASS in this folder.
 
-As a command, `tools/python campaigns.emulator [HOW WORD]`, it answers lines of JSON, but at a case of this
-word (hexadecimal) it hangs, dies, with a long backtrace too, answers garbage, a number out of its range, a
-byte of no memory, or a key that none has. "after" is a fault of two cases: it dies at whatever comes after
-the word.
+The command `tools/python campaigns.emulator [HOW WORD]` answers lines of JSON. At a case of WORD
+(hexadecimal) it misbehaves as HOW says: it hangs, dies, also with a long backtrace, or answers garbage, a
+number out of its range, a byte of no memory, or an unknown key. With "after" it dies at the next case after
+WORD.
 """
 
 import json
@@ -19,7 +19,7 @@ BANKS = {"dmem": (rsp.DMEM, 0, 4096), "imem": (rsp.IMEM, 4096, 4096), "rdram": (
 
 
 class Machine(rsp.Rsp):
-    """A machine with an image of 16384 bytes. All that programs need is its own."""
+    """A machine with an RDRAM of 16384 bytes, which also has the methods that programs need."""
 
     def __init__(self, memories: bytes) -> None:
         super().__init__(bytes(16384))
@@ -38,7 +38,7 @@ class Machine(rsp.Rsp):
         return super().step()
 
     def step(self, case: Any = None) -> Any:
-        """A case, from the memories of the beginning; without one, a step."""
+        """Runs a case with the memories of the beginning, or makes a step if there is no case."""
         if case is None:
             return self.one()
         self.set(rsp.State.from_buffer_copy(case["state"].tobytes()))
@@ -74,7 +74,7 @@ class WrongShift(Machine):
 
 
 class Without(Machine):
-    """Lacks VADD, and takes every second SRA for a reserved word."""
+    """Lacks VADD, and reports every second SRA as a reserved word."""
 
     def step(self, case: Any = None) -> Any:
         word = int(case["word"])
@@ -107,7 +107,7 @@ class WrongStore(Machine):
 
 
 class Remembers(Machine):
-    """Its 99th step changes VCE, too: no `set` makes it forget how many it has made."""
+    """Its 99th step also changes VCE. `set` doesn't reset the count of steps."""
 
     made = 0
 
@@ -124,7 +124,7 @@ class Remembers(Machine):
 
 
 class Few:
-    """Answers one end too few."""
+    """Returns an end too few."""
 
     def __init__(self, memories: bytes) -> None:
         pass
@@ -137,15 +137,16 @@ class Few:
 
 
 def answer(machine: Machine, question: Dict[str, Any]) -> Dict[str, Any]:
-    """What a line is answered by."""
+    """The answer to a line."""
     if initial := question.get("initial"):
         machine.load_all(machine.before)
         machine.set(state_of(initial))
         for at, byte in initial["ram"]:
             machine.load(at // 4096, at % 4096, bytes([byte]))
     status = machine.go(question.get("steps", 1))
-    changed = [(at, it) for at, it in enumerate(machine.memories()) if it != machine.before[at]]
-    ram, rdram = [it for it in changed if it[0] < 8192], [(at - 8192, it) for at, it in changed if at >= 8192]
+    changed = [(at, byte) for at, byte in enumerate(machine.memories()) if byte != machine.before[at]]
+    ram = [(at, byte) for at, byte in changed if at < 8192]
+    rdram = [(at - 8192, byte) for at, byte in changed if at >= 8192]
     return {**numbers_of(machine.get()), "status": status, "ram": ram, "rdram": rdram}
 
 
@@ -177,7 +178,7 @@ def misbehave(how: str) -> None:
 
 
 def answer_hex() -> None:
-    """Lines `word state`, each answered by `status state`."""
+    """Answers lines `word state` by lines `status state`."""
     machine = Machine(bytes(24576))
     for word, state in map(str.split, sys.stdin):
         machine.set(rsp.State.from_buffer_copy(bytes.fromhex(state)[::-1]))

@@ -1,10 +1,12 @@
-"""The library agrees with itself, as each kind of emulator; and what a campaign finds in its folder."""
+"""The library agrees with itself as each kind of emulator; and folders with results of an earlier run."""
 
+import subprocess
+import time
 from pathlib import Path
 
 import pytest
 
-from lib.campaigns import EMULATOR, FEW, agreed, campaign, counts_of, said_of
+from lib.campaigns import CAMPAIGN, EMULATOR, FEW, SOURCES, agreed, campaign, counts_of, output_of, results_of
 from rsp_conformance.campaign.build import built
 
 pytestmark = [pytest.mark.needs("cc", "python:numpy"), pytest.mark.usefixtures("library")]
@@ -18,16 +20,32 @@ KINDS = {
 
 @pytest.mark.parametrize("kind", KINDS)
 def test_library_agrees_with_itself(kind: str, folder: Path) -> None:
-    """A second run does nothing."""
+    """A second run runs no task again."""
     emulator, names, cases = KINDS[kind]
     words = (emulator or built("library"), "--instructions", names, "--cases", cases, "--programs", 3)
-    said = said_of(folder / "out", *words)
-    assert counts_of(folder / "out") == agreed(names, cases, program=(3, 0, 0)), said
-    assert (folder / "out/table.txt").read_text() == said
+    output = output_of(folder / "out", *words)
+    assert counts_of(folder / "out") == agreed(names, cases, program=(3, 0, 0)), output
+    assert (folder / "out/table.txt").read_text() == output
     assert "<table>" in (folder / "out/table.html").read_text()
     before = {path: path.stat().st_mtime_ns for path in folder.glob("out/*-*.json")}
-    said_of(folder / "out", *words)
+    output_of(folder / "out", *words)
     assert {path: path.stat().st_mtime_ns for path in folder.glob("out/*-*.json")} == before
+
+
+def test_results_after_a_stop(folder: Path) -> None:
+    """A campaign that was killed continues, and has the results of one that wasn't."""
+    words = (built("library"), "--instructions", FEW, "--cases", 4000, "--size", 500)
+    output_of(folder / "whole", *words)
+    process = subprocess.Popen([CAMPAIGN, *map(str, words), "--here", folder / "killed"], cwd=SOURCES)
+    while process.poll() is None and len([*folder.glob("killed/*-*.json")]) < 3:
+        time.sleep(0.01)
+    process.kill()
+    process.wait()
+    left = {path.name: path.stat().st_mtime_ns for path in folder.glob("killed/*-*.json")}
+    assert len(left) < 64
+    output_of(folder / "killed", *words)
+    assert results_of(folder / "killed") == results_of(folder / "whole")
+    assert all((folder / "killed" / name).stat().st_mtime_ns == written for name, written in left.items())
 
 
 OTHER = {
@@ -48,20 +66,20 @@ MINE = ("python:mine:Mine", "--instructions", "add", "--cases", 20, "--here")
 
 
 def test_results_of_an_earlier_run(folder: Path) -> None:
-    """They are used if a file has changed that nobody has named, which the output says, with the files."""
+    """They count although a file has changed that nobody has named, and the output names the others."""
     core_in(folder, "Machine")
     first = campaign(*MINE, "out", cwd=folder).stdout
     core_in(folder, "Forgets")
     again = campaign(*MINE, "out", cwd=folder).stdout
-    told = "Not run again: 1 of 1 task, whose results an earlier run has left in out. They count because "
-    told += f"these files of the emulator haven't changed since: {folder}/mine.py. "
-    told += "If it has others, name them by --files.\n"
-    assert "20 cases and 0 programs: 0 differ" in first and again == first + told
+    expected = "Not run again: 1 of 1 task, whose results an earlier run has left in out. They count because "
+    expected += f"these files of the emulator haven't changed since: {folder}/mine.py. "
+    expected += "If it has others, name them by --files.\n"
+    assert "20 cases and 0 programs: 0 differ" in first and again == first + expected
 
 
 @pytest.mark.parametrize("named", ["core.py", "../more"])
 def test_file_that_has_changed(named: str, folder: Path) -> None:
-    """An emulator is another one if a file has changed that --files names, or one in a folder."""
+    """The emulator is another one if a file has changed that --files names, or that is in a named folder."""
     (folder / "more/below/__pycache__").mkdir(parents=True)
     (folder / "work").mkdir()
     core_in(folder / "work", "Machine")
@@ -76,14 +94,14 @@ def test_file_that_has_changed(named: str, folder: Path) -> None:
 
 
 def test_folder_of_another_campaign(folder: Path) -> None:
-    """It is refused, with what it has otherwise and what to do, and so is a result that is spoilt."""
+    """It is refused with the difference and with what to do, and so is a spoilt result."""
     words = (built("library"), "--instructions", "beq", "--cases", 40)
-    said_of(folder, *words)
+    output_of(folder, *words)
     for other, why in OTHER.items():
         ended = campaign(*words, *other, "--here", folder)
         how = "take another folder for OUT, or delete this one"
-        told = f"campaign: {folder} holds another campaign: {why}; {how}\n"
-        assert (ended.returncode, ended.stderr) == (1, told)
+        expected = f"campaign: {folder} holds another campaign: {why}; {how}\n"
+        assert (ended.returncode, ended.stderr) == (1, expected)
     (folder / "beq-0-40.json").write_text("{")
     ended = campaign(*words, "--here", folder)
     assert ended.returncode == 1 and "beq-0-40.json isn't a result" in ended.stderr

@@ -1,13 +1,11 @@
-"""The cases of campaigns: numbered, with PCG64's random words, at edges, and with all pairs that matter."""
+"""The cases of campaigns: their numbers, PCG64's random words, operands at edges, and pairs of values."""
 
 import hashlib
 from typing import Any, Callable, Iterator, Tuple
 
 import pytest
 
-from lib import TOP
 from lib.packages import is_here
-from lib.processes import succeeds
 from rsp_conformance.cases import signed
 from rsp_conformance.table import ROWS
 
@@ -25,18 +23,20 @@ MULTIPLIER = 0x2360ED051FC65DA44385DF649FCCF645
 
 @pytest.mark.parametrize("name", ROWS)
 def test_numbered_cases(name: str, library: object) -> None:
-    """A case alone is that of any range, and a machine can be in its state."""
-    whole, part = cases_of(name, "t", 0, 1500)[0], cases_of(name, "t", 900, 300)[0]
-    assert part.tobytes() == whole[900:1200].tobytes()
+    """A case is the same in any range, and a machine can be in its state."""
+    all_cases, part = cases_of(name, "t", 0, 1500)[0], cases_of(name, "t", 900, 300)[0]
+    assert part.tobytes() == all_cases[900:1200].tobytes()
     for number in 0, 901, 1024, 1499:
-        assert cases_of(name, "t", number, 1)[0][0].tobytes() == whole[number].tobytes(), number
+        assert cases_of(name, "t", number, 1)[0][0].tobytes() == all_cases[number].tobytes(), number
     ends = np.zeros(1500, END)
-    Object(built("library"), memories_of("add", "t")).fill(whole, ends)  # it refuses a state of no machine
+    Object(built("library"), memories_of("add", "t")).fill(
+        all_cases, ends
+    )  # which refuses a state that no machine has
     assert not ends["status"].any()
 
 
 def raw_words(what: str, seed: str, start: int, count: int) -> Iterator[int]:
-    """Words of PCG64 as its paper has it (XSL-RR 128/64), each by a jump of its own."""
+    """Words of PCG64 by its definition (XSL-RR 128/64), each by a jump of its own."""
     key = int.from_bytes(hashlib.sha256(f"2/{what}/{seed}".encode()).digest(), "little")
     state, increment = key >> 128, key % 2**128 | 1
     for number in range(start + 1, start + count + 1):
@@ -64,7 +64,7 @@ def selected(e: int, lane: int) -> int:
 
 
 def operands_of(name: str, count: int) -> Tuple[Any, Any, Any, Any]:
-    """The elements of cases, their operands a and b by lanes, and accumulators; all from words and states."""
+    """The elements of cases, the operands a and b of their lanes, and their accumulators."""
     cases, each = cases_of(name, "t", 0, count)[0], np.arange(count)
     word, vectors = cases["word"].astype(np.int64), cases["state"]["vectors"].astype(np.int64)
     e, lanes = word >> 21 & 15, np.array([[selected(e, lane) for lane in range(8)] for e in range(16)])
@@ -84,14 +84,14 @@ def test_addresses() -> None:
 
 
 def test_lanes_next_to_one_another() -> None:
-    """VADD meets each element, and a lane of five is next to the other operand's."""
+    """VADD meets each element, and one lane of five is next to that of the other operand."""
     e, a, b, _accumulators = operands_of("vadd", 1 << 16)
     assert len(np.unique(e)) == 16
     assert (np.isin(a - b, (0, 1, -1)) | np.isin(a + b, (0xFFFF, 0x10000))).mean() > 0.2
 
 
 def test_limits_of_clamps() -> None:
-    """A lane of 100 of VMACF comes to a limit of the clamp."""
+    """One lane of 100 of VMACF reaches a limit of the clamp."""
     _e, a, b, accumulators = operands_of("vmacf", 1 << 16)
     sums = accumulators + 2 * signed(a, 16) * signed(b, 16)
     assert np.isin(sums, [limit + by for limit in (-1 << 31, 1 << 31) for by in (-1, 0, 1)]).mean() > 0.01
@@ -99,13 +99,8 @@ def test_limits_of_clamps() -> None:
 
 @pytest.mark.parametrize("name", ROWS)
 def test_pairs(name: str) -> None:
-    """Over 65,536 cases each pair that matters is as frequent as in independent draws."""
+    """In 65,536 cases no pair is rarer than if its values were independent."""
     assert pair_coverage.short(ROWS[name], cases_of(name, "1", 0, pair_coverage.COUNT)[0]) == []
-
-
-def test_command_of_pairs() -> None:
-    said = succeeds(TOP / "tools/python", "rsp_conformance.campaign.pair_coverage", "lqv", "VMOV")
-    assert said == "LQV has all\nVMOV has all\n"
 
 
 @pytest.mark.parametrize(
@@ -119,7 +114,7 @@ def test_command_of_pairs() -> None:
     ids=["a base that is never $0", "a lane by the element", "an element by a register", "one by the number"],
 )
 def test_missing_pairs(name: str, low: int, field: int, value: Callable[[Any, Any], Any]) -> None:
-    """A lacking pair is found."""
+    """The test of pairs finds a planted dependency of two values."""
     cases = cases_of(name, "1", 0, pair_coverage.COUNT)[0]
     word = cases["word"].astype(np.int64)
     cases["word"] = word & ~(field << low) | value(word, np.arange(pair_coverage.COUNT)) << low

@@ -1,7 +1,6 @@
-"""Campaigns on clusters of Dask give the results of one process, also where a part of the cluster is lost."""
+"""Campaigns on clusters of Dask give the results of one process, also after a part of the cluster is lost."""
 
 import contextlib
-import signal
 import subprocess
 import sys
 import tempfile
@@ -11,7 +10,7 @@ from typing import Any, Dict, Iterator, List, Tuple
 
 import pytest
 
-from lib.campaigns import CAMPAIGN, FEW, SOURCES, campaign, faulty, results_of, said_of
+from lib.campaigns import CAMPAIGN, FEW, SOURCES, campaign, faulty, results_of, output_of
 
 pytestmark = [
     pytest.mark.needs("cc", "python:numpy", "python:distributed"),
@@ -27,7 +26,7 @@ TASKS = 3 * len(FEW.split(",")) + 2
 def test_local_cluster(folder: Path) -> None:
     """A local cluster of two workers gives the results of one process."""
     words = ("--instructions", "vadd,lqv,vxor", "--cases", 3000, "--size", 2000, *PROGRAMS)
-    said_of(folder / "here", faulty(2), *words)
+    output_of(folder / "here", faulty(2), *words)
     ended = campaign(faulty(2), *words, "--workers", 2, folder / "cluster")
     assert ended.returncode == 0, ended.stderr
     assert len(results_of(folder / "here")) == 9
@@ -42,7 +41,7 @@ def words_of_campaign() -> Tuple[object, ...]:
 def quiet() -> Dict[str, Any]:
     """The results of an undisturbed campaign."""
     with tempfile.TemporaryDirectory() as folder:
-        said_of(Path(folder), *words_of_campaign())
+        output_of(Path(folder), *words_of_campaign())
         found = results_of(Path(folder))
     assert len(found) == TASKS + 1
     return found
@@ -69,45 +68,27 @@ def cluster() -> Iterator[Tuple[str, List[Any]]]:
 def started(address: str, out: Path, results: int) -> "subprocess.Popen[str]":
     """A campaign on a cluster that has some results."""
     pipes: Dict[str, Any] = {"stdout": subprocess.PIPE, "stderr": subprocess.PIPE}
-    words = [str(it) for it in (CAMPAIGN, *words_of_campaign(), "--scheduler", address, out)]
-    client = subprocess.Popen(words, text=True, cwd=SOURCES, **pipes)
+    words = map(str, (CAMPAIGN, *words_of_campaign(), "--scheduler", address, out))
+    client = subprocess.Popen([*words], text=True, cwd=SOURCES, **pipes)
     while client.poll() is None and len(list(out.glob("*-*.json"))) < results:
         time.sleep(0.05)
     return client
 
 
 @LOST
-def test_lost_worker(quiet: Dict[str, Any], folder: Path) -> None:
-    with cluster() as (address, begun):
-        client = started(address, folder / "out", 3)
-        begun[1].kill()
-        told = client.communicate(timeout=300)
-    assert client.returncode == 0, told
-    assert results_of(folder / "out") == quiet
-
-
-@LOST
-def test_lost_client(quiet: Dict[str, Any], folder: Path) -> None:
-    """It is killed twice, and goes on."""
-    with cluster() as (address, _begun):
-        for count in (4, 12):
-            client = started(address, folder / "out", count)
-            client.send_signal(signal.SIGKILL)
-            client.communicate(timeout=60)
-            assert len(results_of(folder / "out")) < TASKS
-        ended = campaign(*words_of_campaign(), "--scheduler", address, folder / "out")
-    assert ended.returncode == 0, ended.stderr
-    assert results_of(folder / "out") == quiet
-
-
-@LOST
-def test_lost_scheduler(quiet: Dict[str, Any], folder: Path) -> None:
-    """A sentence says so, and a local cluster goes on."""
-    with cluster() as (address, begun):
-        client = started(address, folder / "out", 3)
-        begun[0].kill()
-        lost = client.communicate(timeout=300)[1]
-    assert client.returncode == 1 and "the scheduler is gone" in lost and "start it again" in lost
-    ended = campaign(*words_of_campaign(), "--workers", 2, folder / "out")
-    assert ended.returncode == 0, ended.stderr
-    assert results_of(folder / "out") == quiet
+@pytest.mark.parametrize("lost", ["client", "scheduler", "worker"])
+def test_lost_part(lost: str, quiet: Dict[str, Any], folder: Path) -> None:
+    """Without a worker a campaign continues. Without the scheduler it ends with a sentence. It can be started
+    again.
+    """
+    out = folder / "out"
+    with cluster() as (address, processes):
+        client = started(address, out, 3)
+        {"client": client, "scheduler": processes[0], "worker": processes[1]}[lost].kill()
+        errors = client.communicate(timeout=300)[1]
+    assert (client.returncode == 0) == (lost == "worker"), errors
+    if lost != "worker":
+        assert len(results_of(out)) < TASKS
+        assert lost == "client" or "the scheduler is gone" in errors and "start it again" in errors
+        assert campaign(*words_of_campaign(), "--workers", 2, out).returncode == 0
+    assert results_of(out) == quiet

@@ -1,11 +1,12 @@
-"""Emulators that hang, die and answer garbage: each fault is named by its case, and the rest is done."""
+"""Emulators that hang, die and answer garbage: each fault is named by its case, and all other cases are run.
+"""
 
 import re
 from pathlib import Path
 
 import pytest
 
-from lib.campaigns import EMULATOR, agreed, campaign, counts_of, faulty, said_of
+from lib.campaigns import EMULATOR, agreed, campaign, counts_of, faulty, output_of
 from lib.packages import is_here
 from rsp_conformance.campaign import CampaignFault
 from rsp_conformance.campaign.protocol import name_of
@@ -31,21 +32,23 @@ def word_17() -> str:
 
 
 def forty(emulator: str, out: Path, *more: object) -> str:
-    """What 40 cases say, one of them with a fault and all others done."""
-    said = said_of(out, emulator, "--instructions", "vadd", "--cases", 40, *more)
-    assert counts_of(out) == {"vadd": (40, 1, 1)}, said
-    return said
+    """The output of 40 cases, of which one has a fault, and all others agree."""
+    output = output_of(out, emulator, "--instructions", "vadd", "--cases", 40, *more)
+    assert counts_of(out) == {"vadd": (40, 1, 1)}, output
+    return output
 
 
 @pytest.mark.parametrize("how", WRONG)
 def test_command(how: str, folder: Path) -> None:
-    said = forty(f"{EMULATOR} {how} {word_17()}", folder, "--limit", 10)
-    assert f"{CASE_17}: " in said and WRONG[how] in said
-    assert how != "panic" or re.search(r" / \.\. / .*at a function / at main\n", said), "the last lines, too"
+    output = forty(f"{EMULATOR} {how} {word_17()}", folder, "--limit", 10)
+    assert f"{CASE_17}: " in output and WRONG[how] in output
+    assert how != "panic" or re.search(
+        r" / \.\. / .*at a function / at main\n", output
+    ), "the last lines, too"
 
 
 @pytest.mark.parametrize(
-    "how, told",
+    "how, message",
     [
         ("byte", "no byte of a memory"),
         ("range", "pc is 65536, not 0 to 65535"),
@@ -54,39 +57,41 @@ def test_command(how: str, folder: Path) -> None:
     ],
     ids=str,
 )
-def test_answer_that_is_none(how: str, told: str) -> None:
-    """A number out of its range, a byte of no memory, and keys that none has."""
+def test_answer_that_is_none(how: str, message: str) -> None:
+    """A number out of its range, a byte of no memory, and unknown keys are refused."""
     command = Command(f"{EMULATOR} {how} {word_17()}", memories_of("vadd", "1"))
-    with pytest.raises(CampaignFault, match=told):
+    with pytest.raises(CampaignFault, match=message):
         command.step(cases_of("vadd", "1", 17, 1)[0][0])
     command.process.communicate(timeout=60)
 
 
 @pytest.mark.parametrize("is_late", [False, True], ids=["of two cases", "after the batch"])
 def test_fault_that_a_case_does_not_show(is_late: bool, folder: Path) -> None:
-    """Its cause is named."""
+    """The first case of the run that repeats the fault is named."""
     emulator = faulty(3, f"-DWORD=0x{word_17()}") if is_late else f"{EMULATOR} after {word_17()}"
     late = f"{CASE_39}: ended by SIGABRT; it wrote: core: \\x1b[31mboom"
     what = late if is_late else f"{CASE_18}: {WRONG['die']}"
-    said = forty(emulator, folder)
-    assert f"{what}; the shortest run that shows it begins with {CASE_17}" in said
+    output = forty(emulator, folder)
+    assert f"{what}; the shortest run that shows it begins with {CASE_17}" in output
 
 
 def test_difference_that_depends_on_what_ran_before(folder: Path) -> None:
-    """It is no fault, and is shown. The program isn't cut down, because it agrees the next time."""
-    said = said_of(
+    """It is shown as a difference. The program isn't cut down, because it agrees the next time."""
+    output = output_of(
         folder, "python:emulator:Remembers", "--cases", 0, "--programs", 2, "--instructions", "xor"
     )
     why = "not cut down, because it depends on what the emulator ran before"
     assert re.search(
-        rf"PROGRAM-g2-1-000000: steps 1 to 100, from xor .* on: vce: expected .*; {why}", said
-    ), said
+        rf"PROGRAM-g2-1-000000: steps 1 to 100, from xor .* on: vce: expected .*; {why}", output
+    ), output
     assert counts_of(folder) == {"program": (2, 1, 0)}
 
 
 def test_lost_register(folder: Path) -> None:
-    said = campaign("python:emulator:Forgets", "--cases", 0, "--programs", 1, "--here", folder).stdout
-    assert re.search(r"(?m)PROGRAM-g2-1-000000: step 0, .*: \$5: expected [0-9a-f]{8}, got 0{8}$", said), said
+    output = campaign("python:emulator:Forgets", "--cases", 0, "--programs", 1, "--here", folder).stdout
+    assert re.search(
+        r"(?m)PROGRAM-g2-1-000000: step 0, .*: \$5: expected [0-9a-f]{8}, got 0{8}$", output
+    ), output
 
 
 def test_array_of_another_shape(folder: Path) -> None:
@@ -100,9 +105,11 @@ def test_array_of_another_shape(folder: Path) -> None:
 
 
 def test_command_of_hexadecimal_lines(folder: Path) -> None:
-    """It agrees. Cases of memories are none for it, and of one that ends early the first case is named."""
-    said = said_of(folder / "all", f"hex:{EMULATOR} hex", "--instructions", "vrcpl,beq,sqv", "--cases", 1100)
-    assert counts_of(folder / "all") == agreed("vrcpl,beq,sqv", 1100), said
-    assert re.search(r"(?m)^SQV +0 +1100 +0 ", said), said
-    said = said_of(folder / "few", "hex:true", "--instructions", "vadd", "--cases", 1)
-    assert f"{name_of('vadd', '1', 0)}: the command ended with status 0, without this answer" in said
+    """It agrees, and isn't given cases of memories. If a command ends early, its first case is named."""
+    output = output_of(
+        folder / "all", f"hex:{EMULATOR} hex", "--instructions", "vrcpl,beq,sqv", "--cases", 1100
+    )
+    assert counts_of(folder / "all") == agreed("vrcpl,beq,sqv", 1100), output
+    assert re.search(r"(?m)^SQV +0 +1100 +0 ", output), output
+    output = output_of(folder / "few", "hex:true", "--instructions", "vadd", "--cases", 1)
+    assert f"{name_of('vadd', '1', 0)}: the command ended with status 0, without this answer" in output

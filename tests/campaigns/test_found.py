@@ -6,7 +6,7 @@ from typing import Any, Dict
 
 import pytest
 
-from lib.campaigns import agreed, campaign, counts_of, faulty, programs_in, said_of
+from lib.campaigns import agreed, campaign, counts_of, faulty, programs_in, output_of
 from lib.processes import run, succeeds
 from rsp_conformance.campaign.protocol import name_of
 
@@ -15,59 +15,59 @@ pytestmark = [pytest.mark.needs("cc", "python:numpy"), pytest.mark.usefixtures("
 
 def test_lane_at_one_edge(folder: Path) -> None:
     """A lane of VADD is found by cases, named, and shown again by the case's name."""
-    said = said_of(folder / "out", faulty(1), "--instructions", "vadd,vsub", "--cases", 20000)
+    output = output_of(folder / "out", faulty(1), "--instructions", "vadd,vsub", "--cases", 20000)
     counts = counts_of(folder / "out")
     assert counts["vsub"] == (20000, 0, 0) and counts["vadd"][1] > 3
-    shown = r"(VADD-g2-1-\d{6}) \(vadd .*\): \$v\d+ lane 5: expected [0-9a-f]+, got [0-9a-f]+"
-    first = re.search(shown, said)
-    assert first, said
+    form = r"(VADD-g2-1-\d{6}) \(vadd .*\): \$v\d+ lane 5: expected [0-9a-f]+, got [0-9a-f]+"
+    first = re.search(form, output)
+    assert first, output
     again = campaign(faulty(1), "--case", first[1]).stdout
     assert again.startswith(first[1]) and "lane 5: expected" in again
 
 
 def test_state_before() -> None:
     """A difference is shown with what the instruction read: in the table that of the lane, by --case all."""
-    said = campaign(faulty(1), "--case", f"{name_of('vadd', '1', 0)}..020000").stdout
-    told = re.search(r"(VADD-\S+) \(.* at \w+; a 7fff, b 7fff, carry 1\): \$v\d+ lane 5: ", said)
-    assert told, said
-    whole = campaign(faulty(1), "--case", told[1]).stdout
+    output = campaign(faulty(1), "--case", f"{name_of('vadd', '1', 0)}..020000").stdout
+    case = re.search(r"(VADD-\S+) \(.* at \w+; a 7fff, b 7fff, carry 1\): \$v\d+ lane 5: ", output)
+    assert case, output
+    case_output = campaign(faulty(1), "--case", case[1]).stdout
     for line in (r"before: a( \w{4}){5} 7fff", r"before: b( \w{4}){5} 7fff", r"before: carry( \d){5} 1"):
-        assert re.search(line, whole), whole
+        assert re.search(line, case_output), case_output
 
 
 def test_sequence_is_not_in_cases(folder: Path) -> None:
-    said_of(folder, faulty(2), "--instructions", "lqv,vxor", "--cases", 5000)
+    output_of(folder, faulty(2), "--instructions", "lqv,vxor", "--cases", 5000)
     assert counts_of(folder) == agreed("lqv,vxor", 5000)
 
 
 def test_sequence_in_programs(program: Path, folder: Path) -> None:
     """A sequence of two instructions is found by programs. Each is named, cut down, and can be replayed."""
-    said = said_of(folder, faulty(2), "--cases", 0, "--programs", 300)
-    assert counts_of(folder)["program"][1] > 3, said
+    output = output_of(folder, faulty(2), "--cases", 0, "--programs", 300)
+    assert counts_of(folder)["program"][1] > 3, output
     found = programs_in(folder)
     assert found
-    for it in found:
-        assert re.match(r"PROGRAM-g2-1-\d{6}: step \d+, vxor ", it["shown"])
-        assert ([line.split()[1] for line in it["listing"]], it["steps"]) == (["lqv", "vxor"], 2)
-        assert_replays(program, folder, it)
+    for cut in found:
+        assert re.match(r"PROGRAM-g2-1-\d{6}: step \d+, vxor ", cut["shown"])
+        assert ([line.split()[1] for line in cut["listing"]], cut["steps"]) == (["lqv", "vxor"], 2)
+        assert_replays(program, folder, cut)
 
 
-def assert_replays(program: Path, folder: Path, it: Dict[str, Any]) -> None:
+def assert_replays(program: Path, folder: Path, cut: Dict[str, Any]) -> None:
     """The text of a program that was cut down makes its words, and its script ends as the library does.
 
-    The script loads nothing that is there anyway: without that it has three times as many lines.
+    The script doesn't load bytes that are in memory already, because it would have three times as many lines.
     """
-    source, script = (folder / "programs" / f"{it['name']}.{kind}" for kind in ("s", "script"))
+    source, script = (folder / "programs" / f"{cut['name']}.{kind}" for kind in ("s", "script"))
     found = re.match(r"# rsp asm --at (\d+)", source.read_text())
     at = ("--at", found[1] if found else "0")
     succeeds(program, "asm", *at, source, folder / "made")
-    told = succeeds(program, "dis", *at, folder / "made")
-    texts = [line.split(": ", 1)[1] for line in it["listing"]]
-    assert texts and all(text in told for text in texts), told
+    case = succeeds(program, "dis", *at, folder / "made")
+    texts = [line.split(": ", 1)[1] for line in cut["listing"]]
+    assert texts and all(text in case for text in texts), case
     assert script.read_text().count("\n") < 200
     ended = run(program, "run", input=script.read_text())
     assert ended.returncode == 0 and "fault" not in ended.stdout
-    expected = re.match(r"\$v(\d+) lane 0: expected ([0-9a-f]+)", it["differs"][0])
+    expected = re.match(r"\$v(\d+) lane 0: expected ([0-9a-f]+)", cut["differs"][0])
     assert expected
     last = [line for line in ended.stdout.splitlines() if line.startswith(f"v{int(expected[1]):02d}")][-1]
     assert last.split()[1] == f"{int(expected[2], 16):04x}"

@@ -8,7 +8,7 @@ from typing import Any, List
 import pytest
 
 from lib import TOP
-from lib.campaigns import SOURCES, agreed, counts_of, faulty, said_of
+from lib.campaigns import SOURCES, agreed, counts_of, faulty, output_of
 from lib.packages import is_here, need
 from lib.processes import compiled, run, run_bytes, succeeds
 
@@ -47,8 +47,8 @@ def test_wrapper_in_cpp(folder: Path) -> None:
     """It is an emulator that agrees."""
     words = ("-std=c++17", *STRICT, "-shared", "-fPIC", SOURCES / "wrapper.cpp", LIBRARY)
     wrapper, names = compiled(folder / "wrapper.so", *words, compiler="c++"), "vadd,sqv,mtc0"
-    said = said_of(folder / "out", wrapper, "--instructions", names, "--cases", 300, "--programs", 2)
-    assert counts_of(folder / "out") == agreed(names, 300, program=(2, 0, 0)), said
+    output = output_of(folder / "out", wrapper, "--instructions", names, "--cases", 300, "--programs", 2)
+    assert counts_of(folder / "out") == agreed(names, 300, program=(2, 0, 0)), output
 
 
 def first_in_words(found: Any) -> List[str]:
@@ -56,7 +56,7 @@ def first_in_words(found: Any) -> List[str]:
     if not found:
         return []
     what = f"{found.step} {found.steps} {found.address:03x} {found.word:08x} {found.text}"
-    parts = (f"{it.name} {it.value:x} {it.other:x} {it.digits}" for it in found.parts)
+    parts = (f"{part.name} {part.value:x} {part.other:x} {part.digits}" for part in found.parts)
     return [f"{what} pc {found.before.pc:03x}", *parts]
 
 
@@ -69,12 +69,12 @@ def test_first_difference(fault: int, every: int, limit: int, folder: Path) -> N
     differ = 0
     for number in range(6):
         program = program_of(["vadd", "vxor", "lqv", "ctc2", "vlt", "mtc0", "sqv"], "1", number)
-        given = b"".join(it.to_bytes(4, "little") for it in (every, limit)) + bytes(program.raw)
-        wanted = first_in_words(sides.first_difference(program, limit, every))
-        told = run_bytes(compare, [], given).stdout.decode().splitlines()
-        told[1:] = [re.sub(r" 0*(?=[0-9a-f]+ )", " ", line) for line in told[1:]]
-        assert told == wanted, number
-        differ += bool(wanted)
+        input_bytes = b"".join(value.to_bytes(4, "little") for value in (every, limit)) + bytes(program.raw)
+        expected = first_in_words(sides.first_difference(program, limit, every))
+        lines = run_bytes(compare, [], input_bytes).stdout.decode().splitlines()
+        lines[1:] = [re.sub(r" 0*(?=[0-9a-f]+ )", " ", line) for line in lines[1:]]
+        assert lines == expected, number
+        differ += bool(expected)
     assert differ > 3 or fault == 3  # which no program meets without its word
 
 
@@ -83,7 +83,7 @@ def test_runner_of_flat_vectors(folder: Path) -> None:
     source, vectors = TOP / "conformance/runner.c", TOP / "conformance/vectors"
     runner = compiled(folder / "runner", "-std=c11", *STRICT, source, LIBRARY)
     succeeds(TOP / "conformance/generate", "--flat", "--hex", "--of", vectors, folder)
-    count = sum(it.read_text().count("\n") for it in vectors.glob("steps/*"))
+    count = sum(path.read_text().count("\n") for path in vectors.glob("steps/*"))
     assert succeeds(runner, *(folder / "flat").iterdir()) == f"{count} passed, 0 failed\n"
     spoilt = bytearray((folder / "flat/VCH.bin").read_bytes())
     line = (folder / "hex/VCH.hex").read_text().partition("\n")[0]
@@ -93,6 +93,6 @@ def test_runner_of_flat_vectors(folder: Path) -> None:
     case = json.loads((vectors / "steps/VCH.jsonl").read_text().splitlines()[0])
     vs, vt = (case["before"][f"v{int(case['word'], 16) >> low & 31}"] for low in (11, 16))
     operands = f"lane 3, a {vs[12:16]}, b {vt[12:16]}"
-    told = run(runner, folder / "spoilt").stdout
-    assert told.startswith(f"VCH-000 ({case['text']}; {operands}), vcc: expected "), told
+    output = run(runner, folder / "spoilt").stdout
+    assert output.startswith(f"VCH-000 ({case['text']}; {operands}), vcc: expected "), output
     assert "has no flat vectors" in run(runner, source).stdout

@@ -1,13 +1,13 @@
-"""Which fault that is planted in a second core is found by what.
+"""Which planted faults of a second core are found by cases, by programs and by vectors.
 
-second.c is a core of its own, written from the pages alone, and bugs.tsv lists the faults that can be planted
-in it. Each test builds the core with one of them (0 is the core without a fault), and looks for it in
+second.c is a core that was written from the pages alone, and bugs.tsv lists the faults that can be planted in
+it. Each test builds the core with one of them (0 is the core without a fault), and searches for it in
 
   cases     65,536 cases of each instruction that the list names: those of the others can't differ
   programs  100 random programs of 1,000 steps, of all instructions
   vectors   the small set of all instructions, `steps` and `programs`, those of the list first
 
-MISSED lists the faults that one of these doesn't find. None is missed by all three.
+MISSED lists the faults that one of these doesn't find. No fault is missed by all three.
 """
 
 import ctypes
@@ -31,7 +31,7 @@ pytestmark = [pytest.mark.needs("cc", "python:numpy"), pytest.mark.usefixtures("
 
 CORE = TESTS / "campaigns/second.c"
 CASES = 65536
-PROGRAM_RANGES = ((0, 4), (5, 19), (20, 99))  # the first that has a difference is enough
+PROGRAM_RANGES = ((0, 4), (5, 19), (20, 99))  # until one of them has a difference
 OPTIONS = {"instructions": [*ROWS], "steps": 1000, "limit": 20, "files": [], "whole": False}
 DMEM, IMEM, RDRAM = 0, 4096, 8192
 
@@ -58,7 +58,7 @@ class Core(ctypes.Structure):
 
 
 def checked(core: Path, name: str, first: int, count: int) -> Dict[str, Any]:
-    """What a campaign's task finds: cases of an instruction, or programs."""
+    """The result of a campaign's task: of cases of an instruction, or of programs."""
     result = check(str(core), name, "1", first, count, OPTIONS)
     assert "given up" not in result, result
     return result
@@ -90,7 +90,7 @@ def put(core: Core, texts: states.Texts) -> None:
 
 
 def core_of(case: Entry, *parts: str) -> Core:
-    """The core in the state of a case: that before it, with what `parts` put over it."""
+    """The core in the state before a case, or after it, from these parts of the case."""
     core = Core(rdram_length=1 << 17)
     named = {key: text for part in parts for key, text in case[part].items()}
     core.state = library_states.state_of(states.numbers_of({**bench.DEFAULT, **named}))
@@ -101,7 +101,7 @@ def core_of(case: Entry, *parts: str) -> Core:
 
 
 def vectors_of(name: str, lib: ctypes.CDLL, folder: Path = VECTORS) -> Iterator[Tuple[str, bool]]:
-    """Each case and each program of an instruction, and whether the core does as it says."""
+    """Each case and each program of an instruction, and whether the core leaves the expected state."""
     for case in entries_in(folder, name):
         core, after = core_of(case, "before"), core_of(case, "before", "after")
         lib.core_step(ctypes.byref(core))
@@ -117,9 +117,9 @@ def vectors_of(name: str, lib: ctypes.CDLL, folder: Path = VECTORS) -> Iterator[
 
 
 def in_vectors(path: Path, names: List[str]) -> str:
-    """The first vector that the core fails, those of the bug's instructions first."""
+    """The first vector in which the core differs. Those of the bug's instructions are tried first."""
     lib = ctypes.CDLL(str(path))
-    found = (it for name in dict.fromkeys([*names, *ROWS]) for it in vectors_of(name.upper(), lib))
+    found = (vector for name in dict.fromkeys([*names, *ROWS]) for vector in vectors_of(name.upper(), lib))
     return next((vector for vector, is_same in found if not is_same), "no")
 
 
@@ -138,27 +138,27 @@ def core_with(bug: int, folder: Path) -> Path:
 
 @pytest.mark.parametrize("bug", (95, 96))
 def test_lanes_written_one_after_the_other(bug: int, folder: Path) -> None:
-    """Cases and programs of each instruction whose lanes can show it find it."""
+    """It is found by cases and by programs of each instruction that can show it."""
     lib = ctypes.CDLL(str(core_with(bug, folder)))
     for name in BUGS[bug]:
         found = [vector for vector, is_same in vectors_of(name.upper(), lib) if not is_same]
-        assert {bool(re.search(r"-\d{3}$", it)) for it in found} == {True, False}, (name, found)
+        assert {bool(re.search(r"-\d{3}$", vector)) for vector in found} == {True, False}, (name, found)
 
 
 @pytest.mark.parametrize("bug, name, entry", [(97, "VRCP", 300), (98, "VRSQ", 301)])
 def test_wrong_entry(bug: int, name: str, entry: int, program: Path, folder: Path) -> None:
-    """The vectors that meet each entry of a divide table find one that is wrong."""
+    """The vectors of `--entries` find a wrong entry of a divide table."""
     assert not [*generate.generate(str(program), [ROWS[name.lower()]], "1", ENTRIES, folder)]
     lib = ctypes.CDLL(str(core_with(bug, folder)))
-    case, whole = [vector for vector, is_same in vectors_of(name, lib, folder) if not is_same]
-    assert case == f"{name}-entry-{entry}" and whole.startswith(f"{name}-")
+    case, program_name = [vector for vector, is_same in vectors_of(name, lib, folder) if not is_same]
+    assert case == f"{name}-entry-{entry}" and program_name.startswith(f"{name}-")
 
 
 LONG = pytest.mark.outside("all of them take twenty minutes of processor")
 
 
 @pytest.mark.timeout(900)
-@pytest.mark.parametrize("bug", [pytest.param(it, marks=() if it == 36 else LONG) for it in BUGS])
+@pytest.mark.parametrize("bug", [pytest.param(bug, marks=() if bug == 36 else LONG) for bug in BUGS])
 def test_bug(bug: int, folder: Path) -> None:
     """In the gate is 36, VADD that keeps the not-equal flags."""
     core, names = core_with(bug, folder), BUGS[bug]
@@ -167,5 +167,5 @@ def test_bug(bug: int, folder: Path) -> None:
         "programs": in_programs(core),
         "vectors": in_vectors(core, names),
     }
-    wanted = {way: bug != 0 and bug not in missed for way, missed in MISSED.items()}
-    assert {way: first != "no" for way, first in found.items()} == wanted, found
+    expected = {way: bug != 0 and bug not in missed for way, missed in MISSED.items()}
+    assert {way: first != "no" for way, first in found.items()} == expected, found

@@ -72,13 +72,13 @@ def test_asm(block: Block, program: Path) -> None:
 
 @for_blocks("from", lambda block: "from" in block.mark)
 def test_quoted(block: Block) -> None:
-    """Its lines follow one another in the source that the mark names, as the page does."""
-    source = block.mark["from"]
+    """Its lines follow one another in the file that the mark names, where `..` is any text."""
+    name = block.mark["from"]
     lines, quoted = (
-        [line.strip() for line in text.splitlines()] for text in (page(source), block.text.strip("\n"))
+        [line.strip() for line in text.strip("\n").splitlines()] for text in (page(name), block.text)
     )
-    assert quoted in [lines[i : i + len(quoted)] for i in range(len(lines))]
-    assert f"`{source.partition('crates/')[2]}`" in page(block.page)
+    assert matches(lines, ["..", *quoted, ".."])
+    assert name.startswith("conformance/") or f"`{name.partition('crates/')[2]}`" in page(block.page)
 
 
 @for_blocks("in the repository", lambda block: block.mark.get("run") == "in the repository")

@@ -11,7 +11,7 @@ from pathlib import Path
 import pytest
 
 from lib import TESTS, TOP
-from lib.campaigns import programs_in, said_of
+from lib.campaigns import programs_in, output_of
 from lib.pages import block_with
 from lib.processes import succeeds
 
@@ -37,8 +37,8 @@ def test_icarus(folder: Path) -> None:
     assert " 0 differ, " in shell(block_with("docs/CAMPAIGN.md", "conformance/generate --hex"), folder)
     for name in KNOWN.upper().split(","):
         count = (folder / f"hex/{name}.hex").read_text().count("\n")
-        told = succeeds("vvp", "-n", folder / "tb.vvp", f"+hex={folder}/hex/{name}.hex")
-        assert told.endswith(f"\n{count} passed, 0 failed\n"), told
+        output = succeeds("vvp", "-n", folder / "tb.vvp", f"+hex={folder}/hex/{name}.hex")
+        assert output.endswith(f"\n{count} passed, 0 failed\n"), output
 
 
 @pytest.mark.needs("ghdl")
@@ -48,8 +48,8 @@ def test_ghdl(folder: Path) -> None:
     succeeds("ghdl", "-a", "--std=08", "hex/brsp_state.vhd", TESTS / "hdl/read.vhd", cwd=folder)
     succeeds("ghdl", "-e", "--std=08", "read", cwd=folder)
     files = ("-gcases=hex/VXOR.hex", "-gwords=hex/VXOR-1.imem.hex")
-    told = succeeds("ghdl", "-r", "--std=08", "read", *files, cwd=folder)
-    assert "62 cases" in told and re.search(r"1024 words, [1-9]\d* of them VXOR", told), told
+    output = succeeds("ghdl", "-r", "--std=08", "read", *files, cwd=folder)
+    assert "62 cases" in output and re.search(r"1024 words, [1-9]\d* of them VXOR", output), output
 
 
 @pytest.mark.needs("verilator", "make", "c++", "python:numpy")
@@ -63,14 +63,14 @@ def test_verilator(is_wrong: bool, folder: Path) -> None:
     commands = block_with(*CAMPAIGN).rpartition("conformance/campaign")[0]
     shell(commands.replace("examples/hdl/vu.sv", f"{folder}/vu.sv"), folder)
     words = (folder / "vu.so", "--instructions", KNOWN, "--cases", 500, "--programs", 50)
-    said = said_of(folder / "out", *words)
-    assert all(re.search(rf"(?m)^{name} +500 +0 +0 ", said) for name in KNOWN.upper().split(",")), said
-    assert bool(re.search(r"(?m)^PROGRAM +50 +0 +0 ", said)) != is_wrong, said
-    assert all(len(it["listing"]) <= 3 for it in programs_in(folder / "out"))
+    output = output_of(folder / "out", *words)
+    assert all(re.search(rf"(?m)^{name} +500 +0 +0 ", output) for name in KNOWN.upper().split(",")), output
+    assert bool(re.search(r"(?m)^PROGRAM +50 +0 +0 ", output)) != is_wrong, output
+    assert all(len(program["listing"]) <= 3 for program in programs_in(folder / "out"))
 
 
 @pytest.mark.needs("verilator", "make", "c++")
 def test_lock_step(folder: Path) -> None:
     assert sum((HDL / name).read_text().count("\n") for name in ("lock.sv", "lock.cpp")) <= 60
-    told = shell(block_with(*LOCK_STEP), folder)
-    assert re.search(r"17222 steps, 9840 compared, \d+ clocks: +agrees", told), told
+    output = shell(block_with(*LOCK_STEP), folder)
+    assert re.search(r"17222 steps, 9840 compared, \d+ clocks: +agrees", output), output

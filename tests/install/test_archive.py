@@ -53,8 +53,8 @@ def test_sums_of_dist(released: Path) -> None:
 def test_sum_of_one_archive(released: Path, folder: Path) -> None:
     """The line in SHA256SUMS checks one archive where the others aren't, and finds a byte that differs."""
     (path,) = (released / "first").glob("*-source.tar.gz")
-    for file in path, path.with_name("SHA256SUMS"):
-        shutil.copy(file, folder)
+    for source in path, path.with_name("SHA256SUMS"):
+        shutil.copy(source, folder)
     (line,) = re.findall("(?m)^# (sha256sum .*? SHA256SUMS) ", (folder / "SHA256SUMS").read_text())
     assert succeeds(*line.split(), cwd=folder) == f"{path.name}: OK\n"
     with (folder / path.name).open("r+b") as file:
@@ -225,10 +225,8 @@ def test_wheel(archive: Path, folder: Path) -> None:
     succeeds(sys.executable, "-m", "venv", "own", **where)
     pip = ("own/bin/pip", "install", "--no-index", "--disable-pip-version-check")
     succeeds(*pip, *(archive / "python").glob("*.whl"), **where)
-    assert (
-        succeeds("own/bin/python", archive / "examples/python/first_difference.py", **where)
-        == FIRST_DIFFERENCE
-    )
+    example = archive / "examples/python/first_difference.py"
+    assert succeeds("own/bin/python", example, **where) == FIRST_DIFFERENCE
     code, printed = re.findall(r"(?ms)^```python\n(.*?)^```\n+This prints `(.*?)`", DESCRIBED.read_text())[0]
     assert succeeds("own/bin/python", "-c", code, **where) == f"{printed}\n"
     first = succeeds("own/bin/rsp", "run", input=page("examples/first.rsp"), **where)

@@ -140,7 +140,7 @@ def test_wheel_where_there_is_no_git(folder: Path, monkeypatch: pytest.MonkeyPat
     """As in an unpacked archive of the source: its files have the first time that a wheel can have."""
     (folder / "library").touch()
     monkeypatch.setenv("PATH", str(folder))
-    repository.committed.cache_clear()
+    repository.commit_time.cache_clear()
     packages.wheel(folder, folder / "library", "library", ["any"])
     (wheel,) = (folder / "python").glob("*.whl")
     assert date(wheel) == calendar.timegm((1980, 1, 1, 0, 0, 0))

@@ -1,4 +1,5 @@
-"""Small campaigns (conformance/campaign) with what they leave, and emulators with faults that they check."""
+"""Runs small campaigns (conformance/campaign), reads their results, and makes emulators with planted faults.
+"""
 
 import json
 import shlex
@@ -18,12 +19,12 @@ Counts = Dict[str, Tuple[int, int, int]]
 
 
 def campaign(*words: object, **how: Any) -> "Ended[str]":
-    """A campaign that has ended."""
+    """Runs a campaign to its end."""
     return run(CAMPAIGN, *words, **{"cwd": SOURCES, "stderr": subprocess.PIPE, **how})
 
 
-def said_of(out: Path, *words: object) -> str:
-    """What a campaign without workers says, which has to end with status 0; its results are in `out`."""
+def output_of(out: Path, *words: object) -> str:
+    """The output of a campaign without Dask, which has to end with status 0. Its results are in `out`."""
     ended = campaign(*words, "--here", out)
     assert ended.returncode == 0, ended.stdout + ended.stderr
     return str(ended.stdout)
@@ -35,28 +36,31 @@ def faulty(fault: int, *flags: str) -> str:
 
 
 def results_of(out: Path) -> Dict[str, Any]:
-    """The results of a folder by their tasks, without times."""
-    found = {path.name: json.loads(path.read_text()) for path in sorted(out.glob("*.json"))}
-    times = ("seconds", "processor")
-    return {name: {key: it[key] for key in it if key not in times} for name, it in found.items()}
+    """The results in a folder by their files, without times."""
+    results = {path.name: json.loads(path.read_text()) for path in sorted(out.glob("*.json"))}
+    for result in results.values():
+        for key in ("seconds", "processor"):
+            result.pop(key, None)
+    return results
 
 
 def counts_of(out: Path) -> Counts:
-    """Cases, differences and faults of each instruction."""
+    """The numbers of cases, differences and faults of each instruction."""
     counts: Counts = {}
-    for name, it in results_of(out).items():
+    for name, result in results_of(out).items():
         if name != "campaign.json":
-            count, differ, faults = counts.get(it["instruction"], (0, 0, 0))
-            sums = count + it["count"], differ + it["differ"], faults + len(it["faults"])
-            counts[it["instruction"]] = sums
+            count, differ, faults = counts.get(result["instruction"], (0, 0, 0))
+            sums = count + result["count"], differ + result["differ"], faults + len(result["faults"])
+            counts[result["instruction"]] = sums
     return counts
 
 
 def agreed(names: str, count: int, **more: Tuple[int, int, int]) -> Counts:
-    """The counts of instructions without a difference, and others."""
+    """The counts of instructions without a difference, and other counts."""
     return {**dict.fromkeys(names.split(","), (count, 0, 0)), **more}
 
 
 def programs_in(out: Path) -> List[Dict[str, Any]]:
-    """What the results of a folder have of programs that differ."""
-    return [it for path in out.glob("program-*.json") for it in json.loads(path.read_text())["programs"]]
+    """The programs that were cut down, in the results of a folder."""
+    results = (json.loads(path.read_text()) for path in out.glob("program-*.json"))
+    return [program for result in results for program in result["programs"]]

@@ -17,7 +17,6 @@ from typing import Any, Dict, Iterator, List, Optional
 
 import pytest
 
-from lib import devices
 from lib.program import content
 from lib.script_cases import SCRIPTS, Stored
 
@@ -311,11 +310,3 @@ def test_control_characters(line: str, name: str, rsp: Any, folder: Path) -> Non
 def test_script_that_never_ends(rsp: Any) -> None:
     with open("/dev/zero", "rb") as endless:
         assert rsp("run", stdin=endless) == (1, b"", TOO_LONG)
-
-
-@pytest.mark.parametrize("words, output", (("asm source {}", b""), ("run --save {}", b"step Done pc 004\n")))
-def test_full_disk(words: str, output: bytes, rsp: Any, folder: Path) -> None:
-    (folder / "source").write_bytes(b"nop\n")
-    full = devices.full(folder)
-    result = rsp(*words.format(full).split(), script=b"step\n")
-    assert result == (1, output, f"rsp: cannot write {full}\n".encode())

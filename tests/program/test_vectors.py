@@ -5,88 +5,190 @@ file isn't what conformance/generate makes, or if a tool of the suite doesn't fi
 instruction is a test.
 """
 
+import contextlib
+import io
 import json
 import os
 import re
 import subprocess
+import sys
 from pathlib import Path
+from types import ModuleType
 from typing import Any, Dict, Iterable, Iterator
+from unittest.mock import patch
 
 import pytest
 
 from lib import TOP, devices
-from lib.pages import cells_of, page
+from lib.pages import page
 from lib.processes import Ended, run, succeeds
-from rsp_conformance import check, coverage, generate, run_programs, steps
+from rsp_conformance import bench, check, coverage, generate, run_programs, steps
 from rsp_conformance.command_line import Complaints
+from rsp_conformance.corrupt import spoilt_entries
 from rsp_conformance.library import IMAGE, run_row
+from rsp_conformance.seeded_random import Random
+from rsp_conformance.states import numbers_of, texts_of
 from rsp_conformance.table import ROWS
-from rsp_conformance.vectors import VECTORS
+from rsp_conformance.vectors import VECTORS, entries_in, manifest_in
 
 NAMES = pytest.mark.parametrize("name", check.NAMES)
 
 
-def see(checks: Iterable[Complaints]) -> None:
+def assert_passes(checks: Iterable[Complaints]) -> None:
     """There has to be a check, and none may have a complaint."""
     found = [*checks]
     assert found, "nothing is checked"
-    assert [it for complaints in found for it in complaints] == []
+    assert [complaint for complaints in found for complaint in complaints] == []
 
 
 @NAMES
 def test_generated(name: str, program: Path, folder: Path) -> None:
-    """The files of an instruction, made anew, are the same, byte by byte."""
+    """The files of an instruction, generated anew, are the same, byte by byte."""
     rows = [ROWS[name.lower()]]
     assert not [*generate.generate(str(program), rows, generate.SEED, None, folder)]
-    kept = [*VECTORS.glob(f"*/{name}.*"), *VECTORS.glob(f"*/{name}-*")]
-    assert {it.relative_to(VECTORS) for it in kept} == {it.relative_to(folder) for it in folder.glob("*/*")}
-    assert not [it for it in kept if it.read_bytes() != (folder / it.relative_to(VECTORS)).read_bytes()]
+    stored = [*VECTORS.glob(f"*/{name}.*"), *VECTORS.glob(f"*/{name}-*")]
+    names = {path.relative_to(VECTORS) for path in stored}
+    assert names == {path.relative_to(folder) for path in folder.glob("*/*")}
+    assert not [path for path in names if (VECTORS / path).read_bytes() != (folder / path).read_bytes()]
 
 
-def test_files_and_tables() -> None:
-    """There is no other file; outcomes are in the table's order, and --reasons lists all that can't occur."""
-    assert {it.stem.split("-")[0] for it in VECTORS.glob("*/*")} == {*check.NAMES}
+def test_files_and_table() -> None:
+    """There are no files of other instructions, and coverage.tsv has the table's order."""
+    assert {path.stem.split("-")[0] for path in VECTORS.glob("*/*")} == {*check.NAMES}
     table = page("conformance/coverage.tsv")
     names = [*dict.fromkeys(line.split("\t")[0] for line in table.splitlines()[1:])]
-    assert table.startswith(coverage.HEAD) and names == [it for it in check.NAMES if it in names]
-    lines = coverage.reasons(table).splitlines()[2:]
-    listed = [(name, text, why) for text, names, why in map(cells_of, lines) for name in names.split(", ")]
-    cells = [line.split("\t") for line in table.splitlines()[1:]]
-    assert sorted(listed) == sorted((it[0], it[1], it[3]) for it in cells if it[3])
-
-
-def checks_of(name: str, program: str) -> Iterator[Complaints]:
-    outcomes = check.outcomes_of(name)
-    told = [it for it in page("conformance/coverage.tsv").splitlines(True) if it.startswith(f"{name}\t")]
-    yield check.unless(told == [*coverage.lines(ROWS[name.lower()], outcomes)], "coverage.tsv differs")
-    yield from check.faults_found(name, outcomes)
-    yield check.full_is_the_same(name)
-    yield check.divides_where_it_may(name)
-    yield from check.spoilt_steps_found(program, [name])
-    yield from check.runs_true(program, name)
-    yield from check.spoilt_program_found(name)
+    assert table.startswith(coverage.HEAD) and names == [name for name in check.NAMES if name in names]
 
 
 @NAMES
 def test_instruction(name: str, program: Path) -> None:
-    """Its programs end as they must, all forms agree, outcomes occur, and what is spoilt is found."""
-    assert check.has_cases(name)
-    see(checks_of(name, str(program)))
+    """Its programs end as they must, all forms agree, outcomes occur, and spoilt cases are found."""
+    outcomes, table = check.outcomes_of(name), page("conformance/coverage.tsv").splitlines(True)
+    lines = [line for line in table if line.startswith(f"{name}\t")]
+    assert lines == [*coverage.table_lines(ROWS[name.lower()], outcomes)]
+    assert_passes(check.check_instruction(str(program), name, outcomes))
+
+
+FLAG_BITS = {"vco": ("carry", "not-equal"), "vcc": ("compare", "clip"), "vce": ("extra",)}
+# The bits of registers with the names under which a difference is reported.
+BITS = {
+    **{("v3", 16 * (7 - lane)): f"$v3 lane {lane}" for lane in range(8)},
+    **{
+        (key, 8 * byte + lane): f"lane {lane}: {flag}"
+        for key, flags in FLAG_BITS.items()
+        for byte, flag in enumerate(flags)
+        for lane in range(8)
+    },
+    **{(f"a{lane}", 47): f"accumulator of lane {lane}" for lane in range(8)},
+    **{("r3", 0): "$3", ("npc", 2): "npc", ("c4", 0): "c4", ("in", 0): "in", ("interrupt", 0): "interrupt"},
+}
+
+
+@pytest.mark.parametrize("key, bit", BITS)
+def test_name_of_a_bit(key: str, bit: int) -> None:
+    """A difference is reported by the lane, the flag or the register of the bit that differs."""
+    entry = entries_in(VECTORS, "VADD")[0]
+    right = {**bench.DEFAULT, **entry["before"], **entry["after"]}
+    wrong = f"{int(right[key], 16) ^ 1 << bit:0{len(right[key])}x}"
+    (complaint,) = steps.complaints(entry, {**right, key: wrong})
+    assert complaint.startswith(f"{entry['name']} ({entry['text']}), {BITS[key, bit]}: expected ")
+
+
+def test_name_of_a_byte() -> None:
+    """A difference in the results of a program is reported by its lane or its flags."""
+    entry = manifest_in(VECTORS, "VADD")["programs"][0]
+    case, names = entry["cases"][0], {}
+    for field, offset, length in entry["layouts"][case["layout"]]:
+        for byte in range(length):
+            name = f"{field}, lane {byte // 2}: {('high', 'low')[byte % 2]} byte"
+            if field in FLAG_BITS:
+                name = f"lane 0: {[*FLAG_BITS[field], 'above the flags'][byte == 0]}"
+            names[(int(case["at"], 16) + offset + byte) % 4096] = name
+    right = (VECTORS / f"programs/{entry['name']}.after").read_bytes()
+    for address, name in names.items():
+        wrong = bytes(byte ^ (at == address) for at, byte in enumerate(right))
+        (complaint,) = run_programs.complaints(entry, right, wrong)
+        assert complaint.startswith(f"{case['name']} ({case['text']}), {name}: expected ")
+
+
+def runner_class() -> Any:
+    """The library as the class `Rsp` of the runners of conformance/README.md."""
+    import rsp
+    from rsp_conformance import library_states
+
+    class Rsp:
+        def __init__(self) -> None:
+            self.machine, self.texts = rsp.Machine(bytes(check.SIZES["rdram"])), {**bench.DEFAULT}
+
+        def set(self, key: str, text: str) -> None:
+            self.texts[key] = text
+
+        def get(self, key: str) -> str:
+            return str(self.texts[key])
+
+        def load(self, bank: str, data: bytes) -> None:
+            self.machine.load(bench.BANKS.index(bank), 0, data)
+
+        def memory(self, bank: str) -> bytes:
+            return bytes(self.machine.memory(bench.BANKS.index(bank), 0, check.SIZES[bank]))
+
+        def step(self) -> None:
+            self.machine.set(library_states.state_of(numbers_of(self.texts)))
+            self.machine.step()
+            self.texts = texts_of(library_states.numbers_of(self.machine.get()))
+
+        def run(self) -> None:
+            self.machine.set(library_states.state_of(numbers_of(self.texts)))
+            self.machine.run(100000)
+
+    return Rsp
+
+
+def output_of_runner(number: int, path: Path) -> str:
+    """What a runner of conformance/README.md, by its number there, prints about a file on the library."""
+    text = re.findall(r"(?ms)^```python\n(.*?)^```$", page("conformance/README.md"))[number]
+    output, mine = io.StringIO(), ModuleType("mine")  # type: io.StringIO, Any
+    mine.Rsp = runner_class()
+    with patch.dict(sys.modules, mine=mine), patch.object(sys, "argv", ["runner.py", str(path)]):
+        with contextlib.redirect_stdout(output):
+            exec(text, {})
+    return output.getvalue()
+
+
+def head_of(entry: Dict[str, Any]) -> str:
+    """The beginning of a runner's line about a case, in which a choice is marked."""
+    return f"{entry['name']} ({entry['text']}{', choice' * ('choice' in entry)}), "
 
 
 @pytest.mark.parametrize("name", ("VADDC", "SQV", "MTC0", "BEQ", "STV"))
-def test_runners_of_page(name: str, program: Path) -> None:
-    """The runners of conformance/README.md pass true cases and programs, and name spoilt ones, with a mark if
-    they show a choice."""
-    see(check.runners_find(str(program), name))
+def test_runner_of_steps(name: str, library: Path, folder: Path) -> None:
+    """The runner on the page passes an instruction's first cases, and names each that is spoilt."""
+    all_entries, random, path = entries_in(VECTORS, name), Random("runner", name), folder / "steps.jsonl"
+    entries = [*all_entries[:2], *[entry for entry in all_entries if "choice" in entry][:1]]
+    path.write_text("".join(f"{json.dumps(entry)}\n" for entry in entries))
+    assert output_of_runner(0, path) == ""
+    for entry in entries:
+        for spoilt in spoilt_entries(entry, random):
+            path.write_text(json.dumps(spoilt))
+            assert output_of_runner(0, path).startswith(head_of(entry)), spoilt
 
 
-def test_refusals(program: Path) -> None:
-    """What can't be run or made is reported in a sentence."""
-    see(check.refusals(str(program)))
+@pytest.mark.parametrize("name", ("VADDC", "SQV", "MTC0", "BEQ", "STV"))
+def test_runner_of_programs(name: str, library: Path, folder: Path) -> None:
+    """The runner on the page passes an instruction's programs, and names the case of a wrong byte."""
+    for path in (check.PROGRAMS / f"{name}.json", *check.PROGRAMS.glob(f"{name}-*")):
+        (folder / path.name).write_bytes(path.read_bytes())
+    assert output_of_runner(1, folder / f"{name}.json") == ""
+    spoilt = check.spoilt_program(name)
+    (folder / f"{spoilt.entry['name']}.after").write_bytes(spoilt.wrong)
+    at, difference = spoilt.address, f"expected {spoilt.wrong[spoilt.address]:02x}"
+    expected = (
+        f"{head_of(spoilt.case)}{spoilt.field}, DMEM {at:03x}: {difference}, got {spoilt.right[at]:02x}\n"
+    )
+    assert output_of_runner(1, folder / f"{name}.json") == expected
 
 
-# A case of ADD, which changes no memory; $11 is 0b0b0b0b where nothing else is said.
+# A case of ADD, which changes no memory; $11 has the default value, 0b0b0b0b.
 ADD: Dict[str, Any] = {
     "name": "ADD-000",
     "word": "000b1820",
@@ -94,8 +196,8 @@ ADD: Dict[str, Any] = {
     "before": {"dmem": {"010": "aa"}},
     "after": {"r3": "0b0b0b0b", "pc": "004", "npc": "008"},
 }
-# What is in memories after it: the first and the last bytes of each, a byte of `before`, and the word.
-THERE = {
+# Bytes of memories after it: the first and the last ones of each, a byte of `before`, and the word.
+BYTES = {
     "dmem": {"000": "00", "fff": "00", "010": "aa"},
     "imem": {"000": "000b1820", "ffc": "00000000"},
     "rdram": {"010000": "00", "0101ff": "00"},
@@ -103,22 +205,23 @@ THERE = {
 
 
 @pytest.mark.parametrize(
-    "bank, address, raw", [(bank, *it) for bank, pieces in THERE.items() for it in pieces.items()]
+    "bank, address, raw", [(bank, *piece) for bank, pieces in BYTES.items() for piece in pieces.items()]
 )
 def test_named_memory(bank: str, address: str, raw: str, program: Path) -> None:
-    """What a case says of a memory is compared, also if its instruction doesn't change any."""
+    """The bytes that a case names are compared, also if its instruction doesn't change any memory."""
     wrong = f"{int(raw[:2], 16) ^ 0x40:02x}"
-    cases = [{**ADD, "after": {**ADD["after"], bank: {address: it}}} for it in (raw, wrong + raw[2:])]
-    told = f"ADD-000 (add $3, $0, $11), {bank} {address}: expected {wrong}, got {raw[:2]}"
-    assert [*steps.run_entries(str(program), cases)] == [[], [told]]
+    texts = (raw, wrong + raw[2:])
+    cases = [{**ADD, "after": {**ADD["after"], bank: {address: text}}} for text in texts]
+    complaint = f"ADD-000 (add $3, $0, $11), {bank} {address}: expected {wrong}, got {raw[:2]}"
+    assert [*steps.run_entries(str(program), cases)] == [[], [complaint]]
 
 
 def run_add(program: Path, folder: Path, **how: Any) -> "Ended[str]":
-    """conformance/run on a true case and a false one, whose name and text are a stranger's."""
+    """Runs conformance/run on a true case and a false one, whose name and text have control characters."""
     text = "add\n\x9b31m\u202e\u2028\ud800"
     false = {**ADD, "name": "ADD-\x1b]0;title\x07", "text": text, "word": "000b2020"}
     for name, text in {
-        "steps/ADD.jsonl": "".join(f"{json.dumps(it)}\n" for it in (ADD, false)),
+        "steps/ADD.jsonl": "".join(f"{json.dumps(entry)}\n" for entry in (ADD, false)),
         "programs/ADD.json": '{"programs": []}',
     }.items():
         (folder / name).parent.mkdir(parents=True)
@@ -127,56 +230,58 @@ def run_add(program: Path, folder: Path, **how: Any) -> "Ended[str]":
 
 
 def test_many_programs(program: Path, folder: Path) -> None:
-    """More than one script holds. Of 4096 wrong bytes the first are named, and the others counted."""
-    made = [{"name": f"ADD-{number}", "layouts": {}, "cases": []} for number in range(120)]
+    """Programs for more than one script. Of 4096 wrong bytes the first are named, and the others counted."""
+    entries = [{"name": f"ADD-{number}", "layouts": {}, "cases": []} for number in range(120)]
     for kind in ("imem", "dmem", "after"):
-        for it in made:
-            (folder / f"{it['name']}.{kind}").symlink_to(VECTORS / f"programs/ADD-1.{kind}")
+        for entry in entries:
+            (folder / f"{entry['name']}.{kind}").symlink_to(VECTORS / f"programs/ADD-1.{kind}")
     right = (VECTORS / "programs/ADD-1.after").read_bytes()
     (folder / "ADD-119.after").unlink()
     (folder / "ADD-119.after").write_bytes(bytes(byte ^ 0xFF for byte in right))
-    *passed, failed = run_programs.run_manifest(str(program), {"programs": made}, folder)
+    *passed, failed = run_programs.run_manifest(str(program), {"programs": entries}, folder)
     assert passed == [[]] * 119
-    pair = f"expected {right[0] ^ 255:02x}, got {right[0]:02x}"
-    assert failed[0] == f"ADD-119: DMEM 000, which no case stores to: {pair}"
+    difference = f"expected {right[0] ^ 255:02x}, got {right[0]:02x}"
+    assert failed[0] == f"ADD-119: DMEM 000, which no case stores to: {difference}"
     assert len(failed) == 65 and failed[-1] == "ADD-119: 4032 more differences"
 
 
-def test_complaints_of_a_stranger(program: Path, folder: Path) -> None:
-    """Names and texts are shown on one line, without what a terminal would obey."""
-    ran = run_add(program, folder)
-    start = r"ADD-\x1b]0;title\x07 (add\n\x9b31m\u202e\u2028\ud800), "
+def test_escaped_complaints(program: Path, folder: Path) -> None:
+    """Names and texts are shown on one line, with their control characters escaped."""
+    ended = run_add(program, folder)
+    head = r"ADD-\x1b]0;title\x07 (add\n\x9b31m\u202e\u2028\ud800), "
     lines = ("$3: expected 0b0b0b0b, got 03030303", "$4: expected 04040404, got 0b0b0b0b")
-    told = "".join(f"{start}{it}\n" for it in lines)
-    assert (ran.returncode, ran.stdout) == (1, f"{told}1 passed, 1 failed\n")
+    complaints = "".join(f"{head}{line}\n" for line in lines)
+    assert (ended.returncode, ended.stdout) == (1, f"{complaints}1 passed, 1 failed\n")
 
 
 @pytest.mark.parametrize("is_full", (True, False), ids=("full", "closed pipe"))
-def test_output_that_takes_nothing(is_full: bool, program: Path, folder: Path) -> None:
-    """It is named in a sentence, and the status is 1."""
+def test_output_that_cannot_be_written(is_full: bool, program: Path, folder: Path) -> None:
+    """A sentence says so, and the status is 1."""
     reading, writing = os.pipe()
     os.close(reading)
     with open(devices.full(folder) if is_full else writing, "w") as output:
-        ran = run_add(program, folder / "vectors", stdout=output, stderr=subprocess.PIPE)
+        ended = run_add(program, folder / "vectors", stdout=output, stderr=subprocess.PIPE)
     why = "No space left on device" if is_full else "Broken pipe"
-    assert (ran.returncode, ran.stderr) == (1, f"standard output can't be written: {why}\n")
+    assert (ended.returncode, ended.stderr) == (1, f"standard output can't be written: {why}\n")
 
 
 @pytest.fixture(scope="module")
 def machine(library: Path) -> Iterator[Any]:
     """The library, by its module for Python."""
-    from rsp import Rsp  # which fails where `library` would say that none is built
+    from rsp import (
+        Rsp,
+    )  # here, because the import fails if no library is built, and the fixture names the reason
 
-    with Rsp(IMAGE) as it:
-        yield it
+    with Rsp(IMAGE) as made:
+        yield made
 
 
 @NAMES
 def test_library(name: str, machine: Any) -> None:
-    see(run_row(machine, VECTORS, name))
+    assert_passes(run_row(machine, VECTORS, name))
 
 
 def test_command(library: Path) -> None:
-    """On one instruction, since the tests above do the same of all."""
-    told = succeeds("conformance/library", "conformance/vectors", "VCH")
-    assert re.search(r"(?m)^[1-9]\d* passed, 0 failed$", told)
+    """On one instruction, because the tests above do the same for all."""
+    output = succeeds("conformance/library", "conformance/vectors", "VCH")
+    assert re.search(r"(?m)^[1-9]\d* passed, 0 failed$", output)

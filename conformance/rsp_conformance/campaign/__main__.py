@@ -1,11 +1,11 @@
 """Checks an emulator against the proved library, by cases of each instruction and by random programs.
 
-EMULATOR is FILE.so, plugin:FILE.so, python:MODULE:CLASS, or a command; docs/CAMPAIGN.md says what each has
-to be. OUT is the campaign's folder: a file for each task, table.txt, table.html, and in programs/ what
-differs, cut down. A campaign that was stopped continues when it is started again: what OUT holds isn't done
-again, as long as the emulator's files have the same contents. They are the files that EMULATOR names, and
-those of --files. With --case, OUT gives the instructions of a program. What an emulator writes is shown with
-its fault: the last 20 lines. It fails if a task isn't done, or with a sentence if it can't begin.
+EMULATOR is FILE.so, plugin:FILE.so, python:MODULE:CLASS, or a command; docs/CAMPAIGN.md describes each. OUT
+is the campaign's folder: a file for each task, table.txt, table.html, and in programs/ the programs that
+differ, cut down. A campaign that was stopped continues when it is started again: tasks with a result in OUT
+aren't run again, as long as the emulator's files have the same contents. They are the files that EMULATOR
+names, and those of --files. With --case, OUT gives the instructions of a program. The last 20 lines that an
+emulator writes are shown with its fault. It fails if a task isn't done, or with a sentence if it can't begin.
 """
 
 import argparse
@@ -16,25 +16,25 @@ import time
 from pathlib import Path
 from typing import Any, Callable, List, NoReturn, Tuple
 
-from rsp_conformance.command_line import printable, say
-from rsp_conformance.safe_files import FileFault, write
+from rsp_conformance.command_line import parser_of, printable, write_output
+from rsp_conformance.safe_files import FileFault, write_file
 from rsp_conformance.table import ROWS as INSTRUCTIONS
 
 from . import CampaignFault
-from .output_folder import RANGES, Folder, given_in
+from .output_folder import MOST, OutputFolder, settings_in
 from .report import html_table, text_table
-from .protocol import PROGRAM, VERSION, counted, name_of
+from .protocol import PROGRAM, VERSION, name_of, plural
 from .supervise import check
 from .workers import options_of, results
 
 MILLION = range(1, 10**6 + 1)  # a limit in milliseconds has to be a C int
-# Options that are numbers: the range and the default of each.
+# The options that are numbers, each with its range, its default and its help.
 NUMBERS = {
-    "cases": (RANGES["cases"], 1 << 16, "cases of each instruction"),
-    "size": (RANGES["size"], 1 << 18, "cases of a task"),
-    "programs": (RANGES["programs"], 0, "random programs"),
-    "programs-size": (RANGES["programs_size"], 100, "programs of a task"),
-    "steps": (RANGES["steps"], 1000, "steps of a program"),
+    "cases": (range(MOST), 1 << 16, "cases of each instruction"),
+    "size": (range(1, MOST), 1 << 18, "cases of a task"),
+    "programs": (range(MOST), 0, "random programs"),
+    "programs-size": (range(1, MOST), 100, "programs of a task"),
+    "steps": (range(1, MOST), 1000, "steps of a program"),
     "limit": (MILLION, 20, "the most seconds for a case"),
     "workers": (MILLION, len(os.sched_getaffinity(0)), "how many tasks run at a time on this computer"),
 }
@@ -48,24 +48,24 @@ def stop(sentence: object) -> NoReturn:
 
 
 class Progress:
-    """How far a campaign is: on a terminal one line that changes, elsewhere a line a minute."""
+    """Prints how far a campaign is: on a terminal one line that changes, elsewhere a line a minute."""
 
     def __init__(self, done: int, tasks: int) -> None:
         self.done, self.todo, self.tasks = done, tasks - done, tasks
-        self.began = self.told = time.time()
+        self.began = self.printed = time.time()
         self.is_terminal = sys.stderr.isatty()
 
-    def tell(self, number: int, cases: int, differ: int) -> None:
-        """After so many tasks of those that were left."""
+    def update(self, number: int, cases: int, differ: int) -> None:
+        """To be called after each task, with its number among those that were left."""
         now = time.time()
-        if not self.is_terminal and now - self.told < PROGRESS_SECONDS:
+        if not self.is_terminal and now - self.printed < PROGRESS_SECONDS:
             return
-        self.told, passed = now, now - self.began
+        self.printed, passed = now, now - self.began
         speed, left = cases / passed, passed / number * (self.todo - number)
         tasks = f"{self.done + number} of {self.tasks} tasks"
-        said = f"{tasks}, {speed:.0f} cases/s, {differ} differ, {left:.0f} s left"
+        line = f"{tasks}, {speed:.0f} cases/s, {differ} differ, {left:.0f} s left"
         begin, end = ("\r", " ") if self.is_terminal else ("", "\n")
-        print(begin + said, end=end, file=sys.stderr, flush=True)
+        print(begin + line, end=end, file=sys.stderr, flush=True)
 
     def end(self) -> None:
         if self.is_terminal:
@@ -73,62 +73,65 @@ class Progress:
 
 
 def run(args: argparse.Namespace) -> None:
-    """Does what is left of a campaign, and prints how far it is."""
-    folder = Folder(args)
+    """Runs the tasks of a campaign that are left, and prints how far it is."""
+    folder = OutputFolder(args)
     folder.open()
-    todo = folder.left()
+    todo = folder.tasks_left()
     progress = Progress(len(folder.tasks) - len(todo), len(folder.tasks))
     done, differ, lost = 0, 0, None
     for number, result in enumerate(results(args, todo), 1):
         if isinstance(result, Exception):
             lost = result
             continue
-        folder.keep(result)
+        folder.save(result)
         done, differ = done + result["count"], differ + result["differ"]
-        progress.tell(number, done, differ)
+        progress.update(number, done, differ)
     progress.end()
     report(args, folder)
-    say("".join(f"{it}\n" for it in [folder.said_of_earlier()] if it))
-    if tasks_left := folder.left():
+    if note := folder.note_on_earlier_results():
+        write_output(f"{note}\n")
+    if tasks_left := folder.tasks_left():
         why = lost or "-".join(map(str, tasks_left[0]))
         are = "isn't" if len(tasks_left) == 1 else "aren't"
-        stop(f"{counted(len(tasks_left), 'task')} {are} done ({why}); start it again")
+        stop(f"{plural(len(tasks_left), 'task')} {are} done ({why}); start it again")
 
 
-def report(args: argparse.Namespace, folder: Folder) -> None:
+def report(args: argparse.Namespace, folder: OutputFolder) -> None:
     """Prints and writes the table."""
     if found := folder.results():
         text, title = text_table(found), f"{args.emulator.rpartition('/')[2]} against the proved library"
-        say(text + "\n")
-        write(args.out / "table.txt", text + "\n")
-        write(args.out / "table.html", html_table(found, title))
+        write_output(text + "\n")
+        write_file(args.out / "table.txt", text + "\n")
+        write_file(args.out / "table.html", html_table(found, title))
 
 
 def show(args: argparse.Namespace) -> None:
-    """Cases, or programs of the instructions and steps of OUT."""
+    """Shows cases, or programs with the instructions and steps of OUT."""
     name, seed, first, last = args.case
     if args.out:
-        given = given_in(args.out)
-        args.instructions, args.steps = given["instructions"], given["steps"]
+        settings = settings_in(args.out)
+        args.instructions, args.steps = settings["instructions"], settings["steps"]
     options = {**options_of(args), "whole": first == last}
     result = check(args.emulator, name, seed, first, last - first + 1, options)
     if "given up" in result:
         stop(f"{name_of(name, seed, first)}: {result['given up']}")
-    say("".join(f"{it}\n" for it in result["shown"]))
     missing = f", {result['missing']} not there" if result["missing"] else ""
-    say(f"{result['count']} done, {result['differ']} differ, {result['unshown']} not shown{missing}\n")
-    for it in result["programs"]:
-        head = f"{it['name']} is cut down to {counted(it['steps'], 'step')} from address {it['pc']:03x}:"
-        say("".join(f"{line}\n" for line in (head, *it["listing"], *(f"  {at}" for at in it["differs"]))))
+    counts = f"{result['count']} done, {result['differ']} differ, {result['unshown']} not shown{missing}"
+    write_output("".join(f"{line}\n" for line in (*result["shown"], counts)))
+    for program in result["programs"]:
+        steps = plural(program["steps"], "step")
+        head = f"{program['name']} is cut down to {steps} from address {program['pc']:03x}:"
+        differences = [f"  {difference}" for difference in program["differs"]]
+        write_output("".join(f"{line}\n" for line in (head, *program["listing"], *differences)))
 
 
 def is_in(path: Path, folder: Path) -> bool:
-    """Whether a path is a folder or in it, also where links lead there."""
+    """Whether a path, after links are followed, is a folder or in it."""
     return folder.resolve() in (path.resolve(), *path.resolve().parents)
 
 
 def number_in(numbers: range) -> Callable[[str], int]:
-    """A type of arguments: the numbers of a range."""
+    """The type of an argument: a number of a range."""
 
     def number(text: str) -> int:
         if not text.isdigit() or int(text) < numbers[0]:
@@ -161,7 +164,7 @@ def paths_of(text: str) -> List[str]:
 
 
 def case_of(text: str) -> Tuple[str, str, int, int]:
-    """The instruction, the seed, the first and the last number."""
+    """The instruction, the seed, the first and the last number of a case's name."""
     found = re.fullmatch(r"(\w+?)(?:-g(\d+))?-([a-z0-9]+)-(\d+)(?:\.\.(\d+))?", text)
     if found and found[1].lower() in (*INSTRUCTIONS, PROGRAM):
         first, last, version = int(found[4]), int(found[5] or found[4]), int(found[2] or 1)
@@ -176,8 +179,7 @@ def case_of(text: str) -> Tuple[str, str, int, int]:
 
 
 def arguments() -> argparse.Namespace:
-    raw = argparse.RawDescriptionHelpFormatter
-    parser: Any = argparse.ArgumentParser("conformance/campaign", description=__doc__, formatter_class=raw)
+    parser: Any = parser_of("campaign", __doc__)
     parser.error = stop
     add = parser.add_argument
     for name, (numbers, default, what) in NUMBERS.items():
@@ -201,7 +203,7 @@ def arguments() -> argparse.Namespace:
     args.instructions = [name for name in args.instructions if name not in args.without]
     if not args.instructions:
         stop("--without leaves no instruction")
-    if args.out and (around := [it for it in args.files if is_in(args.out, Path(it))]):
+    if args.out and (around := [path for path in args.files if is_in(args.out, Path(path))]):
         stop(f"OUT is in {around[0]} of --files: its results would count as files of the emulator")
     if args.case and args.case[0] == PROGRAM and not args.out:
         name = name_of(*args.case[:3])

@@ -1,6 +1,5 @@
-"""Compiles conformance/campaigns/ by `cc` when it is needed.
-
-A shared object is in its folder out/, under the hash of all sources.
+"""Compiles conformance/campaigns/ with `cc`, if there is no shared object with the hash of all sources in
+out/.
 """
 
 import os
@@ -18,31 +17,31 @@ FLAGS = ("-O2", "-march=x86-64-v2", "-shared", "-fPIC", f"-I{HEADER.parent}", f"
 
 
 def built(name: str, flags: Sequence[str] = (), source: Optional[Path] = None) -> str:
-    """The shared object that NAME.c gives."""
+    """The shared object of NAME.c, which is compiled if it isn't there."""
     source = source or SOURCES / f"{name}.c"
-    made = SOURCES / "out" / f"{name}-{hash_of([source, *sources()], ' '.join(flags))[:16]}.so"
-    if made.exists():
-        return str(made)
-    waiting = made.with_name(f"{made.name}.{os.getpid()}")
-    words = ["cc", *FLAGS, *flags, str(source), str(LIBRARY), "-ldl", "-o", str(waiting)]
+    path = SOURCES / "out" / f"{name}-{hash_of([source, *sources()], ' '.join(flags))[:16]}.so"
+    if path.exists():
+        return str(path)
+    temporary = path.with_name(f"{path.name}.{os.getpid()}")
+    command = ["cc", *FLAGS, *flags, str(source), str(LIBRARY), "-ldl", "-o", str(temporary)]
     try:
-        made.parent.mkdir(exist_ok=True)
-        ended = subprocess.run(words, stderr=subprocess.PIPE, text=True)
+        path.parent.mkdir(exist_ok=True)
+        ended = subprocess.run(command, stderr=subprocess.PIPE, text=True)
     except OSError as fault:
-        raise CampaignFault(f"{made.parent} or cc can't be used: {fault}") from None
+        raise CampaignFault(f"{path.parent} or cc can't be used: {fault}") from None
     if ended.returncode:
         raise CampaignFault(f"cc can't make {name}: {ended.stderr.strip().splitlines()[0]}")
-    os.replace(waiting, made)
-    return str(made)
+    os.replace(temporary, path)
+    return str(path)
 
 
-# Ends the setting program: copies its data back by a DMA, and sets $1, whose halves microcode.c puts in.
+# The end of the setting program: it restores DMEM by a DMA, and sets $1, whose halves microcode.c puts in.
 COPYING = ("lui $1, 0x40", "mtc0 $1, $c1", "mtc0 $0, $c0", "addiu $1, $0, 767", "mtc0 $1, $c2",
            "lui $1, 0", "ori $1, $1, 0")  # fmt: skip
 
 
 def saving() -> List[str]:
-    """Leaves all registers in DMEM."""
+    """The text that stores all registers in DMEM."""
     lines = [f"sw ${n}, {bench.SCALARS + 4 * n}($0)" for n in range(1, 32)]
     lines += [f"sqv $v{n}[0], {bench.VECTORS + 16 * n}($0)" for n in range(32)]
     for k in range(3):
@@ -53,11 +52,11 @@ def saving() -> List[str]:
 
 
 def microcode() -> List[str]:
-    """The words of microcode.c, as macros."""
+    """The words of microcode.c, as the compiler's macros."""
     texts = {
         "SETTING": [*bench.setting_program(), *COPYING],
         "SAVING": saving(),
         "LOADING": ["vrcph $v2[0], $v1[2]"],
     }
     words = {name: rsp.assemble("".join(f"{line}\n" for line in lines)) for name, lines in texts.items()}
-    return [f"-D{name}={','.join(map(hex, found))}" for name, found in words.items()]
+    return [f"-D{name}={','.join(map(hex, numbers))}" for name, numbers in words.items()]

@@ -1,4 +1,4 @@
-"""The proved library and an emulator side by side, and what differs between them in words."""
+"""Runs the proved library and an emulator side by side, and describes the differences between them."""
 
 from typing import Dict, Iterable, Iterator, List, Optional, Union
 
@@ -11,8 +11,8 @@ from .emulators import Object, emulator_of, memories_in, patched, word_of
 from .generator import BANKS, END, IMEM, MEMORIES, RDRAM, STATE, Array
 
 PADDING = 693  # a byte of a state that is no register
-QUADWORD = 16  # so many bytes of a memory are a part that differs
-# What can differ: the parts of an end, by their bytes.
+QUADWORD = 16  # bytes
+# The parts of an end that can differ, by their bytes.
 PARTS = {"scalar registers": (0, 128), "vector registers": (128, 640), "accumulators": (640, 688),
          "VCO": (688, 690), "VCC": (690, 692), "VCE": (692, 693), "divider": (694, 700), "pc": (700, 702),
          "npc": (702, 704), "SP registers": (704, 768), "interrupt": (768, 772), "status": (772, 776),
@@ -20,9 +20,9 @@ PARTS = {"scalar registers": (0, 128), "vector registers": (128, 640), "accumula
 
 
 def named(word: int, pc: int) -> str:
-    """The text of a word at an address. Where that is `.word`, the instruction is named, too.
+    """The text of a word at an address, with its instruction if the text is a `.word`.
 
-    The word then has ignored bits, or is a branch whose target wraps.
+    The latter has ignored bits, or is a branch whose target wraps.
     """
     text, row = rsp.text(word, pc), row_of(word)
     if not row or not text.startswith(".word"):
@@ -32,7 +32,7 @@ def named(word: int, pc: int) -> str:
 
 
 class Program:
-    """What a run begins with: a state and all memories. Both are views of its bytes."""
+    """A state and all memories, at which a run begins. Both are views of `raw`."""
 
     def __init__(self, state: Union[bytes, rsp.State], memories: Union[bytes, memoryview, Array]) -> None:
         self.raw = bytearray(bytes(state) + bytes(memories))
@@ -50,7 +50,7 @@ class Program:
 
 
 class Sides:
-    """Both, with the same memories."""
+    """The library and the emulator, with the same memories."""
 
     def __init__(self, spec: str, memories: bytes) -> None:
         self.library, self.emulator = Object(built("library"), memories), emulator_of(spec, memories)
@@ -60,13 +60,13 @@ class Sides:
         self.hidden = [(word, mask) for word, mask in enumerate(hidden.view("<u8")) if mask]
 
     def run(self, cases: Array, expected: Array, ends: Array) -> Array:
-        """Which ends differ after cases on both.
+        """Runs cases on both sides, and returns which ends differ.
 
-        An end of the emulator gets the library's bits where it shows none.
+        The bits that the emulator doesn't show become those of the library.
         """
         self.library.fill(cases, expected)
         self.emulator.fill(cases, ends)
-        ours, theirs = (it.view("<u8").reshape(len(cases), -1) for it in (expected, ends))
+        ours, theirs = (side.view("<u8").reshape(len(cases), -1) for side in (expected, ends))
         for word, mask in self.hidden:
             theirs[:, word] ^= (theirs[:, word] ^ ours[:, word]) & mask
         return (ours != theirs).any(1)
@@ -78,14 +78,14 @@ class Sides:
             self.machine.load(bank, 0, program.memories[low:high])
 
     def after(self, program: Program, steps: int) -> Program:
-        """The machine as a program of its own, so many steps on."""
+        """The library's machine as a program, after some steps."""
         self.begin(program)
         if steps:
             self.machine.run(steps)
         return Program(self.machine.get(), memories_in(self.machine))
 
     def memories_after(self, case: Array, memories: bytes) -> List[str]:
-        """The quadwords of memories that differ after a case, in words; none if the emulator shows none."""
+        """The quadwords of memories that differ after a case, in words, or none if they can't be shown."""
         theirs = self.emulator.memories_after(case, memories, self.machine)
         if theirs is None:
             return []
@@ -93,21 +93,24 @@ class Sides:
         return in_words(quadwords(bytes(ours.memories), theirs))
 
     def first_difference(self, program: Program, steps: int, every: int) -> Optional[rsp.FirstDifference]:
-        """The first step of a program after which they differ, as rsp.first_difference says it, or None."""
+        """The first step of a program after which the sides differ, by rsp.first_difference; or None."""
         self.begin(program)
         return rsp.first_difference(self.machine, self.emulator.for_programs(self.machine), every, steps)
 
 
 def parts_that_differ(expected: Array, ends: Array) -> Dict[str, int]:
-    """How many of these ends differ in each part."""
+    """The number of ends that differ in each part."""
     wrong = (expected.view(np.uint8) != ends.view(np.uint8)).reshape(-1, END.itemsize)
     counts = {part: int(wrong[:, low:high].any(1).sum()) for part, (low, high) in PARTS.items()}
     return {part: count for part, count in counts.items() if count}
 
 
 def in_words(parts: Iterable[rsp.Part]) -> List[str]:
-    """What differs, a line each, with the leading zeros of registers."""
-    return [f"{it.name}: expected {it.value:0{it.digits}x}, got {it.other:0{it.digits}x}" for it in parts]
+    """A line for each part that differs, with the leading zeros of registers."""
+    return [
+        f"{part.name}: expected {part.value:0{part.digits}x}, got {part.other:0{part.digits}x}"
+        for part in parts
+    ]
 
 
 def differences(expected: Array, got: Array) -> List[str]:
@@ -119,15 +122,15 @@ def differences(expected: Array, got: Array) -> List[str]:
 
 
 def quadwords(ours: bytes, theirs: bytes) -> Iterator[rsp.Part]:
-    """The quadwords in which all memories differ from others."""
+    """The quadwords in which all memories of both sides differ."""
     for bank, (low, high) in BANKS.items():
         for at in range(low, high, QUADWORD) if ours[low:high] != theirs[low:high] else ():
-            value, other = (int.from_bytes(it[at : at + QUADWORD], "big") for it in (ours, theirs))
+            value, other = (int.from_bytes(side[at : at + QUADWORD], "big") for side in (ours, theirs))
             if value != other:
                 yield rsp.Part(f"{bank.upper()} {at - low:03x}", value, other, 2 * QUADWORD)
 
 
 def in_brief(lines: List[str]) -> str:
-    """The first of some differences, and how many there are."""
+    """The first of some differences, and the number of the others."""
     first, *rest = lines
     return f"{first}, and {len(rest)} more" if rest else first

@@ -1,12 +1,12 @@
-"""What can be checked. An EMULATOR is one of
+"""The emulators that can be checked. EMULATOR is one of
   FILE.so              a shared object with the interface of cases.h
   plugin:FILE.so       a plugin of mupen64plus: z64 with all its registers, any other by what microcode leaves
                        in memory
   python:MODULE:CLASS  a class; CLASS(memories) has `step(case)` -> (state, status, {address: byte}), or
-                       `ends(cases)` -> an array of END, and, for programs, what rsp.first_difference calls of
-                       an emulator, with `steps(n)` or else `run(n)`
+                       `ends(cases)` -> an array of END, and, for programs, the methods that
+                       rsp.first_difference calls of an emulator, with `steps(n)` or otherwise `run(n)`
   hex:COMMAND          a command that answers lines `word state` by lines `status state`
-  anything else        a command that answers each line of JSON by one: docs/CAMPAIGN.md has them
+  anything else        a command that answers each line of JSON by a line: conformance/FORMS.md describes them
 """
 
 import contextlib
@@ -31,14 +31,14 @@ from .hashes import find_module
 from .protocol import UNSHOWN
 from .supervise import end_with_parent
 
-Changed = Dict[int, int]  # the bytes of memories that differ, by their addresses
+Changed = Dict[int, int]  # the changed bytes of memories, by their addresses
 End = Tuple[Any, int, Changed]  # a state, the status, and the bytes
 
 
 class Emulator:
-    """What has `fill(cases, ends)`. One that takes programs is an emulator for rsp.first_difference, too."""
+    """An emulator of cases. If it takes programs, it also has the methods that rsp.first_difference calls."""
 
-    seen: Array = np.full(END.itemsize, 255, np.uint8)  # the bits of an end that it shows
+    seen: Array = np.full(END.itemsize, 255, np.uint8)  # the bits of an end that the emulator shows
 
     def fill(self, cases: Array, ends: Array) -> None:
         raise NotImplementedError
@@ -50,9 +50,9 @@ class Emulator:
         return for_programs(self, compared)
 
     def memories_after(self, case: Array, memories: bytes, compared: rsp.Machine) -> Optional[bytes]:
-        """All memories after a case, which is run as a program of one step; None if it takes no programs.
+        """All memories after a case, run as a program of one step; None if the emulator takes no programs.
 
-        `memories` are those before all cases. The emulator has them again afterwards.
+        `memories` are those before each case, which the emulator has again afterwards.
         """
         try:
             machine = self.for_programs(compared)
@@ -61,9 +61,9 @@ class Emulator:
         machine.set(rsp.State.from_buffer_copy(case["state"].tobytes()))
         load_all(machine, patched(memories, word_of(case)))
         machine.run(1)
-        found = memories_in(machine)
+        result = memories_in(machine)
         load_all(machine, memories)
-        return found
+        return result
 
 
 class Counted:
@@ -79,7 +79,7 @@ class Counted:
         self.asked, self.done = steps, self.emulator.steps(steps)
 
     def get(self) -> rsp.State:
-        """The state. With fewer steps it can't be that of the machine, which has made all."""
+        """The state. After fewer steps it can't be that of the machine, which has made all steps."""
         state: rsp.State = self.emulator.get()
         if self.done > self.asked or self.done < self.asked and state == self.compared.get():
             raise CampaignFault(f"of {self.asked} steps it returned that {self.done} are done")
@@ -87,7 +87,7 @@ class Counted:
 
 
 def for_programs(emulator: Any, compared: rsp.Rsp) -> Any:
-    """What rsp.first_difference calls of an emulator."""
+    """An emulator with the methods that rsp.first_difference calls."""
     return Counted(emulator, compared) if hasattr(emulator, "steps") else emulator
 
 
@@ -119,7 +119,7 @@ class Object(Emulator):
         self.lib.cases_set(self.at, bytes(state))
 
     def get(self) -> rsp.State:
-        """The bits that it doesn't show are those of the machine."""
+        """The state, with the machine's bits where the emulator shows none."""
         found, seen = bytearray(STATE.itemsize), self.seen[: STATE.itemsize]
         self.lib.cases_get(self.at, ctypes.byref((ctypes.c_char * len(found)).from_buffer(found)))
         ours = np.frombuffer(bytes(self.compared.get()), np.uint8)
@@ -156,10 +156,10 @@ def memories_in(machine: Any) -> bytes:
 
 def patched(memories: Iterable[int], changed: Changed) -> bytes:
     """Memories with other bytes at some addresses."""
-    made = bytearray(memories)
+    result = bytearray(memories)
     for address, byte in changed.items():
-        made[address] = byte
-    return bytes(made)
+        result[address] = byte
+    return bytes(result)
 
 
 def word_of(case: Array) -> Changed:
@@ -169,7 +169,7 @@ def word_of(case: Array) -> Changed:
 
 @functools.lru_cache(1)
 def digest() -> Any:
-    """That of cases.h."""
+    """The function cases_digest of cases.h."""
     call = ctypes.CDLL(built("library")).cases_digest
     call.restype = ctypes.c_uint64
     return call
@@ -192,12 +192,12 @@ class Single(Emulator):
             end["status"] = status  # last: it says that the case is done
 
     def memories_after(self, case: Array, memories: bytes, compared: rsp.Machine) -> Optional[bytes]:
-        """All memories after a case, which is run once more."""
+        """All memories after a case, which is run again."""
         return patched(patched(memories, word_of(case)), self.step(case)[2])
 
 
 class Python(Single):
-    """A class of Python."""
+    """A class in Python."""
 
     def __init__(self, path: str, memories: bytes) -> None:
         module, _, name = path.partition(":")
@@ -213,8 +213,8 @@ class Python(Single):
         found = self.machine.ends(cases)
         kind, shape = getattr(found, "dtype", type(found).__name__), getattr(found, "shape", "none")
         if (kind, shape) != (END, ends.shape):
-            wanted = f"END of rsp_conformance.campaign.generator and {ends.shape}"
-            raise Unusable(f"`ends` returned an array of dtype and shape {kind} and {shape}, not {wanted}")
+            expected = f"END of rsp_conformance.campaign.generator and {ends.shape}"
+            raise Unusable(f"`ends` returned an array of dtype and shape {kind} and {shape}, not {expected}")
         ends[:] = found
 
     def step(self, case: Array) -> End:
@@ -224,9 +224,9 @@ class Python(Single):
         return end
 
     def memories_after(self, case: Array, memories: bytes, compared: rsp.Machine) -> Optional[bytes]:
-        """All memories after a case. A class of `ends` shows them only as a program."""
-        shows = Emulator if hasattr(self.machine, "ends") else Single
-        return shows.memories_after(self, case, memories, compared)
+        """All memories after a case. A class with `ends` shows them only if it takes programs."""
+        base = Emulator if hasattr(self.machine, "ends") else Single
+        return base.memories_after(self, case, memories, compared)
 
     def for_programs(self, compared: rsp.Machine) -> Any:
         if not hasattr(self.machine, "load"):
@@ -234,14 +234,14 @@ class Python(Single):
         return for_programs(self.machine, compared)
 
 
-# The keys of an answer's state.
+# The keys of the state in an answer.
 FINAL = {*numbers_of(rsp.State()), "ram", "rdram", "status", "steps"}
 
 
 def final_in(answer: Any) -> Dict[str, Any]:
-    """The state of a command's answer.
+    """The state in a command's answer.
 
-    CampaignFault names a key that isn't known; ValueError says that there is no state.
+    Raises a CampaignFault that names an unknown key, or a ValueError if there is no state.
     """
     if not isinstance(answer, dict) or not isinstance(answer.get("final"), dict):
         raise ValueError("no object with an object 'final' in it")
@@ -254,8 +254,8 @@ def final_in(answer: Any) -> Dict[str, Any]:
     return final
 
 
-def without_ours() -> Dict[str, str]:
-    """The environment of a command, which has to find its own modules."""
+def environment() -> Dict[str, str]:
+    """The environment of a command, without our path of modules."""
     return {name: value for name, value in os.environ.items() if name not in ("PYTHONPATH", "PYTHONSAFEPATH")}
 
 
@@ -268,7 +268,7 @@ class Command(Single):
             stdin=subprocess.PIPE,
             stdout=subprocess.PIPE,
             preexec_fn=end_with_parent,
-            env=without_ours(),
+            env=environment(),
         )
         self.memories = bytes(memories)
         self.say_memories()
@@ -278,12 +278,12 @@ class Command(Single):
 
     def say(self, value: Dict[str, Any]) -> None:
         assert self.process.stdin
-        with contextlib.suppress(BrokenPipeError):  # its end is noticed when it has to answer
+        with contextlib.suppress(BrokenPipeError):  # `ask` reports that the command has ended
             self.process.stdin.write(json.dumps(value, separators=(",", ":")).encode() + b"\n")
             self.process.stdin.flush()
 
     def ask(self, question: Dict[str, Any]) -> Tuple[rsp.State, int, Changed]:
-        """The state, the status and the bytes that an answer names."""
+        """The state, the status and the changed bytes of an answer."""
         self.say(question)
         assert self.process.stdout
         line = self.process.stdout.readline()
@@ -298,8 +298,8 @@ class Command(Single):
             self.done = int(final.get("steps", question.get("steps", 1)))
             return state_of(final), final.get("status", 0), changed
         except (ValueError, KeyError, TypeError, IndexError, OverflowError) as fault:
-            said = f"{type(fault).__name__} {fault}"
-            raise CampaignFault(f"the command answered {line[:60]!r}: {said}") from None
+            why = f"{type(fault).__name__} {fault}"
+            raise CampaignFault(f"the command answered {line[:60]!r}: {why}") from None
 
     def step(self, case: Array) -> End:
         registers = numbers_of(rsp.State.from_buffer_copy(case["state"].tobytes()))
@@ -328,32 +328,33 @@ class Command(Single):
 
 
 class Hex(Emulator):
-    """A command over lines of hexadecimal digits, started for each batch: its input ends after the batch."""
+    """A command over lines of hexadecimal digits, which is started for each batch of cases."""
 
     def __init__(self, command: str) -> None:
         self.words = words_of(command)
 
     def fill(self, cases: Array, ends: Array) -> None:
-        """No case that may read or write a memory is given."""
+        """Runs the cases except those that may access a memory, which the command can't be given."""
         hidden = (cases["word"] >> 31 == 1) | (cases["word"] & 0xFFE07000 == 0x40801000)
-        given, ends["changed"] = np.nonzero(~hidden)[0], 0
-        lines = (f"{case['word']:08x} {case['state'].tobytes()[::-1].hex()}\n" for case in cases[given])
-        how: Dict[str, Any] = {"input": "".join(lines), "stdout": subprocess.PIPE, "env": without_ours()}
+        shown, ends["changed"] = np.nonzero(~hidden)[0], 0
+        lines = (f"{case['word']:08x} {case['state'].tobytes()[::-1].hex()}\n" for case in cases[shown])
+        how: Dict[str, Any] = {"input": "".join(lines), "stdout": subprocess.PIPE, "env": environment()}
         ended = subprocess.run(self.words, text=True, errors="replace", **how)
         answers = re.findall("(?m)^([0-9a-f]{1,8}) ([0-9a-f]{1544})$", ended.stdout)
-        for at, (status, state) in zip(given, answers):
+        for at, (status, state) in zip(shown, answers):
             ends["state"][at] = np.frombuffer(bytes.fromhex(state)[::-1], STATE)[0]
             ends["status"][at] = int(status, 16)
-        if len(answers) < len(given):
+        if len(answers) < len(shown):
             print(re.sub("(?m)^[0-9a-f ]+$\n", "", ended.stdout), file=sys.stderr, flush=True)
             raise CampaignFault(f"the command ended with status {ended.returncode}, without this answer")
         ends["status"][hidden] = UNSHOWN
 
 
 def emulator_of(spec: str, memories: bytes) -> Emulator:
-    """The emulator, with memories.
+    """The emulator that EMULATOR names, with these memories.
 
-    A plugin that isn't the build of z64 whose registers are known is seen by microcode.
+    Microcode sets and stores the registers of a plugin, unless it is the build of z64 whose registers are
+    known.
     """
     kind, _, rest = spec.partition(":")
     if kind == "python":

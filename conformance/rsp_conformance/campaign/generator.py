@@ -1,12 +1,13 @@
-"""Cases of an instruction as arrays. A case is decided by the generator's version, instruction, seed and
-number alone: in any range, on any machine and version of numpy.
+"""Makes cases of an instruction as arrays. A case depends only on the generator's version, the instruction,
+the seed and the number, so it is the same in any range, on any machine, and with any version of numpy.
 
-A case has WORDS random words of 64 bits: those of PCG64, begun at a hash of version, instruction and seed,
-from number * WORDS on. Only raw words are used, which numpy promises to keep. Each flag, field and choice of
-a case takes bits of its own from them, and so does each operand. All other registers are the exclusive or of
-two rows of a pool that the case draws. So all are independent of each other and of the number: each pair of
-values occurs. Nothing is drawn again, so no case takes another's words. The memories are random bytes, the
-same for all cases of an instruction and a seed.
+A case has WORDS random words of 64 bits. They are those of PCG64 from number * WORDS on, after a start at a
+hash of version, instruction and seed. Only raw words are used, because numpy promises that they stay the
+same. Each flag, field and choice of a case takes bits of its own from these words, and so does each operand.
+Each of the other registers is the exclusive or of two rows of a pool, which the case chooses. So all values
+are independent of each other and of the number, and each pair of values occurs. No value is rejected and
+drawn again, so that each case uses only its own words. The memories are random bytes, the same for all cases
+of an instruction and a seed.
 """
 
 import functools
@@ -22,7 +23,7 @@ from rsp_conformance.table import FORMS, ROWS as INSTRUCTIONS, SCALE, Row, ignor
 
 from .protocol import VERSION
 
-Array = Any  # of numpy, whose dtypes mypy doesn't follow
+Array = Any  # of numpy, whose dtypes mypy doesn't check
 Fields = Dict[str, Array]
 
 STATE = np.dtype(rsp.State)
@@ -30,15 +31,15 @@ CASE = np.dtype([("state", STATE), ("word", "<u4")])
 END = np.dtype([("state", STATE), ("status", "<u4"), ("changed", "<u8")])
 DMEM, IMEM, RDRAM, MEMORIES = 0, 4096, 8192, 8192 + 16384  # the three memories in one array
 BANKS = {"dmem": (DMEM, IMEM), "imem": (IMEM, RDRAM), "rdram": (RDRAM, MEMORIES)}
-# The words of a case: the rows of the pool; choices of lanes, of lanes close to others, and of accumulators;
-# and all other choices, two a word.
+# The words of a case: rows of the pool; choices of lanes, of lanes close to others, and of accumulators; and
+# all other choices, two in each word.
 ROWS, LANE_CHOICES, NEAR_CHOICES, ACCUMULATOR_CHOICES, CHOICES = 0, 1, 3, 4, 6
 WORDS = CHOICES + 21
 POOL, REGISTERS = 1024, CASE.itemsize // 8
 
 EDGES, LANES, HALVES, PLACES, FLAGS, SP_NUMBERS = (
-    np.array(it, np.int64)
-    for it in (
+    np.array(values, np.int64)
+    for values in (
         vectors.WORDS,
         seeded_random.LANES,
         vectors.HALVES,
@@ -49,15 +50,15 @@ EDGES, LANES, HALVES, PLACES, FLAGS, SP_NUMBERS = (
 )
 EXTREMES, DIVISORS = np.array(vectors.EXTREMES, np.uint16), np.array(vectors.DIVISORS, np.int64)
 OFFSETS, HIGH = np.array([0, 1, 63, 64, 127]), np.array([0, 0, 1, 0xFFFFF])
-# For each element the lanes of vt that the lanes take, and how many take the same one.
+# For each element the lanes of vt that the lanes take, and how many lanes take the same one.
 SELECTED = np.array([[selected(e, lane) for lane in range(8)] for e in range(16)])
-REPEATED = 8 // np.array([len(set(it)) for it in SELECTED.tolist()])
+REPEATED = 8 // np.array([len(set(lanes)) for lanes in SELECTED.tolist()])
 FIRST_EDGE = 116  # a byte from here on chooses an edge
 EDGE = LANES[np.arange(256) % len(LANES)].astype(np.uint16)
 # Lanes close to a limit of the comparisons, (b * TIMES + PLUS) ^ FLIP: b, -b, ~b, b + 1, b - 1, 1 - b, -b -
 # 2, b ^ 0x8000.
 NEAR = ((1, 0, 0), (-1, 0, 0), (-1, -1, 0), (1, 1, 0), (1, -1, 0), (-1, 1, 0), (-1, -2, 0), (1, 0, 0x8000))
-TIMES, PLUS, FLIP = (np.array(it, np.int32) for it in zip(*NEAR))
+TIMES, PLUS, FLIP = (np.array(numbers, np.int32) for numbers in zip(*NEAR))
 PARTED = np.array(
     [
         high << 32 | middle << 16 | low
@@ -70,11 +71,11 @@ LIMITS = np.array([limit + near for limit in BOUNDS for near in (-1, 0, 1)] + [-
 
 
 def generator(what: str, seed: str) -> Array:
-    """PCG64, begun at a hash."""
+    """PCG64 with the hash of a text and a seed as its state."""
     key = int.from_bytes(hashlib.sha256(f"{VERSION}/{what}/{seed}".encode()).digest(), "little")
-    made, state = np.random.PCG64(), {"state": key >> 128, "inc": key % 2**128 | 1}  # type: Any, Any
-    made.state = {"bit_generator": "PCG64", "state": state, "has_uint32": 0, "uinteger": 0}
-    return made
+    pcg, state = np.random.PCG64(), {"state": key >> 128, "inc": key % 2**128 | 1}  # type: Any, Any
+    pcg.state = {"bit_generator": "PCG64", "state": state, "has_uint32": 0, "uinteger": 0}
+    return pcg
 
 
 def memories_of(name: str, seed: str) -> Array:
@@ -95,9 +96,9 @@ class Draw:
     """
 
     def __init__(self, name: str, seed: str, start: int, count: int) -> None:
-        made = generator(name, seed)
-        made.advance(start * WORDS)
-        self.raw = made.random_raw(count * WORDS).astype("<u8", copy=False).reshape(count, WORDS)
+        pcg = generator(name, seed)
+        pcg.advance(start * WORDS)
+        self.raw = pcg.random_raw(count * WORDS).astype("<u8", copy=False).reshape(count, WORDS)
         self.all, self.column, self.pool = np.arange(count), -1, pool_of(name, seed)
         self.columns = np.ascontiguousarray(self.raw[:, CHOICES:].view("<u4").T)
 
@@ -123,12 +124,12 @@ class Draw:
 
 
 def either(condition: Array, yes: Array, no: Array) -> Array:
-    """np.where of 16 bits, in a quarter of its time."""
+    """np.where for numbers of 16 bits, in a quarter of the time."""
     return no ^ ((yes ^ no) & -condition.astype(np.uint16))
 
 
 def lanes_of(d: Draw, state: Array, register: Array, choices: int) -> Array:
-    """The lanes of a register: edges and any. In one of eight cases all are the first."""
+    """The lanes of a register: edges and any values. In one of eight cases all lanes are equal."""
     value = state["vectors"][d.all, register] ^ d.below(1 << 16).astype(np.uint16)[:, None]
     choice = d.bytes(LANE_CHOICES + choices, 1)
     value = either(choice >= FIRST_EDGE, EDGE.take(choice), value)
@@ -163,9 +164,9 @@ def vector(row: Row, d: Draw, state: Array, fields: Fields) -> None:
 
 
 def accumulate_to_limits(d: Draw, state: Array, a: Array, b: Array) -> None:
-    """Accumulators: edges, and those to which the product of a lane adds up to a limit, or next to one."""
+    """Accumulators: edges, and those whose sum with the product of the lane is a limit, or next to one."""
     choice = d.bytes(ACCUMULATOR_CHOICES, 2).view("<u2")
-    s, t, us, ut = (it.astype(np.int64) for it in (a.view(np.int16), b.view(np.int16), a, b))
+    s, t, us, ut = (lanes.astype(np.int64) for lanes in (a.view(np.int16), b.view(np.int16), a, b))
     product = np.where(
         choice & 1, np.where(choice & 2, us * t, s * t << 16), np.where(choice & 2, s * ut, s * t << 1)
     )
@@ -176,7 +177,7 @@ def accumulate_to_limits(d: Draw, state: Array, a: Array, b: Array) -> None:
 
 
 def lane(row: Row, d: Draw, state: Array, fields: Fields) -> None:
-    """Divides and VMOV: numbers as likely short as long, and edges."""
+    """Divides and VMOV: numbers of any length, equally often, and edges."""
     vt, vd, e = d.below(32), d.below(32), d.below(16)
     vd = np.where(d.one_in(5), vt, vd)
     b, size = lanes_of(d, state, vt, 0), 1 << d.below(33)
@@ -204,7 +205,7 @@ def put(state: Array, d: Draw, register: Array, value: Array) -> None:
 
 
 def scalar(row: Row, d: Draw, state: Array, fields: Fields) -> None:
-    """Two numbers, or a number and imm: edges, any, and next to each other."""
+    """Two numbers, or a number and imm: edges, any values, and values next to each other."""
     s, t, a, b = d.below(32), d.below(32), d.mixed(EDGES, 32), d.mixed(EDGES, 32)
     imm, near = d.mixed(HALVES, 16), d.below(3) - 1
     other = (imm ^ 0x8000) - 0x8000 if "imm" in FORMS[row.form] and row.form != "branch two" else b
@@ -216,14 +217,14 @@ def scalar(row: Row, d: Draw, state: Array, fields: Fields) -> None:
 
 
 def address(d: Draw) -> Array:
-    """Any byte of DMEM, and those around its end more often."""
+    """The address of any byte of DMEM, more often around its end."""
     return np.where(d.one_in(4), 0xFE0 + d.below(48), d.below(4096)) & 0xFFF
 
 
 def put_base(state: Array, d: Draw, register: Array, at: Array, offset: Array) -> Array:
-    """Sets a base register for an address, and returns the address, which $0 doesn't reach.
+    """Sets a base register for an address, with any bits above the twelve of DMEM.
 
-    Bits of a base above the twelve of DMEM don't count.
+    Returns the address, which is the offset if the base is $0.
     """
     put(state, d, register, at + (d.pick(HIGH) << 12) - offset)
     return np.where(register == 0, offset, at) & 0xFFF
@@ -268,7 +269,7 @@ MAKERS: Dict[str, Callable[[Row, Draw, Array, Fields], None]] = {
 
 
 def registers(d: Draw) -> Array:
-    """All registers of each case before its instruction's own choices: any that a machine can hold."""
+    """All registers of each case, before its instruction sets some of them: any that a machine can have."""
     rows = (d.raw[:, ROWS : ROWS + 1].view("<u4") % POOL).astype(np.intp)
     words = d.pool.take(rows[:, 0], 0)
     words ^= d.pool.take(rows[:, 1], 0)
@@ -292,7 +293,7 @@ def registers(d: Draw) -> Array:
 
 
 def cases_of(name: str, seed: str, start: int, count: int) -> Tuple[Array, Array]:
-    """Cases of an instruction from `start` on, and which of them show what the documents chose."""
+    """Cases of an instruction from `start` on, and which of them depend on a rule that we chose ourselves."""
     row = INSTRUCTIONS[name]
     d = Draw(name, seed, start, count)
     fields: Fields = {}

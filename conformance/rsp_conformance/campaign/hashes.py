@@ -1,4 +1,6 @@
-"""What a result is of: the files of the emulator, and all that it is compared with, each as one hash."""
+"""The hashes that a result belongs to: of the emulator's files, and of all that the emulator is compared
+with.
+"""
 
 import hashlib
 import importlib.util
@@ -7,7 +9,7 @@ import shutil
 import sys
 from importlib.machinery import ModuleSpec, PathFinder
 from pathlib import Path
-from typing import Dict, Iterable, Iterator, List, Optional
+from typing import Dict, Iterable, List, Optional
 
 from rsp_conformance import HERE, TOP
 
@@ -20,17 +22,18 @@ LIBRARY = next((it for it in [TOP / "lib/libbrsp.a"] if it.is_file()), TOP / "li
 
 
 def find_module(name: str) -> Optional[ModuleSpec]:
-    """Where a module is that EMULATOR names, or None: on Python's path, or else in the current folder.
+    """The module that EMULATOR names, from Python's path, or otherwise from the current folder; None if it
+    has no file.
 
-    Only then the current folder, which may be a stranger's, comes onto the path: the emulator imports others
-    from there.
+    The current folder may be a stranger's. So it is added to the path, for what the emulator imports from
+    there, only if the module isn't elsewhere.
     """
     first, here = name.partition(".")[0], os.getcwd()
     try:
         if not importlib.util.find_spec(first) and PathFinder.find_spec(first, [here]):
             sys.path.append(here)
         return importlib.util.find_spec(name)
-    except Exception as fault:  # of the package that it is in, too, which is imported to find it
+    except Exception as fault:  # of the module's package too, which is imported to find the module
         raise CampaignFault(f"there is no module {name!r}: {type(fault).__name__}: {fault}") from None
 
 
@@ -44,9 +47,9 @@ def hash_of(paths: Iterable[object], more: str = "") -> str:
 
 
 def sources() -> List[Path]:
-    """All that decides what a campaign compares with: our sources, and the library."""
-    ours = [*SOURCES.glob("*.[ch]"), *(HERE / "rsp_conformance").rglob("*.py"), *TOP.glob("plugin/*.[ch]")]
-    return [*sorted(ours), HEADER, LIBRARY]
+    """The sources of what a campaign compares with: our own files, and the library."""
+    own = [*SOURCES.glob("*.[ch]"), *(HERE / "rsp_conformance").rglob("*.py"), *TOP.glob("plugin/*.[ch]")]
+    return [*sorted(own), HEADER, LIBRARY]
 
 
 def named_by(spec: str) -> List[str]:
@@ -59,16 +62,15 @@ def named_by(spec: str) -> List[str]:
         return [rest or spec]
     words = words_of(rest if kind == "hex" else spec)
     found = (word if Path(word).is_file() else shutil.which(word) for word in words)
-    return [it for it in found if it]
+    return [path for path in found if path]
 
 
-def files_below(path: str) -> Iterator[str]:
-    """A file, or all files of a folder and of the folders in it, without what Python compiles them to."""
-    if Path(path).is_dir():
-        found = (it for it in Path(path).rglob("*") if it.is_file() and it.parent.name != "__pycache__")
-        yield from sorted(map(str, found))
-    else:
-        yield path
+def files_below(path: str) -> List[str]:
+    """A file, or all files below a folder except those that Python compiles."""
+    if not Path(path).is_dir():
+        return [path]
+    below = (found for found in Path(path).rglob("*") if found.is_file())
+    return sorted(str(found) for found in below if found.parent.name != "__pycache__")
 
 
 def files_of(spec: str, others: Iterable[str]) -> List[str]:

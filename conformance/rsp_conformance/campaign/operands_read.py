@@ -1,4 +1,4 @@
-"""What an instruction reads of a state, in the words of its rule. It tells why two sides can differ."""
+"""What an instruction reads of a state, in the words of its rule, to show why two sides differ."""
 
 import re
 from typing import Dict, Iterator, List, Tuple
@@ -11,10 +11,10 @@ from rsp_conformance.case_outcomes import address_of
 Reads = Iterator[Tuple[str, str]]  # what it is, and its value
 
 FLAGS = {"carry": "carry", "differ": "not-equal", "compare": "compare", "clip": "clip", "extra": "extra"}
-# The flags that a computing instruction reads.
+# The flags that each computing instruction reads.
 READ_FLAGS = {"vadd": ("carry",), "vsub": ("carry",), "vlt": ("carry", "differ"), "vge": ("carry", "differ"),
               "veq": ("differ",), "vne": ("differ",), "vcl": tuple(FLAGS), "vmrg": ("compare",)}  # fmt: skip
-ADDING = ("vmac", "vmad", "vrnd", "vsar")  # how those begin that read an accumulator
+ADDING = ("vmac", "vmad", "vrnd", "vsar")  # the beginnings of those that read an accumulator
 ACCUMULATORS = ("high", "middle", "low")
 READ = 16  # the bytes that are shown at an address
 
@@ -34,10 +34,10 @@ def lane_reads(row: Row, state: rsp.State, fields: Dict[str, int], lane: int) ->
 
 
 def computing(row: Row, state: rsp.State, fields: Dict[str, int]) -> Reads:
-    """All lanes, lane 0 first."""
+    """What all lanes read, lane 0 first."""
     lanes = [dict(lane_reads(row, state, fields, lane)) for lane in range(8)]
     for name in lanes[0]:
-        yield name, " ".join(it[name] for it in lanes)
+        yield name, " ".join(lane[name] for lane in lanes)
 
 
 def dividing(state: rsp.State, fields: Dict[str, int]) -> Reads:
@@ -55,7 +55,7 @@ def scalars(state: rsp.State, fields: Dict[str, int]) -> Reads:
 
 def vectors(state: rsp.State, numbers: List[int]) -> Reads:
     for number in numbers:
-        yield f"$v{number}", " ".join(f"{it:04x}" for it in state.vectors[number])
+        yield f"$v{number}", " ".join(f"{lane:04x}" for lane in state.vectors[number])
 
 
 def addressed(row: Row, state: rsp.State, fields: Dict[str, int]) -> int:
@@ -69,7 +69,7 @@ def memory(row: Row, state: rsp.State, fields: Dict[str, int], memories: bytes) 
 
 
 def reads_of(name: str, word: int, state: rsp.State, memories: bytes) -> Reads:
-    """What a case's instruction reads."""
+    """All that a case's instruction reads."""
     row, fields = ROWS[name], fields_of(ROWS[name], word)
     yield from scalars(state, fields)
     if row.form == "vector":
@@ -93,7 +93,7 @@ FLAG = re.compile(r"vc[oce]: expected (\w+), got (\w+)")
 
 
 def lane_in(line: str) -> int:
-    """The lane that a difference is in, of flags the lowest one; -1 if it names none."""
+    """The lane of a difference, which is the lowest wrong lane of flags; -1 if the difference has no lane."""
     if found := FLAG.match(line):
         wrong = int(found[1], 16) ^ int(found[2], 16)
         return next(lane for lane in range(8) if (wrong | wrong >> 8) >> lane & 1)

@@ -1,169 +1,134 @@
-"""A campaign's folder: the campaign, its tasks, and their results, each a file that is written whole."""
+"""The folder OUT of a campaign: its settings, its tasks, and a file for each result."""
 
 import argparse
 import json
-import platform
-import re
 from pathlib import Path
 from typing import Any, Dict, List
 
 from rsp_conformance.command_line import printable
-from rsp_conformance.safe_files import MOST_JSON, make_folder, read, write
+from rsp_conformance.safe_files import MOST_JSON, make_folder, read_file, write_file
 from rsp_conformance.table import ROWS
 
 from . import CampaignFault
 from .hashes import files_of, hashes
-from .report import AGAIN, MOST, file_of, is_result, results_in, task_of
-from .protocol import PROGRAM, VERSION, Result, Task, counted
+from .protocol import PROGRAM, VERSION, Result, Task, plural
+from .report import AGAIN, file_of, results_in, task_of
 
-# What decides a campaign's cases and programs.
-GIVEN = ("emulator", "instructions", "seed", "cases", "size", "programs", "programs_size", "steps")
-# The ranges of those that are numbers.
-RANGES = {
-    **{key: range(MOST) for key in ("cases", "programs")},
-    **{key: range(1, MOST) for key in ("size", "programs_size", "steps")},
-}
-# Whose files a hash is of, and what it means that a campaign has another one.
+# The options that decide a campaign's cases and programs.
+SETTINGS = ("emulator", "instructions", "seed", "cases", "size", "programs", "programs_size", "steps")
+MOST = 1 << 53  # the numbers of a campaign are smaller
+# What it means that a campaign has another hash.
 CHANGED = {
     "emulator": "the emulator's files have changed since, or --files names others",
     "library": "the library, or this command, has changed since",
 }
-LISTED = 8  # so many files are named in a sentence
+LISTED = 8  # files that are named in a sentence
 
 
-def wrong_keys(given: Dict[str, Any]) -> List[str]:
-    """What a campaign's folder says of its campaign that no campaign can be of."""
-    names, texts = given["instructions"], ("emulator", "seed")
-    wrong = [key for key in texts if not isinstance(given[key], str)]
-    wrong += [key for key, it in RANGES.items() if type(given[key]) is not int or given[key] not in it]
-    if type(names) is not list or not names or any(type(it) is not str or it not in ROWS for it in names):
-        wrong.append("instructions")
-    return wrong
-
-
-def given_in(out: Path) -> Dict[str, Any]:
-    """What a campaign's folder says of its campaign."""
+def settings_in(out: Path) -> Dict[str, Any]:
+    """The settings of the campaign in a folder, of which instructions and steps can be used."""
     why = ""
     try:
-        given = {"generator": 1, **json.loads(read(out / "campaign.json", MOST_JSON))}
-        if not (wrong := wrong_keys(given)):
-            return {key: given[key] for key in ("generator", *GIVEN, "hashes")}
-        why = f": {wrong[0]!r} is {given[wrong[0]]!r:.40}"
+        found = json.loads(read_file(out / "campaign.json", MOST_JSON))
+        settings = {key: found[key] for key in ("generator", *SETTINGS, "hashes")}
+        names, steps = settings["instructions"], settings["steps"]
+        if not isinstance(names, list) or not names or not all(name in ROWS for name in names):
+            raise ValueError(f": 'instructions' is {names!r:.40}")
+        if type(steps) is not int or not 0 < steps < MOST:
+            raise ValueError(f": 'steps' is {steps!r:.40}")
+        return settings
     except KeyError as fault:
         why = f": it has no {fault}"
-    except (ValueError, TypeError, RecursionError):
-        pass
+    except (ValueError, TypeError, RecursionError) as fault:
+        why = str(fault) if type(fault) is ValueError else ""
     raise CampaignFault(f"{out}/campaign.json isn't what a campaign wrote{why}")
 
 
-def other_hashes(here: Dict[str, str], there: Any) -> List[str]:
-    """The names of the hashes that aren't these there, which may be anything that JSON has."""
-    return [key for key, value in here.items() if not isinstance(there, dict) or there.get(key) != value]
+def other_hashes(ours: Dict[str, str], theirs: Any) -> List[str]:
+    """The names of our hashes that others, which may be any value of JSON, don't have."""
+    return [key for key in ours if not isinstance(theirs, dict) or theirs.get(key) != ours[key]]
 
 
-def is_program(found: Any) -> bool:
-    """Whether this has the texts of a program that a worker has cut down."""
-    return isinstance(found, dict) and all(
-        isinstance(found.get(it), str) for it in ("name", "source", "script")
-    )
-
-
-class Folder:
+class OutputFolder:
     """The folder OUT of a campaign."""
 
     def __init__(self, args: argparse.Namespace) -> None:
         self.out: Path = args.out
-        self.files, self.earlier = files_of(args.emulator, args.files), 0
-        given = {key: getattr(args, key) for key in GIVEN}
-        self.given: Dict[str, Any] = {
+        self.files, self.earlier_results = files_of(args.emulator, args.files), 0
+        self.settings: Dict[str, Any] = {
             "generator": VERSION,
-            **given,
-            "hashes": hashes(args.emulator, args.files),
+            **{key: getattr(args, key) for key in SETTINGS},
         }
+        self.settings["hashes"] = hashes(args.emulator, args.files)
         kinds = ((args.cases, args.size, args.instructions), (args.programs, args.programs_size, [PROGRAM]))
         self.tasks: List[Task] = [
-            (name, at, min(size, count - at))
+            (name, first, min(size, count - first))
             for count, size, names in kinds
-            for at in range(0, count, size)
+            for first in range(0, count, size)
             for name in names
         ]
 
     def open(self) -> None:
-        """Makes the folder; one that holds another campaign, or another's results, is refused."""
-        import numpy
-
-        versions = {"python": platform.python_version(), "numpy": numpy.__version__}
+        """Makes the folder. A folder of another campaign, or with another campaign's results, is refused."""
         self.out.mkdir(parents=True, exist_ok=True)
         if not (self.out / "campaign.json").exists():
-            if any(not it.name.startswith(".") for it in self.out.iterdir()):
+            if any(not path.name.startswith(".") for path in self.out.iterdir()):
                 raise CampaignFault(f"{self.out} isn't empty, and holds no campaign")
-            write(
-                self.out / "campaign.json", json.dumps({**self.given, "versions": versions}, indent=1) + "\n"
-            )
-        there = given_in(self.out)
-        if other := [key for key in self.given if self.given[key] != there[key]]:
+            write_file(self.out / "campaign.json", json.dumps(self.settings, indent=1) + "\n")
+        found = settings_in(self.out)
+        if other := [key for key in self.settings if self.settings[key] != found[key]]:
             how = "take another folder for OUT, or delete this one"
-            raise CampaignFault(f"{self.out} holds another campaign: {self.why(other[0], there)}; {how}")
-        self.earlier = len(self.results())
+            difference = self.difference(other[0], found)
+            raise CampaignFault(f"{self.out} holds another campaign: {difference}; {how}")
+        self.earlier_results = len(self.results())
 
-    def why(self, key: str, there: Dict[str, Any]) -> str:
-        """What the campaign there has otherwise, in a clause."""
-        value = there[key]
+    def difference(self, key: str, found: Dict[str, Any]) -> str:
+        """What the campaign in the folder has for another setting, in a clause."""
+        value = found[key]
         if key == "hashes":
-            return CHANGED[(other_hashes(self.given[key], value) or ["emulator"])[0]]
+            return CHANGED[(other_hashes(self.settings[key], value) or ["emulator"])[0]]
         text = ",".join(map(str, value)) if isinstance(value, list) else str(value)
         return f"its {key.replace('_', '-')} {'are' if key.endswith('s') else 'is'} {text[:200]}"
 
-    def said_of_earlier(self) -> str:
-        """A sentence about the results that an earlier run has left, or none if there are none."""
-        if not self.earlier:
+    def note_on_earlier_results(self) -> str:
+        """Sentences about the results that an earlier run has left; empty if there are none."""
+        if not self.earlier_results:
             return ""
         more = [f"{len(self.files) - LISTED} more"] if len(self.files) > LISTED else []
         files = printable(", ".join([*self.files[:LISTED], *more])) or "none"
-        tasks = f"{self.earlier} of {counted(len(self.tasks), 'task')}"
-        told = f"Not run again: {tasks}, whose results an earlier run has left in {printable(str(self.out))}."
+        tasks = f"{self.earlier_results} of {plural(len(self.tasks), 'task')}"
+        where = f"whose results an earlier run has left in {printable(str(self.out))}"
         why = f"They count because these files of the emulator haven't changed since: {files}."
-        return f"{told} {why} If it has others, name them by --files."
+        return f"Not run again: {tasks}, {where}. {why} If it has others, name them by --files."
 
-    def file(self, task: Task) -> Path:
+    def path_of(self, task: Task) -> Path:
         return self.out / file_of(task)
 
-    def is_ours(self, result: Result) -> bool:
-        """Whether a result answers a task of this campaign."""
-        return task_of(result) in self.tasks and result["seed"] == self.given["seed"]
-
     def results(self) -> List[Result]:
-        """The results that are there."""
+        """The results in the folder."""
         found = results_in(self.out)
-        for it in found:
-            if not self.is_ours(it) or it["hashes"] != self.given["hashes"]:
-                path = self.file(task_of(it))
-                raise CampaignFault(f"{path} is the result of another campaign: {AGAIN}")
+        for result in found:
+            task, seed = task_of(result), self.settings["seed"]
+            if (
+                task not in self.tasks
+                or result["seed"] != seed
+                or result["hashes"] != self.settings["hashes"]
+            ):
+                raise CampaignFault(f"{self.path_of(task)} is the result of another campaign: {AGAIN}")
         return found
 
-    def left(self) -> List[Task]:
-        return [it for it in self.tasks if not self.file(it).exists()]
+    def tasks_left(self) -> List[Task]:
+        return [task for task in self.tasks if not self.path_of(task).exists()]
 
-    def keep(self, result: Result) -> None:
-        """Writes a result. It is refused if it answers no task, or if a worker has another emulator."""
-        if not is_result(result):
-            raise CampaignFault("a worker has sent what isn't a result")
+    def save(self, result: Result) -> None:
+        """Writes a result. It is refused if its worker has other files, or if no case could be run."""
         if not result["count"] and "given up" in result:
-            raise CampaignFault(f"{self.given['emulator']}: {result['given up']}")
-        if other := other_hashes(self.given["hashes"], result["hashes"]):
+            raise CampaignFault(f"{self.settings['emulator']}: {result['given up']}")
+        if other := other_hashes(self.settings["hashes"], result["hashes"]):
             raise CampaignFault(f"a worker has other files of the {other[0]} than this machine")
-        if not self.is_ours(result):
-            raise CampaignFault(
-                f"a worker has sent {file_of(task_of(result))}, which is no task of this campaign"
-            )
-        if not all(map(is_program, result["programs"])):
-            raise CampaignFault("a worker has sent what isn't a program")
-        names = [it["name"] for it in result["programs"]]
-        if odd := [it for it in names if not re.fullmatch(r"[\w-]{1,100}", it)]:
-            raise CampaignFault(f"a worker has sent a program with the name {odd[0]!r:.120}")
         for program in result["programs"]:
             folder = self.out / "programs"
             make_folder(folder)
-            write(folder / f"{program['name']}.s", program.pop("source"))
-            write(folder / f"{program['name']}.script", program.pop("script"))
-        write(self.file(task_of(result)), json.dumps(result) + "\n")
+            write_file(folder / f"{program['name']}.s", program.pop("source"))
+            write_file(folder / f"{program['name']}.script", program.pop("script"))
+        write_file(self.path_of(task_of(result)), json.dumps(result) + "\n")

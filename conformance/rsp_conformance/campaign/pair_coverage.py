@@ -1,22 +1,20 @@
-"""Which pairs of values a generator's cases lack. What a pair is comes from the instruction table: each field
-with each other; registers that are equal, and $0; an element with the divider's state, with the flags of its
-lanes, and with an address; classes of operands; where an accumulator is.
+"""Finds pairs of values that are too rare in a generator's cases. Pairs are made, by the instruction table,
+of fields; equal registers, and $0; the divider's state; the flags of lanes; addresses; classes of operands;
+and ranges of accumulators.
 
-A pair is short if it occurs less than half as often as independent draws of its two values would give, and
-chance doesn't explain it. A value alone is short if it has less than a quarter of its share. As a program it
-takes names of instructions, and prints what their first 65,536 cases lack.
+A pair is too rare if it occurs less than half as often as if both values were independent, and chance doesn't
+explain it. A single value is too rare if it has less than a quarter of its share.
 """
 
 import itertools
-import sys
 from typing import Dict, Iterator, List
 
 import numpy as np
 from rsp_conformance.outcomes import signed
-from rsp_conformance.table import FORMS, ROWS, Row, uses_memory
+from rsp_conformance.table import FORMS, Row, uses_memory
 from rsp_conformance.case_outcomes import address_of
 
-from .generator import HALVES, OFFSETS, SELECTED, Array, accumulates, cases_of
+from .generator import HALVES, OFFSETS, SELECTED, Array, accumulates
 
 COUNT = 1 << 16
 FILES = (("s", "t", "d", "base"), ("vs", "vt", "vd"))  # the fields that name scalar, and vector registers
@@ -24,7 +22,7 @@ FILES = (("s", "t", "d", "base"), ("vs", "vt", "vd"))  # the fields that name sc
 EDGES = {"imm": HALVES, "off": OFFSETS, "target": np.array([0, 1, 0x3FF])}
 OPERANDS = np.array([0, 1, 0xFFFF, 0x7FFF, 0x8000])
 FLAGS = ("carry", "differ", "compare", "clip", "extra")
-# Of these one decides about the other; and if the base is $0, the offset decides about the address.
+# Pairs of dependent values. If the base is $0, the address also depends on the offset.
 BOUND = {("a", "relation"), ("b", "relation"), ("a", "accumulator"), ("b", "accumulator")}
 ADDRESS = ("address mod 16", "the last 16 bytes")
 
@@ -38,11 +36,13 @@ def classes(values: Array, edges: Array) -> Array:
 
 
 def of_cases(row: Row, cases: Array) -> Features:
-    """Fields, and what is read with them."""
+    """The fields of cases, and the values that are read with them."""
     word, state = cases["word"].astype(np.int64), cases["state"]
     layout = FORMS[row.form].items()
     fields = {name: word >> low & (1 << width) - 1 for name, (low, width) in layout}
-    found = {name: classes(it, EDGES[name]) if name in EDGES else it for name, it in fields.items()}
+    found = {
+        name: classes(values, EDGES[name]) if name in EDGES else values for name, values in fields.items()
+    }
     for file in FILES:
         for one, other in itertools.combinations([name for name in file if name in fields], 2):
             found[f"{one} = {other}"] = fields[one] == fields[other]
@@ -58,7 +58,7 @@ def of_cases(row: Row, cases: Array) -> Features:
 
 
 def of_lanes(row: Row, cases: Array) -> Features:
-    """What each lane of a computing instruction reads."""
+    """The values that each lane of a computing instruction reads."""
     if row.form != "vector":
         return {}
     word, state = cases["word"].astype(np.int64), cases["state"]
@@ -77,32 +77,31 @@ def of_lanes(row: Row, cases: Array) -> Features:
 
 
 def possible(row: Row, name: str) -> List[int]:
-    """The values of a field: bits that select the instruction have one."""
+    """The possible values of a field, of which some bits may select the instruction."""
     low, width = FORMS[row.form][name]
     fixed, value = row.mask >> low & (1 << width) - 1, row.value >> low
-    return [it for it in range(1 << width) if not (it ^ value) & fixed]
+    return [number for number in range(1 << width) if not (number ^ value) & fixed]
 
 
 def short_values(row: Row, features: Features) -> Iterator[str]:
-    """The values that are rare alone."""
+    """The single values that are too rare."""
     for name, values in features.items():
         is_field = name in FORMS[row.form] and name not in EDGES
-        wanted = possible(row, name) if is_field else range(1 + int(values.max()))
-        least = values.size / len(wanted) / 4 if is_field else values.size / 4000
-        counts = np.bincount(values.ravel().astype(np.int64), minlength=max(wanted) + 1)
-        if len(wanted) == 1 and name not in FORMS[row.form]:
-            yield f"{row.name.upper()}: {name}: it is always {wanted[0]}"
-        yield from (
-            f"{row.name.upper()}: {name} {it}: {counts[it]} cases" for it in wanted if counts[it] < least
-        )
+        numbers = possible(row, name) if is_field else range(1 + int(values.max()))
+        least = values.size / len(numbers) / 4 if is_field else values.size / 4000
+        counts = np.bincount(values.ravel().astype(np.int64), minlength=max(numbers) + 1)
+        if len(numbers) == 1 and name not in FORMS[row.form]:
+            yield f"{row.name.upper()}: {name}: it is always {numbers[0]}"
+        rare = [number for number in numbers if counts[number] < least]
+        yield from (f"{row.name.upper()}: {name} {number}: {counts[number]} cases" for number in rare)
 
 
 def short_pairs(row: Row, features: Features) -> Iterator[str]:
-    """The pairs that are rarer than independent draws would give."""
+    """The pairs that are rarer than those of independent values."""
     for one, other in itertools.combinations(features, 2):
         if (one, other) in BOUND:
             continue
-        x, y = (features[it].astype(np.int64) for it in (one, other))
+        x, y = (features[name].astype(np.int64) for name in (one, other))
         wide = 1 + int(y.max())
         counts = np.bincount((x * wide + y).ravel(), minlength=(1 + int(x.max())) * wide).reshape(-1, wide)
         expected = np.outer(counts.sum(1), counts.sum(0)) / x.size
@@ -114,18 +113,9 @@ def short_pairs(row: Row, features: Features) -> Iterator[str]:
 
 
 def short(row: Row, cases: Array) -> List[str]:
-    """What these cases of an instruction lack."""
-    whole, lanes = of_cases(row, cases), of_lanes(row, cases)
-    mixed = {**{name: np.repeat(it[:, None], 8, 1) for name, it in whole.items() if name == "e"}, **lanes}
-    found = [*short_values(row, whole), *short_values(row, lanes), *short_pairs(row, whole)]
-    return [*found, *(short_pairs(row, mixed) if lanes else [])]
-
-
-def main() -> None:
-    for name in sys.argv[1:] or [*ROWS]:
-        found = short(ROWS[name.lower()], cases_of(name.lower(), "1", 0, COUNT)[0])
-        print(*found or [f"{name.upper()} has all"], sep="\n", flush=True)
-
-
-if __name__ == "__main__":
-    main()
+    """The values and pairs that are too rare in these cases of an instruction."""
+    fields, lanes = of_cases(row, cases), of_lanes(row, cases)
+    found = [*short_values(row, fields), *short_values(row, lanes), *short_pairs(row, fields)]
+    if lanes:
+        found += short_pairs(row, {"e": np.repeat(fields["e"][:, None], 8, 1), **lanes})
+    return found

@@ -1,17 +1,17 @@
-"""What a campaign's processes share without numpy: names of cases, and a batch's ends in shared memory."""
+"""What the processes of a campaign share: types, names of cases, and the layout of a batch's ends."""
 
 from typing import Any, Dict, Tuple
 
-Result = Dict[str, Any]  # of a task, of a batch of cases, or of a program: what adds up, and what is shown
+Result = Dict[str, Any]  # of a task, of a batch of cases, or of a program: counts, and lines for the table
 Task = Tuple[str, int, int]  # of a campaign: the instruction, the first number, and how many
-Options = Dict[str, Any]  # what a task has to know of its campaign
+Options = Dict[str, Any]  # of the campaign, for its tasks
 
-VERSION = 2  # of the generator: a case has the same name as long as it is the same
+VERSION = 2  # of the generator: another version gives the cases of the same numbers other names
 PROGRAM = "program"  # in place of an instruction, in a task of programs
 BATCH, SHOWN = 1024, 5  # the cases of a call, and the differences of a task that are shown
 # An end is a state, the status and a digest: the bytes of one, and where its status is.
 END_BYTES, STATUS_AT = 784, 772
-# A status: of a case that isn't done yet, that can't be given, or whose instruction the emulator hasn't.
+# The status of a case that isn't done yet, that the emulator can't be given, or whose instruction it lacks.
 UNDONE, UNSHOWN, RESERVED = 0xFFFFFFFF, 0xFFFFFFFE, 105
 
 
@@ -20,6 +20,6 @@ def name_of(what: str, seed: str, number: int) -> str:
     return f"{what.upper()}-g{VERSION}-{seed}-{number:06d}"
 
 
-def counted(number: int, what: str) -> str:
-    """A number of things: 1 step, 2 steps."""
-    return f"{number} {what}{'s' * (number != 1)}"
+def plural(number: int, noun: str) -> str:
+    """A number with its noun: 1 step, 2 steps."""
+    return f"{number} {noun}{'s' * (number != 1)}"

@@ -1,6 +1,6 @@
-"""Random programs: words of all instructions, from any state.
+"""Random programs: words of all instructions, run from any state.
 
-Both sides are compared after each EVERY steps, whole states and memories.
+Whole states and memories of both sides are compared after every EVERY steps.
 """
 
 import functools
@@ -19,18 +19,18 @@ from .compare import Program, Sides, in_brief, in_words, named
 
 EVERY, LENGTH, WORDS = 100, 1024, 1024
 NEVER = ("break",)
-HIDDEN = "hidden state"  # in place of an instruction: no more programs that no step alone shows are cut down
+HIDDEN = "hidden state"  # in place of an instruction, of programs in which no single step differs
 NOT_CUT_DOWN = "; not cut down, because it depends on what the emulator ran before"
 
 
 def edged(raw: Array) -> Array:
-    """Half of the numbers of 16 bits become edges."""
+    """Makes edges of half of the numbers of 16 bits."""
     return np.where(raw >> 8 >= FIRST_EDGE, EDGE[raw & 255], raw << 3 | raw >> 13).astype("<u2")
 
 
 @functools.lru_cache(1)
 def words_of(names: Tuple[str, ...], seed: str) -> Array:
-    """WORDS words of each instruction. None halts the machine or sets single step."""
+    """WORDS words of each instruction, none of which halts the machine or sets single step."""
     words = np.array([cases_of(name, f"{seed} of programs", 0, WORDS)[0]["word"] for name in names], np.int64)
     if "mtc0" in names:
         row = words[names.index("mtc0")]
@@ -39,11 +39,11 @@ def words_of(names: Tuple[str, ...], seed: str) -> Array:
 
 
 def program_of(names: Sequence[str], seed: str, number: int) -> Program:
-    """An IMEM full of words of these instructions. A quarter are of eight instructions that are the program's
-    own.
+    """An IMEM full of words of these instructions. A quarter of the words are of eight instructions that the
+    program chooses.
 
-    Branches and jumps go on by a few words, and JR and JALR are rare: else each program would soon be in a
-    small loop.
+    Branches and jumps go forward by a few words, and JR and JALR are rare, because each program would
+    otherwise soon be in a small loop.
     """
     choice = (generator("program", f"{seed}/{number}").random_raw(LENGTH + 8) >> 1).astype(np.int64)
     few, choice = choice[:8] % len(names), choice[8:]
@@ -62,16 +62,16 @@ def program_of(names: Sequence[str], seed: str, number: int) -> Program:
 
 
 def name_in(text: str) -> str:
-    """The instruction's name in a text of `named`."""
+    """The name of the instruction in a text of `named`."""
     in_brackets = re.match(r"\.word \w+ \((\w+)", text)
     return in_brackets[1].lower() if in_brackets else text.split()[0]
 
 
 def at_fault(texts: List[str], found: rsp.FirstDifference) -> str:
-    """The word at fault, and what else of a program is left that was cut down.
+    """The word at fault, and the other words of a program that was cut down.
 
-    If no step alone differs, an earlier word has left the emulator in a state that it doesn't show: the first
-    one is at fault.
+    If no single step differs, an earlier word has changed hidden state of the emulator, so the first word is
+    at fault.
     """
     first = texts[0] if found.steps > 1 else named(found.word, found.address)
     others = [text for text in texts if text != first]
@@ -80,7 +80,7 @@ def at_fault(texts: List[str], found: rsp.FirstDifference) -> str:
 
 
 def where(found: rsp.FirstDifference) -> str:
-    """The step after which a program differs, or the steps none of which differs alone."""
+    """The step after which a program differs, or the range of steps of which no single one differs."""
     text = named(found.word, found.address)
     if found.steps == 1:
         return f"step {found.step}, {text}"
@@ -88,37 +88,39 @@ def where(found: rsp.FirstDifference) -> str:
 
 
 def result_of(sides: Sides, name: str, program: Program, found: rsp.FirstDifference, cut: Set[str]) -> Result:
-    """The result of a program that differs. It is cut down if `cut` has no program of its instruction; if no
-    step alone differs, only the cut says which one that is, and the first that `cut` has is the last.
+    """The result of a program that differs. The program is cut down if `cut` lacks its instruction.
+
+    If no single step differs, only the program that was cut down shows the instruction. As soon as `cut` has
+    this instruction already, no more such programs are cut down.
     """
-    at, what, is_hidden = where(found), name_in(named(found.word, found.address)), found.steps > 1
-    made: Result = {}
-    if is_to_cut := found.step and len(cut) < SHOWN and (HIDDEN if is_hidden else what) not in cut:
-        made = cut_down(sides, program, found.step, is_hidden)
-    if made:
-        text = at_fault(made["texts"], found)
-        at, what = f"step {found.step}, {text}", name_in(text)
-    is_again = bool(made) and what in cut
+    place, instruction = where(found), name_in(named(found.word, found.address))
+    is_hidden, smaller = found.steps > 1, {}  # type: bool, Result
+    if is_to_cut := found.step and len(cut) < SHOWN and (HIDDEN if is_hidden else instruction) not in cut:
+        smaller = cut_down(sides, program, found.step, is_hidden)
+    if smaller:
+        text = at_fault(smaller["texts"], found)
+        place, instruction = f"step {found.step}, {text}", name_in(text)
+    is_known = bool(smaller) and instruction in cut
     if is_to_cut:
-        cut.add(HIDDEN if is_again else what)
-    more = NOT_CUT_DOWN if is_to_cut and not made else ""
-    shown = f"{name}: {at}: {in_brief(in_words(found.parts))}{more}"
-    programs = [{"name": name, "shown": shown, **made}] if made and not is_again else []
-    return {"count": 1, "differ": 1, "parts": {what: 1}, "shown": [shown], "programs": programs}
+        cut.add(HIDDEN if is_known else instruction)
+    more = NOT_CUT_DOWN if is_to_cut and not smaller else ""
+    line = f"{name}: {place}: {in_brief(in_words(found.parts))}{more}"
+    programs = [{"name": name, "shown": line, **smaller}] if smaller and not is_known else []
+    return {"count": 1, "differ": 1, "parts": {instruction: 1}, "shown": [line], "programs": programs}
 
 
 def check_programs(
     spec: str, seed: str, start: int, count: int, instructions: List[str], steps: int
 ) -> Iterator[Result]:
-    """Yields the result of each program.
+    """Yields an empty result when both sides have begun, and then the result of each program.
 
-    `parts` names the instruction after which it differs; the first of each is cut down.
+    Its `parts` names the instruction after which the program differs.
     """
     sides, cut = Sides(spec, bytes(MEMORIES)), set()  # type: Tuple[Sides, Set[str]]
     names = [name for name in instructions if name not in NEVER]
     if not names:
         raise CampaignFault("programs have to have an instruction other than BREAK")
-    sides.first_difference(program_of(names, seed, start), 0, 1)  # it may take no programs
+    sides.first_difference(program_of(names, seed, start), 0, 1)  # the emulator may take no programs
     yield {"count": 0, "unseen": sides.unseen}
     for number in range(start, start + count):
         program, name = program_of(names, seed, number), name_of(PROGRAM, seed, number)

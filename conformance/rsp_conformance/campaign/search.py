@@ -1,4 +1,4 @@
-"""The fewest of something with which a test still fails."""
+"""Searches for the smallest input with which a test still fails."""
 
 import math
 import time
@@ -8,9 +8,10 @@ Item = TypeVar("Item")
 
 
 def fewest(most: int, fails: Callable[[int], object], until: float = math.inf) -> Optional[int]:
-    """The fewest from 1 to `most` with which it fails, or None: doubled until it does, then halved.
+    """The smallest number from 1 to `most` with which a test fails, or None.
 
-    After the time `until` it is the fewest so far.
+    The number is doubled until the test fails, and then searched by halves. After the time `until` it is the
+    smallest number so far.
     """
     short, enough = 0, 1
     while not fails(enough):
@@ -24,7 +25,7 @@ def fewest(most: int, fails: Callable[[int], object], until: float = math.inf) -
 
 
 def minimal(items: List[Item], fails: Callable[[List[Item]], object]) -> List[Item]:
-    """Delta debugging: items with which it still fails. None of them can be left out."""
+    """The items with which a test still fails, by delta debugging. None of them can be left out."""
     if fails([]):
         return []
     size, smaller = len(items), True

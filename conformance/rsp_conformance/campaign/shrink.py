@@ -1,5 +1,5 @@
-"""Cuts a program that shows a difference down: to the latest beginning, the fewest words, and the fewest
-registers and bytes that aren't 0.
+"""Cuts a program with a difference down: to the latest beginning, the fewest words, and the fewest registers
+and bytes that aren't 0.
 """
 
 import struct
@@ -20,22 +20,22 @@ Parts = List[Tuple[int, int]]
 
 
 def parts_of(*ranges: Tuple[int, int, int]) -> Parts:
-    """Parts of a program's bytes: ranges of them, with the size of a part of each."""
+    """Parts of a program's bytes: ranges are cut into parts of a size."""
     return [(low, low + size) for start, end, size in ranges for low in range(start, end, size)]
 
 
 DMEM, IMEM, RDRAM, END = (
     STATE.itemsize + at for at in (generator.DMEM, generator.IMEM, generator.RDRAM, generator.MEMORIES)
 )
-# What can become 0: words, then registers, lanes and flags (not pc, npc and the lengths of a DMA), and blocks
-# of 64 bytes of memories.
+# The parts that can become 0: words, then registers, lanes and flags (except pc, npc and the lengths of a
+# DMA), and 64 bytes of a memory.
 WORDS = parts_of((IMEM, RDRAM, 4))
 REGISTERS = parts_of((4, 128, 4), (128, 688, 2), (688, 693, 1), (694, 700, 2), (704, 712, 4), (720, 772, 4))
 OTHERS = [*REGISTERS, *parts_of((DMEM, IMEM, 64), (RDRAM, END, 64))]
 
 
 def settable(program: Program) -> Program:
-    """The program with a state that a script can set: no DIV_OUT, no lengths of a DMA, a loaded DIV_IN."""
+    """The program with a state that a script can set: DIV_OUT 0, no lengths of a DMA, DIV_IN 0 or loaded."""
     state = program.state
     state.divider.output = 0
     state.divider.input *= state.divider.loaded
@@ -44,10 +44,11 @@ def settable(program: Program) -> Program:
 
 
 def cut_down(sides: Sides, program: Program, steps: int, is_hidden: bool) -> Result:
-    """What a result says of a program that first differs after so many steps.
+    """The parts of a result about a program that first differs after some steps.
 
-    If no step alone differs, both sides make all steps at once. Nothing is said of a program that, cut down,
-    shows no difference: then it depends on what the emulator ran before, which setting a state doesn't undo.
+    If no single step differs, both sides make all steps at once. The result is empty if the program that was
+    cut down doesn't differ. Then the difference depends on what the emulator ran before, which setting a
+    state doesn't undo.
     """
 
     def first_difference(candidate: Program, most: int) -> Optional[rsp.FirstDifference]:
@@ -76,20 +77,20 @@ def cut_down(sides: Sides, program: Program, steps: int, is_hidden: bool) -> Res
 
 
 def smallest(program: Program, parts: Parts, fails: Callable[[Program], object]) -> Program:
-    """A program with 0 in all of these parts that it doesn't need."""
+    """A program that still fails, with as many of these parts 0 as possible."""
     parts = [(low, high) for low, high in parts if any(program.raw[low:high])]
 
     def with_parts(kept: Parts) -> Program:
-        made = Program(program.state, program.memories)
+        smaller = Program(program.state, program.memories)
         for low, high in {*parts} - {*kept}:
-            made.raw[low:high] = bytes(high - low)
-        return made
+            smaller.raw[low:high] = bytes(high - low)
+        return smaller
 
     return with_parts(minimal(parts, lambda kept: fails(with_parts(kept))))
 
 
 def source_of(program: Program, words: List[int]) -> str:
-    """The text of a program for `rsp asm --at`: from its first word that isn't nop to its last."""
+    """The text of a program for `rsp asm --at`, from its first to its last word that isn't 0."""
     addresses = range(min(words, default=0), max(words, default=0) + 4, 4)
     head = f"# rsp asm --at {addresses[0]}; it begins at {program.state.pc:#05x}\n"
     return head + "".join(f"{program.text(pc)}\n" for pc in addresses)
@@ -98,24 +99,26 @@ def source_of(program: Program, words: List[int]) -> str:
 def memories_after_setting(data: str) -> bytes:
     """All memories after a script has set a state: zeros, and in RDRAM the setting program with this data."""
     words = rsp.assemble("".join(f"{line}\n" for line in bench.setting_program()))
-    made, program = bytearray(generator.MEMORIES), struct.pack(f">{len(words)}I", *words)
+    memories, program = bytearray(generator.MEMORIES), struct.pack(f">{len(words)}I", *words)
     for at, raw in ((bench.PROGRAM, program), (bench.DATA, bytes.fromhex(data))):
-        made[generator.RDRAM + at : generator.RDRAM + at + len(raw)] = raw
-    return bytes(made)
+        memories[generator.RDRAM + at : generator.RDRAM + at + len(raw)] = raw
+    return bytes(memories)
 
 
 def script_of(program: Program, steps: int) -> str:
-    """A script for `rsp run`: it sets the state by microcode, loads the memories, steps, and shows all."""
+    """A script for `rsp run` that sets the state by microcode, loads the memories, steps, and shows the
+    state.
+    """
     texts = texts_of(numbers_of(program.state))
     data = bench.data_of(texts)
     script = bench.prelude(data)
     bench.set_state(script, texts, program.word(program.state.pc), data)
-    there = memories_after_setting(data)
+    memories = memories_after_setting(data)
     for bank, (low, high) in BANKS.items():
         for at in range(low, high, 64):
-            if (wanted := program.memories[at : at + 64]) != there[at : at + 64]:
-                script.load(bank, at - low, wanted.hex())
+            if (expected := program.memories[at : at + 64]) != memories[at : at + 64]:
+                script.load(bank, at - low, expected.hex())
     for line in (f"dis {program.state.pc} 1", *["step"] * steps):
-        script.say(line)
-    bench.look(script, ("dmem", "imem"), "after")
+        script.add(line)
+    bench.query_state(script, ("dmem", "imem"), "after")
     return "".join(f"{line}\n" for line in script.lines)

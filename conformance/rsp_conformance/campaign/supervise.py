@@ -1,12 +1,13 @@
-"""A task: cases of an instruction, or programs, from a number on. Its work is a child process's.
+"""Runs a task, cases of an instruction or programs from a number on, in child processes.
 
-An emulator that crashes, hangs or answers nonsense is a fault of the case at which it did. Which case that
-was is in memory that both share: its status is still UNDONE. If the case alone doesn't show the fault, a case
-before it has spoilt the emulator: the shortest run of cases that shows it is searched, and its first case is
-the faulty one. New children do the cases before and after the faulty one.
+If an emulator crashes, hangs or gives an answer without a valid form, this is a fault of the case that it was
+running. The statuses of cases are in memory that both processes share, so it is the first case whose status
+is still UNDONE. If the case alone doesn't repeat the fault, an earlier case has spoilt the emulator. Then the
+shortest run of cases that repeats the fault is searched, and the first case of this run is the faulty one.
+New child processes run the cases before and after the faulty one.
 
-As a program it takes [FOLDER, the words of `check`..] as JSON from its standard input, and writes the result
-to its output.
+As a program it reads [FOLDER, the arguments of `check`..] as JSON from its standard input, and writes the
+result to its standard output.
 """
 
 import contextlib
@@ -20,9 +21,9 @@ import subprocess
 import sys
 import threading
 import time
-from collections import Counter
+from collections import Counter, deque
 from multiprocessing import Pipe
-from typing import Iterator, Optional, Tuple
+from typing import Deque, Iterator, List, Optional, Tuple
 
 from rsp_conformance import TOP
 from rsp_conformance.command_line import printable
@@ -30,76 +31,72 @@ from rsp_conformance.command_line import printable
 from . import CampaignFault
 from .hashes import hashes
 from .search import fewest
-from .protocol import BATCH, END_BYTES, SHOWN, STATUS_AT, UNDONE, Options, Result, counted, name_of
+from .protocol import BATCH, END_BYTES, SHOWN, STATUS_AT, UNDONE, Options, Result, name_of, plural
 
 # The emulator, the instruction, the seed, the first number, and how many.
 Task = Tuple[str, str, str, int, int]
 
-# Arrays stay in the heap from batch to batch. A worker of Dask has the first of these at 65536, which gives
-# memory back all the time.
+# These keep arrays in the heap from batch to batch. A worker of Dask sets the first of them to 65536, which
+# would give memory back and take it again for each batch.
 KEEP = {
     "MALLOC_TRIM_THRESHOLD_": str(1 << 28),
     "MALLOC_MMAP_THRESHOLD_": str(1 << 25),
     "OMP_NUM_THREADS": "1",
 }
 FAULTS, SEARCH_SECONDS, BEGIN_SECONDS = 8, 60, 60
-# So many of the first bytes that an emulator wrote are shown with its fault, and so many of the last lines: a
-# panic's message comes before a long backtrace, but perhaps after a log. Lines count up to so many bytes.
-WRITTEN, LAST_LINES, LAST = 500, 20, 4000
+# The lines of an emulator's output that are shown with its fault, because a panic's message comes before a
+# long backtrace, but perhaps after a log; and the bytes after which a line is cut.
+FIRST_LINES, LAST_LINES, LINE_BYTES = 5, 20, 400
 PYTHON = TOP / "tools/python"
 NUMBERS = ("count", "unshown", "missing", "differ", "choices", "processor")
 LISTS = ("shown", "faults", "programs", "unseen")
 
 
 def nothing() -> Result:
-    """What a result adds up, before anything is done."""
+    """A result without cases, to which others are added."""
     return {**dict.fromkeys(NUMBERS, 0), "parts": {}, **{key: [] for key in LISTS}}
 
 
 def add(total: Result, result: Result) -> None:
-    """Adds numbers, counts by names, and lists."""
+    """Adds the numbers, the counts of parts, and the lists of a result to a total."""
     for key in (*NUMBERS, *LISTS):
         total[key] = total[key] + result.get(key, type(total[key])())
     total["parts"] = dict(Counter(total["parts"]) + Counter(result.get("parts", {})))
 
 
 def end_with_parent() -> None:
-    """A process that this one's parent leaves behind does no work."""
+    """Has the system kill this process when its parent ends."""
     ctypes.CDLL(None).prctl(1, signal.SIGKILL)
 
 
-class Written(threading.Thread):
-    """Reads what a process writes to a pipe, so that the process never waits, and keeps both ends of it."""
+class OutputReader(threading.Thread):
+    """Reads the output of a process, so that the process never waits, and keeps its first and last lines."""
 
     def __init__(self, pipe: int) -> None:
         super().__init__(daemon=True)
-        self.pipe, self.first, self.last, self.length = pipe, b"", b"", 0
+        self.pipe, self.count = pipe, 0
+        self.first: List[bytes] = []
+        self.last: Deque[bytes] = deque(maxlen=LAST_LINES)
         self.start()
 
     def run(self) -> None:
-        with open(self.pipe, "rb", buffering=0) as pipe:
-            while some := pipe.read(1 << 16):
-                room = WRITTEN - len(self.first)
-                self.first += some[:room]
-                self.last = (self.last + some[room:])[-LAST:]
-                self.length += len(some)
+        with open(self.pipe, "rb") as pipe:
+            for line in iter(lambda: pipe.readline(LINE_BYTES), b""):
+                (self.first if self.count < FIRST_LINES else self.last).append(line)
+                self.count += 1
 
     def lines(self) -> str:
-        """The lines, when the process is dead."""
-        self.join(1)  # another process may still have the pipe
-        first, last = (it.decode(errors="backslashreplace").splitlines() for it in (self.first, self.last))
-        if self.length <= WRITTEN + LAST and len(last) <= LAST_LINES:
-            first, last = (self.first + self.last).decode(errors="backslashreplace").splitlines(), []
-        elif last:
-            first.append("..")
-        lines = [*first, *last[-LAST_LINES:]]
-        return " / ".join(printable(it.strip()) for it in lines if it.strip())
+        """The lines that are shown, after the end of the process."""
+        self.join(1)  # not for ever, because another process may still have the pipe
+        gap = [b".."] if self.count > FIRST_LINES + LAST_LINES else []
+        lines = (line.decode(errors="backslashreplace").strip() for line in (*self.first, *gap, *self.last))
+        return " / ".join(printable(line) for line in lines if line)
 
 
 class Child:
-    """A child with a task.
+    """A child process with a task.
 
-    Iterated, it gives the results of its batches; then `fault` says why some are missing.
+    An iteration gives the results of its batches. If some are missing, `fault` then says why.
     """
 
     def __init__(self, task: Task, options: Options) -> None:
@@ -109,58 +106,57 @@ class Child:
         self.statuses = memoryview(mmap.mmap(shared, 0)).cast("I")[STATUS_AT // 4 :: END_BYTES // 4]
         for at in range(BATCH):
             self.statuses[at] = UNDONE
-        self.answers, theirs = Pipe()
-        numbers = os.getpid(), shared, theirs.fileno()
-        pipe, errors = os.pipe()
-        self.written = Written(pipe)
+        self.results, child_end = Pipe()
+        numbers = os.getpid(), shared, child_end.fileno()
+        pipe, output = os.pipe()
+        self.output = OutputReader(pipe)
         self.process = subprocess.Popen(
             [PYTHON, "rsp_conformance.campaign.worker_process", *map(str, numbers)],
-            stdout=errors,  # where Verilator writes what an assertion says
-            stderr=errors,
+            stdout=output,  # to which Verilator writes the messages of assertions
+            stderr=output,
             pass_fds=numbers[1:],
             start_new_session=True,
             env={**os.environ, **KEEP},
         )
-        for end in shared, errors:
-            os.close(end)
-        theirs.close()
-        self.answers.send((task, options))
+        for descriptor in shared, output:
+            os.close(descriptor)
+        child_end.close()
+        self.results.send((task, options))
 
     def done(self) -> int:
-        """How many cases of the last batch are done."""
+        """The number of cases of the last batch that are done."""
         return BATCH - self.statuses.tolist().count(UNDONE)
 
-    def answer(self) -> Result:
-        """The next result, or a fault. The limit is for a case: who makes one within it goes on."""
+    def receive(self) -> Result:
+        """The next result, or a fault. The time limit is for one case, not for a batch."""
         done, limit = -1, self.limit if self.is_begun else max(self.limit, BEGIN_SECONDS)
-        while not self.answers.poll(limit):
+        while not self.results.poll(limit):
             if done == (done := self.done()):
-                return {"fault": f"no answer within {counted(limit, 'second')}"}
+                return {"fault": f"no answer within {plural(limit, 'second')}"}
         try:
-            found: Result = self.answers.recv()
-            return found
+            result: Result = self.results.recv()
+            return result
         except (EOFError, ConnectionResetError):
             status = self.process.wait()
             how = f"by {signal.Signals(-status).name}" if status < 0 else f"with status {status}"
             return {"fault": f"ended {how}"}
 
     def __iter__(self) -> Iterator[Result]:
-        while "fault" not in (answer := self.answer()):
+        while "fault" not in (result := self.receive()):
             self.is_begun = True
-            yield answer
+            yield result
         self.process.kill()
-        written, self.is_unusable = self.written.lines(), answer.get("is_unusable", False)
-        self.fault = printable(answer["fault"]) + (f"; it wrote: {written}" if written else "")
+        output, self.is_unusable = self.output.lines(), result.get("is_unusable", False)
+        self.fault = printable(result["fault"]) + (f"; it wrote: {output}" if output else "")
 
     def close(self) -> None:
         self.process.kill()
         self.process.wait()
-        self.answers.close()
+        self.results.close()
 
 
 def cause_of(task: Task, number: int, first: int, options: Options) -> Optional[int]:
-    """The first number of the shortest run of cases, from `first` on, that shows the fault of case `number`
-    again.
+    """The first number of the shortest run of cases, from `first` on, that repeats the fault of a case.
 
     None if no run does.
     """
@@ -174,17 +170,17 @@ def cause_of(task: Task, number: int, first: int, options: Options) -> Optional[
 
 
 def fault_of(task: Task, number: int, cause: Optional[int], why: str) -> Result:
-    """The result of a case that shows a fault: it counts as a difference."""
+    """The result of a case with a fault, which counts as a difference."""
     if cause is None:
         why += "; no run of cases before it was found that shows it again"
     elif cause < number:
         why += f"; the shortest run that shows it begins with {name_of(*task[1:3], cause)}"
-    shown = f"{name_of(*task[1:3], number)}: {why}"
-    return {"count": 1, "differ": 1, "shown": [shown], "faults": [[number, cause, why]]}
+    line = f"{name_of(*task[1:3], number)}: {why}"
+    return {"count": 1, "differ": 1, "shown": [line], "faults": [[number, cause, why]]}
 
 
-def done_by_children(task: Task, options: Options) -> Result:
-    """What the cases of a task add up to. Those before and after a faulty one are ranges for new children."""
+def run_in_children(task: Task, options: Options) -> Result:
+    """The sum of the results of a task. New children run the cases before and after a faulty one."""
     result, ranges = nothing(), [(task[3], task[3] + task[4])]
     while ranges:
         first, end = ranges.pop(0)
@@ -197,37 +193,39 @@ def done_by_children(task: Task, options: Options) -> Result:
             continue
         if not child.is_begun or child.is_unusable or len(result["faults"]) >= FAULTS:
             return {**result, "given up": child.fault}
-        number = at + min(child.done(), BATCH - 1, end - at - 1)  # it may end after the last case of a batch
+        number = at + min(
+            child.done(), BATCH - 1, end - at - 1
+        )  # a child may end after the last case of a batch
         cause = cause_of(task, number, first, options)
         add(result, fault_of(task, number, cause, child.fault))
         faulty = number if cause is None or cause < at else cause
-        ranges[:0] = [it for it in ((at, faulty), (faulty + 1, end)) if it[0] < it[1]]
+        ranges[:0] = [(low, high) for low, high in ((at, faulty), (faulty + 1, end)) if low < high]
     return result
 
 
 def number_in(line: str) -> int:
-    """The number in the name that a line begins with."""
+    """The number in the name at the beginning of a line."""
     found = re.match(r"\w+-\w+-\w+-(\d+)", line)
     return int(found[1]) if found else 0
 
 
 def check(spec: str, name: str, seed: str, start: int, count: int, options: Options) -> Result:
-    """Has a task done. What it returns is what the task's file holds."""
+    """Runs a task, and returns its result in the form of the task's file."""
     began = time.time()
-    result = done_by_children((spec, name, seed, start, count), options)
+    result = run_in_children((spec, name, seed, start, count), options)
     result["shown"] = sorted(result["shown"], key=number_in)[:SHOWN]
     result["unseen"] = [*dict.fromkeys(result["unseen"])]
-    what = {"instruction": name, "seed": seed, "start": start, "size": count}
-    return {**what, **result, "hashes": hashes(spec, options["files"]), "seconds": time.time() - began}
+    task = {"instruction": name, "seed": seed, "start": start, "size": count}
+    return {**task, **result, "hashes": hashes(spec, options["files"]), "seconds": time.time() - began}
 
 
 def main() -> None:
     end_with_parent()
-    folder, *words = json.load(sys.stdin)
-    if os.path.isdir(folder):  # relative paths of the emulator are those of who has started the campaign
+    folder, *arguments = json.load(sys.stdin)
+    if os.path.isdir(folder):  # the emulator's relative paths begin where the campaign was started
         os.chdir(folder)
     try:
-        json.dump(check(*words), sys.stdout)
+        json.dump(check(*arguments), sys.stdout)
     except (CampaignFault, OSError) as fault:
         sys.exit(str(fault))
 

@@ -1,7 +1,7 @@
-"""The work of a task's child process: batches of cases, or programs, on the library and on the emulator.
+"""The work of a task's child process: runs batches of cases, or programs, on the library and on the emulator.
 
-Each batch's result goes to its parent. As a program it takes the parent's process and two descriptors from
-task.py.
+It sends the result of each batch to its parent. Its arguments are the parent's process and two descriptors,
+from supervise.py.
 """
 
 import mmap
@@ -32,30 +32,29 @@ class Cases:
         self.sides, self.expected = Sides(spec, self.memories), np.zeros(BATCH, END)
 
     def memories_after(self, case: Array, expected: Array, got: Array) -> List[str]:
-        """What differs in memories, by addresses if the case was executed and the emulator can show them."""
+        """The differences in memories, by address if the emulator executed the case and can show them."""
         if expected["changed"] == got["changed"]:
             return []
         found = self.sides.memories_after(case, self.memories.tobytes()) if got["status"] != RESERVED else []
         return found or ["bytes of memories"]
 
     def head(self, number: int, case: Array) -> str:
-        """What a case is called, with its word."""
+        """The name of a case, with its word."""
         pc = int(case["state"]["pc"])
         return f"{name_of(self.name, self.seed, number)} ({named(int(case['word']), pc)} at {pc:03x}"
 
     def shown(self, number: int, case: Array, expected: Array, got: Array, whole: bool) -> str:
-        """A case that differs, in a line or in whole."""
+        """A case that differs, on one line, or on several with all that it reads."""
         word, state = int(case["word"]), rsp.State.from_buffer_copy(case["state"].tobytes())
         lines = [*differences(expected, got), *self.memories_after(case, expected, got)]
         head = self.head(number, case)
         if not whole:
             return f"{head}{operands_read.in_brief(self.name, word, state, lines[0])}): {in_brief(lines)}"
         before = operands_read.reads_of(self.name, word, state, self.memories)
-        told = [f"before: {what} {value}" for what, value in before]
-        return "\n  ".join([f"{head})", *told, *lines])
+        return "\n  ".join([f"{head})", *(f"before: {what} {value}" for what, value in before), *lines])
 
     def batch(self, at: int, n: int, ends: Array, room: int, whole: bool) -> Result:
-        """The result of `n` cases. At most `room` of them are shown, each of which takes milliseconds."""
+        """The result of `n` cases, with at most `room` shown, because showing one takes milliseconds."""
         cases, choices = cases_of(self.name, self.seed, at, n)
         ends["status"] = UNDONE
         differ = self.sides.run(cases, self.expected[:n], ends[:n])
@@ -63,7 +62,7 @@ class Cases:
         if (statuses == UNDONE).any():
             raise CampaignFault("it answered too few cases")
         unshown, missing = statuses == UNSHOWN, statuses == RESERVED
-        missing &= (missing | unshown).all()  # if only some cases are, that is a fault of its decoder
+        missing &= (missing | unshown).all()  # some missing cases alone are a fault of the emulator's decoder
         differ &= ~unshown & ~missing
         found = np.nonzero(differ)[0]
         shown = [
@@ -85,7 +84,7 @@ class Cases:
 def check_cases(
     spec: str, name: str, seed: str, start: int, count: int, ends: Array, whole: bool = False
 ) -> Iterator[Result]:
-    """Yields the result of each batch, and an empty one when both sides have begun."""
+    """Yields an empty result when both sides have begun, and then the result of each batch."""
     cases, room = Cases(spec, name, seed), SHOWN
     yield {"count": 0, "unseen": cases.sides.unseen}
     for at in range(start, start + count, BATCH):
@@ -94,12 +93,12 @@ def check_cases(
         yield result
 
 
-def main(parent: int, shared: int, answers: int) -> None:
-    """The ends of the batch at hand are in shared memory, so the parent knows which cases are done."""
+def main(parent: int, shared: int, pipe: int) -> None:
+    """The ends of the present batch are in shared memory, so the parent knows which cases are done."""
     end_with_parent()
     if os.getppid() != parent:
         sys.exit("the parent is gone")
-    connection, used = Connection(answers), 0.0
+    connection, used = Connection(pipe), 0.0
     (spec, name, seed, start, count), options = connection.recv()
     if name == PROGRAM:
         results = check_programs(spec, seed, start, count, options["instructions"], options["steps"])
@@ -111,8 +110,8 @@ def main(parent: int, shared: int, answers: int) -> None:
             before, used = used, time.process_time()
             connection.send({**result, "processor": used - before})
     except Exception as fault:  # of an emulator in Python, too
-        said = str(fault) if isinstance(fault, CampaignFault) else f"{type(fault).__name__}: {fault}"
-        connection.send({"fault": said, "is_unusable": isinstance(fault, Unusable)})
+        why = str(fault) if isinstance(fault, CampaignFault) else f"{type(fault).__name__}: {fault}"
+        connection.send({"fault": why, "is_unusable": isinstance(fault, Unusable)})
 
 
 if __name__ == "__main__":

@@ -30,7 +30,7 @@ def test_script(script: Stored, session: Path, folder: Path) -> None:
     image, read, saved = script.image(), folder / "image", folder / "saved"
     read.write_bytes(NO_IMAGE if image is None else image)
     for piece in PIECES:
-        got = run_program(session, [piece, read, saved if script.is_saved else "/dev/null"], script.script)
-        assert got == script.wanted, f"{piece} bytes a call"
+        result = run_program(session, [piece, read, saved if script.is_saved else "/dev/null"], script.script)
+        assert result == script.wanted, f"{piece} bytes a call"
         is_kept = not script.is_saved or content(saved) == content(read)
         assert is_kept, f"{piece} bytes a call: the image isn't the one that was read"

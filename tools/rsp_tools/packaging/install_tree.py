@@ -1,8 +1,9 @@
-"""What an installation holds below its prefix. library/c/install writes it, and the release packs it."""
+"""The files of an installation below its prefix: library/c/install writes them, the release packs them."""
 
 import os
+import tempfile
 from pathlib import Path
-from typing import Iterator, List, NamedTuple, Optional, Tuple, Union
+from typing import Callable, Iterable, Iterator, List, NamedTuple, NoReturn, Optional, Tuple, Union
 
 from rsp_tools import TOOLS, TOP
 from rsp_tools.systems import header
@@ -41,14 +42,32 @@ class File(NamedTuple):
     can_run: bool = False
 
     def write(self, path: Path) -> None:
-        """Puts it there, where nothing may be: a link that is there leads to another's file."""
+        """Writes the file to a path at which nothing may be yet: a link there would lead to another file."""
         path.parent.mkdir(parents=True, exist_ok=True)
         if isinstance(self.data, str):
             path.symlink_to(self.data)
             return
-        with path.open("xb") as made:
-            made.write(self.data)
-            os.fchmod(made.fileno(), 0o755 if self.can_run else 0o644)
+        with path.open("xb") as file:
+            file.write(self.data)
+            os.fchmod(file.fileno(), 0o755 if self.can_run else 0o644)
+
+
+def put_all(folder: Path, files: Iterable[File], fail: Callable[[str], NoReturn]) -> None:
+    """Writes all files into a folder beside their places, for which there may be no room, and only then puts
+    each in its place, so that a library in use stays as it is."""
+    path = folder
+    try:
+        folder.mkdir(parents=True, exist_ok=True)
+        with tempfile.TemporaryDirectory(dir=folder, prefix=".rsp-") as beside:
+            for file in (listed := [*files]):
+                path = folder / file.name
+                file.write(Path(beside, file.name))
+            for file in listed:
+                path = folder / file.name
+                path.parent.mkdir(parents=True, exist_ok=True)
+                os.replace(Path(beside, file.name), path)
+    except OSError as fault:
+        fail(f"cannot write {path}: {fault.strerror}")
 
 
 def file(name: str, path: Path) -> File:
@@ -56,16 +75,16 @@ def file(name: str, path: Path) -> File:
 
 
 def shared() -> Iterator[File]:
-    """What is below share/ wherever the program is: the man page, and what completes its words in shells."""
+    """The files of share/: the man page, and the completions of the program's words in shells."""
     number, day = version()
-    for path in sorted(it for it in SHARE.rglob("*") if it.is_file()):
+    for path in sorted(path for path in SHARE.rglob("*") if path.is_file()):
         text = path.read_text().replace("@VERSION@", number).replace("@DAY@", day)
         yield File(str(path.relative_to(SHARE.parent)), text.encode())
 
 
 def starter(about: Tuple[str, str], processor: str) -> File:
-    """The script `rsp` of an archive for a processor, by the name that `uname -m` gives it. It says these two
-    lines of its version."""
+    """The script `rsp` of an archive for a processor, by the name that `uname -m` gives it, with the two
+    lines that it prints of its version."""
     built, proved = about
     return File("rsp", STARTER.format(built=built, proved=proved, processor=processor).encode(), True)
 
@@ -84,8 +103,8 @@ def soname() -> str:
 def names() -> List[str]:
     """The names of all files that an installation may have."""
     libraries = ("lib/libbrsp.a", f"lib/{soname()}", "lib/libbrsp.so")
-    shares = (it.name for it in shared())
-    return [*(f"include/{it}" for it in HEADERS), *libraries, *TEMPLATES, *shares, "bin/rsp"]
+    shares = (file.name for file in shared())
+    return [*(f"include/{name}" for name in HEADERS), *libraries, *TEMPLATES, *shares, "bin/rsp"]
 
 
 def headers() -> Iterator[File]:

@@ -32,7 +32,7 @@ def fail(text: str) -> NoReturn:
 
 
 def call(*words: object) -> str:
-    """What a command says. Ends with what it says if it fails."""
+    """The output of a command. Ends with its output if the command fails."""
     if not shutil.which(str(words[0])):
         fail(f"there is no {words[0]}")
     ended = subprocess.run(list(map(str, words)), capture_output=True, text=True)
@@ -42,7 +42,7 @@ def call(*words: object) -> str:
 
 
 def put(folder: Path, name: str) -> None:
-    """Replaces a file of library/c by the one in a folder. A run that was killed may have left a new one."""
+    """Replaces a file of library/c by the one in a folder. A run that was killed may have left NAME.new."""
     new = C / f"{name}.new"
     try:
         new.unlink(missing_ok=True)
@@ -55,7 +55,7 @@ def put(folder: Path, name: str) -> None:
 
 
 def link_library(archives: List[str]) -> None:
-    name, keep = install_tree.soname(), [f"--keep-global-symbol={it}" for it in header.calls()]
+    name, keep = install_tree.soname(), [f"--keep-global-symbol={call}" for call in header.calls()]
     with tempfile.TemporaryDirectory() as folder:
         at = Path(folder)
         call("ld", "-r", "-o", at / "all.o", "--whole-archive", *archives)
@@ -64,38 +64,38 @@ def link_library(archives: List[str]) -> None:
         words = [f"-Wl,-soname,{name}", f"-Wl,--version-script={C}/brsp.map", "-Wl,-z,defs", SMALL]
         call("cc", "-shared", *hardening.words(SYSTEM, "link"), "-o", at / name, *words, at / "rsp.o")
         shutil.copy(at / name, at / "libbrsp.so")  # a link would do, but `rt ci` refuses links
-        for made in "libbrsp.a", name, "libbrsp.so":
-            put(at, made)
+        for file in "libbrsp.a", name, "libbrsp.so":
+            put(at, file)
 
 
-def link_program(made: str, out: str) -> None:
+def link_program(object_file: str, out: str) -> None:
     kit = Path(call("rt", "doc")).parent
-    parts = [TOOLS / "packaging/start.c", made, kit / "c/libos_c.a", kit / "c/liblibc_c.a"]
+    parts = [TOOLS / "packaging/start.c", object_file, kit / "c/libos_c.a", kit / "c/liblibc_c.a"]
     words = ["-O2", "-fPIE", "-pie", "-nostartfiles", *hardening.words(SYSTEM), SMALL]
     call("cc", *words, "-o", out, *parts)
 
 
-def linked_program(made: Path) -> bytes:
+def linked_program(object_file: Path) -> bytes:
     """The program of an object file, linked for any Linux since 2014."""
     with tempfile.TemporaryDirectory() as folder:
-        link_program(str(made), f"{folder}/rsp")
+        link_program(str(object_file), f"{folder}/rsp")
         return Path(folder, "rsp").read_bytes()
 
 
 def main() -> None:
     signal.signal(signal.SIGINT, lambda *_: sys.exit(130))
     form = argparse.RawDescriptionHelpFormatter
-    words = argparse.ArgumentParser(prog=NAME, description=__doc__, formatter_class=form)
-    kinds = words.add_subparsers(dest="kind", required=True, metavar="library | program")
+    parser = argparse.ArgumentParser(prog=NAME, description=__doc__, formatter_class=form)
+    kinds = parser.add_subparsers(dest="kind", required=True, metavar="library | program")
     kinds.add_parser("library").add_argument("archives", nargs="+", metavar="ARCHIVE")
     program = kinds.add_parser("program")
     program.add_argument("object", metavar="OBJECT")
     program.add_argument("out", metavar="OUT")
-    given = words.parse_args()
-    if given.kind == "library":
-        link_library(given.archives)
+    arguments = parser.parse_args()
+    if arguments.kind == "library":
+        link_library(arguments.archives)
     else:
-        link_program(given.object, given.out)
+        link_program(arguments.object, arguments.out)
 
 
 if __name__ == "__main__":

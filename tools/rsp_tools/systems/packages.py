@@ -27,7 +27,7 @@ def describe(
 def date() -> int:
     """That of a wheel's files: the time of the commit. In an unpacked archive of the source there is none."""
     try:
-        return repository.committed()
+        return repository.commit_time()
     except (OSError, subprocess.CalledProcessError):
         return wheels.FIRST
 
