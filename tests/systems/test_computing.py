@@ -154,7 +154,7 @@ def changed(processor: str, at: Path) -> modules.Module:
     """The module of a processor in which a clamp has another bound, and its archive."""
     made, text, archive = modules.module(processor), at / f"{processor}.ll", at / f"{processor}.a"
     whole = made.text.read_text()
-    planted, number = re.subn(FORMS[processor], lambda it: it[0].replace("-32768", "-32767"), whole)
+    planted, number = re.subn(FORMS[processor], lambda it: str(it[0]).replace("-32768", "-32767"), whole)
     assert number, "the module has the constant"
     text.write_text(planted)
     words = [f"--target={PROCESSORS[processor].triple}", "-x", "ir", "-c", *made.flags, "-fPIC"]
