@@ -16,7 +16,6 @@ from pathlib import Path
 import pytest
 
 from lib import TESTS, TOP
-from lib.cmake import check_cmake
 from lib.install.unpacked import (
     BARE,
     check_common,
@@ -26,7 +25,6 @@ from lib.install.unpacked import (
 )
 from lib.library import FIRST_DIFFERENCE, LOCKSTEP
 from lib.links import broken_everywhere, broken_in
-from lib.packages import need
 from lib.pages import page
 from lib.processes import run, succeeds
 from lib.symbols import check_needs
@@ -182,22 +180,6 @@ def test_start_asks_the_processor(folder: Path) -> None:
         succeeds(*command.split(), **where)
 
 
-@pytest.mark.needs("cc")
-@pytest.mark.parametrize("way", ["static", "shared", "pkg-config"])
-def test_c(archive: Path, folder: Path, way: str) -> None:
-    words = {
-        "static": ["-Iinclude", "lib/libbrsp.a"],
-        "shared": ["-Iinclude", "-Llib", "-lbrsp", f"-Wl,-rpath,{archive}/lib"],
-    }.get(way)
-    if words is None:
-        need("pkg-config")
-        where = {**BARE, "PKG_CONFIG_PATH": f"{archive}/lib/pkgconfig"}
-        words = succeeds("pkg-config", "--cflags", "--libs", "brsp", env=where).split()
-    compiler = ("cc", "-O2", "-Wall", "-Werror", "-o", folder / "lockstep", "examples/c/lockstep.c")
-    succeeds(*compiler, *words, cwd=archive, env=BARE)
-    assert succeeds(folder / "lockstep", env=BARE) == LOCKSTEP
-
-
 @pytest.mark.needs("cc", "objdump")
 @pytest.mark.parametrize("is_own", [False, True], ids=["the archive's", "of its sources"])
 def test_plugin(archive: Path, folder: Path, is_own: bool) -> None:
@@ -209,14 +191,6 @@ def test_plugin(archive: Path, folder: Path, is_own: bool) -> None:
     shown = re.findall(r" g +DF \.text\s.* (\w+)$", succeeds("objdump", "-T", file), re.M)
     assert sorted(shown) == PLUGIN_CALLS
     check_pytest_passes(f"--plugin={file}", f"--program={archive}/bin/rsp", "tests/plugin/test_interface.py")
-
-
-@pytest.mark.needs("cmake", "make", "cc", "objdump")
-def test_cmake(archive: Path, folder: Path) -> None:
-    """From another folder, with a copy of what the archive installs."""
-    for name in "bin", "include", "lib", "share":
-        shutil.copytree(archive / name, folder / "prefix" / name, symlinks=True)
-    check_cmake(folder / "prefix", folder / "mine")
 
 
 @pytest.mark.needs("/usr/lib/python3*/ensurepip")
@@ -311,12 +285,3 @@ def test_crate_beside_the_archive(archive: Path, cargo: str) -> None:
             succeeds(cargo, "run", "--quiet", "--offline", cwd=mine, env=rust_environment(cargo))
             == "Halt 1234\n"
         )
-
-
-@pytest.mark.needs("cargo")
-def test_least_rustc(archive: Path) -> None:
-    """That which the crate names builds it too, where it is here."""
-    (least,) = re.findall(r'(?m)^rust-version = "(.*)"$', (archive / "library/rust/Cargo.toml").read_text())
-    versions = [succeeds("rustc", "--version", env=rust_environment(cargo)) for cargo in cargos()]
-    if not any(version.startswith(f"rustc {least}.") for version in versions):
-        pytest.skip(f"there is no rustc {least}")

@@ -19,7 +19,7 @@ import pytest
 from lib import TOP, failing
 from lib.pages import page
 from lib.program import Result, need_binary, run_program
-from lib.script_cases import SCRIPTS, Stored
+from lib.script_cases import SCRIPTS, ScriptCase
 
 pytestmark = pytest.mark.needs("cc")
 
@@ -28,7 +28,7 @@ TEXT = b"loop: addiu $1, $1, 1\nbne $1, $2, loop\nnop\nbreak\n"
 BLOCK = b"step\nasm 0\n" + TEXT + b"end\nmem imem 0 16\n"
 BLOCK_REPLIES = b"step Done pc 004\nok 4 words\n000000: 242100011422fffe000000000000000d\n"
 LISTING = b"addiu $1, $1, 1\nbne $1, $2, 0x000\nnop\nbreak\n"
-TASK = Stored(SCRIPTS / "registers/task-run.script")
+TASK = ScriptCase(SCRIPTS / "registers/task-run.script")
 
 # The answers while the program reads its command line and its files. One allocation there only saves later
 # ones (for the list of arguments).
@@ -119,7 +119,7 @@ def answers_of(
 
 @pytest.mark.parametrize(
     "script, output, first",
-    ((BLOCK, BLOCK_REPLIES, "(43 after 17;)+"), (TASK.script, TASK.wanted.output, "")),
+    ((BLOCK, BLOCK_REPLIES, "(43 after 17;)+"), (TASK.script, TASK.expected.output, "")),
     ids=("a block", "a task"),
 )
 def test_run(script: bytes, output: bytes, first: str, binary: Path, calls: Path, folder: Path) -> None:
