@@ -1,10 +1,9 @@
 """Prints what the plugin takes, beside Debian's z64.
 
 These are host instructions, as valgrind's callgrind counts them: of each emulated instruction of the three
-loops of measure.speed; of a loop with one stop of the run, also on a machine alone that has all RDRAM
-inside and doesn't stop; and of a task, also in check mode. A figure is the difference between a long and a
-short run, divided by that of their counts. It needs library/c/build, valgrind and z64, and with --rom
-mupen64plus and a compiler for MIPS.
+loops of measure.speed; of a loop with one stop of the run; and of a task, also in check mode. A figure is the
+difference between a long and a short run, divided by that of their counts. It needs library/c/build, valgrind
+and z64, and with --rom mupen64plus and a compiler for MIPS.
 """
 
 import re
@@ -12,9 +11,8 @@ import tempfile
 from pathlib import Path
 from typing import List, Sequence
 
-from lib.plugin import CORE, FLAGS, HEADERS, HERE, Z64, Bench, start_lines, speed_task
-from lib.processes import compiled
-from measure import LIBRARY, add_program, need, parser_of
+from lib.plugin import CORE, HEADERS, Z64, Bench, speed_task, start_lines
+from measure import PROGRAM, need, parser_of
 from measure.speed import DATA, LOOPS, PROLOGUE, host_instructions, print_heading, print_row
 
 # Signals of check mode need exact registers under valgrind.
@@ -30,24 +28,20 @@ for name, register in (("SP_STATUS", 4), ("SP_DMA_BUSY", 6)):
     STOPS[f"a read of {name}"] = SETTING % 0 + f"mfc0 $4, $c{register}\n{TURN}"
 
 
+def driven(bench: Bench, plugin: Path, lines: Sequence[str], rounds: int, tasks: int) -> int:
+    """Host instructions of tasks whose rounds are as many as ff0 says."""
+    script = [*lines, f"put dmem ff0 {rounds:x} 128000", f"tasks {tasks}", ""]
+    return host_instructions(([bench.driver, plugin], "\n".join(script).encode()), EXACT)
+
+
 def per_round(bench: Bench, plugin: Path, lines: Sequence[str], short: int = 500, long: int = 1500) -> float:
-    """Host instructions for each of the rounds whose number is in ff0."""
-
-    def counted(rounds: int) -> int:
-        script = [*start_lines(), *lines, f"put dmem ff0 {rounds:x} 128000", "tasks 1", ""]
-        return host_instructions(([bench.driver, plugin], "\n".join(script).encode()), EXACT)
-
-    return (counted(long) - counted(short)) / (long - short)
+    costs = [driven(bench, plugin, [*start_lines(), *lines], rounds, 1) for rounds in (short, long)]
+    return (costs[1] - costs[0]) / (long - short)
 
 
 def per_task(bench: Bench, plugin: Path, lines: Sequence[str], options: Sequence[str]) -> float:
-    """Host instructions for each task, of three rounds."""
-
-    def counted(tasks: int) -> int:
-        script = [*start_lines(*options), *lines, "put dmem ff0 3 128000", f"tasks {tasks}", ""]
-        return host_instructions(([bench.driver, plugin], "\n".join(script).encode()), EXACT)
-
-    return (counted(30) - counted(10)) / 20
+    costs = [driven(bench, plugin, [*start_lines(*options), *lines], 3, tasks) for tasks in (10, 30)]
+    return (costs[1] - costs[0]) / 20
 
 
 def print_steps(bench: Bench) -> None:
@@ -67,9 +61,6 @@ def print_stops(bench: Bench) -> None:
     print_heading("Host instructions of six instructions, one of them", STOPS)
     for title, plugin in (("the plugin", bench.plugin), ("z64", Z64)):
         print_row(title, [per_round(bench, plugin, [f"put imem 0 {words}"]) for words in codes])
-    alone = compiled(bench.folder / "alone", *FLAGS, HERE / "alone.c", LIBRARY)
-    counts = [[host_instructions(([alone, n, *words.split()], b"")) for n in (500, 1500)] for words in codes]
-    print_row("the machine alone", [(long - short) / 1000 for short, long in counts])
 
 
 def print_tasks(bench: Bench) -> None:
@@ -99,11 +90,10 @@ def main() -> None:
     parser = parser_of(__doc__)
     rom = "print the seconds from the emulator's start to the ROM's end, 1,000 tasks of 67,000 instructions"
     parser.add_argument("--rom", action="store_true", help=rom)
-    add_program(parser)
     arguments = parser.parse_args()
     need("valgrind", Z64, *((HEADERS, CORE, "mips-linux-gnu-gcc") if arguments.rom else ()))
     with tempfile.TemporaryDirectory() as folder:
-        bench = Bench(Path(folder), arguments.program)
+        bench = Bench(Path(folder), PROGRAM)
         for print_part in [print_seconds] if arguments.rom else [print_steps, print_stops, print_tasks]:
             print_part(bench)
             print()

@@ -4,7 +4,7 @@
 import { coloured } from "./colours.js";
 import { element, the } from "./elements.js";
 import { line_page } from "./help.js";
-import { Rows, go_to, set, view } from "./rows.js";
+import { VirtualList, go_to, set, view } from "./virtual_list.js";
 import { Text } from "./text.js";
 
 /** A text with a longer line has the text area's own letters: no line of so many characters is taken. */
@@ -15,8 +15,8 @@ const LEAST_COLUMNS = 30;
 
 export class Editor {
   #area = the("script");
-  #numbers = new Rows(the("numbers"), (line) => this.#marked(element("div", String(line + 1)), line), AROUND);
-  #colours = new Rows(the("colours"), (line) => {
+  #numbers = new VirtualList(the("numbers"), (line) => this.#marked(element("div", String(line + 1)), line), AROUND);
+  #colours = new VirtualList(the("colours"), (line) => {
     return this.#marked(coloured("div", this.text.line(line), this.text.is_source(line)), line);
   }, AROUND);
   #text = new Text("");

@@ -1,22 +1,22 @@
 /** The page: joins the script, the image of RDRAM, the runs and their replies. It shows what `rsp run` prints, and has
  * no commands of its own, which would be a second interface to learn. */
-import { Choosing } from "./script_source.js";
+import { ScriptSource } from "./script_source.js";
 import { Editor } from "./editor.js";
 import { grouped, the } from "./elements.js";
 import { EXAMPLES } from "./examples.js";
 import { line_page } from "./help.js";
 import { Replies } from "./replies.js";
-import { Running, Runs } from "./running.js";
+import { RunControl, RunWorker } from "./running.js";
 import { LONGEST, Script } from "./script.js";
 
 /** @param {string} sentence what came of an action */
 function say(sentence) { the("said").textContent = sentence; }
 
 /** What is only tried, an image or a block, has a worker of its own: it doesn't wait for a run, nor end with it. */
-const trials = new Runs();
+const trials = new RunWorker();
 const script = new Script(the("script")), editor = new Editor(), replies = new Replies();
-const running = new Running(script, editor, replies, trials);
-const choosing = new Choosing(script, (is_other) => running.forget(is_other), say);
+const running = new RunControl(script, editor, replies, trials);
+const source = new ScriptSource(script, (is_other) => running.forget(is_other), say);
 const LONGEST_IMAGE = 1 << 23; // bytes
 
 /** Why the library can't begin with an image, or nothing if it can. @param {Uint8Array} [image] */
@@ -54,7 +54,7 @@ function on_script_key(event) {
   const is_undo = (key === "y" || key === "z") && script.can_undo(is_redo);
   if (!(ctrlKey || metaKey) || !(key === "enter" || is_undo)) return;
   event.preventDefault();
-  if (is_undo) choosing.undo(is_redo);
+  if (is_undo) source.undo(is_redo);
   else run();
 }
 
@@ -96,11 +96,11 @@ function save(name, parts) {
 }
 
 function listen() {
-  the("example").onchange = () => choosing.choose() && running.run_instead();
-  the("script").oninput = () => choosing.edited();
+  the("example").onchange = () => source.choose() && running.run_instead();
+  the("script").oninput = () => source.edited();
   the("script").onkeydown = on_script_key;
-  the("undo").onclick = () => choosing.undo();
-  the("link").onclick = () => choosing.make_link();
+  the("undo").onclick = () => source.undo();
+  the("link").onclick = () => source.make_link();
   the("explain").onclick = () => open(editor.help, "help");
   the("run").onclick = run;
   the("stop").onclick = () => running.stop();
@@ -115,14 +115,14 @@ function listen() {
   the("save-script").onclick = () => save("script.rsp", [script.bytes]);
   the("save-replies").onclick = () => save("replies.txt", replies.answers.replies);
   the("save-image").onclick = () => save("rdram.bin", running.left ? [running.left] : []);
-  on_file("script", LONGEST, (bytes, name) => choosing.take_file(bytes, name));
+  on_file("script", LONGEST, (bytes, name) => source.take_file(bytes, name));
   on_file("image", LONGEST_IMAGE, take_image);
   document.oncopy = (event) => replies.copy(event);
   window.onbeforeprint = () => running.print(true);
   window.onafterprint = () => running.print(false);
   window.onkeydown = on_key;
-  window.onhashchange = () => choosing.show_linked();
-  window.onbeforeunload = (event) => { if (choosing.is_at_stake) event.preventDefault(); };
+  window.onhashchange = () => source.show_linked();
+  window.onbeforeunload = (event) => { if (source.is_at_stake) event.preventDefault(); };
 }
 
 /** Begins with the script of a link, else with what the browser has kept of an older visit, else with the first example,
@@ -134,14 +134,14 @@ async function begin() {
   if (document.readyState !== "complete") await new Promise((done) => addEventListener("load", done));
   await new Promise((done) => setTimeout(done)); // the browser puts back what it kept of an older visit
   const is_first = ["", EXAMPLES[0].script].includes(the("script").value);
-  if (choosing.show_linked(false) || !is_first) {
+  if (source.show_linked(false) || !is_first) {
     const fault = await fault_of();
     if (fault) say(`${fault}.`);
     return;
   }
   const said = the("said").textContent; // of a link that isn't whole
   the("script").value = "";
-  choosing.show_example(0);
+  source.show_example(0);
   say(said);
   running.run();
 }

@@ -6,7 +6,7 @@ import { coloured } from "./colours.js";
 import { element, grouped, last_below, the } from "./elements.js";
 import { fault_page } from "./help.js";
 import { FAULTS } from "./names.js";
-import { Rows, go_to, set, show_whole, view } from "./rows.js";
+import { VirtualList, go_to, set, show_whole, view } from "./virtual_list.js";
 
 /** How many rows are shown: no browser has a page of many millions. All replies can have hundreds of megabytes. And how
  * many around those in view are in the document: a short text as a whole, so a browser finds its words. */
@@ -42,7 +42,7 @@ function reply_rows(text, columns) {
 }
 
 export class Replies {
-  #list = new Rows(the("replies"), (item) => this.#item(item), AROUND);
+  #list = new VirtualList(the("replies"), (item) => this.#item(item), AROUND);
   /** The line of each item, how many rows it has, and how many of these are shown; and the row in which each begins.
    * @type {{ line: number, whole: number, shown: number }[]} */
   #items = [];

@@ -11,7 +11,7 @@ const WORKER = new URL("worker.js", import.meta.url);
  * @typedef {{ rdram?: Uint8Array, allowed?: string, is_stopped?: boolean, fault?: string }} Ended */
 
 /** The worker stays for the next run. One that is stopped or fails takes it along, and the session that is in it. */
-export class Runs {
+export class RunWorker {
   #worker = /** @type {Worker | null} */ (null);
   #last = /** @type {Promise<any>} */ (Promise.resolve());
   /** Ends the run that is under way. @type {(ended: Ended) => void} */
@@ -51,12 +51,12 @@ export class Runs {
 }
 
 const MOST = 50; // faults that the library explains
-export class Running {
+export class RunControl {
   #script;
   #editor;
   #replies;
   #trials;
-  #runs = new Runs();
+  #runs = new RunWorker();
   #is_running = false;
   /** Whether the script runs again when the run that is under way has ended. */
   #is_next = false;
@@ -75,7 +75,7 @@ export class Running {
 
   /** @param {import("./script.js").Script} script @param {import("./editor.js").Editor} editor
    * @param {import("./replies.js").Replies} replies
-   * @param {Runs} trials explains faults while a run is under way */
+   * @param {RunWorker} trials explains faults while a run is under way */
   constructor(script, editor, replies, trials) {
     [this.#script, this.#editor, this.#replies, this.#trials] = [script, editor, replies, trials];
   }

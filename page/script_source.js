@@ -37,7 +37,7 @@ function script_of(fragment) {
   return Uint8Array.from(text, (it) => it.charCodeAt(0));
 }
 
-export class Choosing {
+export class ScriptSource {
   #script;
   #follow;
   #say;

@@ -1,8 +1,8 @@
 """What all tests share: the program and the library under test, a folder, and what a machine may lack.
 
 `tests/all` runs all of them on all processors, `tests/all tests/docs` or `tests/all -k saves` a few: its
-words are pytest's. `pytest tests/program/test_saves.py -k mode` does without tests/all, and `--program PATH`
-tests another program. `pytest --markers` and `pytest --fixtures` say more.
+arguments are pytest's. `--program PATH` tests another program. `pytest --markers` and `pytest --fixtures` say
+more.
 """
 
 import os
@@ -14,13 +14,16 @@ import pytest
 
 pytest.register_assert_rewrite("lib")  # before its first import
 
-from lib import TOP, slow_marker  # noqa: E402
+from lib import TOP  # noqa: E402
 from lib.packages import need  # noqa: E402
 from lib.program import Result, run_program  # noqa: E402
 from rsp_tools.build import Build  # noqa: E402
 
 LIBRARY = TOP / "library/c"
-WANTED = "nothing to test: "
+NOTHING = "nothing to test: "
+# What the tests start has to do without the paths that tools/python may have set.
+os.environ.pop("PYTHONPATH", None)
+os.environ.pop("PYTHONSAFEPATH", None)
 
 
 def pytest_addoption(parser: pytest.Parser) -> None:
@@ -28,17 +31,6 @@ def pytest_addoption(parser: pytest.Parser) -> None:
     parser.addoption("--plugin", type=os.path.abspath, help="the plugin under test (one that is built)")
     archives = "an archive of ./release to test, or a folder of them (tests/install makes one)"
     parser.addoption("--archive", action="append", type=os.path.abspath, default=[], help=archives)
-
-
-def pytest_configure(config: pytest.Config) -> None:
-    # What the tests start has to do without the paths that tools/python may have set.
-    os.environ.pop("PYTHONPATH", None)
-    os.environ.pop("PYTHONSAFEPATH", None)
-    needs = (
-        "needs(tool, ..): skipped where a program, a file or `python:MODULE` isn't, with its Debian package"
-    )
-    config.addinivalue_line("markers", needs)
-    config.pluginmanager.register(slow_marker, "outside")
 
 
 @pytest.hookimpl(optionalhook=True)
@@ -62,19 +54,19 @@ def pytest_runtest_setup(item: pytest.Item) -> None:
 
 
 def stop(request: pytest.FixtureRequest, why: str) -> None:
-    """Fails a test for want of what all others want too, and begins no other."""
+    """Fails a test that lacks what all others need too, and begins no other."""
     request.session.shouldfail = why
-    pytest.fail(f"{WANTED}{why}", pytrace=False)
+    pytest.fail(f"{NOTHING}{why}", pytrace=False)
 
 
 @pytest.hookimpl(optionalhook=True)
 def pytest_xdist_node_collection_finished(node: Any) -> None:
-    """The same of xdist, whose workers can't end one another: the first such failure ends them all."""
+    """Ends all workers of xdist by the first such failure, because they can't end one another."""
     session = node.config.pluginmanager.get_plugin("dsession")
 
     class First:
         def pytest_runtest_logreport(self, report: pytest.TestReport) -> None:
-            if report.failed and str(report.longrepr).startswith(WANTED):
+            if report.failed and str(report.longrepr).startswith(NOTHING):
                 session.shouldstop = str(report.longrepr)
 
     if not node.config.pluginmanager.has_plugin("first"):
@@ -84,12 +76,11 @@ def pytest_xdist_node_collection_finished(node: Any) -> None:
 @pytest.fixture(scope="session")
 def program(request: pytest.FixtureRequest) -> Path:
     """The program: the built one, if it is built of the sources as they are, or that of --program."""
-    given = request.config.getoption("--program")
-    build = Build("rsp_main")
-    path = Path(given or build.file)
+    named, build = request.config.getoption("--program"), Build("rsp_main")
+    path = Path(named or build.file)
     if not os.access(path, os.X_OK):
         stop(request, f"there is no program {path}: type `./rsp run </dev/null`, which builds it")
-    if not given and not build.is_built():
+    if not named and not build.is_built():
         stop(request, f"{path} isn't of the sources as they are: type `./rsp run </dev/null`")
     return path
 
@@ -112,5 +103,5 @@ def folder() -> Iterator[Path]:
 
 @pytest.fixture
 def rsp(program: Path, folder: Path) -> Callable[..., Result]:
-    """Runs the program with some words in the test's folder."""
+    """Runs the program with some arguments in the test's folder."""
     return lambda *words, script=b"", **how: run_program(program, words, script, **{"cwd": folder, **how})

@@ -47,9 +47,9 @@ class TestScaled(unittest.TestCase):
     def test_script(self) -> None:
         """The replies to a script. A fault among them means that the script itself is wrong."""
         load = "load dmem 0 40004000400040004000400040004000\nload dmem 16 4000\n"
-        told, _ = rsp.run_script(f"asm 0\n{SCALED}end\n{load}run 100\nmem dmem 32 2\n")
-        self.assertEqual([it for it in told.splitlines() if it.startswith(b"fault ")], [])
-        self.assertEqual(told.splitlines()[-1], b"000020: 2000")
+        replies, _ = rsp.run_script(f"asm 0\n{SCALED}end\n{load}run 100\nmem dmem 32 2\n")
+        self.assertEqual([it for it in replies.splitlines() if it.startswith(b"fault ")], [])
+        self.assertEqual(replies.splitlines()[-1], b"000020: 2000")
 
 
 if __name__ == "__main__":

@@ -20,20 +20,20 @@ class FirstDifference {
   }
 }
 
-/** All registers of a side, with DMEM, IMEM and so many bytes of RDRAM. */
-function seen(side, rdram = 0) {
+/** Copies all registers of a side, DMEM, IMEM and so many bytes of RDRAM. */
+function copy_of(side, rdram = 0) {
   const lengths = rdram ? [4096, 4096, rdram] : [4096, 4096];
   return { state: side.get().copy(), memories: lengths.map((length, bank) => side.memory(bank, 0, length).slice()) };
 }
 
-/** Brings a side to what was seen. */
-function put(side, { state, memories }) {
+/** Sets a side to a copy. */
+function restore(side, { state, memories }) {
   side.set(state.copy());
   memories.forEach((data, bank) => side.load(bank, 0, data.slice()));
 }
 
-function differs(mine, its, at = 0, length = mine.length) {
-  for (let n = at; n < at + length; n++) if (mine[n] !== its[n]) return true;
+function differs(ours, theirs, at = 0, length = ours.length) {
+  for (let n = at; n < at + length; n++) if (ours[n] !== theirs[n]) return true;
   return false;
 }
 
@@ -42,10 +42,10 @@ function quadword(bytes, at) {
 }
 
 /** What differs between two sides: registers, then quadwords of the memories that both show. */
-function parts_of(mine, its) {
-  const found = Difference.from(mine.state.diff(its.state));
-  its.memories.forEach((other, bank) => {
-    const here = mine.memories[bank];
+function parts_of(ours, theirs) {
+  const found = Difference.from(ours.state.diff(theirs.state));
+  theirs.memories.forEach((other, bank) => {
+    const here = ours.memories[bank];
     for (let at = 0; at < other.length; at += QUADWORD) {
       const length = Math.min(QUADWORD, other.length - at);
       if (!differs(here, other, at, length)) continue;
@@ -56,8 +56,8 @@ function parts_of(mine, its) {
   return found;
 }
 
-function is_same(mine, its) {
-  return mine.state.equals(its.state) && its.memories.every((other, bank) => !differs(mine.memories[bank], other));
+function is_same(ours, theirs) {
+  return ours.state.equals(theirs.state) && theirs.memories.every((other, bank) => !differs(ours.memories[bank], other));
 }
 
 /** One step of both: null if the machine can't make it, else the difference after it, or undefined. */
@@ -65,14 +65,14 @@ function step(machine, emulator, number, rdram = 0) {
   const before = machine.get(), [line] = machine.listing(before.pc, 1);
   if (machine.step() !== 0) return null;
   emulator.run(1);
-  const mine = seen(machine, rdram), its = seen(emulator, rdram);
-  return is_same(mine, its) ? undefined : new FirstDifference(number, line, before, parts_of(mine, its));
+  const ours = copy_of(machine, rdram), theirs = copy_of(emulator, rdram);
+  return is_same(ours, theirs) ? undefined : new FirstDifference(number, line, before, parts_of(ours, theirs));
 }
 
 /** The step of a stretch after which they differ, or the whole stretch if no step alone shows it. */
 function narrowed(machine, emulator, before, first, steps, parts) {
-  put(machine, before);
-  put(emulator, before);
+  restore(machine, before);
+  restore(emulator, before);
   const [line] = machine.listing(before.state.pc, 1);
   for (let n = first; n < first + steps; n++) {
     const found = step(machine, emulator, n);
@@ -83,16 +83,16 @@ function narrowed(machine, emulator, before, first, steps, parts) {
 
 /** What both begin with, and the difference if the emulator hasn't kept it. */
 function begun(machine, emulator) {
-  const mine = seen(machine, machine.image_length);
-  put(emulator, mine);
-  const its = seen(emulator, machine.image_length);
-  its.memories.forEach((other, bank) => {
-    const { length } = mine.memories[bank];
+  const ours = copy_of(machine, machine.image_length);
+  restore(emulator, ours);
+  const theirs = copy_of(emulator, machine.image_length);
+  theirs.memories.forEach((other, bank) => {
+    const { length } = ours.memories[bank];
     if (other.length === length) return;
     throw new RangeError(`first_difference: the emulator's memory(${bank}, 0, ${length}) has ${other.length} bytes`);
   });
-  const [line] = machine.listing(mine.state.pc, 1);
-  return [mine, is_same(mine, its) ? null : new FirstDifference(0, line, mine.state, parts_of(mine, its))];
+  const [line] = machine.listing(ours.state.pc, 1);
+  return [ours, is_same(ours, theirs) ? null : new FirstDifference(0, line, ours.state, parts_of(ours, theirs))];
 }
 
 export function first_difference(machine, emulator, every = 64, limit = 1000000) {
@@ -103,13 +103,13 @@ export function first_difference(machine, emulator, every = 64, limit = 1000000)
     const made = machine.run_until_move(Math.min(every, limit - steps), 0, LENGTHS).steps;
     if (made) {
       emulator.run(made);
-      const mine = seen(machine), its = seen(emulator);
-      if (!is_same(mine, its)) return narrowed(machine, emulator, before, steps + 1, made, parts_of(mine, its));
-      before = mine;
+      const ours = copy_of(machine), theirs = copy_of(emulator);
+      if (!is_same(ours, theirs)) return narrowed(machine, emulator, before, steps + 1, made, parts_of(ours, theirs));
+      before = ours;
     } else { // it is before a DMA, or can't go on
       found = step(machine, emulator, steps + 1, machine.image_length);
       if (found === null) return null;
-      before = seen(machine);
+      before = copy_of(machine);
     }
     steps += made || 1;
   }

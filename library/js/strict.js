@@ -22,26 +22,26 @@ export function joined(replies) {
 
 /** The error of the last reply, to the line of this number. A fault of a block counts from the line `asm`, whose number
  * is `block`. */
-function fault_of(lines, number, block, told) {
-  const reply = text_of(told.at(-1)).trimEnd(), in_block = / line (\d+)$/.exec(reply);
+function fault_of(lines, number, block, replies) {
+  const reply = text_of(replies.at(-1)).trimEnd(), in_block = / line (\d+)$/.exec(reply);
   const line = in_block ? block + Number(in_block[1]) : number;
-  return new ScriptError(line, (lines[line - 1] ?? "").trim(), reply, joined(told));
+  return new ScriptError(line, (lines[line - 1] ?? "").trim(), reply, joined(replies));
 }
 
 /** Yields the replies of a session to a whole script: to each line, and to the script's end. After the first one that is
  * a fault it throws a ScriptError. */
 export function * strict_replies(session, raw) {
-  const lines = text_of(raw).split("\n"), told = [];
+  const lines = text_of(raw).split("\n"), replies = [];
   let block = 0;
   const check = (reply, number) => {
-    told.push(reply);
-    if (text_of(reply.subarray(0, 6)) === "fault ") throw fault_of(lines, number, block, told);
+    replies.push(reply);
+    if (text_of(reply.subarray(0, 6)) === "fault ") throw fault_of(lines, number, block, replies);
     if (reply.length) block = 0;
     else if (!block && opens(lines[number - 1])) block = number;
   };
   for (const reply of session.iter_feed(raw)) {
     yield reply;
-    check(reply, told.length + 1);
+    check(reply, replies.length + 1);
   }
   if (!block && opens(lines.at(-1))) block = lines.length;
   const last = session.end();

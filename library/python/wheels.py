@@ -52,7 +52,7 @@ def write(
     seconds since 1970, which a wheel keeps as that of UTC. A wheel for Linux has the command rsp-gdb."""
     info, lines, tags = f"{NAME}.dist-info", "", "".join(f"Tag: py3-none-{it}\n" for it in platforms)
     files = {**files, f"{info}/METADATA": METADATA.encode(), f"{info}/WHEEL": f"{WHEEL}{tags}".encode()}
-    if platforms[0].startswith("manylinux"):
+    if "linux" in platforms[0]:
         files[f"{info}/entry_points.txt"] = SCRIPTS.encode()
     for path, data in files.items():
         digest = base64.urlsafe_b64encode(hashlib.sha256(data).digest()).rstrip(b"=").decode()

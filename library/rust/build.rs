@@ -16,10 +16,10 @@ const BUILT: [&str; 2] = ["x86_64-", "-linux-"];
 /// The library folder of an installed rsp that is no older than this crate.
 fn installed() -> Option<PathBuf> {
     let command = env::var_os("PKG_CONFIG").unwrap_or("pkg-config".into());
-    let wanted = concat!("brsp >= ", env!("CARGO_PKG_VERSION"));
-    let said = Command::new(command).args(["--variable=libdir", wanted]).output().ok()?;
-    let folder = String::from_utf8(said.stdout).ok()?.trim().replace("\\ ", " ");
-    (said.status.success() && !folder.is_empty()).then(|| folder.into())
+    let expected = concat!("brsp >= ", env!("CARGO_PKG_VERSION"));
+    let output = Command::new(command).args(["--variable=libdir", expected]).output().ok()?;
+    let folder = String::from_utf8(output.stdout).ok()?.trim().replace("\\ ", " ");
+    (output.status.success() && !folder.is_empty()).then(|| folder.into())
 }
 
 /// The file of the library, and what rustc calls it.

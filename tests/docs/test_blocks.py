@@ -42,16 +42,17 @@ def test_mark(block: Block) -> None:
 @for_blocks("rsp", lambda block: block.kind == "rsp")
 def test_rsp(block: Block, program: Path) -> None:
     """The program, given the block as it stands, replies what the block shows."""
-    session = [block]
-    for before in reversed(blocks_in(block.page)[: blocks_in(block.page).index(block)]):
-        if session[0].option != "continues":
-            break
-        session[:0] = [before] * (before.kind == "rsp")
-    assert session[0].option != "continues", "there is no block before it"
-    lacking = [command for command, reply in split_replies(block.text)[1] if not reply]
+    blocks = blocks_in(block.page)
+    session = ""
+    if block.option == "continues":
+        earlier = [it for it in blocks[: blocks.index(block)] if it.kind == "rsp"]
+        first = max(i for i, it in enumerate(earlier) if it.option == "")
+        session = "".join(it.text for it in earlier[first:])
+    turns = split_replies(block.text)[1]
+    lacking = [command for command, reply in turns if not reply]
     assert not lacking, f"these commands have no reply: {lacking}"
-    expected = "".join(reply for it in session for _, reply in split_replies(it.text)[1])
-    printed = replies(program, "".join(it.text for it in session))
+    expected = "".join(reply for _, reply in turns)
+    printed = replies(program, session + block.text)[len(replies(program, session)) :]
     assert matches(printed.splitlines(), expected.splitlines()), f"rsp replies\n{printed}and not\n{expected}"
 
 
@@ -72,13 +73,13 @@ def test_asm(block: Block, program: Path) -> None:
 
 @for_blocks("from", lambda block: "from" in block.mark)
 def test_quoted(block: Block) -> None:
-    """Its lines follow one another in the source that the mark names, as the page does."""
-    source = block.mark["from"]
+    """Its lines follow one another in the file that the mark names, where `..` is any text."""
+    name = block.mark["from"]
     lines, quoted = (
-        [line.strip() for line in text.splitlines()] for text in (page(source), block.text.strip("\n"))
+        [line.strip() for line in text.strip("\n").splitlines()] for text in (page(name), block.text)
     )
-    assert quoted in [lines[i : i + len(quoted)] for i in range(len(lines))]
-    assert f"`{source.partition('crates/')[2]}`" in page(block.page)
+    assert matches(lines, ["..", *quoted, ".."])
+    assert name.startswith("conformance/") or f"`{name.partition('crates/')[2]}`" in page(block.page)
 
 
 @for_blocks("in the repository", lambda block: block.mark.get("run") == "in the repository")

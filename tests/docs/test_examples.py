@@ -1,7 +1,7 @@
 """Commands of pages of which a mark above a block can't say enough.
 
-It fails if the cookbook's loop over scripts doesn't end at the first wrong one, if its text for m4 isn't
-assembled, or if the command of READING.md misses the rule of an instruction.
+It fails if the cookbook's loop over scripts doesn't end at the first wrong one, or if the command of
+READING.md misses the rule of an instruction.
 """
 
 import re
@@ -9,8 +9,8 @@ from pathlib import Path
 
 import pytest
 
-from lib.pages import block_with, page, replies
-from lib.processes import run, succeeds
+from lib.pages import block_with, page
+from lib.processes import run
 
 COOKBOOK = "docs/COOKBOOK.md"
 RULE = r"^crates/rsp_(scalar|multiply|compare|divide|loadstore)/"
@@ -39,17 +39,6 @@ def test_scripts_in_ci(script: str, expected: str, printed: str, program: Path, 
     lines = ended.stdout.splitlines()
     assert lines[:2] == names[:2], "each script is named before it runs"
     assert (ended.returncode, lines[2:][-1:]) == ((1, [printed]) if printed else (0, names[2:]))
-
-
-@pytest.mark.needs("m4")
-def test_m4(program: Path, folder: Path) -> None:
-    """The text for m4 is three instructions, by the command before it."""
-    (command,) = re.findall("`(m4 .*?)`", page(COOKBOOK))
-    (folder / "text.m4").write_text(block_with(COOKBOOK, "define(`push'"))
-    succeeds("sh", "-c", command, cwd=folder)
-    text = (folder / "text.s").read_text()
-    assert re.findall(r"\w.*", text) == ["addiu $sp, $sp, -4", "sw $ra, 0($sp)", "addiu $2, $0, 52"]
-    assert replies(program, f"asm 0\n{text}end\n") == "ok 3 words\n"
 
 
 @pytest.mark.parametrize("name", "lqv sll vmulf vrcp vand lw sqv vadd mtc0".split())

@@ -16,8 +16,9 @@ STATES = 12
 def random_state(chance: Random) -> Tuple[List[int], List[int], Flags]:
     """Operands of which many are equal, opposite or complements of each other, and flags."""
     a = [chance.choice((0, 1, 5, 32767, 32768, 65535, chance.randrange(65536))) for _ in range(8)]
-    b = [chance.choice((it, -it, ~it, 1, 32768, chance.randrange(65536))) & 0xFFFF for it in a]
-    return a, b, {it: f"{chance.randrange(16 ** len(none)):0{len(none)}x}" for it, none in CLEAR.items()}
+    b = [chance.choice((lane, -lane, ~lane, 1, 32768, chance.randrange(65536))) & 0xFFFF for lane in a]
+    flags = {name: f"{chance.randrange(16 ** len(none)):0{len(none)}x}" for name, none in CLEAR.items()}
+    return a, b, flags
 
 
 def flipped(registers: Flags, flag: str) -> Flags:
@@ -38,7 +39,9 @@ def uses(flag: str, ran: Sequence[Tuple[Case, Look]]) -> Tuple[str, ...]:
     turned over."""
     many, turned = 1 + len(FLAGS), 1 + [*FLAGS].index(flag)
     names = [name for name in FLAGS if name != flag]
-    others = [[it["v3"], accumulators_of(it), *(value_of(it, name) for name in names)] for _, it in ran]
+    others = [
+        [look["v3"], accumulators_of(look), *(value_of(look, name) for name in names)] for _, look in ran
+    ]
     is_read = any(others[i] != others[i + turned] for i in range(0, len(ran), many))
     left = [value_of(look, flag) for _, look in ran]
     if left == [value_of(state, flag) for (_, _, state), _ in ran]:
@@ -48,17 +51,17 @@ def uses(flag: str, ran: Sequence[Tuple[Case, Look]]) -> Tuple[str, ...]:
 
 def test_table_of_flags(program: Path) -> None:
     """An instruction that isn't there keeps all flags, and reads none."""
-    shown: Dict[str, Uses] = {}
+    listed: Dict[str, Uses] = {}
     for names, *cells in tables("docs/INSTRUCTIONS.md", "### Flags"):
         if len(cells) == len(FLAGS):
-            row = {flag: tuple(filter(None, it.split(", "))) for flag, it in zip(FLAGS, cells)}
-            shown.update({name: row for name in names.lower().split(", ")})
+            row = {flag: tuple(filter(None, cell.split(", "))) for flag, cell in zip(FLAGS, cells)}
+            listed.update({name: row for name in names.lower().split(", ")})
     chance = Random(1)
     states = [random_state(chance) for _ in range(STATES)]
-    turned = [(a, b, it) for a, b, f in states for it in (f, *(flipped(f, flag) for flag in FLAGS))]
-    cases = {name: [case(name, a, b, flags=it) for a, b, it in turned] for name in NAMES}
-    looks = iter(after(str(program), [it for found in cases.values() for it in found]))
-    for name, given in cases.items():
-        ran = [(it, next(looks)) for it in given]
-        found = {flag: uses(flag, ran) for flag in FLAGS}
-        assert shown.get(name, dict.fromkeys(FLAGS, ())) == found, name
+    turned = [(a, b, flags) for a, b, f in states for flags in (f, *(flipped(f, flag) for flag in FLAGS))]
+    cases = {name: [case(name, a, b, flags=flags) for a, b, flags in turned] for name in NAMES}
+    looks = iter(after(str(program), [it for of_name in cases.values() for it in of_name]))
+    for name, of_name in cases.items():
+        ran = [(it, next(looks)) for it in of_name]
+        actual = {flag: uses(flag, ran) for flag in FLAGS}
+        assert listed.get(name, dict.fromkeys(FLAGS, ())) == actual, name

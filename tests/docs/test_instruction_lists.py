@@ -24,7 +24,7 @@ SELECTORS = {
     "COP2 (opcode 0x12), function": (0x12 << 26 | 1 << 25, 0, range(64)),
     "LWC2 (opcode 0x32), operation": (0x32 << 26, 11, range(32)),
     "SWC2 (opcode 0x3a), operation": (0x3A << 26, 11, range(32)),
-    "opcode": (0, 26, [it for it in range(64) if it not in (0x00, 0x01, 0x10, 0x12, 0x32, 0x3A)]),
+    "opcode": (0, 26, [code for code in range(64) if code not in (0x00, 0x01, 0x10, 0x12, 0x32, 0x3A)]),
 }
 COMPUTING, LOADS, STORES = list(SELECTORS)[4:7]
 WORDS = {
@@ -62,9 +62,8 @@ def in_instructions() -> Iterator[str]:
 
 
 def test_data(rows: Rows) -> None:
-    assert_same_items(
-        (f"{it['Instruction']} {it['Selected by']}" for it in data("instructions")), rows.values()
-    )
+    listed = [f"{line['Instruction']} {line['Selected by']}" for line in data("instructions")]
+    assert_same_items(listed, rows.values())
 
 
 def test_page(rows: Rows) -> None:
@@ -75,29 +74,30 @@ def test_anchors() -> None:
     """The page has one for each instruction, right before its name, or before the heading with its name."""
     text = page(PAGE)
     anchors = re.findall(r'<a id="(\w+)"></a>(?=(\w*))', text)
-    assert_same_items((it for it, _ in anchors), (it["Instruction"].lower() for it in data("instructions")))
+    names = [line["Instruction"].lower() for line in data("instructions")]
+    assert_same_items((anchor for anchor, _ in anchors), names)
     (before, heading), *others = re.findall(r"(?m)^((?:<.*></a>)+)\n\n#+ (.*)", text)
-    assert_same_items(re.findall(r'"(\w+)"', before), heading.lower().split(", "))
-    assert not others and [it for it, name in anchors if it != name.lower()] == re.findall(r'"(\w+)"', before)
+    listed = re.findall(r'"(\w+)"', before)
+    assert_same_items(listed, heading.lower().split(", "))
+    assert not others and [anchor for anchor, name in anchors if anchor != name.lower()] == listed
 
 
 def test_reserved_functions(rows: Rows) -> None:
     """The sentence of the page on functions that are reserved."""
-    (said,) = re.findall(r"The functions ([^.]+) are reserved\.", " ".join(page(PAGE).split()))
-    ranges = re.findall(r"0x(\w\w)(?: to 0x(\w\w))?", said)
-    listed = [it for first, last in ranges for it in range(int(first, 16), int(last or first, 16) + 1)]
-    assert_same_items(listed, [it for it in range(64) if f"{COMPUTING} {it:#04x}" not in rows])
+    (sentence,) = re.findall(r"The functions ([^.]+) are reserved\.", " ".join(page(PAGE).split()))
+    ranges = re.findall(r"0x(\w\w)(?: to 0x(\w\w))?", sentence)
+    listed = [code for first, last in ranges for code in range(int(first, 16), int(last or first, 16) + 1)]
+    assert_same_items(listed, [code for code in range(64) if f"{COMPUTING} {code:#04x}" not in rows])
 
 
 def test_table(rows: Rows) -> None:
-    assert_same_items(
-        (f"{it.name.upper()} {WORDS.get(it.value)}" for it in table.ROWS.values()), rows.values()
-    )
+    listed = [f"{row.name.upper()} {WORDS.get(row.value)}" for row in table.ROWS.values()]
+    assert_same_items(listed, rows.values())
 
 
 def test_bits_of_the_table(program: Path) -> None:
     """Another bit that selects makes another instruction, an ignored one a word that isn't canonical."""
-    bits, rows = [1 << it for it in range(32)], table.ROWS.values()
+    bits, rows = [1 << n for n in range(32)], table.ROWS.values()
     tries = [(row, bit) for row in rows for bit in bits if (row.mask | table.ignored_bits(row)) & bit]
     found = [*zip(tries, names_of(program, [row.value ^ bit for row, bit in tries]))]
     selected = [(row.name, bit) for (row, bit), name in found if row.mask & bit and name == row.name.upper()]
@@ -109,4 +109,4 @@ def test_every_row() -> None:
     """The script that has the example of each instruction."""
     script = page("tests/program/scripts/blocks/every-row.script")
     (block,) = re.findall(r"(?ms)^asm 0\n(.*?)^end$", script)
-    assert_same_items(block.splitlines(), [it["Example"] for it in data("instructions")])
+    assert_same_items(block.splitlines(), [line["Example"] for line in data("instructions")])

@@ -9,18 +9,19 @@ from lib.links import broken_in
 from lib.pages import pages_below
 
 # The links of the archives' READMEs lead to files of an archive, whose tests follow them.
-PAGES = [it for it in pages_below(TOP) if TOP / "tools/packaging/readme" not in it.parents]
+PAGES = [path for path in pages_below(TOP) if TOP / "tools/packaging/readme" not in path.parents]
 
 
-@pytest.mark.parametrize("page", PAGES, ids=lambda it: str(it.relative_to(TOP)))
+@pytest.mark.parametrize("page", PAGES, ids=lambda path: str(path.relative_to(TOP)))
 def test_links(page: Path) -> None:
     assert not broken_in(page)
 
 
 def test_pictures() -> None:
     """Each picture is on a page."""
-    texts = "".join(it.read_text() for it in TOP.glob("docs/*.md"))
-    assert [it.name for it in TOP.glob("docs/pictures/*.svg") if f"(pictures/{it.name})" not in texts] == []
+    texts = "".join(path.read_text() for path in TOP.glob("docs/*.md"))
+    names = [path.name for path in TOP.glob("docs/pictures/*.svg")]
+    assert [name for name in names if f"(pictures/{name})" not in texts] == []
 
 
 def test_pages() -> None:

@@ -1,7 +1,7 @@
 """The tables of docs/data against the program, and what pages have of them.
 
 It fails if the program does something else than a line of a table says, or if a page isn't what
-`tools/python rsp_tools.page_tables` makes of the tables, of crates.txt, of the vectors and of the systems.
+`tools/python rsp_tools.page_tables` makes of the tables, of crates.txt and of the systems.
 
   docs/data/instructions.tsv   each instruction's word, and its worked case, stepped once
   docs/data/commands.tsv       each command's sample, and how many lines it is answered with
@@ -34,23 +34,21 @@ FAULTS = {*range(4, 8), *range(10, 18), *range(20, 28), *range(30, 34), *range(4
 
 def lines_of(name: str) -> Any:
     """A test for each line of a table, with the name of its first cell."""
-    return pytest.mark.parametrize("line", data(name), ids=lambda it: next(iter(it.values())))
+    return pytest.mark.parametrize("line", data(name), ids=lambda line: next(iter(line.values())))
 
 
-@pytest.mark.parametrize("name", sorted(it.stem for it in page_tables.DATA.glob("*.tsv")))
+@pytest.mark.parametrize("name", sorted(path.stem for path in page_tables.DATA.glob("*.tsv")))
 def test_cells(name: str) -> None:
-    head, *lines = [it.split("\t") for it in page(f"docs/data/{name}.tsv").splitlines()]
+    head, *lines = [line.split("\t") for line in page(f"docs/data/{name}.tsv").splitlines()]
     assert lines and {len(cells) for cells in lines} == {len(head)}
 
 
 @pytest.mark.parametrize("name", page_tables.made())
 def test_made_pages(name: str) -> None:
     """Each page that is made is the one that is made again."""
-    made = unified_diff(
-        page(name).splitlines(), page_tables.made()[name].splitlines(), name, "as it is made", n=0
-    )
-    differ = "\n".join(made)
-    assert not differ, "`tools/python rsp_tools.page_tables` makes it again"
+    texts = (page(name).splitlines(), page_tables.made()[name].splitlines())
+    difference = "\n".join(unified_diff(*texts, name, "as it is made", n=0))
+    assert not difference, "`tools/python rsp_tools.page_tables` makes it again"
 
 
 def test_layout_of_states() -> None:
@@ -75,46 +73,47 @@ def test_whole_programs() -> None:
     """The instructions that whole programs of the vectors use are those that the page names."""
     head = r"\| Programs of \| also use \|\n\|[-|]+\|\n"
     (table,) = re.findall(rf"{head}((?:\|.*\n)+)", page(OF_VECTORS))
-    said = [{*re.findall(r"\b[A-Z]+[0-9]?\b", cells_of(it)[1])} for it in table.splitlines()]
+    listed = [{*re.findall(r"\b[A-Z]+[0-9]?\b", cells_of(line)[1])} for line in table.splitlines()]
     forms = (programs.DIVIDING, (*programs.JUMPS, "break"), programs.SP_MOVES)  # of the lines after the first
-    used = [used_by(row for row in ROWS.values() if row.form in it) for it in forms]
+    used = [used_by(row for row in ROWS.values() if row.form in group) for group in forms]
     others = used_by(row for row in ROWS.values() if row.form not in {*chain(*forms)})
-    assert said == [others, *(it - others for it in used)]
+    assert listed == [others, *(names - others for names in used)]
 
 
 @pytest.fixture(scope="module")
 def ran(program: Path) -> Dict[str, Tuple[List[str], Dict[str, Any]]]:
     """By instruction: the word and the disassembly of its example, and the looks of its worked case."""
     lines = data("instructions")
-    at = [int(it["Word"].partition(" at ")[2] or "0", 16) for it in lines]
-    examples = words_of(program, [(it["Example"], place) for it, place in zip(lines, at)])
-    steps = words_of(program, [(it["Worked"], 0) for it in lines])
+    addresses = [int(line["Word"].partition(" at ")[2] or "0", 16) for line in lines]
+    examples = words_of(program, zip((line["Example"] for line in lines), addresses))
+    steps = words_of(program, [(line["Worked"], 0) for line in lines])
     states = [
-        (ROWS[it["Instruction"].lower()], int(word, 16), worked_cases.state_of(it["Before"]))
-        for it, (_, word, _) in zip(lines, steps)
+        (ROWS[line["Instruction"].lower()], int(word, 16), worked_cases.state_of(line["Before"]))
+        for line, (_, word, _) in zip(lines, steps)
     ]
     looks = bench.observe(str(program), states)
-    return {it["Instruction"]: (made[1:], look) for it, made, look in zip(lines, examples, looks)}
+    names = [line["Instruction"] for line in lines]
+    return {name: (example[1:], look) for name, example, look in zip(names, examples, looks)}
 
 
 def differing(look: Dict[str, Any], cell: str) -> Iterator[str]:
     """What differs in a look from a cell of a worked case."""
     for key, value in worked_cases.parts(cell):
-        found = worked_cases.part(look, key)
-        if found != value:
-            yield f"{key} is {found}, not {value}"
+        actual = worked_cases.part(look, key)
+        if actual != value:
+            yield f"{key} is {actual}, not {value}"
 
 
 @pytest.mark.xdist_group("docs/data/instructions.tsv")
 class TestInstructions:
     def test_all(self) -> None:
-        assert_same_items((it["Instruction"].lower() for it in data("instructions")), ROWS)
+        assert_same_items((line["Instruction"].lower() for line in data("instructions")), ROWS)
 
     @lines_of("instructions")
     def test_line(self, line: Line, ran: Dict[str, Any]) -> None:
         """An instruction's example has its word and text, and its worked case leaves what the table says."""
-        made, look = ran[line["Instruction"]]
-        assert made == [line["Word"].partition(" at ")[0], line["Example"]]
+        example, look = ran[line["Instruction"]]
+        assert example == [line["Word"].partition(" at ")[0], line["Example"]]
         assert not [*differing(look["before"], line["Before"])]
         assert not [*differing(look["after"], line["After"])]
         if line["After"] == "nothing":
@@ -124,13 +123,13 @@ class TestInstructions:
 @lines_of("commands")
 def test_command(line: Line, program: Path) -> None:
     """How many lines a command's sample is answered with."""
-    lines = [f"{it}\n" for it in line["Sample"].split(" / ")]
-    told = replies(program, "".join(lines))
-    if lines[-1] != "end\n":
-        told = told[len(replies(program, "".join(lines[:-1]))) :]
-    if lines[-1].startswith("asm"):
-        told = told.replace(OPEN_BLOCK, "")
-    assert "fault" not in told and told.count("\n") == int(line["Its lines"])
+    commands = [f"{command}\n" for command in line["Sample"].split(" / ")]
+    printed = replies(program, "".join(commands))
+    if commands[-1] != "end\n":
+        printed = printed[len(replies(program, "".join(commands[:-1]))) :]
+    if commands[-1].startswith("asm"):
+        printed = printed.replace(OPEN_BLOCK, "")
+    assert "fault" not in printed and printed.count("\n") == int(line["Its lines"])
     assert line["Lines"] in (line["Its lines"], "N", "LEN / 16, rounded up")
 
 
@@ -140,31 +139,35 @@ def test_fault(line: Line, program: Path, folder: Path) -> None:
     example = line["Example"]
     if example.startswith("$ "):
         ended = run("sh", "-c", f'rsp() {{ "{program}" "$@"; }}; {example[2:]}', cwd=folder)
-        told = re.sub("^rsp: ", "", ended.stdout.splitlines()[-1])
+        last = re.sub("^rsp: ", "", ended.stdout.splitlines()[-1])
     elif example != "-":
-        told = replies(program, "\n".join(example.split(" / ")) + "\n").splitlines()[-1]
-    assert example == "-" or re.fullmatch(rf"fault {line['Fault']}( line \d+)?", told.strip())
+        last = replies(program, example.replace(" / ", "\n") + "\n").splitlines()[-1]
+    assert example == "-" or re.fullmatch(rf"fault {line['Fault']}( line \d+)?", last.strip())
 
 
 def test_numbers_of_faults() -> None:
-    assert {int(it["Fault"].split()[0]) for it in data("faults")} == FAULTS
+    assert {int(line["Fault"].split()[0]) for line in data("faults")} == FAULTS
 
 
 def test_faults_of_texts() -> None:
     """ASSEMBLY names those of texts."""
-    of_texts = {it["Fault"] for it in data("faults") if it["Fault"][:2] in map(str, range(10, 17))}
+    of_texts = {fault for line in data("faults") if (fault := line["Fault"])[:2] in map(str, range(10, 17))}
     assert {*re.findall(r"`(1[0-6] \w+)`", page("docs/ASSEMBLY.md"))} == of_texts
 
 
 def test_faults_of_commands() -> None:
     """The faults of a command are those whose causes begin with its name; of `end`, those of texts."""
     listed = {
-        (it["Command"].split()[0], fault)
-        for it in data("commands")
-        for fault in re.findall("`(.*?)`", it["Faults"])
+        (line["Command"].split()[0], fault)
+        for line in data("commands")
+        for fault in re.findall("`(.*?)`", line["Faults"])
     }
-    causes = [(it["Fault"], re.match("(`[a-z]+`(, `[a-z]+`)*): ", it["Cause"])) for it in data("faults")]
-    caused = {(name, fault) for fault, found in causes if found for name in re.findall("[a-z]+", found[1])}
+    caused = {
+        (name, line["Fault"])
+        for line in data("faults")
+        for commands in re.findall("^((?:`[a-z]+`(?:, )?)+): ", line["Cause"])
+        for name in re.findall("[a-z]+", commands)
+    }
     assert listed == caused | {("end", "10 BadLine"), ("end", "16 PastEnd")}
 
 
@@ -177,9 +180,9 @@ def test_messages() -> None:
     """FAULTS lists the program's messages."""
     source = page("crates/rsp_cli_files/src/fault.rt")
     messages = {*re.findall(r'"((?:cannot|bad|faults?) [^"\\]*)', source)}
-    shown = {"{}": "FILE", "{count}": "N", "{line}": "K", "{first}": "fault .."}
-    cells = [it[1] for it in tables("docs/FAULTS.md", "## Exit statuses and messages")]
-    listed = [text for it in cells for text in re.findall("`(.*?)`", it)]
+    words = {"{}": "FILE", "{count}": "N", "{line}": "K", "{first}": "fault .."}
+    cells = [cells[1] for cells in tables("docs/FAULTS.md", "## Exit statuses and messages")]
+    listed = [text for cell in cells for text in re.findall("`(.*?)`", cell)]
     assert len(messages) == 12
-    for it in messages:
-        assert f"rsp: {re.sub('{.*?}', lambda found: shown[str(found[0])], it)}" in listed
+    for message in messages:
+        assert f"rsp: {re.sub('{.*?}', lambda found: words[str(found[0])], message)}" in listed

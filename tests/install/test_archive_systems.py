@@ -24,7 +24,7 @@ from lib.install.unpacked import (
     check_date_of_wheel,
     check_pack,
     date,
-    given,
+    archives_for,
     unpacked,
 )
 from lib.library import LOCKSTEP
@@ -45,7 +45,8 @@ from rsp_tools.targets import CROSS, PAGE, PROCESSORS, TARGETS
 # What an archive for C, Python and Rust has on each system.
 COMMON = """
 include/brsp.h include/brsp.hpp include/brsp_compare.h include/brsp_savestate.h
-lib/cmake/brsp/brspConfig.cmake lib/cmake/brsp/brspConfigVersion.cmake library/python/rsp/__init__.py
+lib/cmake/brsp/brspConfig.cmake lib/cmake/brsp/brspConfigVersion.cmake lib/pkgconfig/brsp.pc
+library/python/rsp/__init__.py
 library/rust/Cargo.toml library/rust/build.rs library/rust/src/lib.rs library/c/brsp.h docs/README.md
 docs/SYSTEMS.md examples/first.rsp examples/c/lockstep.c microcode/README.md microcode/copy.s
 """
@@ -54,7 +55,7 @@ SHELLS = """
 share/man/man1/rsp.1 share/bash-completion/completions/rsp share/zsh/site-functions/_rsp
 share/fish/vendor_completions.d/rsp.fish
 """
-# What tools/systems makes for an archive that isn't in the record of its system, and what more an archive has.
+# What tools/systems makes for an archive beside what the record names, and what more an archive has.
 MADE = {
     "windows-x86_64": "lib/libbrsp.dll.a lib/brsp.lib",
     "vendor": "CMakeLists.txt include/brsp.h include/brsp.hpp include/brsp_compare.h program/main.c "
@@ -75,15 +76,15 @@ outside = pytest.mark.outside("it tests archives of other systems: `--archive di
 
 
 def made_files(system: str) -> List[str]:
-    """What tools/systems makes for an archive; the first is the library."""
+    """The files that tools/systems makes for an archive; the first is the library."""
     target = TARGETS[system]
     names = [target.shared, target.program, *(f"lib/{it}" for it in target.rust.values())]
-    names += ["lib/libbrsp.so.1"] * target.is_linux + ["lib/pkgconfig/brsp.pc"] * bool(target.wheel)
+    names += ["lib/libbrsp.so.1"] * target.is_linux
     return [it for it in (*names, *MADE.get(system, "").split()) if it]
 
 
 def more_files(system: str) -> List[str]:
-    """What an archive has beside these."""
+    """The other files of an archive."""
     target = TARGETS[system]
     names = "README.md CHANGELOG.md SHA256SUMS".split() + MORE.get(system, "").split()
     names += COMMON.split() * bool(target.wheel) + SHELLS.split() * bool(target.program)
@@ -112,8 +113,7 @@ def stand_in(system: str, folder: Path) -> None:
         path.parent.mkdir(parents=True, exist_ok=True)
         path.write_text(name)
     if system in rust.TARGETS:
-        packages.header(folder)
-        packages.cmake(folder, TARGETS[system], LIBRARY="", SONAME="")
+        packages.describe(folder, TARGETS[system])
         packages.wheel(folder, folder / made_files(system)[0], "library", TARGETS[system].wheel)
 
 
@@ -121,14 +121,16 @@ def stand_in(system: str, folder: Path) -> None:
 def test_stand_in(folder: Path, library: Path, system: str) -> None:
     """Its files, links and sums, the time of the commit, and that two archives are alike."""
     stand_in(system, folder / "made")
-    made = archives.of_system(system, folder / "made", ABOUT, lambda library, processor: processor.encode())
-    is_alike = made.packed() == made.packed()
+    archive = archives.of_system(
+        system, folder / "made", ABOUT, lambda library, processor: processor.encode()
+    )
+    is_alike = archive.packed() == archive.packed()
     assert is_alike
-    packed = folder / made.name
-    packed.write_bytes(made.packed())
+    packed = folder / archive.name
+    packed.write_bytes(archive.packed())
     check_pack(packed)
-    committed = int(succeeds("git", "log", "-1", "--format=%ct"))
-    assert 0 <= committed - date(packed) < 2
+    commit_time = int(succeeds("git", "log", "-1", "--format=%ct"))
+    assert 0 <= commit_time - date(packed) < 2
     (folder / "into").mkdir()
     top = unpacked(packed, folder / "into")
     check_files(top, system)
@@ -140,7 +142,7 @@ def test_wheel_where_there_is_no_git(folder: Path, monkeypatch: pytest.MonkeyPat
     """As in an unpacked archive of the source: its files have the first time that a wheel can have."""
     (folder / "library").touch()
     monkeypatch.setenv("PATH", str(folder))
-    repository.committed.cache_clear()
+    repository.commit_time.cache_clear()
     packages.wheel(folder, folder / "library", "library", ["any"])
     (wheel,) = (folder / "python").glob("*.whl")
     assert date(wheel) == calendar.timegm((1980, 1, 1, 0, 0, 0))
@@ -149,7 +151,7 @@ def test_wheel_where_there_is_no_git(folder: Path, monkeypatch: pytest.MonkeyPat
 @pytest.fixture
 def packed_for(request: pytest.FixtureRequest, system: str) -> Path:
     """The archive for a system."""
-    found = given(request.config, system)
+    found = archives_for(request.config, system)
     if not found:
         pytest.skip(f"--archive names none for {system}: `./release --systems {system}` makes one")
     return found[0]
@@ -190,8 +192,8 @@ def test_crate(top: Path, folder: Path, system: str) -> None:
     succeeds("rustc", "--edition", "2021", "-o", folder / "script", crate / "build.rs", cwd=top, env=where)
     listed = succeeds("cargo", "package", "--list", "--allow-dirty", "--offline", cwd=crate, env=own)
     for target, name in TARGETS[system].rust.items():
-        status, said = rust.said(folder / "script", target)
-        assert status == 0 and f"cargo:rustc-link-search=native={crate}/lib/{target}\n" in said
+        status, output = rust.build_script(folder / "script", target)
+        assert status == 0 and f"cargo:rustc-link-search=native={crate}/lib/{target}\n" in output
         assert f"lib/{target}/{name}" in listed.splitlines()
 
 
@@ -211,8 +213,8 @@ def runner(top: Path, folder: Path, system: str) -> Iterator[Runner]:
 def test_c(top: Path, runner: Runner, system: str) -> None:
     """The example by the files, static and shared."""
     for how, library in runner.libraries().items():
-        made = runner.compile(top / EXAMPLE, name=f"lockstep {how}", library=library)
-        runner.check_lockstep(made, how != "static")
+        program = runner.compile(top / EXAMPLE, name=f"lockstep {how}", library=library)
+        runner.check_lockstep(program, how != "static")
 
 
 @pytest.mark.needs("python:pip")
@@ -251,23 +253,23 @@ def test_example_of_the_crate(top: Path, runner: Runner, system: str) -> None:
     assert rust.cargo(runner, "run", "--example", "lockstep", at=crate) == LOCKSTEP
 
 
-def of_archive(runner: Runner, *words: str, given: bytes = b"") -> "Ended[bytes]":
+def run_of_archive(runner: Runner, *words: str, script: bytes = b"") -> "Ended[bytes]":
     """A run of a program of the archive, in its folder."""
     command = [*runner.start, *words]
-    return run_bytes(command[0], command[1:], given, cwd=runner.folder, env=runner.env)
+    return run_bytes(command[0], command[1:], script, cwd=runner.folder, env=runner.env)
 
 
 @of(*COMPILED)
 def test_program(top: Path, runner: Runner, system: str) -> None:
     """The first script, an assembly and a disassembly, and a file that isn't there."""
     program = f"bin/rsp{runner.ending}"
-    first = of_archive(runner, program, "run", given=FIRST)
+    first = run_of_archive(runner, program, "run", script=FIRST)
     assert first.stdout == page("examples/first.out").encode()
     (top / "loop.s").write_text(LOOP_TEXT)
-    assert of_archive(runner, program, "asm", "loop.s", "loop.bin").stdout == b"ok 4 words\n"
+    assert run_of_archive(runner, program, "asm", "loop.s", "loop.bin").stdout == b"ok 4 words\n"
     assert (top / "loop.bin").read_bytes().hex() == LOOP_CODE
-    assert of_archive(runner, program, "dis", "loop.bin").stdout == LOOP_WORDS.encode()
-    lost = of_archive(runner, program, "run", "--rdram", "no-such-file")
+    assert run_of_archive(runner, program, "dis", "loop.bin").stdout == LOOP_WORDS.encode()
+    lost = run_of_archive(runner, program, "run", "--rdram", "no-such-file")
     assert lost.returncode == 1 and not lost.stdout
 
 
@@ -281,8 +283,8 @@ def test_vectors(top: Path, runner: Runner, suite: Path, system: str, name: str)
     script.chmod(0o755)
     where = {**BARE, **runner.env, "PYTHONPATH": "conformance"}
     words = ("-B", "-m", "rsp_conformance.run", "--program", script, "conformance/vectors", name)
-    told = succeeds("python3", *words, cwd=suite, env=where)
-    assert re.fullmatch(r"[1-9]\d* passed, 0 failed", told.splitlines()[-1])
+    output = succeeds("python3", *words, cwd=suite, env=where)
+    assert re.fullmatch(r"[1-9]\d* passed, 0 failed", output.splitlines()[-1])
 
 
 @of("windows-x86_64")
@@ -290,7 +292,7 @@ def test_first_line_of_windows(top: Path, runner: Runner) -> None:
     """The README's, by the command interpreter."""
     line = r"bin\rsp run examples\first.rsp"
     assert f"`{line}`" in (top / "README.md").read_text()
-    assert of_archive(runner, "cmd", "/c", line).stdout == page("examples/first.out").encode()
+    assert run_of_archive(runner, "cmd", "/c", line).stdout == page("examples/first.out").encode()
 
 
 @pytest.mark.needs("rt")
@@ -299,8 +301,8 @@ def test_macos(top: Path, folder: Path) -> None:
     """The files are only read."""
     macos.check(top, folder)
     for triple in TARGETS["macos"].rust:
-        held = llvm("llvm-lipo", "-archs", top / "library/rust/lib" / triple / "libbrsp.a").split()
-        assert held == [PROCESSORS[triple.partition("-")[0]].apple], triple
+        processors = llvm("llvm-lipo", "-archs", top / "library/rust/lib" / triple / "libbrsp.a").split()
+        assert processors == [PROCESSORS[triple.partition("-")[0]].apple], triple
 
 
 @of("wasm64")
@@ -321,10 +323,10 @@ def project(packed_for: Path, folder: Path) -> Path:
 @of("wasm64")
 def test_npm(top: Path, project: Path) -> None:
     """What it installs, and that Node runs it."""
-    held, wanted = (
-        {str(it.relative_to(at)) for it in at.rglob("*")} for at in (project / "node_modules/rsp", top)
+    installed, packed = (
+        {str(path.relative_to(at)) for path in at.rglob("*")} for at in (project / "node_modules/rsp", top)
     )
-    assert held == wanted
+    assert installed == packed
     node.check_use(project)
 
 

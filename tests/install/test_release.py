@@ -3,6 +3,7 @@
 It fails if something that is missing isn't named first, or if a page's block is typed without what it needs.
 """
 
+import re
 import shutil
 import sys
 from pathlib import Path
@@ -17,6 +18,7 @@ from lib.processes import run, succeeds
 from lib.user import User
 from rsp_tools import release
 from rsp_tools.build import LOGIC
+from rsp_tools.targets import CROSS
 
 FEW = "sh dirname readlink python3".split()
 LINKERS = "git cc ar ld objcopy".split()
@@ -36,16 +38,16 @@ def test_passes():
 
 
 def refused(*words: str, path: str) -> str:
-    """What ./release says that fails with these words and this PATH, and writes nothing."""
-    before = sorted((it, it.stat().st_mtime_ns) for it in (TOP / "dist").glob("**/*"))
+    """The output of ./release with these words and this PATH, which fails and writes nothing."""
+    before = sorted((path, path.stat().st_mtime_ns) for path in (TOP / "dist").glob("**/*"))
     ended = run("./release", *words, env={"PATH": path})
     assert ended.returncode == 1
-    assert sorted((it, it.stat().st_mtime_ns) for it in (TOP / "dist").glob("**/*")) == before
+    assert sorted((path, path.stat().st_mtime_ns) for path in (TOP / "dist").glob("**/*")) == before
     return ended.stdout
 
 
 def path_with(folder: Path, *names: str) -> str:
-    """A folder for PATH that has these programs alone, and a kit of which nothing is asked."""
+    """A folder for PATH with only these programs, and a kit that fails."""
     folder.mkdir(exist_ok=True)
     for name in names:
         (folder / name).symlink_to(str(shutil.which(name, path="/usr/bin:/bin")))
@@ -55,39 +57,38 @@ def path_with(folder: Path, *names: str) -> str:
 
 
 def test_unknown_system(folder: Path) -> None:
-    said = refused("--systems", "macos", "linux-arm", path=path_with(folder, *FEW))
-    assert (
-        said.startswith("release: there is no system linux-arm: the systems are ") and said.count("\n") == 1
-    )
+    output = refused("--systems", "macos", "linux-arm", path=path_with(folder, *FEW))
+    assert re.fullmatch("release: there is no system linux-arm: the systems are .*\n", output)
 
 
 def test_no_kit() -> None:
-    said = refused("--untested", path="/usr/bin:/bin")
-    assert said == "release: there is no `rt`, the command of the Rattle kit (README.md names its version)\n"
+    output = refused("--untested", path="/usr/bin:/bin")
+    assert output.startswith("release: there is no `rt`, the command of the Rattle kit")
 
 
 def test_missing_packages(folder: Path) -> None:
     """All of them are in one line: those that link, and those of each system."""
-    said = refused("--untested", "--systems", path=path_with(folder, *FEW))
-    named = "git gcc binutils gcc-aarch64-linux-gnu libc6-dev-arm64-cross gcc-mingw-w64-x86-64 cmark-gfm"
-    assert said == f"release: packages of Debian are missing: apt-get install {named}\n"
+    output = refused("--untested", "--systems", path=path_with(folder, *FEW))
+    compilers = " ".join(target.packages[target.compiler] for target in CROSS if target.compiler)
+    names = f"git gcc binutils {compilers} cmark-gfm"
+    assert output == f"release: packages of Debian are missing: apt-get install {names}\n"
 
 
 @pytest.mark.needs(*LINKERS)
 def test_missing_package_of_one_system(folder: Path) -> None:
-    """The page is made with the library for WebAssembly, and needs what that needs."""
+    """The page is made with the library for WebAssembly, and needs the same packages."""
     for system, package in ("windows-x86_64", "gcc-mingw-w64-x86-64"), ("page", "cmark-gfm"):
         path = path_with(folder / system, *FEW, *LINKERS)
-        said = refused("--untested", "--systems", system, path=path)
-        assert said == f"release: packages of Debian are missing: apt-get install {package}\n"
+        output = refused("--untested", "--systems", system, path=path)
+        assert output == f"release: packages of Debian are missing: apt-get install {package}\n"
 
 
 def test_packages_of_the_newcomer(monkeypatch: pytest.MonkeyPatch) -> None:
-    """What the pages' commands need is looked for too, unless nobody types them."""
+    """The packages that the pages' blocks need are named too, unless the blocks aren't typed."""
     lost = "/usr/include/mupen64plus", "/usr/bin/pkg-config"
     monkeypatch.setattr(packages, "is_here", lambda tool: tool not in lost)
     assert sorted(needed_packages.missing()) == ["libmupen64plus-dev", "pkg-config"]
-    monkeypatch.setattr(release, "said", lambda *_: "libmupen64plus-dev pkg-config")
+    monkeypatch.setattr(release, "output_of", lambda *_: "libmupen64plus-dev pkg-config")
     monkeypatch.setattr(release, "missing", lambda *_: "")
     monkeypatch.setattr(shutil, "which", str)
     release.check_packages([], False)
@@ -105,7 +106,7 @@ def test_logic_of_the_kit() -> None:
 
 @pytest.mark.parametrize("name", [*release.DATED, *release.NUMBERS])
 def test_copy_of_the_version(name: str, monkeypatch: pytest.MonkeyPatch) -> None:
-    """Each is that of VERSION, and is refused otherwise."""
+    """A copy that differs from VERSION is refused."""
     release.check_versions()
     for copies in release.DATED, release.NUMBERS:
         for other in {*copies} - {name}:
@@ -126,7 +127,7 @@ def test_copy_of_the_version(name: str, monkeypatch: pytest.MonkeyPatch) -> None
     ],
 )
 def test_day_of_a_version(day: str, tags: list[str], is_right: bool, monkeypatch: pytest.MonkeyPatch) -> None:
-    """A day stands only with a tag, and a tag only with a day."""
+    """A version has a day if, and only if, it has a tag."""
     monkeypatch.setattr(release.header, "version", lambda: "0.9.0")
     if is_right:
         release.check_day(day, tags)
@@ -146,9 +147,11 @@ def test_block_without_its_package(monkeypatch: pytest.MonkeyPatch, folder: Path
 
 
 def test_left_out(folder: Path) -> None:
-    """What a report of pytest says of skipped tests, and of what a test has started."""
+    """The reasons of skipped tests in a report of pytest, and those that a test has recorded."""
     (folder / "test_few.py").write_text(SKIPPED)
     words = ("-q", "-p", "no:cacheprovider", f"--junitxml={folder}/report.xml")
     succeeds(sys.executable, "-B", "-m", "pytest", *words, folder / "test_few.py", cwd=folder)
-    told = release.left_out(folder / "report.xml")
-    assert told == ["test_other[a page]: its words are the reader's", "inside: no valgrind"]
+    assert release.left_out(folder / "report.xml") == [
+        "test_other[a page]: its words are the reader's",
+        "inside: no valgrind",
+    ]

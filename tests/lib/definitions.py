@@ -22,11 +22,11 @@ def file_of(module: str, user: Path) -> Optional[Path]:
     return inside if inside.exists() else None
 
 
-def used_by(file: Path, is_passed_on: bool = False) -> Iterator[tuple[str, set[str]]]:
-    """The modules of a file's `use` lines with their names: those for itself, or those that it passes on."""
+def used_by(file: Path, is_exported: bool = False) -> Iterator[tuple[str, set[str]]]:
+    """The modules of a file's `use` lines with their names: those for itself, or those that it exports."""
     for public, module, names in USED.findall(file.read_text()):
-        if bool(public) == is_passed_on:
-            yield module, {it.split(" as ")[-1].strip() for it in names.split(",")}
+        if bool(public) == is_exported:
+            yield module, {name.split(" as ")[-1].strip() for name in names.split(",")}
 
 
 def rests_on(file: Path) -> tuple[set[Path], set[str]]:
@@ -37,7 +37,7 @@ def rests_on(file: Path) -> tuple[set[Path], set[str]]:
         user, module, names = left.pop()
         found = file_of(module, user)
         if found:
-            left += [(found, passed, names) for passed, given in used_by(found, True) if given & names]
+            left += [(found, other, names) for other, exported in used_by(found, True) if exported & names]
             left += [(found, *used) for used in used_by(found)] if found not in files else []
             files.add(found)
         elif not module.startswith("Rattle.rsp_"):

@@ -1,4 +1,4 @@
-"""Devices for a program under test, in a folder: it may have the defect of replacing what it writes to."""
+"""Devices for a program under test, which may have the defect of replacing what it writes to."""
 
 import os
 import stat
@@ -8,7 +8,7 @@ import pytest
 
 
 def full(folder: Path) -> Path:
-    """A device without room. Root makes a node of its own, since what he runs could take /dev/full away."""
+    """A device without room. Root gets a node of its own, because a program could take /dev/full away."""
     if os.geteuid():
         return Path("/dev/full")
     node = folder / "full"

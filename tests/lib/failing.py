@@ -27,8 +27,8 @@ def runs(
     while is_failed and number < 1000:
         number += 1
         reading, writing = os.pipe()
-        told = {"FAILING": str(number), "LASTING": str(int(lasting)), "TOLD": str(writing)}
-        env = {**os.environ, "LD_PRELOAD": str(calls), **told}
+        settings = {"FAILING": str(number), "LASTING": str(int(lasting)), "TOLD": str(writing)}
+        env = {**os.environ, "LD_PRELOAD": str(calls), **settings}
         ran = run_bytes(words[0], words[1:], script, env=env, pass_fds=(writing,))
         os.close(writing)
         is_failed = bool(os.read(reading, 1))

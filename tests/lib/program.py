@@ -1,4 +1,4 @@
-"""The program under test: how a run of it ended."""
+"""Runs of the program under test."""
 
 from pathlib import Path
 from typing import Any, NamedTuple, Optional, Sequence
@@ -18,7 +18,7 @@ class Result(NamedTuple):
 
 
 def run_program(program: object, words: Sequence[object], script: bytes = b"", **how: Any) -> Result:
-    """A run of the program to its end. Its words are texts, paths, or bytes."""
+    """Runs the program to its end. Its arguments are texts, paths, or bytes."""
     ended = run_bytes(program, words, script, **how)
     return Result(ended.returncode, ended.stdout or b"", ended.stderr or b"")
 
@@ -29,6 +29,6 @@ def content(path: Path) -> Optional[bytes]:
 
 
 def need_binary(program: Path) -> None:
-    """Fails a test that hits each program that it starts: ./rsp starts others before it is the program."""
+    """Fails a test that affects each program that it starts: ./rsp starts others before it is the program."""
     if program == TOP / "rsp":
         pytest.fail("./rsp starts others: name the program that it builds, crates/rsp_main/out/rsp_main")

@@ -9,13 +9,13 @@ from typing import Dict, Tuple
 from lib.processes import run
 
 WORDS = ("-g", "-fsanitize=address,undefined", "-fno-sanitize-recover=all")
-# The environment of what frees nothing before it ends.
+# The environment of a program that frees nothing before it ends.
 WITHOUT_LEAKS: Dict[str, str] = {**os.environ, "ASAN_OPTIONS": "detect_leaks=0"}
 
 
 @functools.lru_cache(None)
 def sanitizers() -> Tuple[str, ...]:
-    """The words of cc for them, or none if a program that is compiled so doesn't run here."""
+    """The options of cc for them, or none if a program that is compiled so doesn't run here."""
     with tempfile.TemporaryDirectory() as folder:
         source, to = Path(folder, "empty.c"), Path(folder, "empty")
         source.write_text("int main(void) { return 0; }\n")

@@ -28,9 +28,9 @@ def parts(text: str) -> Iterator[Tuple[Key, str]]:
     for key, *values in (item.split() for item in filter(None, text.split("; "))):
         if key == "flags":
             bits = dict.fromkeys(("vco", "vcc", "vce"), 0)
-            for register, shift in (FLAGS[it] for it in values if it != "none"):
+            for register, shift in (FLAGS[flag] for flag in values if flag != "none"):
                 bits[register] |= 255 << shift
-            yield from ((it, f"{value:0{2 if it == 'vce' else 4}x}") for it, value in bits.items())
+            yield from ((name, f"{value:0{2 if name == 'vce' else 4}x}") for name, value in bits.items())
         elif key == "acc":
             yield from ((f"a{lane}", values[0]) for lane in range(8))
         elif key == "DMEM":
@@ -44,7 +44,7 @@ def parts(text: str) -> Iterator[Tuple[Key, str]]:
 
 
 def part(look: Dict[str, Any], key: Key) -> str:
-    """A byte of DMEM by its address, a lane as `v3[7]`, or what else a look has by its name."""
+    """A byte of DMEM by its address, a lane as `v3[7]`, or another item of a look by its name."""
     if isinstance(key, int):
         return "".join(look["dmem"])[2 * key : 2 * key + 2]
     name, _, lane = key.partition("[")
@@ -53,10 +53,10 @@ def part(look: Dict[str, Any], key: Key) -> str:
 
 def state_of(before: str) -> Dict[str, Any]:
     """The state that a worked case begins with."""
-    said = dict(parts(before))
-    named = {key: value for key, value in said.items() if isinstance(key, str)}
+    items = dict(parts(before))
+    named = {key: value for key, value in items.items() if isinstance(key, str)}
     state = {**bench.DEFAULT, **{f"a{lane}": "0" * 12 for lane in range(8)}, **named}
-    if "in" in said:
-        state["divided"] = said["in"] + "0000"
-    dmem = {f"{key:03x}": value for key, value in said.items() if isinstance(key, int)}
+    if "in" in items:
+        state["divided"] = items["in"] + "0000"
+    dmem = {f"{key:03x}": value for key, value in items.items() if isinstance(key, int)}
     return {**state, "dmem": dmem} if dmem else state

@@ -13,7 +13,7 @@ import pytest
 
 import rsp
 from lib import TOP
-from lib.library.programs import HERE, built, passes
+from lib.library.programs import HERE, assert_passes, built
 from lib.library.savestates import IMAGE, STEPS, TEXT
 from lib.pages import page
 from lib.processes import STRICT, compiled, run, succeeds
@@ -78,7 +78,7 @@ def test_cpp(machine: rsp.Machine, folder: Path) -> None:
 
 def test_play(folder: Path) -> None:
     """Two machines over 10,000 slices; and each fault of a savestate in C."""
-    passes(built(folder, PLAY))
+    assert_passes(built(folder, PLAY))
 
 
 @pytest.mark.outside("it takes an hour")

@@ -1,8 +1,8 @@
 """What the examples of docs/COOKBOOK.md compute, against mathematics.
 
-They fail if a result in memory is another one. Each example is run on its own numbers, and then on random
-ones that are loaded over them. What has to be there is computed from the numbers that went in: from sums,
-products and divisions, not from the instruction table, and not from what the program printed before.
+Each example is run on its own numbers, and then on random ones that are loaded over them. The expected
+results are computed from these numbers by sums, products and divisions: neither from the instruction table,
+nor from what the program printed before.
 """
 
 import math
@@ -40,104 +40,98 @@ class Run:
             if words[:1] == ["load"] and words[1] in BANKS:
                 content, start = bytes.fromhex(words[3]), int(words[2], 0)
                 self.before[words[1]][start : start + len(content)] = content
-        shown = [f"mem {bank} {at} 256" for bank, size in BANKS.items() for at in range(0, size, 256)]
-        ran = rsp("run", script="\n".join(lines + shown).encode())
-        assert (ran.status, ran.errors) == (0, b"")
-        rows = ran.output.decode().splitlines()[-16 * len(shown) :]
-        found = bytes.fromhex("".join(line.split(": ")[1] for line in rows))
-        self.dmem, self.rdram = found[: BANKS["dmem"]], found[BANKS["dmem"] :]
+        inspections = [f"mem {bank} {at} 256" for bank, size in BANKS.items() for at in range(0, size, 256)]
+        result = rsp("run", script="\n".join(lines + inspections).encode())
+        assert (result.status, result.errors) == (0, b"")
+        rows = result.output.decode().splitlines()[-16 * len(inspections) :]
+        memories = bytes.fromhex("".join(line.split(": ")[1] for line in rows))
+        self.dmem, self.rdram = memories[: BANKS["dmem"]], memories[BANKS["dmem"] :]
 
 
-def vector_numbers(choose: Random) -> Loads:
+def vector_numbers(random: Random) -> Loads:
     rows = []
     for _ in range(4):
-        rows += [choose.choice((0, 1, -1, choose.randrange(-8192, 8192))) for _ in range(8)]
-        rows += [choose.randrange(65536) for _ in range(8)]
-    return [("dmem", 0, pack_halves(rows) + pack_halves(random_half(choose) for _ in range(16)))]
+        rows += [random.choice((0, 1, -1, random.randrange(-8192, 8192))) for _ in range(8)]
+        rows += [random.randrange(65536) for _ in range(8)]
+    return [("dmem", 0, pack_halves(rows) + pack_halves(random_half(random) for _ in range(16)))]
 
 
-def see_vector(run: Run) -> None:
+def check_vector(run: Run) -> None:
     rows = [fixed_at(run.before["dmem"], 32 * k, 32 * k + 16, 8) for k in range(4)]
     for pair in (0x080, 0x090):
         points = read_halves(run.before["dmem"], pair, 8)
         sums = [sum(rows[k][lane] * points[lane // 4 * 4 + k] for k in range(4)) for lane in range(8)]
-        wanted = [clamp(number // 65536) for number in sums]
-        assert read_halves(run.dmem, pair + 32) == wanted, f"pair at {pair:03x}"
+        expected = [clamp(number // 65536) for number in sums]
+        assert read_halves(run.dmem, pair + 32) == expected, f"pair at {pair:03x}"
 
 
-def see_fir(run: Run) -> None:
+def check_fir(run: Run) -> None:
     taps, samples = read_halves(run.before["dmem"], 0, 8), read_halves(run.before["dmem"], 0x10, 24)
     for n in range(16):
         exact = sum(Fraction(taps[k], 32768) * samples[n + 8 - k] for k in range(8))
-        wanted = clamp(math.floor(exact + Fraction(1, 2)))
-        assert read_halves(run.dmem, 0x60 + 2 * n, 1) == [wanted], f"y[{n}]"
+        expected = clamp(math.floor(exact + Fraction(1, 2)))
+        assert read_halves(run.dmem, 0x60 + 2 * n, 1) == [expected], f"y[{n}]"
 
 
-def see_idct(run: Run) -> None:
+def idct_numbers(random: Random) -> Loads:
+    return [("dmem", 0x80, pack_halves(random.choice((0, random.randrange(-4096, 4096))) for _ in range(64)))]
+
+
+def check_idct(run: Run) -> None:
     for row in range(8):
-        row_of = read_halves(run.before["dmem"], 0x80 + 16 * row)
+        numbers = read_halves(run.before["dmem"], 0x80 + 16 * row)
         # A factor is rounded to 1/32768, and the sum to a whole number.
-        most = 0.5 + sum(abs(it) for it in row_of) / 65536 + 1e-6
-        for x, got in enumerate(read_halves(run.dmem, 0x100 + 16 * row, 8)):
+        most = 0.5 + sum(abs(number) for number in numbers) / 65536 + 1e-6
+        for x, result in enumerate(read_halves(run.dmem, 0x100 + 16 * row, 8)):
             angles = ((2 * x + 1) * u * math.pi / 16 for u in range(8))
-            waves = (factor * it * math.cos(angle) for factor, it, angle in zip(FACTORS, row_of, angles))
+            waves = (factor * it * math.cos(angle) for factor, it, angle in zip(FACTORS, numbers, angles))
             exact = max(-32768, min(32767, sum(waves)))
-            assert got == pytest.approx(exact, rel=0, abs=most), f"row {row}, f[{x}]"
+            assert result == pytest.approx(exact, rel=0, abs=most), f"row {row}, f[{x}]"
 
 
-def see_transpose(run: Run) -> None:
+def check_transpose(run: Run) -> None:
     block = [read_halves(run.before["dmem"], 16 * row, 8) for row in range(8)]
     for row in range(8):
-        wanted = [block[column][row] for column in range(8)]
-        assert read_halves(run.dmem, 0x100 + 16 * row) == wanted, f"row {row}"
+        expected = [block[column][row] for column in range(8)]
+        assert read_halves(run.dmem, 0x100 + 16 * row) == expected, f"row {row}"
 
 
-def perspective_numbers(choose: Random) -> Loads:
+def perspective_numbers(random: Random) -> Loads:
     depths = []
     for _ in range(8):
-        near, far = (choose.randrange(65536, most * 65536) for most in (4, 64))
-        depths.append(choose.choice((65536, 65537, 32 * 65536, near, far)))
-    points = pack_halves(random_half(choose) for _ in range(16))
+        near, far = (random.randrange(65536, most * 65536) for most in (4, 64))
+        depths.append(random.choice((65536, 65537, 32 * 65536, near, far)))
+    points = pack_halves(random_half(random) for _ in range(16))
     return [("dmem", 0, points + pack_halves(depth >> 16 for depth in depths) + pack_halves(depths))]
 
 
-def see_perspective(run: Run) -> None:
-    """1 / w has sixteen bits of fraction.
-
-    Four products and a doubling that are rounded down leave it right within five of its last bit.
-    """
+def check_perspective(run: Run) -> None:
+    """1 / w has 16 bits of fraction, of which four products and a doubling, rounded down, lose five units."""
     depths = fixed_at(run.before["dmem"], 0x20, 0x30, 8)
     ones = fixed_at(run.dmem, 0x90, 0xA0, 8)
     for lane in range(8):
         inverse = Fraction(65536 * 65536, depths[lane])
         assert abs(inverse - ones[lane]) <= 5, f"1 / w, lane {lane}"
     for what, place, result in (("x", 0x00, 0x50), ("y", 0x10, 0x70)):
-        numbers, got = read_halves(run.before["dmem"], place, 8), fixed_at(run.dmem, result, result + 16, 8)
+        numbers, found = read_halves(run.before["dmem"], place), fixed_at(run.dmem, result, result + 16, 8)
         for lane in range(8):
             exact = Fraction(numbers[lane] * 65536 * 65536, depths[lane])
-            assert abs(exact - got[lane]) <= 5 * abs(numbers[lane]) + 1, f"{what} / w, lane {lane}"
+            assert abs(exact - found[lane]) <= 5 * abs(numbers[lane]) + 1, f"{what} / w, lane {lane}"
 
 
-def clip_numbers(choose: Random) -> Loads:
+def clip_numbers(random: Random) -> Loads:
     def point() -> List[int]:
-        small, large = choose.randrange(1, 65536), choose.randrange(65536, 2**31 - 1)
-        w = choose.choice((small, large, 65536 * choose.randrange(1, 1000)))
-        sides = [
-            (w, -w, w - 1, 1 - w, w + 1, -w - 1, 0, choose.randrange(-(2**31), 2**31)) for _ in "xyz"
-        ]
-        return [*(choose.choice(it) for it in sides), w]
+        small, large = random.randrange(1, 65536), random.randrange(65536, 2**31 - 1)
+        w = random.choice((small, large, 65536 * random.randrange(1, 1000)))
+        edges = (w, -w, w - 1, 1 - w, w + 1, -w - 1, 0)
+        return [*(random.choice((*edges, random.randrange(-(2**31), 2**31))) for _ in "xyz"), w]
 
     pairs = [point() + point() for _ in range(2)]
-    return [
-        (
-            "dmem",
-            0,
-            b"".join(pack_halves(number >> 16 for number in pair) + pack_halves(pair) for pair in pairs),
-        )
-    ]
+    parts = (pack_halves(number >> 16 for number in pair) + pack_halves(pair) for pair in pairs)
+    return [("dmem", 0, b"".join(parts))]
 
 
-def see_clip(run: Run) -> None:
+def check_clip(run: Run) -> None:
     codes = []
     for number in range(4):
         at = number // 2 * 32 + number % 2 * 8
@@ -149,7 +143,7 @@ def see_clip(run: Run) -> None:
     assert read_halves(run.dmem, 0x48, 2) == [common, some], "common and any"
 
 
-def see_copy(run: Run) -> None:
+def check_copy(run: Run) -> None:
     tile = b"".join(run.before["rdram"][0x1010 + 64 * row : 0x1020 + 64 * row] for row in range(4))
     turned = bytes(255 - byte for byte in tile)
     assert run.rdram[0x2000:0x2040].hex() == turned.hex(), "the tile"
@@ -157,38 +151,32 @@ def see_copy(run: Run) -> None:
     assert after == before, "the picture"
 
 
-def see_task(run: Run) -> None:
-    one, two = read_halves(run.before["rdram"], 0x300, 8), read_halves(run.before["rdram"], 0x310, 8)
-    wanted = [clamp(a + b) for a, b in zip(one, two)]
-    assert read_halves(run.rdram, 0x380) == wanted, "the mixed sound"
+def check_task(run: Run) -> None:
+    sounds = (read_halves(run.before["rdram"], at) for at in (0x300, 0x310))
+    assert read_halves(run.rdram, 0x380) == [clamp(a + b) for a, b in zip(*sounds)], "the mixed sound"
 
 
-def see_scalar(run: Run) -> None:
+def check_scalar(run: Run) -> None:
     words = [int.from_bytes(run.before["dmem"][at : at + 4], "big") for at in (0, 4, 8)]
     assert int.from_bytes(run.dmem[16:20], "big") == sum(words) % 2**32, "the sum"
 
 
-# Each example: what is loaded over its numbers, and what sees what it has left.
+# Each example: what is loaded over its numbers, and what checks its results.
 EXAMPLES: Dict[str, Tuple[Callable[[Random], Loads], Callable[[Run], None]]] = {
-    "vector": (vector_numbers, see_vector),
-    "fir": (lambda it: [("dmem", 0, pack_halves(random_half(it) for _ in range(32)))], see_fir),
-    "idct": (
-        lambda it: [
-            ("dmem", 0x80, pack_halves(it.choice((0, it.randrange(-4096, 4096))) for _ in range(64)))
-        ],
-        see_idct,
-    ),
-    "transpose": (lambda it: [("dmem", 0, it.randbytes(128))], see_transpose),
-    "perspective": (perspective_numbers, see_perspective),
-    "clip": (clip_numbers, see_clip),
-    "copy": (lambda it: [("rdram", 0x1000, it.randbytes(256))], see_copy),
-    "task": (lambda it: [("rdram", 0x300, pack_halves(random_half(it) for _ in range(16)))], see_task),
-    "scalar": (lambda it: [("dmem", 0, it.randbytes(12))], see_scalar),
+    "vector": (vector_numbers, check_vector),
+    "fir": (lambda it: [("dmem", 0, pack_halves(random_half(it) for _ in range(32)))], check_fir),
+    "idct": (idct_numbers, check_idct),
+    "transpose": (lambda it: [("dmem", 0, it.randbytes(128))], check_transpose),
+    "perspective": (perspective_numbers, check_perspective),
+    "clip": (clip_numbers, check_clip),
+    "copy": (lambda it: [("rdram", 0x1000, it.randbytes(256))], check_copy),
+    "task": (lambda it: [("rdram", 0x300, pack_halves(random_half(it) for _ in range(16)))], check_task),
+    "scalar": (lambda it: [("dmem", 0, it.randbytes(12))], check_scalar),
 }
 
 
 @pytest.mark.parametrize("number", range(ROUNDS + 1), ids=lambda it: f"random {it}" if it else "its own")
 @pytest.mark.parametrize("name", EXAMPLES)
 def test_example(name: str, number: int, rsp: Any) -> None:
-    numbers, see = EXAMPLES[name]
-    see(Run(rsp, name, numbers(Random(f"{name} {number}")) if number else []))
+    numbers, check = EXAMPLES[name]
+    check(Run(rsp, name, numbers(Random(f"{name} {number}")) if number else []))

@@ -1,7 +1,7 @@
 """The idioms of docs/COOKBOOK.md that work on vectors, on random numbers, against mathematics.
 
-It fails if a block leaves other numbers than sums and products of those that went in, or if the program
-leaves others of the page's table of products than the table has.
+A block leaves sums and products of the numbers that went in, and the program leaves what the page's table of
+products has.
 """
 
 from pathlib import Path
@@ -16,79 +16,77 @@ from lib.pages import block_with, replies, tables
 ROUNDS = 8
 SCALAR = 31  # the vector register whose lane 0 shows the scalar register $1
 Lanes = List[int]
-Given = Dict[int, Lanes]  # vector registers with their lanes
-Wanted = Dict[int, Lanes]  # the same, or as many of their first lanes as are known
+Registers = Dict[int, Lanes]  # vector registers with their lanes
+Results = Dict[int, Lanes]  # the same, or only the first lanes, where the others aren't known
 
 
-def longs(v: Given) -> List[Tuple[int, int]]:
+def longs(v: Registers) -> List[Tuple[int, int]]:
     """The numbers of 32 bits in registers 1 and 2, each with that in 3 and 4."""
     return [*zip(join_halves(v[1], v[2]), join_halves(v[3], v[4]))]
 
 
-def halves_of(high: int, low: int, numbers: Lanes) -> Wanted:
+def halves_of(high: int, low: int, numbers: Lanes) -> Results:
     """Numbers of 32 bits in two registers."""
     return {high: [it >> 16 for it in numbers], low: [it & 0xFFFF for it in numbers]}
 
 
-def whole_product(v: Given) -> Wanted:
+def whole_product(v: Registers) -> Results:
     products = [it * v[2][0] for it in v[1]]
     return {3: products, 4: [clamp(it) for it in products], **halves_of(5, 6, products)}
 
 
-def product_by_whole(v: Given) -> Wanted:
+def product_by_whole(v: Registers) -> Results:
     return halves_of(5, 6, [clamp(x * y, 32) for x, y in zip(join_halves(v[1], v[2]), v[3])])
 
 
-def shift_right(v: Given) -> Wanted:
+def shift_right(v: Registers) -> Results:
     v[3] = [1 << it % 16 for it in v[3]]
     shifts = [17 - it.bit_length() for it in v[3]]
     return halves_of(5, 6, [x >> k for x, k in zip(join_halves(v[1], v[2]), shifts)])
 
 
-def fractions(v: Given) -> Wanted:
+def fractions(v: Registers) -> Results:
     sums = [a * v[2][0] + b * v[2][1] + c * v[2][2] for a, b, c in zip(v[1], v[3], v[4])]
     return {5: [clamp((it + 16384) // 32768) for it in sums]}
 
 
-def long_sums(v: Given) -> Wanted:
+def long_sums(v: Registers) -> Results:
     sums, differences = [x + y for x, y in longs(v)], [x - y for x, y in longs(v)]
     high, low = [clamp(it >> 16) for it in sums], [it & 0xFFFF for it in sums]
     return {5: high, 6: low, 7: [clamp(it >> 16) for it in differences], 8: differences}
 
 
-def sum_of_lanes(v: Given) -> Wanted:
+def sum_of_lanes(v: Registers) -> Results:
     v[1] = [it // 8 for it in v[1]]  # so that no step clamps
     return {1: [sum(v[1])]}
 
 
-def larger_smaller(v: Given) -> Wanted:
+def larger_smaller(v: Registers) -> Results:
     v[3] = [min(abs(it), 32767) for it in v[3]]
     within = [max(-w, min(w, it)) for it, w in zip(v[1], v[3])]
     pairs = [*zip(v[1], v[2])]
     return {5: [max(a, b) for a, b in pairs], 6: [min(a, b) for a, b in pairs], 7: within}
 
 
-def choice(v: Given) -> Wanted:
+def choice(v: Registers) -> Results:
     return {5: [x if a < b else y for a, b, x, y in zip(v[1], v[2], v[6], v[7])]}
 
 
-def clip_codes(v: Given) -> Wanted:
+def clip_codes(v: Registers) -> Results:
     v[3] = [it & 0x7FFF for it in v[3]]
     v[1][4:] = [max(-32768, more - it) for more, it in zip((-2, -1, 0, 1), v[3][4:])]  # near -w
     low = sum(1 << i for i, (x, w) in enumerate(longs(v)) if x <= -w and (x or w))
     high = sum(256 << i for i, (x, w) in enumerate(longs(v)) if x >= w)
     within = halves_of(5, 6, [max(-w, min(x, w)) for x, w in longs(v)])
     by_high = [max(-w, x) if x < 0 else it for x, w, it in zip(v[1], v[3], within[5])]
-    assert {a - b for a, b, x in zip(by_high, within[5], v[1]) if x < 0} <= {
-        0,
-        1,
-    }, "what the page says of $v5"
+    differences = {a - b for a, b, x in zip(by_high, within[5], v[1]) if x < 0}
+    assert differences <= {0, 1}, "what the page says of $v5"
     return {SCALAR: [low | high], 5: by_high, 6: within[6]}
 
 
 # By the beginning of a block its rule, which changes registers 1 to 7 to numbers that the block is for, and
-# says what the block leaves.
-RULES: Dict[str, Callable[[Given], Wanted]] = {
+# returns the results.
+RULES: Dict[str, Callable[[Registers], Results]] = {
     "addiu $1, $0, 5": lambda v: {1: [5] * 8},
     "vmudn $v3, $v1, $v2[0]": whole_product,
     "vmudl $v6, $v2, $v4 ": lambda v: halves_of(5, 6, [clamp(x * y >> 16, 32) for x, y in longs(v)]),
@@ -105,14 +103,14 @@ RULES: Dict[str, Callable[[Given], Wanted]] = {
 }
 
 
-def left(program: Path, block: str, given: Given) -> Given:
+def run_block(program: Path, block: str, before: Registers) -> Registers:
     """The vector registers after a block that begins with these."""
-    loads = [f"load dmem {16 * n} {pack_halves(lanes).hex()}" for n, lanes in given.items()]
-    setting = [f"lqv $v{n}[0], {16 * n}($0)" for n in given]
+    loads = [f"load dmem {16 * n} {pack_halves(lanes).hex()}" for n, lanes in before.items()]
+    setting = [f"lqv $v{n}[0], {16 * n}($0)" for n in before]
     code = [*setting, block.rstrip("\n"), f"mtc2 $1, $v{SCALAR}[0]", "break"]
     lines = [*loads, "asm 0", *code, "end", "run 100", "vregs", ""]
-    shown = replies(program, "\n".join(lines)).splitlines()[-32:]
-    return {n: [int(it, 16) for it in line.split()[1:]] for n, line in enumerate(shown)}
+    vectors = replies(program, "\n".join(lines)).splitlines()[-32:]
+    return {n: [int(lane, 16) for lane in line.split()[1:]] for n, line in enumerate(vectors)}
 
 
 @pytest.mark.parametrize("start", RULES)
@@ -120,17 +118,18 @@ def test_idiom(start: str, program: Path) -> None:
     """The block leaves what its rule says, in each of some rounds."""
     block, random = block_with("docs/COOKBOOK.md", start), Random(start)
     for _ in range(ROUNDS):
-        given = {n: [random_half(random) for _ in range(8)] for n in range(1, 8)}
-        wanted, found = RULES[start](given), left(program, block, given)
-        has = {n: found[n][: len(lanes)] for n, lanes in wanted.items()}
-        assert has == {n: [it % 65536 for it in lanes] for n, lanes in wanted.items()}, f"of {given}"
+        before = {n: [random_half(random) for _ in range(8)] for n in range(1, 8)}
+        expected, after = RULES[start](before), run_block(program, block, before)
+        found = {n: after[n][: len(lanes)] for n, lanes in expected.items()}
+        assert found == {n: [it % 65536 for it in lanes] for n, lanes in expected.items()}, f"of {before}"
 
 
 def test_products(program: Path) -> None:
     """The page's table of products, by its block."""
-    block, rows = block_with("docs/COOKBOOK.md", "vmudn $v3, $v1, $v2[0]"), 0
-    for factors, *wanted in tables("docs/COOKBOOK.md", "### Products"):
-        given = {n: [int(it, 16)] * 8 for n, it in enumerate(factors.split(" by "), 1)}
-        shown, rows = left(program, block, given), rows + 1
-        assert " ".join(f"{shown[n][0]:04x}" for n in (3, 4, 5, 6)) == " ".join(wanted), factors
+    block = block_with("docs/COOKBOOK.md", "vmudn $v3, $v1, $v2[0]")
+    rows = [*tables("docs/COOKBOOK.md", "### Products")]
     assert rows
+    for factors, *expected in rows:
+        before = {n: [int(it, 16)] * 8 for n, it in enumerate(factors.split(" by "), 1)}
+        after = run_block(program, block, before)
+        assert [f"{after[n][0]:04x}" for n in (3, 4, 5, 6)] == " ".join(expected).split(), factors

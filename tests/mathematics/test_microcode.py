@@ -1,10 +1,9 @@
 """Runs each routine of microcode/ on random inputs, and compares the result with mathematics.
 
-They fail if anything but what the routine's theorem promises is there at the end: in DMEM, in RDRAM, or in a
-register that the routine's head doesn't list under "Changes". What has to be there is computed from the
-theorem's sentence, by whole numbers. The steps have to be as many as the table of microcode/README.md says
-for the number of bytes or blocks, and the words too. The words of each text are compared with those that the
-theorem is about, in crates/rsp_routines/src.
+They fail if the end is another one than the routine's theorem promises: in DMEM, in RDRAM, or in a register
+that the routine's head doesn't list under "Changes". The expected end is computed from the theorem's text, by
+whole numbers. The steps are as many as the table of microcode/README.md says for the number of bytes or
+blocks, and so are the words, which are those that the theorem is about, in crates/rsp_routines/src.
 """
 
 import math
@@ -33,7 +32,7 @@ COUNTS = {name: (int(words), cost) for name, words, cost in TABLE}
 class State:
     """DMEM, RDRAM, the scalar registers, and the vector registers as eight signed numbers each.
 
-    Of DMEM the bytes at `unstated` may change.
+    The bytes of DMEM at `unstated` may change.
     """
 
     dmem: bytearray
@@ -43,8 +42,8 @@ class State:
     unstated: Set[int] = field(default_factory=set)
 
 
-class Wanted(NamedTuple):
-    """What has to be at the end of a routine for `size` bytes or blocks, 0 if it has none.
+class Expected(NamedTuple):
+    """The end of a routine for `size` bytes or blocks, 0 if it has none.
 
     Lanes by their vector register, bytes by their address in DMEM, scalar registers, and RDRAM if it changes.
     """
@@ -56,10 +55,10 @@ class Wanted(NamedTuple):
     rdram: Optional[bytes] = None
 
 
-def random_state(choose: Random) -> State:
-    scalars = [0] + [choose.randrange(1 << 32) for _ in range(31)]
-    dmem, rdram = bytearray(choose.randbytes(4096)), choose.randbytes(RDRAM)
-    return State(dmem, rdram, scalars, [[random_half(choose) for _ in range(8)] for _ in range(32)])
+def random_state(random: Random) -> State:
+    scalars = [0] + [random.randrange(1 << 32) for _ in range(31)]
+    dmem, rdram = bytearray(random.randbytes(4096)), random.randbytes(RDRAM)
+    return State(dmem, rdram, scalars, [[random_half(random) for _ in range(8)] for _ in range(32)])
 
 
 def load_lines(content: bytes) -> List[str]:
@@ -81,69 +80,65 @@ def script_of(name: str, state: State) -> List[str]:
 def run(rsp: Any, image: Path, name: str, state: State) -> Tuple[State, int]:
     """The state after the routine, and its steps."""
     image.write_bytes(state.rdram)
-    ran = rsp("run", "--rdram", image, "--save", image, script="\n".join(script_of(name, state)).encode())
-    assert (ran.status, ran.errors) == (0, b"")
-    said = ran.output.decode().splitlines()
-    dmem = bytearray.fromhex("".join(line.split(": ")[1] for line in said[-256:]))
-    vectors = [[to_signed(int(lane, 16)) for lane in line.split()[1:]] for line in said[-288:-256]]
-    scalars = [int(word, 16) for line in said[-296:-288] for word in line.split()[1:]]
-    stop, why, _, steps, *_ = said[-298].split()
-    assert (stop, why) == ("stop", "Halted")
+    result = rsp("run", "--rdram", image, "--save", image, script="\n".join(script_of(name, state)).encode())
+    assert (result.status, result.errors) == (0, b"")
+    lines = result.output.decode().splitlines()
+    dmem = bytearray.fromhex("".join(line.split(": ")[1] for line in lines[-256:]))
+    vectors = [[to_signed(int(lane, 16)) for lane in line.split()[1:]] for line in lines[-288:-256]]
+    scalars = [int(word, 16) for line in lines[-296:-288] for word in line.split()[1:]]
+    stop, reason, _, steps, *_ = lines[-298].split()
+    assert (stop, reason) == ("stop", "Halted")
     return State(dmem, image.read_bytes(), scalars, vectors), int(steps) - 1
 
 
 def changes(name: str) -> Tuple[Set[int], Set[int]]:
     """The scalar and the vector registers that the routine's head lists."""
     (listed,) = re.findall(r"(?m)^# Changes  (.*)$", page(f"microcode/{name}.s"))
-    found: Dict[str, Set[int]] = {"": set(), "v": set()}
+    numbers: Dict[str, Set[int]] = {"": set(), "v": set()}
     for kind, first, last in re.findall(r"\$(v?)(\d+)(?: to \$v?(\d+))?", listed):
-        found[kind] |= {*range(int(first), int(last or first) + 1)}
-    return found[""], found["v"]
+        numbers[kind] |= {*range(int(first), int(last or first) + 1)}
+    return numbers[""], numbers["v"]
 
 
-def expected(name: str, before: State, wanted: Wanted, after: State) -> State:
-    """The state that has to be at the end. What may change, and of which nothing is promised, is as it is."""
+def expected_state(name: str, before: State, expected: Expected, after: State) -> State:
+    """The state at the end. What may change, and of which nothing is promised, is as it is."""
     scalars, vectors = changes(name)
-    assert {*wanted.scalars} <= scalars and {*wanted.lanes} <= vectors, "its head must list what it computes"
-    rdram = before.rdram if wanted.rdram is None else wanted.rdram
+    assert {*expected.scalars} <= scalars and {
+        *expected.lanes
+    } <= vectors, "its head must list what it computes"
+    rdram = before.rdram if expected.rdram is None else expected.rdram
     state = State(bytearray(before.dmem), rdram, [*before.scalars], [*before.vectors])
-    for it in scalars:
-        state.scalars[it] = wanted.scalars.get(it, after.scalars[it])
-    for it in vectors:
-        lanes = wanted.lanes.get(it, {})
-        state.vectors[it] = [lanes.get(lane, got) for lane, got in enumerate(after.vectors[it])]
-    for at, content in wanted.memory.items():
+    for number in scalars:
+        state.scalars[number] = expected.scalars.get(number, after.scalars[number])
+    for number in vectors:
+        lanes = expected.lanes.get(number, {})
+        state.vectors[number] = [lanes.get(lane, value) for lane, value in enumerate(after.vectors[number])]
+    for at, content in expected.memory.items():
         state.dmem[at : at + len(content)] = content
     for at in before.unstated:
         state.dmem[at] = after.dmem[at]
     return state
 
 
-def wrong(wanted: State, got: State) -> Dict[str, object]:
-    """What differs: pairs of what is wanted and what is there."""
-    kinds: Dict[str, Tuple[Sequence[object], Sequence[object]]] = {
-        "$": (wanted.scalars, got.scalars),
-        "$v": (wanted.vectors, got.vectors),
-        "DMEM ": (wanted.dmem, got.dmem),
-        "RDRAM ": (wanted.rdram, got.rdram),
-    }
-    pairs = ((kind, at, it) for kind, both in kinds.items() for at, it in enumerate(zip_longest(*both)))
-    return {f"{kind}{at}": it for kind, at, it in pairs if it[0] != it[1]}
+def differences(expected: State, found: State) -> Dict[str, object]:
+    """The pairs of expected and found values that differ."""
+    names = {"$": "scalars", "$v": "vectors", "DMEM ": "dmem", "RDRAM ": "rdram"}
+    columns = {prefix: (getattr(expected, name), getattr(found, name)) for prefix, name in names.items()}
+    pairs = ((prefix, at, it) for prefix, both in columns.items() for at, it in enumerate(zip_longest(*both)))
+    return {f"{prefix}{at}": pair for prefix, at, pair in pairs if pair[0] != pair[1]}
 
 
-def areas(choose: Random, count: int, sources: int) -> Tuple[int, List[int]]:
-    """The address of a target of `count` bytes, and those of sources that it spares.
-
-    It begins where they begin, before them or after.
-    """
+def areas(random: Random, count: int, sources: int) -> Tuple[int, List[int]]:
+    """The address of a target of `count` bytes, and those of sources, which the routine reads before it
+    writes there."""
     places = [at for at in range(0, 4096, 16) if at + count <= 4096]
-    to = choose.choice(places)
-    spared = [at for at in places if to <= at or at + count <= to]
-    return to, [choose.choice((to, choose.choice(spared))) for _ in range(sources)]
+    to = random.choice(places)
+    preserved = [at for at in places if to <= at or at + count <= to]
+    return to, [random.choice((to, random.choice(preserved))) for _ in range(sources)]
 
 
-def counted(choose: Random, most: int = 4095) -> int:
-    return choose.choice((0, 1, 2, 15, 16, 17, 30, 32, choose.randrange(100), choose.randrange(most + 1)))
+def random_count(random: Random, most: int = 4095) -> int:
+    return random.choice((0, 1, 2, 15, 16, 17, 30, 32, random.randrange(100), random.randrange(most + 1)))
 
 
 def cost_of(name: str, count: int) -> int:
@@ -153,87 +148,83 @@ def cost_of(name: str, count: int) -> int:
     return int(once) + int(each or 0) * rounds
 
 
-# Each routine: a function that chooses its inputs in a random state, and returns what has to be at the end.
+# Each routine: a function that chooses its inputs in a random state, and returns the expected end.
 
 
-def blocks(choose: Random, state: State) -> Wanted:
-    size = choose.choice((8, 16, 4096, 8 * choose.randrange(1, 513)))
-    count = choose.randrange(1, min(12, RDRAM // 2 // size) + 1)
+def blocks(random: Random, state: State) -> Expected:
+    size = random.choice((8, 16, 4096, 8 * random.randrange(1, 513)))
+    count = random.randrange(1, min(12, RDRAM // 2 // size) + 1)
     total = count * size
-    low = 8 * choose.randrange((RDRAM - 2 * total) // 8 + 1)
-    places = [low, low + total + 8 * choose.randrange((RDRAM - 2 * total - low) // 8 + 1)]
-    choose.shuffle(places)
+    low = 8 * random.randrange((RDRAM - 2 * total) // 8 + 1)
+    places = [low, low + total + 8 * random.randrange((RDRAM - 2 * total - low) // 8 + 1)]
+    random.shuffle(places)
     source, to = places
-    if choose.randrange(2):  # to lower addresses, also over the blocks themselves
-        to = source - 8 * choose.randrange(min(source, total) // 8 + 1)
-    first, second = (8 * choose.randrange(512) for _ in range(2))
+    if random.randrange(2):  # to lower addresses, also over the blocks themselves
+        to = source - 8 * random.randrange(min(source, total) // 8 + 1)
+    first, second = (8 * random.randrange(512) for _ in range(2))
     state.scalars[1:9] = source, to, size - 1, state.scalars[4], first, size, first + second, count
     state.unstated = {(at + i) % 4096 for at in (first, second) for i in range(size)}
     image = bytearray(state.rdram)
     image[to : to + total] = state.rdram[source : source + total]
-    return Wanted(count, rdram=bytes(image))
+    return Expected(count, rdram=bytes(image))
 
 
-def clip(choose: Random, state: State) -> Wanted:
+def clip(random: Random, state: State) -> Expected:
     """The codes are a number in $1, which the head says is VCC with bit 15 repeated above."""
     for lane in range(8):
-        if choose.randrange(2):  # near w or -w
+        if random.randrange(2):  # near w or -w
             w = join_halves(state.vectors[3], state.vectors[4])[lane]
-            x = choose.choice((w, -w, w - 1, 1 - w, w + 1, -w - 1))
+            x = random.choice((w, -w, w - 1, 1 - w, w + 1, -w - 1))
             state.vectors[1][lane], state.vectors[2][lane] = to_signed(x >> 16), to_signed(x)
     codes = 0
     for lane, (x, w) in enumerate(zip(join_halves(*state.vectors[1:3]), join_halves(*state.vectors[3:5]))):
         codes |= (x <= -w and (x, w) != (0, 0)) << lane | (x >= w) << 8 + lane
-    return Wanted(scalars={1: to_signed(codes) % (1 << 32)})
+    return Expected(scalars={1: to_signed(codes) % (1 << 32)})
 
 
-def copy(choose: Random, state: State) -> Wanted:
-    count = counted(choose)
-    to, (source,) = areas(choose, count, 1)
+def copy(random: Random, state: State) -> Expected:
+    count = random_count(random)
+    to, (source,) = areas(random, count, 1)
     state.scalars[1], state.scalars[3], state.scalars[4] = source, to, count
-    return Wanted(count, memory={to: bytes(state.dmem[source : source + count])})
+    return Expected(count, memory={to: bytes(state.dmem[source : source + count])})
 
 
-def fill(choose: Random, state: State) -> Wanted:
-    count = counted(choose)
-    to, _ = areas(choose, count, 0)
+def fill(random: Random, state: State) -> Expected:
+    count = random_count(random)
+    to, _ = areas(random, count, 0)
     state.scalars[3], state.scalars[4] = to, count
-    return Wanted(count, memory={to: bytes(pack_halves(state.vectors[1])[i % 16] for i in range(count))})
+    return Expected(count, memory={to: bytes(pack_halves(state.vectors[1])[i % 16] for i in range(count))})
 
 
 def pairs_at(state: State, first: int, second: int, count: int) -> List[Tuple[int, int]]:
     """The samples of two sources of so many bytes."""
-    return list(zip(read_halves(state.dmem, first, count // 2), read_halves(state.dmem, second, count // 2)))
+    return [*zip(read_halves(state.dmem, first, count // 2), read_halves(state.dmem, second, count // 2))]
 
 
-def sources_of_mix(choose: Random, state: State) -> Tuple[int, int, List[Tuple[int, int]]]:
+def sources_of_mix(random: Random, state: State) -> Tuple[int, int, List[Tuple[int, int]]]:
     """How many bytes of two sources are mixed, the address of the target, and the samples."""
-    count = counted(choose) // 2 * 2
-    to, (first, second) = areas(choose, count, 2)
+    count = random_count(random) // 2 * 2
+    to, (first, second) = areas(random, count, 2)
     state.scalars[1:5] = first, second, to, count
     for at in {first, second}:
-        state.dmem[at : at + count] = pack_halves(random_half(choose) for _ in range(count // 2))
+        state.dmem[at : at + count] = pack_halves(random_half(random) for _ in range(count // 2))
     return count, to, pairs_at(state, first, second, count)
 
 
-def mix(choose: Random, state: State) -> Wanted:
-    count, to, samples = sources_of_mix(choose, state)
-    state.vectors[3][1] = choose.choice((1, 1, 0, -1, random_half(choose)))
+def mix(random: Random, state: State) -> Expected:
+    count, to, samples = sources_of_mix(random, state)
+    state.vectors[3][1] = random.choice((1, 1, 0, -1, random_half(random)))
     v, w = state.vectors[3][:2]
     mixed = [clamp((2 * a * v + 65536 * b * w + 32768) // 65536) for a, b in samples]
-    return Wanted(count, memory={to: pack_halves(mixed)})
+    return Expected(count, memory={to: pack_halves(mixed)})
 
 
-def mix_ramp(choose: Random, state: State) -> Wanted:
-    count, to, samples = sources_of_mix(choose, state)
-    if choose.randrange(2):  # small steps, which leave most volumes in their range
-        state.vectors[5] = [choose.choice((0, -1, 1, 100)) for _ in range(8)]
-    volumes, steps, w = (
-        join_halves(*state.vectors[3:5]),
-        join_halves(*state.vectors[5:7]),
-        state.vectors[8][0],
-    )
-    mixed = []
+def mix_ramp(random: Random, state: State) -> Expected:
+    count, to, samples = sources_of_mix(random, state)
+    if random.randrange(2):  # small steps, which leave most volumes in their range
+        state.vectors[5] = [random.choice((0, -1, 1, 100)) for _ in range(8)]
+    volumes, steps = (join_halves(*state.vectors[first : first + 2]) for first in (3, 5))
+    w, mixed = state.vectors[8][0], []
     for begin in range(0, max(count // 2, 1), 8):
         mixed += [
             clamp((2 * a * (v // 65536) + 65536 * b * w + 32768) // 65536)
@@ -241,40 +232,40 @@ def mix_ramp(choose: Random, state: State) -> Wanted:
         ]
         sums = [v + step for v, step in zip(volumes, steps)]
         volumes = [clamp(it // 65536) * 65536 + it % 65536 for it in sums]
-    return Wanted(count, both(3, 4, volumes), {to: pack_halves(mixed)})
+    return Expected(count, both(3, 4, volumes), {to: pack_halves(mixed)})
 
 
-def dot(choose: Random, state: State) -> Wanted:
+def dot(random: Random, state: State) -> Expected:
     state.vectors[0], state.vectors[31] = [0] * 8, [1] * 8
     total = clamp(sum(a * b for a, b in zip(*state.vectors[1:3])), 32)
-    return Wanted(lanes=both(5, 6, [total] * 8))
+    return Expected(lanes=both(5, 6, [total] * 8))
 
 
-def dot_buffers(choose: Random, state: State) -> Wanted:
-    count = counted(choose) // 2 * 2
-    first, second = (choose.choice([at for at in range(0, 4096, 16) if at + count <= 4096]) for _ in range(2))
+def dot_buffers(random: Random, state: State) -> Expected:
+    count = random_count(random) // 2 * 2
+    first, second = (random.choice([at for at in range(0, 4096, 16) if at + count <= 4096]) for _ in range(2))
     state.scalars[1], state.scalars[2], state.scalars[4] = first, second, count
     state.vectors[0], state.vectors[31] = [0] * 8, [1] * 8
     total = sum(a * b for a, b in pairs_at(state, first, second, count))
-    return Wanted(count, both(5, 6, [to_signed(total, 32)] * 8))
+    return Expected(count, both(5, 6, [to_signed(total, 32)] * 8))
 
 
-def filter_four(choose: Random, state: State) -> Wanted:
-    count = counted(choose, 4063) // 2 * 2
-    source = 16 * choose.randrange((4096 - count - 32) // 16 + 1)
+def filter_four(random: Random, state: State) -> Expected:
+    count = random_count(random, 4063) // 2 * 2
+    source = 16 * random.randrange((4096 - count - 32) // 16 + 1)
     places = [at for at in range(0, 4096, 16) if at + count <= 4096]
-    to = choose.choice([at for at in places if at <= source or source + count + 32 <= at])
+    to = random.choice([at for at in places if at <= source or source + count + 32 <= at])
     state.scalars[1], state.scalars[3], state.scalars[4] = source, to, count
-    state.dmem[source : source + count + 6] = pack_halves(random_half(choose) for _ in range(count // 2 + 3))
+    state.dmem[source : source + count + 6] = pack_halves(random_half(random) for _ in range(count // 2 + 3))
     x = read_halves(state.dmem, source, count // 2 + 3)
     sums = [sum(state.vectors[6][k] * x[i + k] for k in range(4)) for i in range(count // 2)]
-    return Wanted(count, memory={to: pack_halves(clamp((it + 16384) // 32768) for it in sums)})
+    return Expected(count, memory={to: pack_halves(clamp((it + 16384) // 32768) for it in sums)})
 
 
-def multiply(choose: Random, state: State) -> Wanted:
+def multiply(random: Random, state: State) -> Expected:
     state.vectors[0] = [0] * 8
     pairs = zip(join_halves(*state.vectors[1:3]), join_halves(*state.vectors[3:5]))
-    return Wanted(lanes=both(9, 10, [clamp(a * b // 65536, 32) for a, b in pairs]))
+    return Expected(lanes=both(9, 10, [clamp(a * b // 65536, 32) for a, b in pairs]))
 
 
 def both(high: int, low: int, numbers: Sequence[int]) -> Dict[int, Dict[int, int]]:
@@ -308,21 +299,21 @@ def reciprocal_of_positive(x: int) -> int:
     return (65536 + entry) * 2**14 >> 31 - leading_zeros(x)
 
 
-def number(choose: Random) -> int:
+def number(random: Random) -> int:
     """A number of up to 31 bits, of each size alike."""
     edges = (1, 32767, 32768, 65535, 65536, 65537, 2**31 - 1)
-    return choose.choice((*edges, choose.randrange(1 << choose.randrange(1, 32))))
+    return random.choice((*edges, random.randrange(1 << random.randrange(1, 32))))
 
 
-def reciprocal(choose: Random, state: State) -> Wanted:
-    x = number(choose) * choose.choice((1, 1, -1)) - choose.randrange(2)
+def reciprocal(random: Random, state: State) -> Expected:
+    x = number(random) * random.choice((1, 1, -1)) - random.randrange(2)
     state.vectors[0], state.vectors[8][:3] = [0] * 8, [2, 1, -2]
     state.vectors[1][0], state.vectors[2][0] = x >> 16, to_signed(x)
     q = quotient(x, reciprocal_of_positive)
     rest = clamp(2 * 65536 - 2 * clamp(x * q // 65536, 32), 32)
     better = clamp(q * rest // 65536, 32)
     assert not x or abs(better * x - 2**31) <= 65536 + 2 * abs(x), f"the bound fails at {x}"
-    return Wanted(lanes={11: {0: better >> 16}, 12: {0: to_signed(better)}})
+    return Expected(lanes={11: {0: better >> 16}, 12: {0: to_signed(better)}})
 
 
 def root_of_positive(x: int) -> int:
@@ -334,8 +325,8 @@ def root_of_positive(x: int) -> int:
     return (65536 + entry) * 2**14 >> (31 - zeros) // 2
 
 
-def root(choose: Random, state: State) -> Wanted:
-    x = max(0, number(choose) - choose.randrange(2))
+def root(random: Random, state: State) -> Expected:
+    x = max(0, number(random) - random.randrange(2))
     state.vectors[0], state.vectors[8][:4] = [0] * 8, [3, -32768, -2, 512]
     state.vectors[1][0], state.vectors[2][0] = x >> 16, to_signed(x)
     q = quotient(x, root_of_positive)
@@ -343,35 +334,34 @@ def root(choose: Random, state: State) -> Wanted:
     rest = clamp(3 * 32768 - 2 * (clamp(product * q // 65536, 32) // 65536), 32)
     better = clamp(product * rest // 65536, 32) // 128
     assert better**2 <= (65536 + 7) * x and (better + 1) ** 2 >= (65536 - 6) * x, f"the bound fails at {x}"
-    return Wanted(lanes={11: {0: better >> 16}, 12: {0: to_signed(better)}})
+    return Expected(lanes={11: {0: better >> 16}, 12: {0: to_signed(better)}})
 
 
-def resample(choose: Random, state: State) -> Wanted:
+def resample(random: Random, state: State) -> Expected:
     state.vectors[0], state.vectors[5][0] = [0] * 8, 1
     between = [(a * (65536 - f % 65536) + b * (f % 65536)) // 65536 for a, b, f in zip(*state.vectors[1:4])]
-    return Wanted(lanes={4: dict(enumerate(between))})
+    return Expected(lanes={4: dict(enumerate(between))})
 
 
-def transform(choose: Random, state: State) -> Wanted:
-    matrix, points, to = (16 * choose.randrange(*it) for it in ((64,), (64, 128), (128, 254)))
+def transform(random: Random, state: State) -> Expected:
+    matrix, points, to = (16 * random.randrange(*it) for it in ((64,), (64, 128), (128, 254)))
     state.scalars[1:4], state.vectors[0] = [matrix, points, to], [0] * 8
-    entries = ((0, 1, -1, choose.randrange(-8192, 8192), random_half(choose)) for _ in range(32))
-    state.dmem[matrix : matrix + 64] = pack_halves(choose.choice(it) for it in entries)
-    columns = [
-        join_halves(*(read_halves(state.dmem, matrix + 16 * it) for it in (k, k + 4))) for k in range(4)
-    ]
+    entries = ((0, 1, -1, random.randrange(-8192, 8192), random_half(random)) for _ in range(32))
+    state.dmem[matrix : matrix + 64] = pack_halves(random.choice(it) for it in entries)
+    rows = [read_halves(state.dmem, matrix + 16 * k) for k in range(8)]
+    columns = [*map(join_halves, rows[:4], rows[4:])]
     numbers = read_halves(state.dmem, points)
     sums = [sum(columns[k][i] * numbers[i // 4 * 4 + k] for k in range(4)) for i in range(8)]
     sums = [clamp(to_signed(it, 48), 32) for it in sums]
-    return Wanted(memory={to: pack_halves(it >> 16 for it in sums) + pack_halves(sums)})
+    return Expected(memory={to: pack_halves(it >> 16 for it in sums) + pack_halves(sums)})
 
 
-def transform_fixed(choose: Random, state: State) -> Wanted:
+def transform_fixed(random: Random, state: State) -> Expected:
     state.vectors[0] = [0] * 8
-    columns = [join_halves(state.vectors[16 + k], state.vectors[20 + k]) for k in range(4)]
+    columns = [*map(join_halves, state.vectors[16:20], state.vectors[20:24])]
     numbers = join_halves(*state.vectors[9:11])
     sums = [sum(columns[k][i] * numbers[i // 4 * 4 + k] // 65536 for k in range(4)) for i in range(8)]
-    return Wanted(lanes=both(1, 2, [clamp(to_signed(it, 48), 32) for it in sums]))
+    return Expected(lanes=both(1, 2, [clamp(to_signed(it, 48), 32) for it in sums]))
 
 
 MADE = (blocks, clip, copy, dot, dot_buffers, fill, mix, mix_ramp, multiply, reciprocal, resample, root)
@@ -381,13 +371,14 @@ ROUTINES["filter"] = filter_four
 
 @pytest.mark.parametrize("name", ROUTINES)
 def test_random_inputs(name: str, rsp: Any, folder: Path) -> None:
-    choose = Random(name)
+    random = Random(name)
     for number in range(ROUNDS):
-        before = random_state(choose)
-        wanted = ROUTINES[name](choose, before)
+        before = random_state(random)
+        expected = ROUTINES[name](random, before)
         after, steps = run(rsp, folder / "image", name, before)
-        assert wrong(expected(name, before, wanted, after), after) == {}, f"expected and got, run {number}"
-        assert steps == cost_of(name, wanted.size), f"the steps of run {number}"
+        end = expected_state(name, before, expected, after)
+        assert differences(end, after) == {}, f"expected and found, run {number}"
+        assert steps == cost_of(name, expected.size), f"the steps of run {number}"
 
 
 def test_routines() -> None:

@@ -1,7 +1,7 @@
 """The rules that docs/INSTRUCTIONS.md has as Python, against the program on random values, and its examples.
 
-It fails if VCH, VCL, VCR, VMULQ, VMACQ, the entries of the divide tables, or the answers of the long divides
-differ from the function of the page, or if the program makes something else of an example in its tables.
+VCH, VCL, VCR, VMULQ, VMACQ, the entries of the divide tables and the answers of the long divides are those of
+the page's functions, and the program does with the examples in its tables what they say.
 """
 
 import re
@@ -11,8 +11,8 @@ from typing import Any, Dict, Iterator, List
 
 import pytest
 
-from lib.lanes import CLEAR, FLAGS, Flags, accumulators_of, after, case
 from lib.fixed_point import pack_halves, random_half, to_signed
+from lib.lanes import CLEAR, FLAGS, Case, Flags, accumulators_of, after, case
 from lib.pages import blocks, page, tables
 from rsp_conformance import bench
 from rsp_conformance.table import ROWS, word_of
@@ -41,14 +41,14 @@ def flags_of(look: Look, at: int) -> List[bool]:
     return [bool(int(look[register], 16) >> shift + at & 1) for register, shift in FLAGS.values()]
 
 
-def clip_states(choose: Random) -> Iterator[Look]:
+def clip_cases(name: str) -> Iterator[Case]:
     """Operands of which many are equal, opposite or near that, and flags."""
+    random = Random(name)
     for _ in range(ROUNDS):
-        a = [random_half(choose) for _ in range(8)]
-        b = [choose.choice((it, -it, ~it, it + 1, 1 - it, random_half(choose))) for it in a]
-        flags = {it: f"{choose.getrandbits(16):04x}" for it in ("vco", "vcc")}
-        flags["vce"] = f"{choose.getrandbits(8):02x}"
-        yield {**bench.DEFAULT, **flags, "v1": pack_halves(a).hex(), "v2": pack_halves(b).hex()}
+        a = [random_half(random) for _ in range(8)]
+        b = [random.choice((it, -it, ~it, it + 1, 1 - it, random_half(random))) for it in a]
+        flags = {it: f"{random.getrandbits(4 * len(CLEAR[it])):0{len(CLEAR[it])}x}" for it in CLEAR}
+        yield case(name, a, b, flags=flags)
 
 
 def divided(x: int) -> Look:
@@ -60,40 +60,37 @@ def divided(x: int) -> Look:
 
 @pytest.mark.parametrize("name", ["vch", "vcl", "vcr"])
 def test_clip(name: str, program: Path) -> None:
-    row, rule = ROWS[name], page_rules()[name]
-    cases = [(row, word_of(row, FIELDS), it) for it in clip_states(Random(name))]
-    for look in bench.observe(str(program), cases):
+    rule = page_rules()[name]
+    for look in bench.observe(str(program), [*clip_cases(name)]):
         before, after = look["before"], look["after"]
         for at in range(8):
             a, b = lane(before, "v1", at), lane(before, "v2", at)
-            given = (a, b, *flags_of(before, at)) if name == "vcl" else (to_signed(a), to_signed(b))
-            result, *flags = rule(*given)
-            assert (lane(after, "v3", at), flags_of(after, at)) == (result % 65536, flags), f"of {given}"
+            operands = (a, b, *flags_of(before, at)) if name == "vcl" else (to_signed(a), to_signed(b))
+            result, *flags = rule(*operands)
+            assert (lane(after, "v3", at), flags_of(after, at)) == (result % 65536, flags), f"of {operands}"
 
 
 @pytest.mark.parametrize("name", ["vmulq", "vmacq"])
 def test_mpeg(name: str, program: Path) -> None:
-    rule, choose = page_rules()[name], Random(name)
+    rule, random = page_rules()[name], Random(name)
     for _ in range(ROUNDS):
-        a, b = ([random_half(choose) for _ in range(8)] for _ in range(2))
-        middles = [choose.choice((random_half(choose), choose.randrange(-70, 70))) for _ in range(8)]
-        highs = [choose.choice((0, -1, it >> 15, random_half(choose))) for it in middles]
-        accs = [
-            (high % 65536 << 32) + (middle % 65536 << 16) + choose.getrandbits(16)
-            for high, middle in zip(highs, middles)
-        ]
+        a, b = ([random_half(random) for _ in range(8)] for _ in range(2))
+        middles = [random.choice((random_half(random), random.randrange(-70, 70))) for _ in range(8)]
+        highs = [random.choice((0, -1, it >> 15, random_half(random))) for it in middles]
+        pairs = zip(highs, middles)
+        accs = [(a % 65536 << 32) + (b % 65536 << 16) + random.getrandbits(16) for a, b in pairs]
         (look,) = after(str(program), [case(name, a, b, accs)])
         for at, acc in enumerate(accumulators_of(look)):
-            given = (to_signed(a[at]), to_signed(b[at])) if name == "vmulq" else (to_signed(accs[at], 48),)
-            wanted, result = rule(*given)
+            operands = (to_signed(a[at]), to_signed(b[at])) if name == "vmulq" else (to_signed(accs[at], 48),)
+            expected, result = rule(*operands)
             found = (acc % 2**48, lane(look, "v3", at))
-            assert found == (wanted % 2**48, result % 65536), f"of {given}"
+            assert found == (expected % 2**48, result % 65536), f"of {operands}"
 
 
 @pytest.mark.parametrize("name", ["vrcpl", "vrsql"])
 def test_divide(name: str, program: Path) -> None:
-    row, answer, choose = ROWS[name], page_rules()["answer"], Random(name)
-    sizes = [choose.getrandbits(choose.randrange(1, 33)) for _ in range(300)]
+    row, answer, random = ROWS[name], page_rules()["answer"], Random(name)
+    sizes = [random.getrandbits(random.randrange(1, 33)) for _ in range(300)]
     numbers = [to_signed(it, 32) for it in (*sizes, 0, 1, -1, -32768, -32769, 2**31 - 1, -(2**31))]
     cases = [(row, word_of(row, FIELDS), divided(it)) for it in numbers]
     for x, look in zip(numbers, bench.observe(str(program), cases)):

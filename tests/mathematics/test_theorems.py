@@ -34,8 +34,8 @@ COPIED = ("HANDLES", "crates.txt", "crates", "tools", "conformance/rsp_conforman
 LOOPS = "down_to_zero down_by_eight up_to_end with_loop sets_count".split()
 WAITS = "signal_wait cleared_signal after_transfer".split()
 NAMES = ["straight_code", "codes_of_points", "called_routine", *LOOPS, *WAITS]
-TEXTS = {it: page(f"tests/mathematics/theorems/{it}.s") for it in NAMES}
-PAGE_LABELS = [f"docs/PROVING.md's {it}" for it in ("example", "loop", "wait")]
+TEXTS = {name: page(f"tests/mathematics/theorems/{name}.s") for name in NAMES}
+PAGE_LABELS = [f"docs/PROVING.md's {name}" for name in ("example", "loop", "wait")]
 LABELS = (*TEXTS, *PAGE_LABELS)
 # A name, a text, and a part of the sentence that refuses them.
 REFUSED = (
@@ -76,35 +76,36 @@ class Copy:
 
     def __init__(self, folder: Path, program: Path) -> None:
         self.folder, self.program, self.crate = folder, program, folder / "crates/rsp_routines"
-        for it in COPIED:
-            (folder / it).parent.mkdir(parents=True, exist_ok=True)
-            if (TOP / it).is_dir():
-                shutil.copytree(TOP / it, folder / it, ignore=shutil.ignore_patterns("out", "__pycache__"))
+        for name in COPIED:
+            (folder / name).parent.mkdir(parents=True, exist_ok=True)
+            if (TOP / name).is_dir():
+                shutil.copytree(
+                    TOP / name, folder / name, ignore=shutil.ignore_patterns("out", "__pycache__")
+                )
             else:
-                shutil.copy(TOP / it, folder / it)
+                shutil.copy(TOP / name, folder / name)
         # `rt` builds what has no stamp or has changed, so without these it would prove all crates below.
         for built in TOP.glob("crates/*/out/rlib"):
             shutil.copytree(built, folder / built.relative_to(TOP), copy_function=link_or_copy)
 
     def files(self) -> Dict[Path, bytes]:
-        return {it: it.read_bytes() for it in self.crate.rglob("*") if it.is_file()}
+        return {path: path.read_bytes() for path in self.crate.rglob("*") if path.is_file()}
 
     def check(self, only: Iterable[str]) -> str:
-        """What the kit says of a check of these modules. `rt ci` leaves all libraries, but without stamps."""
-        words = [word for it in only for word in ("--only", it)]
-        stamps = [crates.library(it) / "stamp" for it in crates.with_below("rsp_routines")[:-1]]
-        is_of_gate = not any(it.exists() for it in stamps)
-        if is_of_gate and all((it.parent / f"{it.parent.parent.parent.name}.rlib").exists() for it in stamps):
-            whole = [*build.over_libraries("check", "rsp_routines"), "src/lib.rt", "--jobs", "1"]
-            return run(*whole, *words, cwd=self.crate, timeout=LONGEST).stdout
-        return run("rt", "check", *words, cwd=self.crate, timeout=LONGEST).stdout
+        """Checks these modules, and returns the output. `rt ci` leaves all libraries, but without stamps."""
+        command, libraries = ["rt", "check"], [*map(crates.library, crates.with_below("rsp_routines")[:-1])]
+        is_of_gate = not any((path / "stamp").exists() for path in libraries)
+        if is_of_gate and all((path / f"{path.parent.parent.name}.rlib").exists() for path in libraries):
+            command = [*build.over_libraries("check", "rsp_routines"), "src/lib.rt", "--jobs", "1"]
+        words = [word for name in only for word in ("--only", name)]
+        return run(*command, *words, cwd=self.crate, timeout=LONGEST).stdout
 
     def begin(self, name: str, text: str) -> "Ended[str]":
         """Runs tools/theorem, and returns how it ended."""
         source = self.folder / "text.s"
         source.write_text(text)
-        where = {**os.environ, "RSP_PROGRAM": str(self.program)}
-        return run(self.folder / "tools/theorem", name, source, env=where)
+        env = {**os.environ, "RSP_PROGRAM": str(self.program)}
+        return run(self.folder / "tools/theorem", name, source, env=env)
 
     def follow_example(self) -> Tuple[str, "Ended[str]"]:
         """Does to the page's first theorem what the page says, and compares the files that it shows."""
@@ -153,9 +154,9 @@ def section_of(heading: str) -> str:
 
 
 def search(pattern: str, text: str) -> "re.Match[str]":
-    found = re.search(pattern, text)
-    assert found, f"nothing is like {pattern}"
-    return found
+    match = re.search(pattern, text)
+    assert match, f"nothing is like {pattern}"
+    return match
 
 
 @pytest.fixture(scope="module")
@@ -165,13 +166,11 @@ def copy(program: Path) -> Iterator[Copy]:
 
 
 class Proofs(NamedTuple):
-    """The name of each theorem with how tools/theorem ended, and what the kit says of one check of all.
-
-    That check costs less than one of each.
-    """
+    """The name of each theorem with how tools/theorem ended, and the output of one check of all, which costs
+    less than a check of each."""
 
     begun: Dict[str, Tuple[str, "Ended[str]"]]
-    said: str
+    output: str
 
 
 @pytest.fixture(scope="module")
@@ -186,19 +185,18 @@ def proofs(copy: Copy) -> Proofs:
 def test_refused(name: str, text: str, sentence: str, copy: Copy) -> None:
     """A text that it can't take gets its sentence, and nothing is written."""
     before = copy.files()
-    ran = copy.begin(name, text)
-    assert ran.returncode == 1 and ran.stdout.startswith("theorem: ") and sentence in ran.stdout
-    after = copy.files()
-    assert [it for it in {*before, *after} if before.get(it) != after.get(it)] == []
+    ended = copy.begin(name, text)
+    assert ended.returncode == 1 and ended.stdout.startswith("theorem: ") and sentence in ended.stdout
+    assert copy.files() == before
 
 
 @NEEDS_RT
 @pytest.mark.parametrize("label", LABELS)
 def test_proved(label: str, proofs: Proofs) -> None:
     """Each theorem is proved as it is written."""
-    name, ran = proofs.begun[label]
-    assert ran.returncode == 0 and ran.stdout.endswith(f"--only {name}\n")
-    lines = proofs.said.splitlines()
+    name, ended = proofs.begun[label]
+    assert ended.returncode == 0 and ended.stdout.endswith(f"--only {name}\n")
+    lines = proofs.output.splitlines()
     about = [line[:300] for line in lines if name in line or module_of(name) in line]
     for function in ("theorem", "words"):
         assert f"fn rsp_routines::{name}::{function}: proved" in lines, "\n".join(about)
@@ -207,14 +205,14 @@ def test_proved(label: str, proofs: Proofs) -> None:
 @NEEDS_RT
 def test_all_are_counted(proofs: Proofs) -> None:
     count = 2 * len(LABELS)
-    assert f"only={count} proved={count}" in proofs.said
+    assert f"only={count} proved={count}" in proofs.output
 
 
 def test_instructions() -> None:
     """Each instruction of the table is a term, or refused with a sentence."""
     for row in ROWS.values():
         try:
-            told = instruction_of(word_of(row, {field: 0 for field in FORMS[row.form]})).term
+            text = instruction_of(word_of(row, {field: 0 for field in FORMS[row.form]})).term
         except (SystemExit, KeyError) as fault:
-            told = str(fault)
-        assert told[:1].isupper() != (row.name in ("break", "mtc0")), row.name
+            text = str(fault)
+        assert text[:1].isupper() != (row.name in ("break", "mtc0")), row.name

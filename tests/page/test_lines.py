@@ -1,8 +1,8 @@
-"""A script's lines as the page draws them below a text area whose letters are transparent, and what it
-says to write in place of one at fault, told by Node; and the types of the page's modules, told by tsc.
+"""A script's lines as the page draws them below a text area whose letters are transparent, and what it says
+to write in place of one at fault, evaluated in Node; and the types of the page's modules, checked by tsc.
 
-They fail if the page shows another line than the one that runs, if a line takes so long that the page
-stands still, or if the page says another thing of a line than `rsp asm --explain`.
+They fail if the page shows another line than the one that runs, if a line takes so long that the page stands
+still, or if the page says another thing of a line than `rsp asm --explain`.
 """
 
 import csv
@@ -10,15 +10,16 @@ import json
 import re
 import shutil
 from pathlib import Path
-from typing import Any, Callable
+from typing import Any, Callable, Dict
 
 import pytest
 
 from lib import TOP
+from lib.library.typescript import OPTIONS
 from lib.processes import run, succeeds
-from rsp_tools.systems import web_page as pages
+from rsp_tools.systems import web_page
 
-Told = Callable[[str], Any]
+Evaluate = Callable[[str], Any]
 # What ends a line for a browser, though not for a session, and characters that have no colour.
 CHARACTERS = "\u2028\u2029\r\v\f\x85\0\x1b\xa0\ufeff\xe9\U0001f600"
 FORMS = ("%s", "add%s $1", "add%s$1, $2", "a%s: add $1", "a: %sadd $1", "add $1%s", "add $1 # x%sy", "%send")
@@ -37,6 +38,10 @@ TIMED = """(() => {
   for (let n = 0; n < 100; n++) parts_of(LINE, n % 2 === 0);
   return performance.now() - begun;
 })()"""
+IMPORTED = """import { parts_of } from "./colours.js";
+import { line_page } from "./help.js";
+import { advice } from "./advice.js";
+"""
 
 
 @pytest.fixture
@@ -44,81 +49,79 @@ def modules(folder: Path) -> Path:
     """The page's modules, with those that are made."""
     for path in (TOP / "page").glob("*.js"):
         shutil.copy(path, folder)
-    (folder / "names.js").write_bytes(pages.names())
-    (folder / "examples.js").write_bytes(pages.scripts())
+    (folder / "names.js").write_bytes(web_page.names())
+    (folder / "examples.js").write_bytes(web_page.scripts())
     (folder / "package.json").write_text('{ "type": "module" }')
     return folder
 
 
 @pytest.fixture
-def told(modules: Path) -> Told:
-    """What an expression over the modules of the page is, in JSON."""
+def evaluate(modules: Path) -> Evaluate:
+    """Gives the value of an expression over the modules of the page."""
 
-    def tell(expression: str) -> Any:
-        imported = {"parts_of": "colours", "line_page": "help", "advice": "advice"}
-        lines = [f'import {{ {name} }} from "./{module}.js";' for name, module in imported.items()]
-        (modules / "told.js").write_text("\n".join([*lines, f"console.log(JSON.stringify({expression}));\n"]))
+    def value(expression: str) -> Any:
+        (modules / "told.js").write_text(f"{IMPORTED}console.log(JSON.stringify({expression}));\n")
         return json.loads(succeeds("node", modules / "told.js"))
 
-    return tell
+    return value
 
 
 @pytest.mark.needs("node")
-def test_all_characters_are_drawn(told: Told) -> None:
+def test_all_characters_are_drawn(evaluate: Evaluate) -> None:
     """The parts of a line are the line, in source text and outside."""
     lines = [form % it for form in FORMS for it in CHARACTERS]
-    drawn = f"{json.dumps(lines)}.flatMap((it) => [true, false].map((is) => parts_of(it, is)))"
-    texts = ["".join(text for _, text in parts) for parts in told(drawn)]
-    assert texts == [it for it in lines for _ in range(2)]
+    drawn = evaluate(f"{json.dumps(lines)}.flatMap((it) => [true, false].map((is) => parts_of(it, is)))")
+    assert ["".join(text for _, text in it) for it in drawn] == [it for it in lines for _ in range(2)]
 
 
 @pytest.mark.needs("node")
-def test_colours_beside_such_characters(told: Told) -> None:
-    parts = told('parts_of("a:\u2028ADD\u2028$1, 2 # \u2029x", true)')
+def test_colours_beside_such_characters(evaluate: Evaluate) -> None:
+    parts = evaluate('parts_of("a:\u2028ADD\u2028$1, 2 # \u2029x", true)')
     kinds = {text: kind for kind, text in parts if kind}
     assert kinds == {"ADD": "mnemonic", "$1": "register", "2": "number", "# \u2029x": "comment"}
 
 
 @pytest.mark.needs("node")
 @pytest.mark.parametrize("line", SLOW.values(), ids=SLOW)
-def test_long_lines_take_no_time(line: str, told: Told) -> None:
+def test_long_lines_take_no_time(line: str, evaluate: Evaluate) -> None:
     """A browser draws some 50 lines for a key."""
-    assert told(TIMED.replace("LINE", json.dumps(line))) < 2000
+    assert evaluate(TIMED.replace("LINE", json.dumps(line))) < 2000
 
 
 @pytest.mark.needs("node")
-def test_comment_is_not_explained(told: Told) -> None:
+def test_comment_is_not_explained(evaluate: Evaluate) -> None:
     """A comment is a line's whole rest."""
-    pages_of = told('["# \u2028add", "lui # \u2028add"].map((it) => line_page(it, true))')
-    assert [it.rpartition("/")[2] for it in pages_of] == ["ASSEMBLY.html", "INSTRUCTIONS.html#lui"]
+    pages = evaluate('["# \u2028add", "lui # \u2028add"].map((it) => line_page(it, true))')
+    assert [it.rpartition("/")[2] for it in pages] == ["ASSEMBLY.html", "INSTRUCTIONS.html#lui"]
 
 
 @pytest.mark.needs("node")
-def test_advice(told: Told) -> None:
+def test_advice(evaluate: Evaluate) -> None:
     """Of lines and names that aren't taken the page says what the program says, and of a command its form. It
     doesn't look for the nearest name, so of some it says nothing."""
     with (TOP / "tests/program/explanations.tsv").open() as table:
         rows = [it for it in csv.DictReader(table, delimiter="\t", quoting=csv.QUOTE_NONE)]
-    wanted = {
+    expected = {
         it["line"]: (int(it["fault"][:2]), it["write"].strip("-")) for it in rows if it["operand"] == "-"
     }
-    wanted.update(
-        {"mem dmem 4": (30, "mem BANK ADDR LEN (ADDR 0 to 16777215, LEN 1 to 256)"), "foo": (30, "")}
-    )
-    wanted["unbreak 010"] = (31, "unbreak ADDR (a multiple of 4 from 0 to 4092)")
-    wanted["break /* the end */"] = (12, "a comment, after # or ;")
-    given = json.dumps([[number, line] for line, (number, _) in wanted.items()])
-    found = told(f'{given}.map(([number, line]) => advice(number, line) ?? "")')
-    said = {line: it for line, it in zip(wanted, found) if it}
-    assert said == {line: wanted[line][1] for line in said} and len(said) > 25
+    expected["mem dmem 4"] = 30, "mem BANK ADDR LEN (ADDR 0 to 16777215, LEN 1 to 256)"
+    expected["foo"] = 30, ""
+    expected["unbreak 010"] = 31, "unbreak ADDR (a multiple of 4 from 0 to 4092)"
+    expected["break /* the end */"] = 12, "a comment, after # or ;"
+    lines = json.dumps([[number, line] for line, (number, _) in expected.items()])
+    found = evaluate(f'{lines}.map(([number, line]) => advice(number, line) ?? "")')
+    advised = {line: it for line, it in zip(expected, found) if it}
+    assert advised == {line: expected[line][1] for line in advised} and len(advised) > 25
     assert len(found) > 40
 
 
-OPTIONS = """{
-  "allowJs": true, "checkJs": true, "noEmit": true, "strict": true, "noImplicitAny": false,
-  "useUnknownInCatchVariables": false, "module": "es2022", "moduleResolution": "node",
-  "target": "es2022", "lib": ["es2022", "dom", "dom.iterable"]
-}"""
+# Where tsc is less strict than on the library's declarations, and what it can't know.
+LENIENT: Dict[str, Any] = {
+    "allowJs": True,
+    "checkJs": True,
+    "noImplicitAny": False,
+    "useUnknownInCatchVariables": False,
+}
 GLOBAL = (
     "declare function why_not(url: URL): Promise<string>; interface HTMLElement { hidePopover(): void }\n"
 )
@@ -131,8 +134,9 @@ def test_types(modules: Path) -> None:
     for path in modules.glob("*.js"):
         path.write_text(re.sub(r" (?=@(?:param|returns|type)\b)", "\n * ", path.read_text()))
     (modules / "global.d.ts").write_text(GLOBAL)
-    given = {"compilerOptions": json.loads(OPTIONS), "files": ["page.js", "global.d.ts"]}
-    (modules / "tsconfig.json").write_text(json.dumps(given))
+    options: Dict[str, Any] = {**OPTIONS, **LENIENT, "lib": ["es2022", "dom", "dom.iterable"], "paths": {}}
+    project = {"compilerOptions": options, "files": ["page.js", "global.d.ts"]}
+    (modules / "tsconfig.json").write_text(json.dumps(project))
     assert run("tsc", "-p", ".", cwd=modules).stdout == ""
     with (modules / "page.js").open("a") as page:
         page.write("replies.go_to('1');\n")

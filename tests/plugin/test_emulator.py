@@ -97,7 +97,7 @@ def test_hunt_without_fault(hunt: Bench) -> None:
 
 
 def type_command(hunt: Bench, home: Path, command: str, last: str, **environment: str) -> List[str]:
-    """Types a command, and returns the front end's lines up to one that ends so, because the ROM never ends."""
+    """Types a command, and returns the front end's lines up to one that ends so: the ROM never ends."""
     remove_reports(hunt)
     env = {"HOME": str(home), "PATH": "/usr/bin:/bin", "LC_ALL": "C.UTF-8", **environment}
     how: Dict[str, Any] = {"cwd": hunt.folder, "env": env, "text": True, "errors": "replace"}

@@ -5,11 +5,14 @@ from typing import Any, Dict, List
 
 import pytest
 
+from rsp_tools.targets import CROSS
+
 THROUGH_LINKS = "on Linux, where it is only tested, it writes through links"
 NOT_KILLED = "it ignores the signal of the limit, which the program that rt links can't"
 LIMITED = "a limit of the size of files stops wine's own server"
 NO_TEXT = "wine makes UTF-16 of any bytes; half of a pair is tested by itself"
-FOREIGN_CALLS = "the calls that are made to fail are those of programs of Linux on x86-64"
+FOREIGN_CALLS = "the calls that are made to fail are those of shared libraries of Linux on x86-64"
+LINUX = [it.name for it in CROSS if it.is_linux]
 # The tests of each system that must fail, by the beginning of their names.
 LEFT_OUT: Dict[str, Dict[str, str]] = {
     "native": {
@@ -18,7 +21,7 @@ LEFT_OUT: Dict[str, Dict[str, str]] = {
         "saves.py::test_calls_of_the_system_fail": THROUGH_LINKS,
     },
     "archive": {"saves.py::test_killed_by_the_limit": NOT_KILLED},
-    "linux-aarch64": {"saves.py::test_killed_by_the_limit": NOT_KILLED},
+    **{it: {"saves.py::test_killed_by_the_limit": NOT_KILLED} for it in LINUX},
     "windows-x86_64": {
         "scripts.py::test_refused[run --save \\": NO_TEXT,
         "saves.py::test_no_room[": LIMITED,
@@ -30,15 +33,15 @@ LEFT_OUT: Dict[str, Dict[str, str]] = {
         "saves.py::test_stdout_to_a_pipe": "Windows has no such files",
     },
 }
+FOREIGN = {
+    "saves.py::test_calls_of_the_system_fail": FOREIGN_CALLS,
+    "saves.py::test_folder_is_synced": FOREIGN_CALLS,
+}
 # Those that aren't begun there.
 NOT_BEGUN: Dict[str, Dict[str, str]] = {
-    "linux-aarch64": {
-        "saves.py::test_calls_of_the_system_fail": FOREIGN_CALLS,
-        "saves.py::test_folder_is_synced": FOREIGN_CALLS,
-    },
+    **{it: FOREIGN for it in LINUX},
     "windows-x86_64": {
-        "saves.py::test_calls_of_the_system_fail": FOREIGN_CALLS,
-        "saves.py::test_folder_is_synced": FOREIGN_CALLS,
+        **FOREIGN,
         "bad_input.py::test_named_pipe": "Windows has no such files",
         "bad_input.py::test_closed_stream": "wine gives its programs streams of its own",
         "saves.py::test_four_at_once": "Windows lets no file take the name of one that is open",

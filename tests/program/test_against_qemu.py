@@ -4,14 +4,13 @@ Each block of the scalar instructions that a plain big-endian MIPS has too is ru
 run`; the 32 scalar registers and the 4096 bytes of DMEM are compared. `BLOCKS=3000 tests/all
 tests/program/test_against_qemu.py` makes another number of blocks than 300, the same ones first.
 
-How a block runs on both: its words are in IMEM from 0 on, and in the ELF file that QEMU runs at 4000 hex, a
-multiple of 4096, so that the processor, which takes addresses modulo 4096, reads the same J and JR as QEMU.
-Data are at 0 to FFF hex for both. A block begins with LUI and ORI words for all registers, and goes on with
-random instructions, with short branches and jumps forward, and with counted loops. In a delay slot is a nop
-or an instruction that computes. On the processor it ends with BREAK; for QEMU with stores of all registers
-and a system call that writes them out.
+A block's words are in IMEM from 0 on, and in the ELF file that QEMU runs at 4000 hex, a multiple of 4096, so
+that the processor, which takes addresses modulo 4096, reads the same J and JR as QEMU. Data are at 0 to FFF
+hex for both. A block sets all registers, and continues with random instructions, short branches and jumps
+forward, and counted loops. A delay slot has a nop or an instruction that computes. On the processor the block
+ends with BREAK; for QEMU with stores of all registers and a system call that writes them out.
 
-Left out, since the two differ there on purpose or a plain MIPS lacks it:
+Left out, because the two differ there on purpose or a plain MIPS lacks it:
   - the overflow trap: QEMU runs ADD, SUB, ADDI as ADDU, SUBU, ADDIU, and LWU as LW
   - links (JAL, JALR, BLTZAL, BGEZAL), which are taken modulo 4096 here, a branch in a delay slot, and a block
     that passes the end of IMEM
@@ -53,12 +52,12 @@ def word(name: str, **fields: int) -> int:
     return int(word_of(ROWS[name], fields))
 
 
-def for_qemu(given: int) -> int:
+def for_qemu(block_word: int) -> int:
     """The word that QEMU runs instead of a block's word."""
     for name, other in INSTEAD.items():
-        if given & ROWS[name].mask == ROWS[name].value:
-            return given & ~ROWS[name].mask | ROWS[other].value
-    return given
+        if block_word & ROWS[name].mask == ROWS[name].value:
+            return block_word & ~ROWS[name].mask | ROWS[other].value
+    return block_word
 
 
 class Block:
@@ -186,19 +185,19 @@ def run_qemu(block: Block, folder: Path) -> Outcome:
     file = folder / "block"
     file.write_bytes(elf_of(block))
     file.chmod(0o700)
-    ran = run_bytes("qemu-mips", [file])
-    assert (ran.returncode, len(ran.stdout)) == (0, SAVED + 128), (block.seed, ran.stderr)
-    return struct.unpack(">32I", ran.stdout[SAVED:]), ran.stdout[:4096]
+    ended = run_bytes("qemu-mips", [file])
+    assert (ended.returncode, len(ended.stdout)) == (0, SAVED + 128), (block.seed, ended.stderr)
+    return struct.unpack(">32I", ended.stdout[SAVED:]), ended.stdout[:4096]
 
 
 def run_rsp(program: Path, block: Block) -> Outcome:
-    ran = run(program, "run", input=script_of(block))
-    faults = re.findall(r"(?m)^(?:fault|step Reserved).*", ran.stdout)
-    assert (ran.returncode, faults) == (0, []), block.seed
-    assert re.search("(?m)^step Halted", ran.stdout), f"block {block.seed} doesn't come to its end"
-    lines = re.findall(r"(?m)^r.*", ran.stdout)
+    ended = run(program, "run", input=script_of(block))
+    faults = re.findall(r"(?m)^(?:fault|step Reserved).*", ended.stdout)
+    assert (ended.returncode, faults) == (0, []), block.seed
+    assert re.search("(?m)^step Halted", ended.stdout), f"block {block.seed} doesn't come to its end"
+    lines = re.findall(r"(?m)^r.*", ended.stdout)
     registers = [int(word, 16) for line in lines for word in line.split()[1:]]
-    data = bytes.fromhex("".join(re.findall(r"(?m)^.{6}: (.*)", ran.stdout)))
+    data = bytes.fromhex("".join(re.findall(r"(?m)^.{6}: (.*)", ended.stdout)))
     assert (len(registers), len(data)) == (32, 4096), block.seed
     return registers, data
 
@@ -206,15 +205,15 @@ def run_rsp(program: Path, block: Block) -> Outcome:
 @pytest.mark.parametrize("first", range(0, BLOCKS, PART))
 def test_blocks(first: int, program: Path, tmp_path: Path) -> None:
     """A block that differs leaves its script and its ELF file there; QEMU's number is the first."""
-    complaints: List[str] = []
+    wrong: List[str] = []
     for number in range(first, min(first + PART, BLOCKS)):
         block = Block(f"1.{number}")
-        rsp, qemu = run_rsp(program, block), run_qemu(block, tmp_path)
-        found = [f"${n}: {a:08x} and {b:08x}" for n, (a, b) in enumerate(zip(qemu[0], rsp[0])) if a != b]
-        bytes_of_both = enumerate(zip(qemu[1], rsp[1]))
-        found += [f"dmem {n:03x}: {a:02x} and {b:02x}" for n, (a, b) in bytes_of_both if a != b]
-        if found:
+        pairs = zip(run_qemu(block, tmp_path), run_rsp(program, block))
+        registers, data = ([(n, *it) for n, it in enumerate(zip(*both)) if it[0] != it[1]] for both in pairs)
+        if registers or data:
             (tmp_path / f"{number}.rsp").write_text(script_of(block))
             (tmp_path / "block").rename(tmp_path / f"{number}.elf")
-            complaints.append(f"{tmp_path}/{number}: {'; '.join(found[:8])}")
-    assert not complaints
+            found = [f"${n}: {a:08x} and {b:08x}" for n, a, b in registers]
+            found += [f"dmem {n:03x}: {a:02x} and {b:02x}" for n, a, b in data]
+            wrong.append(f"{tmp_path}/{number}: {'; '.join(found[:8])}")
+    assert not wrong

@@ -17,9 +17,8 @@ from typing import Any, Dict, Iterator, List, Optional
 
 import pytest
 
-from lib import devices
 from lib.program import content
-from lib.script_cases import SCRIPTS, Stored
+from lib.script_cases import SCRIPTS, ScriptCase
 
 STOP = re.compile(rb"stop (Reserved|Halted|Limit) steps (\d+) pc [0-9a-f]{3}")
 TOO_LONG = b"rsp: fault 42 ScriptTooLong\n"
@@ -118,8 +117,8 @@ def prefix_replies(name: str, script: bytes, replies: bytes, length: int) -> byt
 @pytest.mark.parametrize("name", ("blocks/block", "runs/watch", "registers/task-run"))
 def test_prefixes(name: str, rsp: Any, folder: Path) -> None:
     """Each prefix of a script gives exactly its replies, which follow from the stored ones."""
-    stored = Stored(SCRIPTS / f"{name}.script")
-    words, script, replies = stored.words(folder), stored.script, stored.wanted.output
+    stored = ScriptCase(SCRIPTS / f"{name}.script")
+    words, script, replies = stored.words(folder), stored.script, stored.expected.output
     for length in range(len(script) + 1):
         result = rsp(*words, script=script[:length])
         assert result == (0, prefix_replies(name, script, replies, length), b""), f"the first {length} bytes"
@@ -311,11 +310,3 @@ def test_control_characters(line: str, name: str, rsp: Any, folder: Path) -> Non
 def test_script_that_never_ends(rsp: Any) -> None:
     with open("/dev/zero", "rb") as endless:
         assert rsp("run", stdin=endless) == (1, b"", TOO_LONG)
-
-
-@pytest.mark.parametrize("words, output", (("asm source {}", b""), ("run --save {}", b"step Done pc 004\n")))
-def test_full_disk(words: str, output: bytes, rsp: Any, folder: Path) -> None:
-    (folder / "source").write_bytes(b"nop\n")
-    full = devices.full(folder)
-    result = rsp(*words.format(full).split(), script=b"step\n")
-    assert result == (1, output, f"rsp: cannot write {full}\n".encode())

@@ -13,7 +13,7 @@ from typing import Any, List
 
 import pytest
 
-from lib.pages import block_with, data
+from lib.pages import data
 from lib.program import Result, run_program
 
 STEP, STEPPED = b"step\n", b"step Done pc 004\n"
@@ -168,11 +168,3 @@ def test_reply_comes_first(rsp: Any) -> None:
         "line 1: ",
         STEPPED.decode().strip(),
     )
-
-
-def test_page(program: Path, folder: Path) -> None:
-    """The page's command prints the page's lines."""
-    command = block_with("docs/SCRIPT.md", "echo 'mem dmem 0x200'")
-    shell = ["-c", f'rsp() {{ "{program}" "$@"; }}\n{command}']
-    result = run_program("sh", shell, cwd=folder, stderr=subprocess.STDOUT)
-    assert result == (0, block_with("docs/SCRIPT.md", "echo 'mem dmem 0x200'", 1).encode(), b"")

@@ -1,7 +1,7 @@
 """The replies to the repository's scripts, and what the program makes of files and of its command line.
 
 They fail if a reply, an exit status or a file that is written differs from what is stored beside the script
-(lib.script_cases) or said here.
+(lib.script_cases) or listed here.
 """
 
 import os
@@ -17,8 +17,8 @@ import pytest
 
 from lib import TOP
 from lib.processes import run
-from lib.program import Result, content
-from lib.script_cases import Stored, faults_in, stored
+from lib.program import Result, content, run_program
+from lib.script_cases import ScriptCase, all_cases, faults_in
 
 LONGEST_IMAGE = 8388608
 LONGEST_SCRIPT = 1048576
@@ -40,61 +40,60 @@ def packets(script: bytes, size: int) -> Iterator[IO[bytes]]:
         yield pipe
 
 
-@pytest.mark.parametrize("script", stored(), ids=str)
-def test_stored(script: Stored, rsp: Any, folder: Path) -> None:
+@pytest.mark.parametrize("script", all_cases(), ids=str)
+def test_stored(script: ScriptCase, rsp: Any, folder: Path) -> None:
     """Each script is answered alike however its bytes come."""
     words = script.words(folder)
 
-    def see(how: str, ran: Result) -> None:
-        assert ran == script.wanted, how
+    def check(how: str, result: Result) -> None:
+        assert result == script.expected, how
         is_kept = not script.is_saved or content(folder / "saved") == script.image()
         assert is_kept, f"{how}: the saved image isn't the one that was read"
 
-    see("as a whole", rsp(*words, script=script.script))
+    check("as a whole", rsp(*words, script=script.script))
     (folder / "script").write_bytes(script.script)
-    see("from a file", rsp(*words, "script", script=STEP))
+    check("from a file", rsp(*words, "script", script=STEP))
     for size in (1, 2, 3, 7):
         with packets(script.script, size) as pipe:
-            see(f"{size} bytes a read", rsp(*words, stdin=pipe))
+            check(f"{size} bytes a read", rsp(*words, stdin=pipe))
 
 
-@pytest.mark.parametrize("script", stored(), ids=str)
-def test_strict(script: Stored, rsp: Any, folder: Path) -> None:
+@pytest.mark.parametrize("script", all_cases(), ids=str)
+def test_strict(script: ScriptCase, rsp: Any, folder: Path) -> None:
     """`--strict` changes the status and standard error, if a stored reply is a fault, and nothing else."""
-    wanted = script.wanted
-    faults = [*faults_in(script.script, wanted.output)]
-    assert len(faults) == wanted.output.count(b"\nfault ") + wanted.output.startswith(b"fault ")
-    if faults and not wanted.status:
-        wanted = Result(1, wanted.output, b"rsp: %s\n" % strict(len(faults), *faults[0]))
-    assert rsp(*script.words(folder), "--strict", script=script.script) == wanted
+    expected = script.expected
+    faults = [*faults_in(script.script, expected.output)]
+    assert len(faults) == (b"\n" + expected.output).count(b"\nfault ")
+    if faults and not expected.status:
+        expected = Result(1, expected.output, b"rsp: %s\n" % strict(len(faults), *faults[0]))
+    assert rsp(*script.words(folder), "--strict", script=script.script) == expected
     assert not script.is_saved or content(folder / "saved") == script.image()
 
 
-@pytest.mark.parametrize("script", stored(), ids=str)
-def test_explained(script: Stored, rsp: Any, folder: Path) -> None:
+@pytest.mark.parametrize("script", all_cases(), ids=str)
+def test_explained(script: ScriptCase, rsp: Any, folder: Path) -> None:
     """`--explain` names the line of each fault among the replies, at most 20, and changes nothing else."""
-    words, faults = script.words(folder), [*faults_in(script.script, script.wanted.output)]
+    words, faults = script.words(folder), [*faults_in(script.script, script.expected.output)]
     (folder / "script").write_bytes(script.script)
     by_file, by_pipe = rsp(*words, "--explain", "script"), rsp(*words, "--explain", script=script.script)
-    assert by_file[:2] == by_pipe[:2] == script.wanted[:2]
-    for said, head in ((by_file.errors, rb"script:"), (by_pipe.errors, rb"line ")):
-        found = re.findall(rb"(?m)^%s(\d+): (fault .*)$" % head, said)
+    assert by_file[:2] == by_pipe[:2] == script.expected[:2]
+    for errors, head in ((by_file.errors, rb"script:"), (by_pipe.errors, rb"line ")):
+        found = re.findall(rb"(?m)^%s(\d+): (fault .*)$" % head, errors)
         assert dict((int(line), reply) for line, reply in found).items() >= dict(faults[:20]).items()
-        assert (b".. and %d more\n" % (len(faults) - 20) in said) == (len(faults) > 20)
+        assert (b".. and %d more\n" % (len(faults) - 20) in errors) == (len(faults) > 20)
     assert not script.is_saved or content(folder / "saved") == script.image()
 
 
 def test_example(program: Path) -> None:
     """A program that answers late hangs it."""
-    words = (sys.executable, TOP / "examples/check_row.py", program)
-    said = run(*words, stderr=subprocess.DEVNULL).stdout
-    assert said == "VMULF: 1600 lanes agree with the model\n"
+    ended = run(sys.executable, TOP / "examples/check_row.py", program, stderr=subprocess.DEVNULL)
+    assert ended.stdout == "VMULF: 1600 lanes agree with the model\n"
 
 
-# Files that commands name. Each is written if a command does.
+# Files that commands name. Each is written if a command names it.
 TEXT = b"loop: addiu $1, $1, 1\nbne $1, $2, loop\r\nnop\nbreak"
 WORDS = bytes.fromhex("242100011422fffe000000000000000d")
-GIVEN = {
+FILES = {
     "image": bytes(64),
     "longest": bytes(LONGEST_IMAGE),
     "longer": bytes(LONGEST_IMAGE + 8),
@@ -126,10 +125,8 @@ PLACES_AT_FF8 = b"ff8 1000fffe beq $0, $0, 0xff4\nffc 00000000 nop\n"
 AT_80 = {"words": bytes.fromhex("08000022000000000000000d")}
 SAVED = {"saved": bytes(4194302) + b"\1\2"}
 ENDS = b"mem rdram 8388607 1\nmem rdram 8388608 1\n"
-FAULTY, REFUSED_TWICE = (
-    b"load rdram 0x3ffffe 0102\nfoo\nunbreak 0\n",
-    b"ok\nfault 30 BadCommand\nfault 22 NoBreak\n",
-)
+FAULTY = b"load rdram 0x3ffffe 0102\nfoo\nunbreak 0\n"
+REFUSED_TWICE = b"ok\nfault 30 BadCommand\nfault 22 NoBreak\n"
 OPEN_BLOCK, LAST_LINE = b"fault 10 BadLine line 2", b"fault 30 BadCommand"
 OVER = {"image": bytes(60) + bytes([1, 2, 3, 4])}
 LINES_ALONE, LINE_ALONE = b"\n" * (LONGEST_SCRIPT + 1), b"x" * (LONGEST_SCRIPT + 1)
@@ -139,44 +136,44 @@ NOBODY_HEARS = b"rsp: fault 41 WriteFault\n"
 
 
 def strict(count: int, line: int, first: bytes) -> bytes:
-    """What a strict run says of so many faults among its replies, the first in this line."""
+    """The message of a strict run about so many faults among its replies, the first in this line."""
     return b"faults in replies: %d, the first in line %d: %s" % (count, line, first)
 
 
-class Asked(NamedTuple):
-    """A command on files and a script, and what it must print and leave."""
+class Case(NamedTuple):
+    """A command on files and a script, and what it prints and leaves."""
 
     words: str
     output: bytes = b""
     script: bytes = STEP
     errors: bytes = b""
-    left: Mapping[str, Optional[bytes]] = {}  # None: there must be no such file
+    left: Mapping[str, Optional[bytes]] = {}  # None: there is no such file
 
 
-def fails(words: str, errors: bytes, **more: Any) -> Asked:
-    """A command that says one line on standard error."""
-    return Asked(words, errors=b"rsp: " + errors + b"\n", **more)
+def fails(words: str, errors: bytes, **more: Any) -> Case:
+    """A command that fails with one line on standard error."""
+    return Case(words, errors=b"rsp: " + errors + b"\n", **more)
 
 
-ROWS = {
+CASES = {
     # Files, and scripts of the greatest length.
     "missing image": fails("run --rdram missing", b"cannot read missing"),
     "image is a folder": fails("run --rdram .", b"cannot read ."),
-    "longest image": Asked("run --rdram longest", b"7fffff: 00\nfault 6 RangeFault\n", ENDS),
+    "longest image": Case("run --rdram longest", b"7fffff: 00\nfault 6 RangeFault\n", ENDS),
     "image too long": fails("run --rdram longer", b"fault 7 SizeFault"),
     "image without end": fails("run --rdram /dev/zero", b"fault 7 SizeFault"),
-    "image onto itself": Asked(
+    "image onto itself": Case(
         "run --rdram image --save image", b"ok\n", b"load rdram 60 01020304\n", left=OVER
     ),
     "image can't be saved": fails("run --save no/saved", b"cannot write no/saved", output=STEPPED),
-    "image is saved": Asked("run --save saved", b"ok\n", b"load rdram 0x3ffffe 0102\n", left=SAVED),
-    "script of LF alone too long": Asked("run --save saved", b"", LINES_ALONE, NO_SCRIPT, {"saved": None}),
-    "script of a line too long": Asked("run --save saved", b"", LINE_ALONE, NO_SCRIPT, {"saved": None}),
-    "script too long": Asked("run --save saved", STEPPED, TOO_LONG, NO_SCRIPT, {"saved": None}),
-    "longest script": Asked("run", STEPPED + b"fault 32 LineTooLong\n", TOO_LONG[:-1]),
+    "image is saved": Case("run --save saved", b"ok\n", b"load rdram 0x3ffffe 0102\n", left=SAVED),
+    "script of LF alone too long": Case("run --save saved", b"", LINES_ALONE, NO_SCRIPT, {"saved": None}),
+    "script of a line too long": Case("run --save saved", b"", LINE_ALONE, NO_SCRIPT, {"saved": None}),
+    "script too long": Case("run --save saved", STEPPED, TOO_LONG, NO_SCRIPT, {"saved": None}),
+    "longest script": Case("run", STEPPED + b"fault 32 LineTooLong\n", TOO_LONG[:-1]),
     # Scripts in files, which are read before the image, while standard input isn't.
-    "script in a file": Asked("run script --save saved", REFUSED_TWICE, left=SAVED),
-    "script with the name of an option": Asked("run -- -x", STEPPED),
+    "script in a file": Case("run script --save saved", REFUSED_TWICE, left=SAVED),
+    "script with the name of an option": Case("run -- -x", STEPPED),
     "script and image": fails("run none --rdram missing", b"cannot read none"),
     "script and no image": fails("run script --rdram missing", b"cannot read missing"),
     "script is a folder": fails("run .", b"cannot read ."),
@@ -201,24 +198,24 @@ ROWS = {
         "run --strict", strict(1, 2, LAST_LINE), script=STEP + b"foo", output=STEPPED + LAST_LINE + b"\n"
     ),
     # Source texts, and their files.
-    "text at an address": Asked("asm --at 0x80 jump words", b"ok 3 words\n", left=AT_80),
-    "text at an address in tens": Asked("asm jump words --at 128", b"ok 3 words\n", left=AT_80),
-    "text at an address by =": Asked("asm jump --at=0x00000080 words", b"ok 3 words\n", left=AT_80),
+    "text at an address": Case("asm --at 0x80 jump words", b"ok 3 words\n", left=AT_80),
+    "text at an address in tens": Case("asm jump words --at 128", b"ok 3 words\n", left=AT_80),
+    "text at an address by =": Case("asm jump --at=0x00000080 words", b"ok 3 words\n", left=AT_80),
     "text past the end": fails("asm jump words --at 4092", b"fault 16 PastEnd line 2"),
-    "text listed": Asked("asm listed words --listing --at 0x80", LISTING),
+    "text listed": Case("asm listed words --listing --at 0x80", LISTING),
     "text at fault isn't listed": fails("asm --listing unknown words", b"fault 11 UnknownName line 2"),
     "text without end": fails("asm /dev/zero words", b"fault 42 ScriptTooLong"),
     "missing text": fails("asm missing words", b"cannot read missing"),
     "words can't be written": fails("asm text no/words", b"cannot write no/words"),
     # Words, and their files.
-    "words listed": Asked("dis code", CODE_LISTED),
-    "no words": Asked("dis empty"),
+    "words listed": Case("dis code", CODE_LISTED),
+    "no words": Case("dis empty"),
     "half a word": fails("dis half", b"bad size"),
     "a word too many": fails("dis many", b"bad size"),
-    "words at 080": Asked("dis branch --at 0x80", b"beq $0, $0, 0x07c\nnop\n"),
-    "words at ff8": Asked("dis branch --at 4088", b"beq $0, $0, 0xff4\nnop\n"),
-    "words with places": Asked("dis branch --places", PLACES),
-    "words at ff8 with places": Asked("dis branch --at 0x0ff8 --places", PLACES_AT_FF8),
+    "words at 080": Case("dis branch --at 0x80", b"beq $0, $0, 0x07c\nnop\n"),
+    "words at ff8": Case("dis branch --at 4088", b"beq $0, $0, 0xff4\nnop\n"),
+    "words with places": Case("dis branch --places", PLACES),
+    "words at ff8 with places": Case("dis branch --at 0x0ff8 --places", PLACES_AT_FF8),
     "words past the end": fails("dis branch --at 4092", b"bad size"),
     "words past the end with places": fails("dis branch --at 0xffc --places", b"bad size"),
     "words without end": fails("dis /dev/zero", b"bad size"),
@@ -226,25 +223,25 @@ ROWS = {
 }
 
 
-def give(words: str, folder: Path) -> List[str]:
-    """The words of a command, whose files are written."""
-    for name in GIVEN.keys() & {*words.split()}:
-        (folder / name).write_bytes(GIVEN[name])
+def split(words: str, folder: Path) -> List[str]:
+    """Splits a command into words, and writes the files that it names."""
+    for name in FILES.keys() & {*words.split()}:
+        (folder / name).write_bytes(FILES[name])
     return words.split()
 
 
-@pytest.mark.parametrize("row", ROWS.values(), ids=ROWS)
-def test_files(row: Asked, rsp: Any, folder: Path) -> None:
-    ran = rsp(*give(row.words, folder), script=row.script)
-    assert ran == (int(row.errors != b""), row.output, row.errors)
-    changed = [name for name, wanted in row.left.items() if content(folder / name) != wanted]
-    assert not changed, "these aren't what they should be"
+@pytest.mark.parametrize("case", CASES.values(), ids=CASES)
+def test_files(case: Case, rsp: Any, folder: Path) -> None:
+    result = rsp(*split(case.words, folder), script=case.script)
+    assert result == (int(case.errors != b""), case.output, case.errors)
+    wrong = [name for name, expected in case.left.items() if content(folder / name) != expected]
+    assert not wrong, "these aren't what they should be"
 
 
 @pytest.mark.parametrize("words", ("run", "--version", "asm text words", "dis branch"))
 def test_output_is_full(words: str, rsp: Any, folder: Path) -> None:
     with open("/dev/full", "wb") as full:
-        assert rsp(*give(words, folder), script=STEP, stdout=full) == (1, b"", NOBODY_HEARS)
+        assert rsp(*split(words, folder), script=STEP, stdout=full) == (1, b"", NOBODY_HEARS)
     assert content(folder / "words") == (WORDS if "asm" in words else None)
 
 
@@ -268,11 +265,11 @@ SOURCES = {
 @pytest.mark.parametrize("source, made", SOURCES.values(), ids=SOURCES)
 def test_text(source: bytes, made: Any, rsp: Any, folder: Path) -> None:
     (folder / "source").write_bytes(source)
-    ran, words = rsp("asm", "source", "words"), content(folder / "words")
+    result, words = rsp("asm", "source", "words"), content(folder / "words")
     if isinstance(made, bytes):
-        assert (ran, words) == ((0, b"ok %d words\n" % (len(made) // 4), b""), made)
+        assert (result, words) == ((0, b"ok %d words\n" % (len(made) // 4), b""), made)
     else:
-        assert (ran, words) == ((1, b"", f"rsp: fault {made}\n".encode()), None)
+        assert (result, words) == ((1, b"", f"rsp: fault {made}\n".encode()), None)
 
 
 NO_COMMANDS = """
@@ -286,7 +283,7 @@ dis a --labels --labels|dis a --labels=1|dis a --explain
 """
 NO_ADDRESSES = "3 4096 0xffe 0X10 x -4 +4 0x 0x000000004 00000000004 4#".split()
 REFUSED: List[str] = ["", *NO_COMMANDS.strip().replace("\n", "|").split("|")]
-REFUSED += [f"{verb} --at={it}" for it in NO_ADDRESSES for verb in ("asm a b", "dis a")]
+REFUSED += [f"{verb} --at={address}" for address in NO_ADDRESSES for verb in ("asm a b", "dis a")]
 
 
 @pytest.mark.parametrize(
@@ -295,9 +292,9 @@ REFUSED += [f"{verb} --at={it}" for it in NO_ADDRESSES for verb in ("asm a b", "
     ids=lambda it: it.decode(errors="replace"),
 )
 def test_refused(line: bytes, rsp: Any) -> None:
-    ran = rsp(*[it.replace(b"''", b"") for it in line.split()], script=STEP)
-    assert (ran.status, ran.output) == (2, b"") and ran.errors
-    assert ran.errors.startswith(b"error: ") == (b"help" not in line)
+    result = rsp(*[word.replace(b"''", b"") for word in line.split()], script=STEP)
+    assert (result.status, result.output) == (2, b"") and result.errors
+    assert result.errors.startswith(b"error: ") == (b"help" not in line)
 
 
 @pytest.mark.needs("qemu-x86_64")
@@ -305,7 +302,5 @@ def test_older_processor(program: Path) -> None:
     """A Core 2 has no SSE4.2 and no POPCNT."""
     if program.read_bytes()[:4] != b"\x7fELF":
         pytest.skip("the program is no binary")
-    words = ["qemu-x86_64", "-cpu", "core2duo", str(program), "run"]
-    ran = subprocess.run(words, input=STEP, capture_output=True, timeout=120)
-    assert (ran.returncode, ran.stdout) == (127, b"")
-    assert b"lacks a feature of x86-64-v2" in ran.stderr
+    result = run_program("qemu-x86_64", ["-cpu", "core2duo", program, "run"], STEP)
+    assert result[:2] == (127, b"") and b"lacks a feature of x86-64-v2" in result.errors

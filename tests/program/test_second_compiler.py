@@ -33,7 +33,7 @@ def other(tmp_path_factory: pytest.TempPathFactory) -> Path:
     if file.exists() and file.stat().st_mtime > ours.stat().st_mtime - BETWEEN:
         return file
     need("rt")
-    if missing := [it for it in below if not (crates.library(it) / f"{it}.rlib").exists()]:
+    if missing := [crate for crate in below if not (crates.library(crate) / f"{crate}.rlib").exists()]:
         pytest.skip(f"{file.name} isn't built here, and no library of {missing[0]}: `rt ci` builds both")
     kit, crate = build.kit_folder(), crates.CRATES / "rsp_main"
     how = ["--toolchain", kit / "toolchain", "-o"]

@@ -1,4 +1,4 @@
-"""rsp_tools.reasons tells which mutations are refused for their contract.
+"""rsp_tools.reasons counts the mutations that are refused for their contract.
 
 It fails if it counts another mutation, or doesn't count one that a proof's citation alone refuses. A
 repository of one tiny crate has a mutation of each kind, which `rt must-fail` tries.
@@ -40,12 +40,12 @@ returns c = c.inner.ensures
     "crates/tiny/must-fail/takes_away.edit": "file: src/lib.rt\nold:     inner(n)\nnew:     n\n",
     "crates/tiny/must-fail/unknown.edit": "file: src/lib.rt\nold:     other(n)\nnew:     n\n",
 }
-WANTED = {"takes_away": r"refused, as it must be \(only because a proof file names", "unknown": "BAD EDIT"}
+FAILED = {"takes_away": r"refused, as it must be \(only because a proof file names", "unknown": "BAD EDIT"}
 
 
-def reasons_of(said: str, folder: Path) -> "Ended[str]":
-    (folder / "said").write_text(said)
-    return run("tools/python", "rsp_tools.reasons", folder / "said")
+def count_reasons(output: str, folder: Path) -> "Ended[str]":
+    (folder / "output").write_text(output)
+    return run("tools/python", "rsp_tools.reasons", folder / "output")
 
 
 @pytest.mark.needs("rt")
@@ -54,10 +54,10 @@ def test_reasons(folder: Path) -> None:
     for name, text in FILES.items():
         (folder / name).parent.mkdir(parents=True, exist_ok=True)
         (folder / name).write_text(text)
-    said = run("rt", "must-fail", "tiny", cwd=folder, timeout=800).stdout
-    ran = reasons_of(said, folder)
-    for name, text in WANTED.items():
-        assert re.search(rf"(?m)^FAIL tiny/{name}\.edit: {text}", ran.stdout), said
-    assert (ran.stdout.splitlines()[-1], ran.returncode) == ("1 passed, 2 failed", 1), said
-    ran = reasons_of("".join(it for it in said.splitlines(True) if "changes.edit" in it), folder)
-    assert (ran.stdout, ran.returncode) == ("1 passed, 0 failed\n", 0)
+    output = run("rt", "must-fail", "tiny", cwd=folder, timeout=800).stdout
+    ended = count_reasons(output, folder)
+    for name, text in FAILED.items():
+        assert re.search(rf"(?m)^FAIL tiny/{name}\.edit: {text}", ended.stdout), output
+    assert (ended.stdout.splitlines()[-1], ended.returncode) == ("1 passed, 2 failed", 1), output
+    ended = count_reasons("".join(line for line in output.splitlines(True) if "changes.edit" in line), folder)
+    assert (ended.stdout, ended.returncode) == ("1 passed, 0 failed\n", 0)

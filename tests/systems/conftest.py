@@ -8,13 +8,13 @@ from typing import Any, Iterator
 import pytest
 
 from lib.packages import need
-from lib.systems import chromium
+
+from lib.systems.browser import PROGRAMS, start_chromium
 from lib.systems.target_params import RUNNERS
 from lib.systems.page_driver import Host, Page
-from lib.systems.runners import Native, Runner, target_of
-from rsp_tools.systems import manual
-from rsp_tools.systems import web_page as pages
-from rsp_tools.systems import places
+from lib.systems.runners import Runner, target_of
+from rsp_tools.systems import manual, places, web_page
+from rsp_tools.targets import NATIVE
 
 WHY = "what tools/systems makes takes minutes, and wants cross compilers and emulators"
 
@@ -65,9 +65,13 @@ def runner(request: pytest.FixtureRequest, at: Path) -> Iterator[Runner]:
 
 
 @pytest.fixture(scope="session")
-def native(library: Path, at: Path) -> Native:
-    (at / "native").mkdir()
-    return Native(at / "native")
+def native(library: Path, at: Path) -> Runner:
+    """What runs programs here, over the library of the clone."""
+    folder = at / "native"
+    folder.mkdir()
+    for name in "include", "lib":
+        (folder / name).symlink_to(library)
+    return Runner(NATIVE.name, folder, folder)
 
 
 @pytest.fixture(scope="session")
@@ -75,17 +79,16 @@ def host(at: Path) -> Iterator[Host]:
     """The page that answers scripts, on a server."""
     need(manual.CONVERTER)
     folder_of("wasm64")
-    pages.make(at / "page")
-    host = Host(at / "page")
-    yield host
-    host.stop()
+    web_page.make(at / "page")
+    with Host(at / "page") as host:
+        yield host
 
 
 @pytest.fixture(scope="session")
 def driver(at: Path) -> Iterator[Any]:
-    need(*chromium.PROGRAMS)
+    need(*PROGRAMS)
     (at / "saved").mkdir()
-    driver = chromium.started(at / "saved")
+    driver = start_chromium(at / "saved")
     driver.execute_cdp_cmd("Emulation.setFocusEmulationEnabled", {"enabled": True})
     yield driver
     driver.quit()
@@ -93,9 +96,9 @@ def driver(at: Path) -> Iterator[Any]:
 
 @pytest.fixture
 def forgetful(at: Path, folder: Path) -> Iterator[Page]:
-    """The tab of a browser that keeps no whole page for who goes back to it, only what was typed."""
-    need(*chromium.PROGRAMS)
-    page = Page(chromium.started(folder, "--disable-features=BackForwardCache"), folder)
+    """The tab of a browser that keeps only what was typed for who goes back to a page."""
+    need(*PROGRAMS)
+    page = Page(start_chromium(folder, "--disable-features=BackForwardCache"), folder)
     yield page
     page.driver.quit()
 

@@ -20,7 +20,7 @@ from lib import TESTS, TOP
 from lib.systems.browser import Chromium
 from lib.systems.target_params import RUNNERS, on
 from lib.systems.node import Node
-from lib.systems.runners import Native, Runner
+from lib.systems.runners import Runner
 from rsp_conformance import bench, library_states, steps
 from rsp_conformance.seeded_random import Random
 from rsp_conformance.corrupt import spoilt_entries
@@ -51,7 +51,7 @@ Lines = Callable[..., List[str]]
 # The cases of conformance/library, in one run of vectors.c or vectors.js.
 
 
-def written(entry: Entry) -> bytes:
+def encoded(entry: Entry) -> bytes:
     """A case as vectors.c reads it."""
     _, word, before = steps.observed_of(entry)
     pieces = [
@@ -65,7 +65,7 @@ def written(entry: Entry) -> bytes:
 
 
 def complaints(entry: Entry, result: bytes) -> List[str]:
-    """How what vectors.c wrote differs from what a case says."""
+    """How the result that vectors.c wrote differs from a case's."""
     was_set, status = struct.unpack_from("<2I", result)
     if not was_set:
         return [f"{entry['name']}: the state that was set isn't the one that is there"]
@@ -80,9 +80,9 @@ def complaints(entry: Entry, result: bytes) -> List[str]:
 
 
 def results(runner: Runner) -> List[Tuple[Entry, bytes]]:
-    """What a library makes of each case."""
+    """Each case with a library's result."""
     entries = [it for name in names_in(VECTORS, []) for it in entries_in(VECTORS, name)]
-    (runner.at / "cases").write_bytes(b"".join(map(written, entries)))
+    (runner.at / "cases").write_bytes(b"".join(map(encoded, entries)))
     if isinstance(runner, (Chromium, Node)):
         found = runner.test("vectors.js", "/at/cases")
     else:
@@ -97,17 +97,16 @@ def results(runner: Runner) -> List[Tuple[Entry, bytes]]:
 def test_vectors(runner: Runner) -> None:
     """Spoilt copies of one case of each instruction have to be noticed."""
     found = results(runner)
-    wrong = [text for entry, result in found for text in complaints(entry, result)]
-    assert wrong == []
+    assert [text for entry, result in found for text in complaints(entry, result)] == []
+    by_name = {entry["name"]: result for entry, result in found}
     unnoticed = []
     for name in names_in(VECTORS, []):
         random = Random("spoilt", name)
         entry = random.pick(entries_in(VECTORS, name))
-        result = next(result for it, result in found if it["name"] == entry["name"])
-        for false in spoilt_entries(entry, random):
-            said = complaints(false, result)
-            if not said or not all(it.startswith(f"{entry['name']} (") for it in said):
-                unnoticed.append((entry["name"], said))
+        for spoilt in spoilt_entries(entry, random):
+            differences = complaints(spoilt, by_name[entry["name"]])
+            if not differences or not all(it.startswith(f"{entry['name']} (") for it in differences):
+                unnoticed.append((entry["name"], differences))
     assert unnoticed == []
 
 
@@ -121,12 +120,12 @@ def program_of(runner: Runner) -> Lines:
 
 
 @pytest.fixture(scope="session")
-def wanted(native: Native) -> Lines:
+def expected(native: Runner) -> Lines:
     return program_of(native)
 
 
 @pytest.fixture(scope="session")
-def got(runner: Runner) -> Lines:
+def result(runner: Runner) -> Lines:
     return program_of(runner)
 
 
@@ -137,16 +136,16 @@ def count(request: pytest.FixtureRequest) -> Any:
 
 @on()
 @pytest.mark.parametrize("seed", SEEDS)
-def test_random_programs(seed: int, got: Lines, wanted: Lines, count: int) -> None:
-    differ = [it for it in zip_longest(got(seed, count), wanted(seed, count)) if it[0] != it[1]]
+def test_random_programs(seed: int, result: Lines, expected: Lines, count: int) -> None:
+    differ = [it for it in zip_longest(result(seed, count), expected(seed, count)) if it[0] != it[1]]
     assert differ[:1] == []
-    assert len(wanted(seed, count)) == count // 1000 + 1
+    assert len(expected(seed, count)) == count // 1000 + 1
 
 
 @pytest.mark.xdist_group("linux-aarch64")
-def test_all_instructions_are_traced(wanted: Lines, count: int) -> None:
+def test_all_instructions_are_traced(expected: Lines, count: int) -> None:
     table = (TOP / "docs/data/instructions.tsv").read_text().splitlines()[1:]
-    traced = {name for seed in SEEDS for name in wanted(seed, count)[-1].split()}
+    traced = {name for seed in SEEDS for name in expected(seed, count)[-1].split()}
     assert {it.split("\t")[0].lower() for it in table} - traced == set()
 
 
@@ -168,7 +167,7 @@ def changed(processor: str, at: Path) -> modules.Module:
 
 
 @on()
-def test_planted_constant(runner: Runner, wanted: Lines) -> None:
+def test_planted_constant(runner: Runner, expected: Lines) -> None:
     """Vectors and random programs find it."""
     at = runner.at / "planted"
     (at / "way").mkdir(parents=True)
@@ -178,7 +177,7 @@ def test_planted_constant(runner: Runner, wanted: Lines) -> None:
         planted.way = at / "way"
     try:
         assert any(complaints(*it) for it in results(planted))
-        got = program_of(planted)
-        assert any(got(seed, FEW)[:-1] != wanted(seed, FEW)[:-1] for seed in SEEDS)
+        result = program_of(planted)
+        assert any(result(seed, FEW)[:-1] != expected(seed, FEW)[:-1] for seed in SEEDS)
     finally:
         planted.stop()

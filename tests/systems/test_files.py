@@ -3,9 +3,9 @@
 They fail as well if another make of the same sources gives other bytes.
 """
 
-import gzip
 import re
 from pathlib import Path
+from typing import List
 
 import pytest
 
@@ -14,7 +14,7 @@ from lib.processes import succeeds
 from lib.systems import macos
 from lib.systems.built_files import check_wheel, symbol_names
 from lib.systems.target_params import LINUX, of
-from rsp_tools.systems import header, wasm
+from rsp_tools.systems import header
 from rsp_tools.systems.__main__ import SYSTEMS
 from rsp_tools.targets import CROSS
 from rsp_tools.systems.modules import module
@@ -55,15 +55,30 @@ def test_linux(made: Path) -> None:
     assert f"[{library.name}]" in llvm("llvm-readobj", "--dynamic-table", library)
 
 
+def libraries_of(file: Path) -> List[str]:
+    """The shared libraries that a file needs."""
+    table = llvm("llvm-readobj", "--dynamic-table", file)
+    return re.findall(r"NEEDED\s+Shared library: \[(.*)\]", table)
+
+
+@of("linux-x86_64-musl")
+def test_musl_needs(made: Path) -> None:
+    """The library needs musl alone, by the name that its loader knows, and the program is static."""
+    library, program = made / f"lib/libbrsp.so.{header.interface()}", made / "bin/rsp"
+    assert libraries_of(library) == ["libc.so"] and libraries_of(program) == []
+    assert "INTERP" not in llvm("llvm-readobj", "--program-headers", program)
+    check_elf(library)
+    check_elf(program, is_program=True)
+
+
 @of("linux-aarch64")
 @pytest.mark.parametrize("name", (f"lib/libbrsp.so.{header.interface()}", "bin/rsp"))
 def test_linux_needs(made: Path, name: str) -> None:
     """A library or a program needs glibc alone, and no newer one than 2.17."""
-    wants = "\n".join(symbol_names("-D", "--undefined-only", made / name))
-    versions = [tuple(map(int, it.split("."))) for it in re.findall(r"@GLIBC_([\d.]+)", wants)]
+    needed = "\n".join(symbol_names("-D", "--undefined-only", made / name))
+    versions = [tuple(map(int, it.split("."))) for it in re.findall(r"@GLIBC_([\d.]+)", needed)]
     assert versions and max(versions) <= OLDEST
-    read = llvm("llvm-readobj", "--needed-libs", "--dynamic-table", made / name)
-    assert re.findall(r"NEEDED\s+Shared library: \[(.*)\]", read) == ["libc.so.6"]
+    assert libraries_of(made / name) == ["libc.so.6"]
     check_elf(made / name, is_program=name == "bin/rsp")
 
 
@@ -73,11 +88,3 @@ def test_linux_signs_returns(made: Path) -> None:
     """The C of the program begins with the instruction that signs the address of the return."""
     listed = succeeds("aarch64-linux-gnu-objdump", "-d", "--no-show-raw-insn", made / "bin/rsp")
     assert "\tpaciasp" in listed
-
-
-@of("wasm64")
-def test_wasm(made: Path) -> None:
-    assert {it.name for it in made.iterdir()} == {"rsp.wasm", *(it.name for it in wasm.SCRIPTS.iterdir())}
-    assert header.version() in (made / "package.json").read_text()
-    data = (made / "rsp.wasm").read_bytes()
-    print(f"rsp.wasm has {len(data)} bytes, by gzip {len(gzip.compress(data, 9))}")

@@ -1,15 +1,17 @@
-"""What the page that answers scripts refuses, each with a sentence, and what it says where it can't work."""
+"""What the page that answers scripts refuses, each with a sentence, what it says where it can't work, and how
+it is upgraded: files of two versions are never used together."""
 
 import json
+import os
 import shutil
 from pathlib import Path
-from typing import Callable
+from typing import Any, Dict, List, Tuple
 
 import pytest
 
 from lib.systems.browser import Server
-from lib.systems.page_driver import Host, Page, linked, the
-from rsp_tools.systems import web_page as pages
+from lib.systems.page_driver import Host, Page, linked
+from rsp_tools.systems import web_page
 from rsp_tools.systems.toolchain import Refused
 
 pytestmark = pytest.mark.xdist_group("page")
@@ -18,24 +20,24 @@ LONGEST = 1048576
 
 def test_file_too_long(page: Page) -> None:
     page.type("regs\n")
-    said = page.open_file("script-file", b"#" * (LONGEST + 1))
-    assert said == "given.rsp isn't taken: it has 1,048,577 bytes, and at most 1,048,576 fit."
-    assert page.saved("save-script", "script.rsp") == b"regs\n"
+    refused = "given.rsp isn't taken: it has 1,048,577 bytes, and at most 1,048,576 fit."
+    assert page.open_file("script-file", b"#" * (LONGEST + 1)) == refused
+    assert page.saved_script() == b"regs\n"
 
 
 def test_script_too_long(page: Page) -> None:
     page.type("step\n" + "#" * (LONGEST - 4))
     assert page.run() == "step Done pc 004\n"
     assert page.text("ran") == "rsp: fault 42 ScriptTooLong. Answered: 1 line."
-    assert page.is_disabled("save-image")
+    assert page.value("the('save-image').disabled")
 
 
 def test_longest_script(page: Page) -> None:
     top = page.address
     page.open_file("script-file", b"step\n" + b"#" * (LONGEST - 5))
     assert page.run() == "step Done pc 004\nfault 32 LineTooLong\n"
-    said = page.told(lambda: page.click("link"))
-    assert said == "The script has 1,048,576 bytes, and a link carries at most 24,000: save it instead."
+    message = page.message_after(lambda: page.click("link"))
+    assert message == "The script has 1,048,576 bytes, and a link carries at most 24,000: save it instead."
     assert page.address == top
 
 
@@ -53,13 +55,13 @@ LINKS = {
 }
 
 
-@pytest.mark.parametrize("fragment, told", LINKS.values(), ids=LINKS)
-def test_link(fragment: str, told: str, page: Page) -> None:
+@pytest.mark.parametrize("fragment, message", LINKS.values(), ids=LINKS)
+def test_link(fragment: str, message: str, page: Page) -> None:
     top = page.address
-    assert page.open_link(fragment) == told
+    assert page.open_link(fragment) == message
     page.open(top + fragment)
     page.ready()
-    assert page.text("said") == told
+    assert page.text("said") == message
 
 
 @pytest.mark.parametrize("length", (0, 56, 60, 68, 8388604, 8388616))
@@ -86,71 +88,8 @@ def test_longest_image(page: Page) -> None:
 def test_from_a_folder(page: Page, host: Host) -> None:
     """A browser refuses the page's scripts."""
     page.open((host.folder / "index.html").as_uri())
-    page.until(f"getComputedStyle({the('absent')}).visibility === 'visible'")
+    page.until("probes.style(the('absent')).visibility === 'visible'")
     assert "python3 -m http.server --bind 127.0.0.1" in page.text("absent")
-
-
-def folder_in(page: Path) -> Path:
-    """The folder of the page's files beside index.html."""
-    (found,) = (it.parent for it in page.glob("*/page.js"))
-    return found
-
-
-def changed(name: str, change: Callable[[bytes], bytes]) -> Callable[[Path], None]:
-    """A change of a file of the page."""
-
-    def change_it(page: Path) -> None:
-        path = folder_in(page) / name
-        path.write_bytes(change(path.read_bytes()))
-
-    return change_it
-
-
-def without_memories(page: Path) -> None:
-    """Asks the browser for a kind of memory that none has, as 64 bits are for older ones, and gives it a
-    library with such a memory."""
-    changed("rsp/module.js", lambda it: it.replace(b"[5, 3, 1, 4, 0]", b"[5, 3, 1, 68, 0]"))(page)
-    changed("rsp/rsp.wasm", lambda it: it[:8] + bytes([5, 3, 1, 68, 0]))(page)
-
-
-def absent(name: str) -> Callable[[Path], None]:
-    return lambda page: (folder_in(page) / name).unlink()
-
-
-PAGE_OF_HOST = b"<!doctype html>\n<title>Not here</title>\n"
-LACKING = {
-    "memories": (
-        without_memories,
-        "rsp needs WebAssembly with 64-bit memories: Chrome and Edge have them since 133, Firefox since 134, "
-        "Node since 24, or since 20 with --experimental-wasm-memory64; Safari hasn't.",
-    ),
-    "rsp.wasm": (absent("rsp/rsp.wasm"), "rsp.wasm isn't served: 404 File not found."),
-    "half of rsp.wasm": (
-        changed("rsp/rsp.wasm", lambda it: it[:100000]),
-        "rsp.wasm isn't whole: 100000 bytes came, which are no module.",
-    ),
-    "HTML for rsp.wasm": (
-        changed("rsp/rsp.wasm", lambda _: PAGE_OF_HOST),
-        'rsp.wasm isn\'t a module of WebAssembly: it begins with "<!doctype html>\\n", so something else was '
-        "served.",
-    ),
-    "worker.js": (
-        absent("worker.js"),
-        "worker.js isn't served: 404 File not found. A newer page may be there: reload it.",
-    ),
-    "HTML for worker.js": (
-        changed("worker.js", lambda _: PAGE_OF_HOST),
-        "worker.js isn't served: the server has answered with HTML.",
-    ),
-    "rsp.js": (
-        absent("rsp/rsp.js"),
-        "rsp.js isn't served: 404 File not found. A newer page may be there: reload it.",
-    ),
-    "a module of the library": (
-        absent("rsp/errors.js"),
-        "rsp.js is served, but the browser hasn't taken it, or a module that it imports.",
-    ),
-}
 
 
 @pytest.fixture
@@ -159,20 +98,51 @@ def lacking(host: Host, folder: Path) -> Path:
     return Path(shutil.copytree(host.folder, folder / "page"))
 
 
-@pytest.mark.parametrize("change, told", LACKING.values(), ids=LACKING)
-def test_without(change: Callable[[Path], None], told: str, page: Page, lacking: Path) -> None:
+HTML, ABSENT = b"<!doctype html>\n<title>Not here</title>\n", "isn't served: 404 File not found."
+NEWER = "A newer page may be there: reload it."
+NO_MEMORIES = (
+    "rsp needs WebAssembly with 64-bit memories: Chrome and Edge have them since 133, Firefox since 134, "
+)
+NO_MEMORIES += "Node since 24, or since 20 with --experimental-wasm-memory64; Safari hasn't."
+NO_MODULE = (
+    'rsp.wasm isn\'t a module of WebAssembly: it begins with "<!doctype html>\\n", so something else was '
+)
+NO_MODULE += "served."
+# A kind of memory that no browser has, as 64 bits are for older ones: the library asks for it, and has it.
+NONE = bytes([5, 3, 1, 68, 0])
+MEMORIES = {
+    "rsp/module.js": lambda it: it.replace(b"[5, 3, 1, 4, 0]", str([*NONE]).encode()),
+    "rsp/rsp.wasm": lambda it: it[:8] + NONE,
+}
+# What is made of files of the page, None for those that aren't there, and what the page says then.
+LACKING: List[Tuple[Dict[str, Any], str]] = [
+    (MEMORIES, NO_MEMORIES),
+    ({"rsp/rsp.wasm": None}, f"rsp.wasm {ABSENT}"),
+    ({"rsp/rsp.wasm": lambda it: it[:9999]}, "rsp.wasm isn't whole: 9999 bytes came, which are no module."),
+    ({"rsp/rsp.wasm": lambda _: HTML}, NO_MODULE),
+    ({"worker.js": None}, f"worker.js {ABSENT} {NEWER}"),
+    ({"worker.js": lambda _: HTML}, "worker.js isn't served: the server has answered with HTML."),
+    ({"rsp/rsp.js": None}, f"rsp.js {ABSENT} {NEWER}"),
+    (
+        {"rsp/errors.js": None},
+        "rsp.js is served, but the browser hasn't taken it, or a module that it imports.",
+    ),
+]
+
+
+@pytest.mark.parametrize("changes, message", LACKING, ids=(it[:25] for _, it in LACKING))
+def test_without(changes: Dict[str, Any], message: str, page: Page, lacking: Path) -> None:
     """What the page says that lacks something: when it is opened, and when a script is run."""
-    change(lacking)
-    odd = Host(lacking)
-    try:
-        page.open(odd.url)
-        page.until(f"{the('ran')}.textContent === {json.dumps(told)}")
+    for name, change in changes.items():
+        (path,) = lacking.glob(f"*/{name}")
+        path.write_bytes(change(path.read_bytes())) if change else path.unlink()
+    with Host(lacking) as host:
+        page.open(host.url)
+        page.until(f"the('ran').textContent === {json.dumps(message)}")
         page.click("run")
-        assert page.ended() == told
-        page.open(odd.url + linked(b"step\n"))
-        page.until(f"{the('said')}.textContent === {json.dumps(told)}")
-    finally:
-        odd.stop()
+        assert page.ended() == message
+        page.open(host.url + linked(b"step\n"))
+        page.until(f"the('said').textContent === {json.dumps(message)}")
 
 
 @pytest.mark.parametrize("name", ("page.js", "worker.js", "rsp.js"))
@@ -181,9 +151,9 @@ def test_wrong_type(name: str, page: Page, lacking: Path) -> None:
     server = Server({"page": lacking}, {name: "text/plain"})
     try:
         page.open(f"http://127.0.0.1:{server.server_address[1]}/page/index.html")
-        told = f"{name} is served as text/plain, and browsers take modules as text/javascript: the server "
-        told += "needs a type for .js."
-        page.until(f"document.body.innerText.includes({json.dumps(told)})")
+        message = f"{name} is served as text/plain, and browsers take modules as text/javascript: the server "
+        message += "needs a type for .js."
+        page.until(f"document.body.innerText.includes({json.dumps(message)})")
     finally:
         server.shutdown()
         server.server_close()
@@ -191,5 +161,55 @@ def test_wrong_type(name: str, page: Page, lacking: Path) -> None:
 
 def test_without_a_library(folder: Path) -> None:
     with pytest.raises(Refused) as refused:
-        pages.make(folder / "none", folder)
+        web_page.make(folder / "none", folder)
     assert str(refused.value) == f"there is no {folder}/rsp.wasm: tools/systems wasm64 makes it"
+
+
+# Upgrades: index.html names the files of its version, in a folder whose name is a hash of their contents.
+
+# The version of the style, of the page's script, and of the worker, which adds it to the replies.
+VERSIONS = """[probes.style(document.documentElement).getPropertyValue("--version").trim(),
+  document.documentElement.dataset.version, all("#replies li:last-child samp:last-child")[0]?.textContent]"""
+
+
+def version(number: int) -> web_page.Files:
+    """The page's files, changed so that three of them show a version number."""
+    files = web_page.parts(web_page.LIBRARY)
+    files["style.css"] += f":root {{ --version: {number}; }}\n".encode()
+    files["page.js"] += f'document.documentElement.dataset.version = "{number}";\n'.encode()
+    end, more = b"replies.push(session.end());", f'replies.push(new TextEncoder().encode("{number}\\n"));'
+    assert end in files["worker.js"]
+    files["worker.js"] = files["worker.js"].replace(end, more.encode())
+    return files
+
+
+def write_version(site: Path, number: int) -> None:
+    """Writes a version into a folder, with times of 1973 and 1976, so that browsers cache it for years."""
+    web_page.write(site, version(number))
+    for path in site.rglob("*"):
+        os.utime(path, (number * 1e8, number * 1e8))
+
+
+@pytest.mark.parametrize("keeps_old_files", (False, True))
+def test_reload_after_an_upgrade(page: Page, folder: Path, keeps_old_files: bool) -> None:
+    """A reload shows the new style, script and worker, although the browser has cached the old ones."""
+    (folder / "site").mkdir()
+    write_version(folder / "site", 1)
+    with Host(folder / "site") as host:
+        page.open(host.url)
+        for number in (1, 2):
+            page.until(f"document.documentElement.dataset.version === '{number}'")
+            page.ready()
+            page.settle()
+            assert page.value(VERSIONS) == 3 * [str(number)]
+            for old in [*host.folder.iterdir()] if number == 1 and not keeps_old_files else ():
+                shutil.rmtree(old) if old.is_dir() else old.unlink()
+            write_version(host.folder, 2)
+            page.call("Page.reload")
+
+
+def test_folder_name(host: Host) -> None:
+    """The folder's name changes with each single file."""
+    files = web_page.parts(web_page.LIBRARY)
+    changed = {web_page.name_of({**files, name: content + b" "}) for name, content in files.items()}
+    assert len({web_page.name_of(files), *changed}) == len(files) + 1

@@ -2,12 +2,11 @@
 whom it asks."""
 
 import time
-from pathlib import Path
-from typing import Any, List
+from typing import List
 
 import pytest
 
-from lib.systems.page_driver import CONTROL, DOWN, ENTER, SHOWN, TAB, Host, Page, the
+from lib.systems.page_driver import CONTROL, DOWN, ENDLESS, ENTER, ESCAPE, TAB, Host, Page
 from rsp_tools.systems import manual
 
 pytestmark = pytest.mark.xdist_group("page")
@@ -16,29 +15,6 @@ pytestmark = pytest.mark.xdist_group("page")
 CONTROLS = ["run", "example", "link", "more", "script", "answers"]
 MENU = "open-script save-script explain strict whole save-replies open-image save-image".split()
 MENU += ["Tutorial", "Commands", "Instructions", "Faults"]
-ENDLESS = "asm 0\nj 0\nnop\nend\n" + 5000 * "run 1000000\n"
-# The least contrast of a text with its ground, of all that are shown.
-CONTRAST = """(() => {
-  const numbers = (colour) => colour.match(/[\\d.]+/g).map(Number);
-  const part = (it) => it <= 10.31 ? it / 3294.6 : ((it / 255 + 0.055) / 1.055) ** 2.4;
-  const light = ([r, g, b]) => 0.2126 * part(r) + 0.7152 * part(g) + 0.0722 * part(b);
-  const ground = (it) => {
-    const found = numbers(getComputedStyle(it).backgroundColor);
-    return found[3] === 0 && it.parentElement ? ground(it.parentElement) : found;
-  };
-  const contrast = (it) => {
-    const [low, high] = [light(numbers(getComputedStyle(it).color)), light(ground(it))].sort((a, b) => a - b);
-    return (high + 0.05) / (low + 0.05);
-  };
-  const has_text = (it) => [...it.childNodes].some((node) => node.nodeType === 3 && node.data.trim());
-  return Math.min(...[...document.querySelectorAll("body *")].filter(has_text).map(contrast));
-})()"""
-
-
-def path_of(name: str, host: Host) -> Path:
-    """A page's file on the server."""
-    (path,) = (*host.folder.glob(name), *host.folder.glob(f"*/{name}"))
-    return path
 
 
 # By keys alone.
@@ -48,13 +24,16 @@ def focus(page: Page) -> str:
     return str(page.value("document.activeElement.id || document.activeElement.textContent"))
 
 
-def go_to(page: Page, name: str) -> None:
-    """Presses Tab until a control has the focus."""
-    reached = [focus(page)]
-    while reached[-1] != name:
-        assert len(reached) < 20, f"Tab doesn't reach {name}: {reached}"
-        page.press(TAB)
-        reached.append(focus(page))
+def go_to(page: Page, *names: str) -> None:
+    """Presses Tab until a control has the focus; if more follow, opens it by Enter and goes on."""
+    for number, name in enumerate(names):
+        if number:
+            page.press(ENTER)
+        reached = [focus(page)]
+        while reached[-1] != name:
+            assert len(reached) < 20, f"Tab doesn't reach {name}: {reached}"
+            page.press(TAB)
+            reached.append(focus(page))
 
 
 def order(page: Page, count: int) -> List[str]:
@@ -62,29 +41,29 @@ def order(page: Page, count: int) -> List[str]:
     reached = []
     for _ in range(count):
         page.press(TAB)
-        it = "getComputedStyle(document.activeElement).outlineStyle"
+        mark = "probes.style(document.activeElement).outlineStyle"
         if focus(page) == "script":
-            it = f"getComputedStyle({the('numbers')}).boxShadow"
-        reached.append(focus(page) if page.value(it) != "none" else "unseen")
+            mark = "probes.style(the('numbers')).boxShadow"
+        reached.append(focus(page) if page.value(mark) != "none" else "unseen")
     return reached
 
 
 def test_order_of_controls(page: Page) -> None:
     """All controls are reached, in order; the menu is opened by a key, and Escape closes it."""
     assert order(page, len(CONTROLS)) == CONTROLS
-    page.value(f"{the('run')}.focus()")
+    page.value("the('run').focus()")
     go_to(page, "more")
     page.press(ENTER)
     assert order(page, len(MENU)) == MENU
-    page.press("\ue00c")
-    assert not page.value(f"{the('menu')}.matches(':popover-open')")
+    page.press(ESCAPE)
+    assert not page.value("the('menu').matches(':popover-open')")
     assert focus(page) == "more"
 
 
 def test_run_by_keys(page: Page) -> None:
     go_to(page, "example")
     page.press(DOWN)
-    assert page.value(f"{the('example')}.value") == "1"
+    assert page.value("the('example').value") == "1"
     page.ended()
     go_to(page, "script")
     page.type("step\n")
@@ -94,9 +73,7 @@ def test_run_by_keys(page: Page) -> None:
     go_to(page, "run")
     page.press(ENTER)
     assert page.replies() == "step Done pc 004\nstep Done pc 008\n"
-    go_to(page, "more")
-    page.press(ENTER)
-    go_to(page, "save-replies")
+    go_to(page, "more", "save-replies")
     page.press(" ")
     assert page.download("replies.txt") == b"step Done pc 004\nstep Done pc 008\n"
 
@@ -116,9 +93,7 @@ def test_stop_by_keys(page: Page) -> None:
 def test_files_by_keys(name: str, page: Page) -> None:
     """Each button for files asks for one."""
     page.call("Page.setInterceptFileChooserDialog", enabled=True)
-    go_to(page, "more")
-    page.press(ENTER)
-    go_to(page, name)
+    go_to(page, "more", name)
     page.log.clear()
     page.press(ENTER)
     page.settle()
@@ -156,7 +131,7 @@ def filled(page: Page) -> Page:
     """The page with replies of all kinds, and a long line."""
     page.type(ALL + "# " + 120 * "ab" + "\n")
     page.run()
-    page.until("document.querySelectorAll('#replies p').length > 1")
+    page.until("all('#replies p').length > 1")
     return page
 
 
@@ -165,16 +140,13 @@ def filled(page: Page) -> Page:
 @pytest.mark.parametrize("scheme", ("light", "dark"))
 def test_contrast(scheme: str, is_old: bool, width: int, filled: Page) -> None:
     """Also of replies whose script was changed, and of the menu."""
-    if is_old:
-        filled.value(f"{the('answers')}.classList.add('old')")
-    parts = "[...document.querySelectorAll('#colours span, #numbers .fault')].map((it) => it.className)"
+    filled.value(f"the('answers').classList.toggle('old', {str(is_old).lower()})")
     with filled.sized(width, 800), filled.preferring(prefers_color_scheme=scheme):
-        filled.value(f"{the('menu')}.showPopover()")
-        contrast, ground = filled.value(CONTRAST), filled.value(
-            "getComputedStyle(document.body).backgroundColor"
-        )
-        found = filled.value(f"new Set({parts}).size")
-    assert found == 6
+        filled.value("the('menu').showPopover()")
+        contrast = filled.value("probes.contrast()")
+        ground = filled.value("probes.style(document.body).backgroundColor")
+        kinds = filled.value("new Set(all('#colours span, #numbers .fault').map((it) => it.className)).size")
+    assert kinds == 6
     assert contrast >= 4.5
     assert (ground == "rgb(255, 255, 255)") == (scheme == "light")
 
@@ -185,57 +157,9 @@ def test_contrast_of_help(scheme: str, page: Page, host: Host) -> None:
     found = {}
     with page.preferring(prefers_color_scheme=scheme):
         for name in manual.PAGES:
-            page.open(f"{host.url}{path_of(f'help/{name}.html', host).relative_to(host.folder)}#fault-30")
-            page.until("document.readyState === 'complete'")
-            found[name] = page.value(CONTRAST)
+            page.open(f"{host.url_of(f'help/{name}.html')}#fault-30")
+            found[name] = page.value("probes.contrast()")
     assert {name: it for name, it in found.items() if it < 4.5} == {}
-
-
-# The lines of the replies whose last letter can't be reached whole by scrolling: what is painted there is
-# another element, or it isn't on the screen.
-CUT_OFF = f"""(async () => {{
-  const scroller = {the('surface')}, cut = [];
-  const painted = () => new Promise((done) => requestAnimationFrame(() => requestAnimationFrame(done)));
-  for (const row of {the('replies')}.querySelectorAll("samp:not(.folded), p, code")) {{
-    let text = row;
-    while (text.lastChild) text = text.lastChild;
-    if (!text.length) continue;
-    const last = document.createRange();
-    last.setStart(text, text.length - 1);
-    last.setEnd(text, text.length);
-    scroller.scrollBy(0, last.getBoundingClientRect().top - scroller.getBoundingClientRect().top - 80);
-    scroller.scrollTo(0, scroller.scrollTop);
-    const beyond = last.getBoundingClientRect().right - scroller.getBoundingClientRect().right;
-    if (beyond > -20) scroller.scrollBy(beyond + 50, 0);
-    scrollBy(0, last.getBoundingClientRect().top - 0.7 * innerHeight);
-    const box = last.getBoundingClientRect();
-    const seen = (part) => document.elementFromPoint((box.left + box.right) / 2, box.top + part * box.height);
-    if (![0.15, 0.5, 0.85].every((it) => row.contains(seen(it)))) cut.push(row.textContent);
-  }}
-  return cut;
-}})()"""
-
-
-# The texts outside the script and the replies, whose first or last letter isn't painted where it is.
-HIDDEN = """(() => {
-  const texts = document.createTreeWalker(document.body, NodeFilter.SHOW_TEXT), hidden = [];
-  const is_painted = (text, at) => {
-    const letter = document.createRange();
-    letter.setStart(text, at);
-    letter.setEnd(text, at + 1);
-    const top = letter.getBoundingClientRect().top;
-    scrollBy(0, top - innerHeight / 2);
-    const box = letter.getBoundingClientRect();
-    const seen = document.elementFromPoint((box.left + box.right) / 2, (box.top + box.bottom) / 2);
-    return !box.width || seen === text.parentElement;
-  };
-  for (let text; text = texts.nextNode();) {
-    const first = text.data.search(/\\S/), last = text.data.trimEnd().length - 1;
-    if (first < 0 || text.parentElement.closest("#surface, h1")) continue;
-    if (![first, last].every((at) => is_painted(text, at))) hidden.push(text.data);
-  }
-  return hidden;
-})()"""
 
 
 @pytest.mark.parametrize("text", (100, 200))
@@ -245,39 +169,27 @@ def test_nothing_is_cut_off(width: int, text: int, filled: Page) -> None:
     wider than the screen."""
     height = {320: 568, 360: 740, 412: 915, 768: 1024}.get(width, 800)
     with filled.sized(width, height, text=text, is_mobile=width < 900):
-        wide, cut = filled.value("document.documentElement.scrollWidth"), filled.value(CUT_OFF)
-        hidden = filled.value(HIDDEN)
-        rows = filled.value(f"{the('replies')}.querySelectorAll('samp:not(.rest)').length")
+        wide, cut_off = filled.value("document.documentElement.scrollWidth"), filled.value("probes.cut_off()")
+        hidden = filled.value("probes.hidden()")
+        rows = filled.value("all('#replies samp:not(.rest)').length")
     assert wide <= width
-    assert cut == [] and hidden == []
+    assert cut_off == [] and hidden == []
     assert rows == 3 + 9 + 32 + 8 + 1 + 17 + 4 + 8
 
 
 def test_size_for_a_finger(page: Page) -> None:
     """On a screen that is touched each control has 44 pixels both ways, or fills its line."""
-    page.call("Emulation.setTouchEmulationEnabled", enabled=True)
     with page.sized(360, 740, pixel=3, is_mobile=True), page.preferring(pointer="coarse"):
-        page.value(f"{the('menu')}.showPopover()")
+        page.value("the('menu').showPopover()")
         is_coarse = page.value("matchMedia('(pointer: coarse)').matches")
-        small = page.value(
-            """[...document.querySelectorAll('button, select, nav a, label')]
-          .filter((it) => it.offsetHeight && !it.closest('#replies'))
-          .filter((it) => it.offsetHeight < 44 || it.offsetWidth < 44).map((it) => it.id || it.textContent)"""
-        )
-    page.call("Emulation.setTouchEmulationEnabled", enabled=False)
+        small = page.value("probes.small()")
     assert is_coarse and small == []
-
-
-def nodes(page: Page) -> Any:
-    """What a program gets that reads the page aloud."""
-    return [it for it in page.call("Accessibility.getFullAXTree")["nodes"] if not it["ignored"]]
 
 
 def test_names(filled: Page) -> None:
     """Each control has a name, and there are live regions."""
     roles = {"button", "combobox", "textbox", "checkbox", "link", "region", "navigation", "status", "heading"}
-    found = [(it.get("role", {}).get("value"), it.get("name", {}).get("value", "")) for it in nodes(filled)]
-    named = [it for it in found if it[0] in roles]
+    named = [(role, name) for role, name, _ in filled.read_aloud() if role in roles]
     assert [role for role, name in named if not name and role != "status"] == []
     controls = [it for it in named if it[0] in ("button", "combobox", "textbox", "checkbox")]
     assert len(controls) == len(["run", "example", "link", "more", "script", "faults", "again"])
@@ -287,11 +199,9 @@ def test_names(filled: Page) -> None:
 
 def test_script_is_read_aloud(filled: Page) -> None:
     """The script is a text area with its text; what is drawn below it isn't read."""
-    (box,) = (it for it in nodes(filled) if it["role"]["value"] == "textbox")
-    assert box["value"]["value"] == filled.script
-    texts = [it["name"]["value"] for it in nodes(filled) if it["role"]["value"] == "StaticText"]
-    drawn = filled.value(f"{the('colours')}.textContent")
-    assert "lqv" in drawn and texts.count("lqv") == 0
+    nodes = filled.read_aloud()
+    assert [value for role, _, value in nodes if role == "textbox"] == [filled.script]
+    assert "lqv" in filled.text("colours") and ("StaticText", "lqv", "") not in nodes
 
 
 @pytest.mark.parametrize("count", (5, 18000))
@@ -304,62 +214,34 @@ def test_many_lines_are_read_aloud(count: int, page: Page) -> None:
     page.click("run")
     page.ended()
     took = time.monotonic() - begun
-    items = [it for it in nodes(page) if it["role"]["value"] == "listitem"]
+    items = [role for role, _, _ in page.read_aloud()].count("listitem")
     page.call("Accessibility.disable")
-    assert page.value(SHOWN) == count
-    assert len(items) == count if count == 5 else 200 <= len(items) <= 500
+    assert page.count() == count
+    assert items == count if count == 5 else 200 <= items <= 500
     assert took < 20
 
 
 def test_sources(page: Page, host: Host) -> None:
     """The page asks its own host for its own files, and nobody else for anything."""
     page.type("step\n")
-    page.saved("save-script", "script.rsp")
+    page.saved_script()
     page.open(host.url)
     page.run()
     urls = {it["request"]["url"] for it in page.events("Network.requestWillBeSent")}
     assert [it for it in urls if not it.startswith((host.url, "data:", "blob:", "about:"))] == []
-    (folder,) = (it.name for it in host.folder.iterdir() if it.is_dir())
-    assert f"{host.url}{folder}/page.js" in urls
+    assert host.url_of("page.js") in urls
 
 
-rules_of = pytest.mark.parametrize("name", ("index.html", "help/SCRIPT.html"))
-# What the rules refuse of things that no page needs: a form last, since it would lead elsewhere.
-REFUSED = """(async () => {
-  const refused = [];
-  document.addEventListener("securitypolicyviolation", (it) => refused.push(it.effectiveDirective));
-  const made = (name, values) => Object.assign(document.createElement(name), values);
-  const put = (...words) => document.body.appendChild(made(...words));
-  put("script", { textContent: "document.title = 'changed'" });
-  put("script", { src: "data:text/javascript,1" });
-  put("style", { textContent: "body { color: red }" });
-  put("img", { src: "http://localhost:1/" });
-  put("iframe", { src: "https://localhost:1/" });
-  put("base", { href: "http://localhost:1/" });
-  await fetch("http://localhost:1/").catch(() => {});
-  try { new Worker("data:text/javascript,1"); } catch {}
-  put("form", { action: "http://localhost:1/" }).submit();
-  const end = Date.now() + 20000; // the form's refusal comes some time later
-  while (new Set(refused).size < 8 && Date.now() < end) await new Promise((done) => setTimeout(done, 50));
-  return [document.title, [...new Set(refused)].sort()];
-})()"""
-WANTED = """
+REFUSED = """
 base-uri connect-src form-action frame-src img-src script-src-elem style-src-elem worker-src
 """.split()
-# Whether an image is shown that is in an address, as the page's empty icon is.
-IMAGE = """new Promise((done) => Object.assign(new Image(), {
-  src: "data:image/gif;base64,R0lGODlhAQABAAAAACwAAAAAAQABAAA=",
-  onload: () => done(true),
-  onerror: () => done(false),
-}))"""
 
 
-@rules_of
+@pytest.mark.parametrize("name", ("index.html", "help/SCRIPT.html"))
 def test_rules(name: str, page: Page, host: Host) -> None:
     """The rules refuse what no page needs. That they allow what a page needs all other tests show, except for
     the icon."""
-    page.open(f"{host.url}{path_of(name, host).relative_to(host.folder)}")
-    page.until("document.readyState === 'complete'")
+    page.open(host.url_of(name))
     title = page.value("document.title")
-    assert page.value(IMAGE)
-    assert page.value(REFUSED) == [title, WANTED]
+    assert page.value("probes.image()")
+    assert page.value("probes.refused()") == [title, REFUSED]

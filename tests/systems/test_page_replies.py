@@ -7,52 +7,25 @@ too.
 
 import json
 import re
+
 import pytest
 
 import rsp
-from lib.systems.page_driver import CONTROL, LINES, SHOWN, Page, the
+from lib.systems.page_driver import CONTROL, ENDLESS, SELECTED, Page
 
 pytestmark = pytest.mark.xdist_group("page")
-MARKED = f"[...{the('numbers')}.querySelectorAll('.fault')].map((it) => Number(it.textContent))"
-SELECTED = f"{the('script')}.value.slice({the('script')}.selectionStart, {the('script')}.selectionEnd)"
-EXPLAINED = "[...document.querySelectorAll('#replies p')].map((it) => it.textContent)"
-BUTTONS = "[...document.querySelectorAll('#replies button')]"
+MARKED = "[...the('numbers').querySelectorAll('.fault')].map((it) => Number(it.textContent))"
+BESIDE = "probes.beside()"  # the line of each reply, and how far below that line it is, in rows
+BUTTONS = "all('#replies button')"
 FOLDS = f"{BUTTONS}.map((it) => it.textContent)"
-# The line of each reply, and how far below that line it is, in rows.
-BESIDE = f"""[...document.querySelectorAll('#replies > li')].map((it) => {{
-  const number = document.querySelectorAll('#numbers > div')[it.dataset.line - 1];
-  const off = it.getBoundingClientRect().top - number.getBoundingClientRect().top;
-  return [Number(it.dataset.line), off / {the('probe')}.getBoundingClientRect().height];
-}})"""
-# What each item shows: the line that it is of, and its texts.
-ITEMS = """[...document.querySelectorAll('#replies > li')].map((it) =>
-  [it.dataset.line ?? '', ...[...it.querySelectorAll('code, em, samp')].map((it) => it.textContent)])"""
-
-
+TOP = "probes.box(the('surface')).top"
+CHANGE_VIEW = "the('view').offsetWidth && the('view').click()"  # on a narrow screen: to replies or back
 LONG = "asm 0\n" + "nop\n" * 1000 + "end\n" + "#\n" * 1000
-
-
-def answered(page: Page, script: str) -> None:
-    """Types a script, and runs it."""
-    page.type(script)
-    page.click("run")
-    page.ended()
-    page.painted()
-
-
-def insert(page: Page, at: int, text: str) -> None:
-    """Types a text somewhere in the script."""
-    page.value(f"({the('script')}.focus(), {the('script')}.setSelectionRange({at}, {at}))")
-    page.call("Input.insertText", text=text)
-    page.painted()
+LINES = {"vregs": 32, "regs": 9, "step": 1}  # how many lines a reply has
 
 
 def is_in_view(page: Page, selector: str) -> bool:
-    box, it = f"{the('surface')}.getBoundingClientRect()", f"document.querySelector('{selector}')"
-    inside = (
-        f"((box, it) => box.top <= it.top && it.bottom <= box.bottom)({box}, {it}.getBoundingClientRect())"
-    )
-    return bool(page.value(inside))
+    return bool(page.value(f"probes.is_in_view('{selector}')"))
 
 
 def replies_to(script: str) -> str:
@@ -65,7 +38,7 @@ def replies_to(script: str) -> str:
 
 def test_replies_are_beside_their_lines(page: Page) -> None:
     """Long ones fold as far as they would push the next one down, and are unfolded by a key."""
-    answered(page, "step\nvregs\n\nasm 0\nnop\nend\nregs\nstep\nregs\n")
+    page.answered("step\nvregs\n\nasm 0\nnop\nend\nregs\nstep\nregs\n")
     assert page.value(BESIDE) == [[1, 0], [2, 0], [6, 0], [7, 0], [8, 0], [9, 0]]
     assert page.value(FOLDS) == ["+28", "+8"]
     page.value(f"{BUTTONS}[1].focus()")
@@ -80,10 +53,10 @@ def test_replies_are_beside_their_lines(page: Page) -> None:
 
 def test_replies_go_with_their_lines(page: Page) -> None:
     """Until the script runs again, replies stay beside the lines that they are of, and are seen to be old."""
-    answered(page, "step\nstep\nregs\n")
-    ink = f"getComputedStyle({the('replies')}.firstElementChild.firstElementChild).color"
+    page.answered("step\nstep\nregs\n")
+    ink = "probes.style(the('replies').firstElementChild.firstElementChild).color"
     before = page.value(ink)
-    insert(page, 5, "pc 0\n\n")
+    page.insert(5, "pc 0\n\n")
     assert page.value(BESIDE) == [[1, 0], [4, 0], [5, 0]]
     assert page.value(ink) != before
 
@@ -92,12 +65,12 @@ def test_replies_go_with_their_lines(page: Page) -> None:
 def test_first_line(width: int, most: int, page: Page) -> None:
     """The script begins near the top, also when a run has had faults, and then its replies do."""
     with page.sized(width, 740, is_mobile=width < 400):
-        page.value(f"{the('view')}.offsetWidth && {the('view')}.click()")
-        top = page.value(f"{the('text')}.getBoundingClientRect().top")
-        answered(page, "foo\nstep\nfoo\n")
-        after = page.value(f"{the('surface')}.getBoundingClientRect().top")
-        page.value(f"{the('view')}.offsetWidth && {the('view')}.click()")
-        again = page.value(f"{the('surface')}.getBoundingClientRect().top")
+        page.value(CHANGE_VIEW)
+        top = page.value("probes.box(the('text')).top")
+        page.answered("foo\nstep\nfoo\n")
+        after = page.value(TOP)
+        page.value(CHANGE_VIEW)
+        again = page.value(TOP)
     assert 30 < top <= most and max(after, again) <= most
 
 
@@ -105,15 +78,7 @@ def test_first_line(width: int, most: int, page: Page) -> None:
 def test_room_is_taken_once(width: int, page: Page) -> None:
     """Where replies just have room beside the script, or just not, the page doesn't go to and fro."""
     with page.sized(width, 600):
-        count = page.value(
-            f"""new Promise((done) => {{
-          let count = 0;
-          const seen = new MutationObserver((them) => count += them.length);
-          seen.observe({the('surface')}, {{ attributeFilter: ["class"] }});
-          setTimeout(() => done(count), 300);
-        }})"""
-        )
-    assert count == 0
+        assert page.value("probes.changes()") == 0
 
 
 @pytest.mark.parametrize("width, height", ((360, 740), (640, 400)), ids=("telephone", "zoom of 200 %"))
@@ -121,12 +86,12 @@ def test_run_on_a_small_screen(width: int, height: int, page: Page) -> None:
     """Run is in view at first; then each reply is below its line, whole; a fault comes into view; a line
     leads back to the script."""
     with page.sized(width, height, is_mobile=True):
-        run = page.value(f"{the('run')}.getBoundingClientRect().bottom")
+        run = page.value("probes.box(the('run')).bottom")
         page.click("view")
-        answered(page, "# a\n\nstep\nregs\nasm 0\nnop\n")
-        found = page.value(ITEMS)
+        page.answered("# a\n\nstep\nregs\nasm 0\nnop\n")
+        items = page.value("probes.items()")
         page.click("view")
-        answered(page, "step\n" * 50 + "x\n" + "step\n" * 50)
+        page.answered("step\n" * 50 + "x\n" + "step\n" * 50)
         page.click("faults")
         page.settle()
         is_seen = is_in_view(page, "li.fault")
@@ -134,54 +99,44 @@ def test_run_on_a_small_screen(width: int, height: int, page: Page) -> None:
         page.settle()
         chosen = page.value(f"[document.activeElement.id, {SELECTED}]")
     assert run < height
-    assert [it[:2] for it in found] == [
-        *[[str(n + 1), it] for n, it in enumerate(("# a", "", "step", "regs", "asm 0", "nop"))],
-        ["", "the script's end"],
-    ]
-    assert [len(it) - 2 for it in found] == [0, 0, 1, 9, 0, 0, 1]
+    lines = enumerate(("# a", "", "step", "regs", "asm 0", "nop"), 1)
+    assert [it[:2] for it in items] == [*([str(n), line] for n, line in lines), ["", "the script's end"]]
+    assert [len(it) - 2 for it in items] == [0, 0, 1, 9, 0, 0, 1]
     assert is_seen and chosen == ["script", "x"]
 
 
 def test_next_reply(page: Page) -> None:
     """Where no reply is in view, as after a long block, a button leads to the next one; then it goes."""
-    shown, button = f"{the('below')}.innerText.trim()", f"{the('below')}.firstElementChild"
-    for script, told in ("step\n" + "#\n" * 1000, ""), (LONG, "Next reply: line 1,002 \u2193"):
-        answered(page, script)
-        page.value(f"({the('surface')}.scrollTo(0, 0), 0)")
-        page.painted()
-        assert page.value(shown) == told
+    shown = "the('below').innerText.trim()"
+    for script, label in ("step\n" + "#\n" * 1000, ""), (LONG, "Next reply: line 1,002 \u2193"):
+        page.answered(script)
+        page.scroll("0")
+        assert page.value(shown) == label
     assert is_in_view(page, "#below > button")
-    page.value(f"{button}.click()")
+    page.value("the('below').firstElementChild.click()")
     page.painted()
     assert is_in_view(page, "#replies samp") and page.value(shown) == ""
-    page.value(f"({the('surface')}.scrollTo(0, 1e9), 0)")
-    page.painted()
+    page.scroll("1e9")
     assert page.value(shown) == ""
 
 
 def test_long_line_goes_on(page: Page) -> None:
     """A line that goes on below the replies is seen to: it fades there."""
-    fade = f"getComputedStyle({the('answers')}, '::before').content"
     with page.sized(768, 800):
-        answered(page, f"load dmem 0 {'00' * 40}\nvregs\n")
-        assert page.value(fade) != "none"
-        answered(page, "vregs\n")
-        assert page.value(fade) == "none"
+        for script, fades in (f"load dmem 0 {'00' * 40}\nvregs\n", True), ("vregs\n", False):
+            page.answered(script)
+            assert (page.value("getComputedStyle(the('answers'), '::before').content") != "none") == fades
 
 
 @pytest.mark.parametrize("button, off, line", ((0, -20, 2), (1, 10, 3), (2, 20, 4)))
 def test_fold_by_a_finger(button: int, off: int, line: int, page: Page) -> None:
     """A finger beside a button for folding means it, also where it reaches the one of the next line."""
-    page.call("Emulation.setTouchEmulationEnabled", enabled=True)
     with page.preferring(pointer="coarse"), page.sized(768, 800):
-        answered(page, "step\nvregs\nregs\nsp\nstep\nstep\n")
-        box = page.value(f"{BUTTONS}[{button}].getBoundingClientRect().toJSON()")
-        row = page.value(f"{the('probe')}.getBoundingClientRect().height")
-        where = {"x": box["x"] + box["width"] / 2, "y": box["y"] + box["height"] / 2 + off}
-        for kind in "mousePressed", "mouseReleased":
-            page.call("Input.dispatchMouseEvent", type=kind, **where, button="left", clickCount=1)
+        page.answered("step\nvregs\nregs\nsp\nstep\nstep\n")
+        box = page.value(f"probes.box({BUTTONS}[{button}]).toJSON()")
+        row = page.value("probes.box(the('probe')).height")
+        page.tap(box["x"] + box["width"] / 2, box["y"] + box["height"] / 2 + off)
         found = page.value(f"{BUTTONS}.filter((it) => it.textContent === 'fold').map((it) => it.ariaLabel)")
-    page.call("Emulation.setTouchEmulationEnabled", enabled=False)
     assert row >= 24 and found == [f"Line {line}: fold its reply"]
 
 
@@ -190,41 +145,12 @@ def test_fold_by_a_finger(button: int, off: int, line: int, page: Page) -> None:
 
 def test_folded_replies_are_heard(page: Page) -> None:
     """A folded reply is whole for a program that reads the page aloud, and isn't seen."""
-    answered(page, "vregs\nstep\n")
-    nodes = [it for it in page.call("Accessibility.getFullAXTree")["nodes"] if not it["ignored"]]
-    heard = " ".join(it["name"]["value"] for it in nodes if it["role"]["value"] == "StaticText")
+    page.answered("vregs\nstep\n")
+    heard = " ".join(name for role, name, _ in page.read_aloud() if role == "StaticText")
     assert page.value(FOLDS) == ["+31"]
     assert all(re.search(rf"\bv{n:02} 0000", heard) for n in range(32))
-    assert page.value("getComputedStyle(document.querySelector('.folded')).clipPath") == "inset(50%)"
-    assert page.value(f"{the('surface')}.scrollHeight <= {the('surface')}.clientHeight")
-
-
-def copied(page: Page) -> str:
-    """What is copied of what is chosen, by the page or, where that does nothing, by the browser."""
-    return str(
-        page.value(
-            """(() => {
-          const data = new DataTransfer(), words = { clipboardData: data, bubbles: true, cancelable: true };
-          const is_plain = document.activeElement.dispatchEvent(new ClipboardEvent("copy", words));
-          return is_plain ? getSelection().toString() : data.getData("text/plain");
-        })()"""
-        )
-    )
-
-
-def choose(page: Page, first: int, begin: int, last: int, end: int) -> None:
-    """Chooses from a letter of a row of replies to one of another."""
-    page.value(
-        f"""(() => {{
-      const rows = document.querySelectorAll("#replies samp:not(.folded)");
-      const letters = (row, at) => {{
-        let text = rows[row];
-        while (text.lastChild) text = text.lastChild;
-        return [text, at];
-      }};
-      getSelection().setBaseAndExtent(...letters({first}, {begin}), ...letters({last}, {end}));
-    }})()"""
-    )
+    assert page.value("probes.style(document.querySelector('.folded')).clipPath") == "inset(50%)"
+    assert page.value("the('surface').scrollHeight <= the('surface').clientHeight")
 
 
 @pytest.mark.parametrize("width", (1000, 360))
@@ -234,37 +160,28 @@ def test_copying(width: int, page: Page) -> None:
     script = "step\nvregs\nregs\nfoo\nstep\n"
     rows = replies_to(script).splitlines()
     with page.sized(width, 600, is_mobile=width < 400):
-        page.value(f"{the('view')}.offsetWidth && {the('view')}.click()")
-        answered(page, script)
-        page.value(f"{the('answers')}.focus()")
-        choose(page, 0, 5, 0, 9)
-        assert copied(page) == "Done"
-        choose(
-            page, 1, 4, page.value(f"{the('replies')}.querySelectorAll('samp:not(.folded)').length") - 1, 3
-        )
-        assert copied(page).splitlines() == rows[1:]
+        page.value(CHANGE_VIEW)
+        page.answered(script)
+        page.value("the('answers').focus()")
+        for choice, copied in ("0, 5, 0, 9", ["Done"]), ("1, 4, -1, 3", rows[1:]):
+            page.value(f"probes.choose({choice})")
+            assert page.value("probes.copied()").splitlines() == copied
         page.press("a", CONTROL)
-        assert copied(page).splitlines() == rows
+        assert page.value("probes.copied()").splitlines() == rows
 
 
 def test_copying_of_replies_that_are_far(page: Page) -> None:
     """Ctrl+A in the replies takes those too that aren't near the view; in the script it takes the script."""
     script = "vregs\n" * 3000
-    answered(page, script)
-    page.value(f"{the('answers')}.focus()")
+    page.answered(script)
+    page.value("the('answers').focus()")
     page.press("a", CONTROL)
-    page.value(f"({the('surface')}.scrollTo(0, 1e6), 0)")
-    page.painted()
-    is_whole = copied(page) == replies_to(script)
+    page.scroll("1e6")
+    is_whole = page.value("probes.copied()") == replies_to(script)
     assert is_whole, "not all replies are copied"
-    page.value(f"{the('script')}.focus()")
+    page.value("the('script').focus()")
     page.press("a", CONTROL)
     assert page.value(SELECTED) == script
-
-
-PRINTED = """[...document.querySelectorAll("#replies code, #replies samp, #colours > div")]
-  .filter((it) => it.checkVisibility() && getComputedStyle(it).clipPath === "none")
-  .map((it) => it.textContent)"""
 
 
 @pytest.mark.parametrize("changed", ("", "# more\n"))
@@ -272,53 +189,48 @@ def test_printing(changed: str, page: Page) -> None:
     """On paper each line has its whole reply below it, however far; a script that was changed is there
     alone."""
     script = "vregs\nstep\n" * 150
-    answered(page, script)
+    page.answered(script)
     if changed:
-        insert(page, 0, changed)
+        page.insert(0, changed)
     page.call("Emulation.setEmulatedMedia", media="print")
     page.value("dispatchEvent(new Event('beforeprint'))")
     page.painted()
-    found = page.value(PRINTED)
-    place = page.value("getComputedStyle(document.querySelector('#replies li, #colours div')).position")
+    printed = page.value("probes.printed()")
+    position = page.value("probes.style(document.querySelector('#replies li, #colours div')).position")
     page.value("dispatchEvent(new Event('afterprint'))")
     page.call("Emulation.setEmulatedMedia", media="")
     page.painted()
     replies = iter(replies_to(script).splitlines())
     whole = [[it, *[next(replies) for _ in range(LINES[it])]] for it in script.splitlines()]
-    is_as_wanted = found == (f"{changed}{script}".split("\n") if changed else sum(whole, []))
-    assert is_as_wanted and place == "static"
+    is_as_expected = printed == (f"{changed}{script}".split("\n") if changed else sum(whole, []))
+    assert is_as_expected and position == "static"
     assert page.value(FOLDS)[0] == "+31"
-    assert page.value(f"{the('replies')}.childElementCount") < 300
+    assert page.value("the('replies').childElementCount") < 300
 
 
 # Faults.
-
-FAULTY = "step\nload rom 0 00\n\nasm 0\nnop\nli $1, 5\nend\nstep\nasm 8\n"
 
 
 def test_faults(page: Page) -> None:
     """Each fault is marked at its line of the script, those of blocks within them, and counted; the button
     leads from one to the next."""
-    answered(page, FAULTY)
+    page.answered("step\nload rom 0 00\n\nasm 0\nnop\nli $1, 5\nend\nstep\nasm 8\n")
     assert page.text("ran") == "Done: 9 lines."
     assert page.text("faults") == "3 faults"
     assert page.value(MARKED) == [2, 6, 10]
-    lines = []
-    for _ in range(4):
+    for line in ["load rom 0 00", "li $1, 5", "", "load rom 0 00"]:
         page.click("faults")
-        lines.append(page.value(SELECTED))
-        assert page.value("document.activeElement.id") == "script"
-    assert lines == ["load rom 0 00", "li $1, 5", "", "load rom 0 00"]
+        assert page.value(f"[document.activeElement.id, {SELECTED}]") == ["script", line]
     page.type("step\n")
     page.painted()
     assert page.value(MARKED) == []
-    answered(page, "step\n")
-    assert page.value(f"{the('faults')}.offsetHeight") == 0
+    page.answered("step\n")
+    assert page.value("the('faults').offsetHeight") == 0
 
 
 def test_fault_far_below(page: Page) -> None:
     """A fault that isn't in view comes into view, in the script and in the replies."""
-    answered(page, "regs\n" * 600 + "step 5\n")
+    page.answered("regs\n" * 600 + "step 5\n")
     page.click("faults")
     page.painted()
     assert page.value(MARKED) == [601]
@@ -342,25 +254,25 @@ REASONS = {
     "an operand": ("asm 0\nnop\nlqv $v1[0], 3($0)\nend\n", OPERAND, 3),
     "another assembler": ("asm 0\nmove $1, $2\nend\n", "Write: addu $1, $2, $0", 2),
     "a command": ("step\nmem dmem 0\n", "Write: mem BANK ADDR LEN (ADDR 0 to 16777215, LEN 1 to 256)", 2),
-    "a number": ("break 010\n", "Write: break ADDR (a multiple of 4 from 0 to 4092)", 1),
     "another": ("break 0\nbreak 0\n", "Nothing: it is set.", 2),
     "an unknown command": ("foo\n", "Use lower case; end only ends a block.", 1),
 }
 
 
-@pytest.mark.parametrize("script, said, line", REASONS.values(), ids=REASONS)
-def test_faults_are_explained(script: str, said: str, line: int, page: Page) -> None:
+@pytest.mark.parametrize("script, message, line", REASONS.values(), ids=REASONS)
+def test_faults_are_explained(script: str, message: str, line: int, page: Page) -> None:
     """At the line at fault, in the library's words for an operand."""
-    answered(page, script)
-    page.until(f"{EXPLAINED}.join(' ').includes({json.dumps(said)})")
+    page.answered(script)
+    explained = "all('#replies p').map((it) => it.textContent).join(' ')"
+    page.until(f"{explained}.includes({json.dumps(message)})")
     assert line in [it for it, off in page.value(BESIDE) if off == 0]
     assert page.value("document.querySelector('#replies p').parentElement.dataset.line") == str(line)
 
 
 def test_stop_at_the_first_fault(page: Page) -> None:
     """The run ends there, with the replies up to the fault, and the memory as it is."""
-    answered(page, "load rdram 0 01\nfoo\nload rdram 0 02\n")
-    assert page.value(SHOWN) == 3
+    page.answered("load rdram 0 01\nfoo\nload rdram 0 02\n")
+    assert page.count() == 3
     page.click("again")
     assert page.ended() == "Stopped at line 2."
     assert page.saved("save-replies", "replies.txt") == b"ok\nfault 30 BadCommand\n"
@@ -369,10 +281,10 @@ def test_stop_at_the_first_fault(page: Page) -> None:
 
 def test_example_during_a_run(page: Page) -> None:
     """It ends the run, and is run."""
-    page.type("asm 0\nj 0\nnop\nend\n" + 5000 * "run 1000000\n")
+    page.type(ENDLESS)
     page.click("run")
-    page.until(f"{SHOWN} > 1")
+    page.until("probes.count() > 1")
     page.choose(0)
     page.answer(True)
-    page.until(f"{the('ran')}.textContent === 'Done: 14 lines.'")
+    page.until("the('ran').textContent === 'Done: 14 lines.'")
     assert page.replies() == replies_to(page.script)

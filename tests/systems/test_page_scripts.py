@@ -10,15 +10,14 @@ from typing import Any, Tuple
 import pytest
 
 import rsp
-from lib.script_cases import Stored, stored
-from lib.systems.page_driver import ENTER, LINKED, SHOWN, Host, Page, linked, the, way_of
+from lib.script_cases import ScriptCase, all_cases
+from lib.systems.page_driver import ENDLESS, ENTER, FIRST, LINKED, Host, Page, linked, way_of
 from rsp_tools.systems import places
 
 pytestmark = pytest.mark.xdist_group("page")
 MOST = 400000  # lines that are shown
 BLOCK = 3  # lines of ENDLESS that have no reply
-ENDLESS = "asm 0\nj 0\nnop\nend\n" + 5000 * "run 1000000\n"
-ANSWERED = [it for it in stored() if not it.wanted[0]]
+ANSWERED = [it for it in all_cases() if not it.expected[0]]
 GIVEN = sorted(((way_of(n, it.script), it) for n, it in enumerate(ANSWERED)), key=lambda it: it[0])
 
 
@@ -37,28 +36,32 @@ def opened(host: Host, driver: Any, at: Path, request: pytest.FixtureRequest) ->
 
 
 @pytest.mark.parametrize("opened, script", GIVEN, indirect=["opened"], ids=str)
-def test_stored(opened: Tuple[Page, str], script: Stored) -> None:
+def test_stored(opened: Tuple[Page, str], script: ScriptCase) -> None:
     page, way = opened
-    image, wanted = script.image(), script.wanted[1]
+    image, expected = script.image(), script.expected[1]
     page.give(script.script, way)
     if image is None:
         page.click("zeros")
     else:
         page.open_image(image)
-    assert page.run() == wanted.decode()
-    assert page.saved("save-replies", "replies.txt") == wanted
+    assert page.run() == expected.decode()
+    assert page.saved("save-replies", "replies.txt") == expected
     left = rsp.run_script(script.script, bytes(1 << 22) if image is None else image)[1]
     is_left = page.saved("save-image", "rdram.bin") == bytes(left)
     assert is_left, "the page leaves another image"
 
 
 def test_examples(page: Page) -> None:
-    """Each example is a script of the repository, or assembles."""
-    options = "[...document.querySelectorAll('#example option')].slice(1).map((it) => it.textContent)"
-    held, found = {it.script for it in stored()}, []
-    for number, name in enumerate(page.value(options)):
+    """Each has a name by the words of the pages, and is a script of the repository, or assembles."""
+    groups = page.value("all('#example optgroup').map((it) => it.label)")
+    assert groups[:4] == ["First steps", "Vectors", "DMA and tasks", "Debugging"]
+    names = page.value("all('#example option').slice(1).map((it) => it.textContent)")
+    assert {FIRST, "back: a watch and steps back", "scalar: adds up three words"} <= {*names}
+    assert len(names) == len({*names})
+    held, found = {it.script for it in all_cases()}, []
+    for number, name in enumerate(names):
         page.choose(number)
-        script = page.saved("save-script", "script.rsp")
+        script = page.saved_script()
         found.append(script)
         if script not in held:
             words = len(script.splitlines()) - len(["a comment", "asm", "end", "dis"])
@@ -72,20 +75,18 @@ def test_examples(page: Page) -> None:
 def test_many_replies(page: Page) -> None:
     """Of many replies some are shown, and all are saved."""
     script = "vregs\n" * 13000
-    page.type(script)
-    page.click("run")
-    page.ended()
-    wanted = replies_to(script.encode())
-    assert page.value(SHOWN) == 13000 and page.text("unshown") == ""
+    page.answered(script)
+    expected = replies_to(script.encode())
+    assert page.count() == 13000 and page.text("unshown") == ""
     page.click("whole")
-    assert page.value(SHOWN) == MOST // 32
-    told = f"Line {MOST // 32 + 1:,} and those after it aren't shown. Save replies saves all."
-    assert page.text("unshown") == told
-    page.value(f"({the('surface')}.scrollTo(0, 1e9), 0)")
-    page.until(f"{the('replies')}.lastElementChild?.getAttribute('aria-posinset') === '{MOST // 32}'")
-    last = f"{the('replies')}.lastElementChild.lastElementChild.textContent"
-    assert page.value(last) == wanted.splitlines()[MOST - 1]
-    is_whole = page.saved("save-replies", "replies.txt").decode() == wanted
+    assert page.count() == MOST // 32
+    message = f"Line {MOST // 32 + 1:,} and those after it aren't shown. Save replies saves all."
+    assert page.text("unshown") == message
+    page.scroll("1e9")
+    page.until(f"the('replies').lastElementChild?.getAttribute('aria-posinset') === '{MOST // 32}'")
+    last = "the('replies').lastElementChild.lastElementChild.textContent"
+    assert page.value(last) == expected.splitlines()[MOST - 1]
+    is_whole = page.saved("save-replies", "replies.txt").decode() == expected
     assert is_whole, "not all replies are saved"
 
 
@@ -93,17 +94,17 @@ def test_stop(page: Page) -> None:
     """A run is stopped; the page is alive meanwhile, and the next run has a new machine."""
     page.type(ENDLESS)
     page.click("run")
-    page.until(f"{SHOWN} > 6")
+    page.until("probes.count() > 6")
     assert page.text("ran") == "Running"
-    assert not page.value(f"{the('stop')}.hidden")
+    assert not page.value("the('stop').hidden")
     page.type("step\n")
     assert page.script == "step\n"
     page.click("stop")
-    replies, count = page.replies(), page.value(SHOWN)
-    told = f"Stopped after {count + BLOCK:,} lines. The machine is gone: there is no RDRAM to save."
-    assert page.text("ran") == told
+    replies, count = page.replies(), page.count()
+    message = f"Stopped after {count + BLOCK:,} lines. The machine is gone: there is no RDRAM to save."
+    assert page.text("ran") == message
     assert 6 < count < 5001
-    assert page.is_disabled("save-image")
+    assert page.value("the('save-image').disabled")
     assert replies == "ok 2 words\n" + (count - 1) * "stop Limit steps 1000000 pc 000\n"
     assert page.run() == "step Done pc 004\n"
     is_new = page.saved("save-image", "rdram.bin") == bytes(1 << 22)
@@ -116,13 +117,13 @@ def test_link(script: bytes, page: Page) -> None:
     top = page.address
     page.open_file("script-file", script)
     carried = f"({len(script):,} of at most 24,000 bytes)."
-    assert page.told(lambda: page.click("link")).endswith(carried)
+    assert page.message_after(lambda: page.click("link")).endswith(carried)
     assert page.address == top + linked(script)
     page.open(page.address)
     page.ready()
     assert page.text("said") == "This script came by a link. Read it before you run it."
     assert page.text("ran") == "" and page.text("replies") == ""
-    assert page.saved("save-script", "script.rsp") == script
+    assert page.saved_script() == script
     assert page.run() == replies_to(script)
     assert page.text("said") == ""
     page.type("step\n")
@@ -134,12 +135,11 @@ def test_bytes_are_kept(page: Page) -> None:
     script = b"\xef\xbb\xbfstep\r\nstep\rregs \xff\x00\nstep\n"
     page.open_file("script-file", script)
     assert page.text("kept").startswith("This script has bytes that its text")
-    assert page.saved("save-script", "script.rsp") == script
-    page.value(f"({the('script')}.focus(), {the('script')}.setSelectionRange(0, 0))")
-    page.call("Input.insertText", text="# \u00e9\n")
+    assert page.saved_script() == script
+    page.insert(0, "# \u00e9\n")
     assert page.text("kept") == ""
     text = "# \u00e9\n" + script.replace(b"\r\n", b"\n").replace(b"\r", b"\n").decode(errors="replace")
-    assert page.saved("save-script", "script.rsp") == text.encode()
+    assert page.saved_script() == text.encode()
     assert page.run() == replies_to(text.encode())
 
 

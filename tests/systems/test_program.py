@@ -25,10 +25,8 @@ def test_command_lines(runner: Any, program: Path, folder: Path) -> None:
 
 
 # Names of devices whose bytes Windows may wait for. A file can have the last four under wine.
-DEVICES = [
-    "PRN .x",
-    *"CON con.txt no\\COM1 COM9: C:aux CONOUT$ COM0 lpt0.a.b Com\u00b9 LPT\u00b3.bin".split(),
-]
+DEVICES = "CON con.txt no\\COM1 COM9: C:aux CONOUT$ COM0 lpt0.a.b Com\u00b9 LPT\u00b3.bin".split()
+DEVICES.insert(0, "PRN .x")
 
 
 @on("windows-x86_64")
@@ -36,9 +34,9 @@ DEVICES = [
 def test_device(name: str, runner: Any) -> None:
     if name in DEVICES[-4:]:
         (runner.at / name).write_bytes(bytes(64))
-    for words, told in (("run --rdram", "read"), ("dis", "read"), ("run --save", "write")):
+    for words, action in (("run --rdram", "read"), ("dis", "read"), ("run --save", "write")):
         ended = runner.run(runner.folder / "bin/rsp.exe", *words.split(), name)
-        assert (ended.stdout, ended.returncode) == (f"rsp: cannot {told} {name}\n", 1)
+        assert (ended.stdout, ended.returncode) == (f"rsp: cannot {action} {name}\n", 1)
 
 
 @on("windows-x86_64")

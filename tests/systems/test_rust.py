@@ -10,8 +10,16 @@ import pytest
 
 from lib.processes import succeeds
 from lib.systems.target_params import of, on
-from lib.systems.rust import TARGETS, TESTED, cargo, said
+from lib.systems.rust import TARGETS, TESTED, build_script, cargo
 from rsp_tools.systems import header, places
+
+
+@pytest.mark.needs("rustc")
+def test_targets() -> None:
+    """rustc knows the targets by these names."""
+    known = succeeds("rustc", "--print", "target-list").split()
+    for system, targets in TARGETS.items():
+        assert [it for it in targets if it not in known or ("musl" in it) != ("musl" in system)] == []
 
 
 @pytest.mark.needs("rustc")
@@ -22,14 +30,14 @@ def test_build_script(made: Path, folder: Path) -> None:
     env = {**os.environ, "CARGO_MANIFEST_DIR": str(crate), "CARGO_PKG_VERSION": header.version()}
     succeeds("rustc", "--edition", "2021", "-o", script, places.RUST / "build.rs", env=env)
     for target, name in TARGETS[made.name].items():
-        status, text = said(script, target)
+        status, text = build_script(script, target)
         assert status != 0 and f"{name} for {target} isn't found" in text
         (crate / "lib" / target).mkdir(parents=True)
         shutil.copy(made / "lib" / name, crate / "lib" / target / name)
         linked = "brsp_static" if target.endswith("-msvc") else "rsp"
-        wanted = f"native={crate}/lib/{target}\ncargo:rustc-link-lib=static={linked}\n"
-        status, text = said(script, target)
-        assert status == 0 and text.endswith(f"cargo:rustc-link-search={wanted}")
+        expected = f"native={crate}/lib/{target}\ncargo:rustc-link-lib=static={linked}\n"
+        status, text = build_script(script, target)
+        assert status == 0 and text.endswith(f"cargo:rustc-link-search={expected}")
 
 
 @on(*TESTED)

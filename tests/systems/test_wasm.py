@@ -4,9 +4,8 @@ of its folder."""
 import base64
 import json
 import re
-import shutil
 from pathlib import Path
-from typing import Any, Dict, Iterable, List, Tuple
+from typing import Any, Dict, List, Tuple
 
 import pytest
 
@@ -14,13 +13,13 @@ from lib import TESTS, TOP
 from lib.library import LOCKSTEP
 from lib.pages import page
 from lib.processes import compiled, succeeds
-from lib.script_cases import Stored, stored
+from lib.script_cases import ScriptCase, all_cases
 from lib.systems import node
 from lib.systems.target_params import JAVASCRIPT, of, on
 from lib.systems.runners import assert_all_passed
 from rsp_tools.systems import header, places, wasm
 from rsp_tools.systems.modules import Module
-from rsp_tools.systems.rewriting import PSHUFB, Change, rewritten
+from rsp_tools.systems.rewriting import PSHUFB, rewritten
 from rsp_tools.systems.toolchain import Refused, llvm
 
 MOST = 8 << 20  # bytes of memory that the library without enough of it has
@@ -38,56 +37,29 @@ declare <16 x i8> @{PSHUFB}(<16 x i8>, <16 x i8>)
 
 attributes #0 = {{ "probe-stack"="inline-asm" "target-cpu"="x86-64-v2" "target-features"="+ssse3,+sse4.2" }}
 """
-FOREIGN = SMALL.replace(
-    "%c = call", "%d = call <4 x i32> @llvm.x86.rsp.add(<4 x i32> zeroinitializer)\n  %c = call"
-)
+FOREIGN = "%d = call <4 x i32> @llvm.x86.rsp.add(<4 x i32> zeroinitializer)"
 
 
 # What is changed in a module, on a small one, and what is refused.
 
 
-def instructions(at: Path, changes: Iterable[Change]) -> str:
-    """The instructions of the small module after some changes."""
-    text, made = at / "small.ll", at / "small.s"
-    text.write_text(rewritten(SMALL, {PSHUFB}, changes))
-    # Clang keeps a report where it fails, in the folder of temporary files.
-    words = ["-gen-reproducer=off", *wasm.CLANG, "-O3", "-Wno-override-module"]
-    llvm("clang", *words, "-S", "-o", made, "-x", "ir", text)
-    return made.read_text()
-
-
 @pytest.mark.needs("rt")
 def test_changes(folder: Path) -> None:
-    said = instructions(folder, wasm.CHANGES)
-    assert said.count("i8x16.swizzle") == 1 and "v128.and" in said
-
-
-@pytest.mark.needs("rt")
-@pytest.mark.parametrize("left_out", wasm.CHANGES, ids=lambda it: it.reason[:40])
-def test_each_change_is_needed(left_out: Change, folder: Path) -> None:
-    with pytest.raises(Refused, match="clang failed"):
-        instructions(folder, [it for it in wasm.CHANGES if it is not left_out])
+    text, made = folder / "small.ll", folder / "small.s"
+    text.write_text(rewritten(SMALL, {PSHUFB}, wasm.CHANGES))
+    llvm("clang", *wasm.CLANG, "-O3", "-Wno-override-module", "-S", "-o", made, "-x", "ir", text)
+    instructions = made.read_text()
+    assert instructions.count("i8x16.swizzle") == 1 and "v128.and" in instructions
 
 
 @pytest.mark.needs("rt")
 def test_another_intrinsic(folder: Path) -> None:
-    given, out, way = folder / "foreign.ll", folder / "refused", folder / "way"
-    given.write_text(FOREIGN)
+    module, out, way = folder / "foreign.ll", folder / "refused", folder / "way"
+    module.write_text(SMALL.replace("  %c = call", f"  {FOREIGN}\n  %c = call"))
     way.mkdir()
-    with pytest.raises(Refused) as refused:
-        wasm.make(out, way, lambda _: Module(given, given, ["-O3"]))
-    assert str(refused.value) == "the module has the intrinsic llvm.x86.rsp.add, which no rule names"
+    with pytest.raises(Refused, match="has the intrinsic llvm.x86.rsp.add, which no rule names"):
+        wasm.make(out, way, lambda _: Module(module, module, ["-O3"]))
     assert not out.exists() and not [*way.iterdir()]
-
-
-def test_another_version(folder: Path, monkeypatch: pytest.MonkeyPatch) -> None:
-    """An ES module of another version than the library is refused."""
-    shutil.copytree(TOP / "library/js", folder / "js")
-    (folder / "js/package.json").write_text('{ "version": "0.9.0" }')
-    monkeypatch.setattr(wasm, "SCRIPTS", folder / "js")
-    with pytest.raises(Refused, match="another version than"):
-        wasm.folder(folder / "refused", [])
-    assert not (folder / "refused").exists()
 
 
 # What the module exports and needs, and its declarations.
@@ -95,15 +67,15 @@ def test_another_version(folder: Path, monkeypatch: pytest.MonkeyPatch) -> None:
 
 @on(*JAVASCRIPT)
 def test_names(runner: Any) -> None:
-    shown = json.loads(runner.test("module.js"))
-    assert shown["imports"] == []
-    assert {*shown["exports"]} == {*header.calls(), "malloc", "free", "memory"}
+    names = json.loads(runner.test("module.js"))
+    assert names["imports"] == []
+    assert {*names["exports"]} == {*header.calls(), "malloc", "free", "memory"}
     text = re.sub(r"/\*.*?\*/", "", (wasm.SCRIPTS / "rsp.d.ts").read_text(), flags=re.S)
     declared = re.findall(r"(?m)^export (?:enum|class|const|function) (\w+)", text)
-    assert {*shown["names"]} == {*declared}
+    assert {*names["names"]} == {*declared}
     body = re.findall(r"(?ms)^export class Machine \{\n(.*?)^\}", text)[0]
     methods = re.findall(r"(?m)^  (?:readonly )?(\w+)[(:]", body)
-    assert {*shown["methods"]} == {*methods, "constructor"}
+    assert {*names["methods"]} == {*methods, "constructor"}
 
 
 @on(*JAVASCRIPT)
@@ -139,12 +111,12 @@ def page_code() -> List[Tuple[str, str]]:
 
 
 @on(*JAVASCRIPT)
-@pytest.mark.parametrize("code, told", page_code(), ids=lambda it: it.strip()[:20])
-def test_code_of_page(runner: Any, code: str, told: str) -> None:
-    assert runner.says("page.js", code) == f"{told}\n"
+@pytest.mark.parametrize("code, output", page_code(), ids=lambda it: it.strip()[:20])
+def test_code_of_page(runner: Any, code: str, output: str) -> None:
+    assert runner.says("page.js", code) == f"{output}\n"
 
 
-def as_case(script: Stored) -> Dict[str, Any]:
+def as_case(script: ScriptCase) -> Dict[str, Any]:
     """A script with its image, as scripts.js takes them."""
     image, text = script.image() or bytes(1 << 22), base64.b64encode(script.script).decode()
     about = {"length": len(image), "is_counting": any(image), "is_saved": script.is_saved}
@@ -154,12 +126,12 @@ def as_case(script: Stored) -> Dict[str, Any]:
 @on(*JAVASCRIPT)
 def test_scripts(runner: Any) -> None:
     """The replies to the scripts of the repository, and the images that must be left as they were."""
-    scripts = stored()
+    scripts = all_cases()
     (runner.at / "scripts.json").write_text(json.dumps([*map(as_case, scripts)]))
     found = json.loads(runner.test("scripts.js", "/at/scripts.json"))
-    wanted = [["OUT_OF_RANGE" if it.wanted[0] else it.wanted[1].decode(), True] for it in scripts]
+    expected = [["OUT_OF_RANGE" if it.expected[0] else it.expected[1].decode(), True] for it in scripts]
     assert len(found) == len(scripts)
-    assert [it for it in zip(map(str, scripts), found, wanted) if it[1] != it[2]] == []
+    assert [it for it in zip(map(str, scripts), found, expected) if it[1] != it[2]] == []
 
 
 @on(*JAVASCRIPT)

@@ -5,7 +5,7 @@ import os
 import re
 import shutil
 from pathlib import Path
-from typing import Any, Set
+from typing import Any, List, Set
 from xml.etree import ElementTree
 
 import pytest
@@ -16,27 +16,29 @@ from lib.hardening import SMASHED, check_pe
 from lib.processes import succeeds
 from lib.systems.built_files import symbol_names
 from lib.systems.target_params import of, on
-from lib.systems.windows import link_for_msvc
 from rsp_tools import hardening
-from rsp_tools.systems import header, modules, objects, places
-from rsp_tools.systems.toolchain import llvm
-from rsp_tools.systems.windows import GNU
+from rsp_tools.systems import header, places
+from rsp_tools.systems.toolchain import Word, llvm
+from rsp_tools.systems.windows import MSVC
+from rsp_tools.targets import TARGETS
 
 CALLS = {*header.calls()}
-WINDOWS = "x86_64-w64-mingw32-gcc"
-# What the library takes of the C library, and for each compiler how it grows the stack.
-TAKEN = {"free", "malloc", "memcpy", "memmove", "memset", "realloc"}
-STATIC = {"libbrsp.a": TAKEN | {"___chkstk_ms"}, "brsp_static.lib": TAKEN | {"__chkstk"}}
+TARGET = TARGETS["windows-x86_64"]
+# What the library needs of the C library, and for each compiler how it grows the stack.
+COMMON = {"free", "malloc", "memcpy", "memmove", "memset", "realloc"}
+STATIC = {"libbrsp.a": COMMON | {"___chkstk_ms"}, "brsp_static.lib": COMMON | {"__chkstk"}}
 NEEDED = {
     "brsp.dll": ["KERNEL32.dll", "msvcrt.dll"],
-    "rsp.exe": [
-        "ADVAPI32.dll",
-        "KERNEL32.dll",
-        "msvcrt.dll",
-    ],  # the first gives the stack protector its number
+    # The first gives the stack protector its number.
+    "rsp.exe": ["ADVAPI32.dll", "KERNEL32.dll", "msvcrt.dll"],
 }
 # These call nothing, and take no room on the stack.
 FRAMELESS = {"brsp_state_fault", "brsp_version"}
+
+MINGW = Path("/usr/x86_64-w64-mingw32/lib")
+HEADERS = "/usr/share/mingw-w64/include"
+# The start of a program for MSVC, in place of that of MSVC's C library.
+START = "int main(void);\n__declspec(noreturn) void exit(int);\nvoid start(void) { exit(main()); }\n"
 
 
 def uses_library(program: Path) -> bool:
@@ -63,11 +65,11 @@ def test_program_checks_its_stack(made: Path) -> None:
     assert is_checked
 
 
-@pytest.mark.needs(WINDOWS)
+@pytest.mark.needs(TARGET.compiler)
 def test_program_checks_its_buffers(folder: Path) -> None:
     """By the words that rsp.exe is compiled with, a file of it calls what checks buffers."""
-    words = [*hardening.words("windows-x86_64", "compile"), "-O2", f"-I{places.HEADER.parent}"]
-    succeeds(WINDOWS, *words, "-c", "-o", folder / "made.o", places.PROGRAM / "messages.c")
+    words = [*hardening.words(TARGET.name, "compile"), "-O2", f"-I{places.HEADER.parent}"]
+    succeeds(TARGET.compiler, *words, "-c", "-o", folder / "made.o", places.PROGRAM / "messages.c")
     assert re.search(r"(?m) U __\w+_chk$", succeeds("x86_64-w64-mingw32-nm", folder / "made.o"))
 
 
@@ -75,16 +77,12 @@ def test_program_checks_its_buffers(folder: Path) -> None:
 @pytest.mark.parametrize("name", NEEDED)
 def test_properties(runner: Any, name: str) -> None:
     """What Windows shows of the file, as wine reads it."""
-    wanted = {
-        "OriginalFilename": name,
-        "FileVersion": header.version(),
-        "ProductName": "rsp",
-        "Comments": "none",
-    }
+    expected = {"OriginalFilename": name, "FileVersion": header.version(), "ProductName": "rsp"}
+    expected["Comments"] = "none"
     reader = runner.compile(TESTS / "systems/properties_windows.c", "-lversion", library=[])
-    ended = runner.run(reader, runner.folder / "bin" / name, *wanted)
-    told, manifest = ended.stdout.rpartition("manifest: ")[::2]
-    assert told.splitlines() == [f"{property}: {text}" for property, text in wanted.items()]
+    ended = runner.run(reader, runner.folder / "bin" / name, *expected)
+    properties, manifest = ended.stdout.rpartition("manifest: ")[::2]
+    assert properties.splitlines() == [f"{name}: {text}" for name, text in expected.items()]
     assert (int(manifest) > 0) == (name == "rsp.exe")
 
 
@@ -129,17 +127,34 @@ def test_static(made: Path, name: str) -> None:
     assert {
         it for it in symbol_names("-g", "--defined-only", library) if not it.startswith("__xmm@")
     } == CALLS
-    wants = symbol_names("-u", library)
-    assert {"free", "malloc"} <= wants <= STATIC[name]
+    needed = symbol_names("-u", library)
+    assert {"free", "malloc"} <= needed <= STATIC[name]
     assert CALLS - framed(library) <= FRAMELESS
 
 
-@of("windows-x86_64")
-def test_unchanged_module(made: Path, folder: Path) -> None:
-    """What the module lacks without its changes: a function for its probes, and the tables of frames."""
-    compiled = objects.compiled(modules.module("x86_64"), "x86_64", GNU, folder)
-    assert "inline-asm" in symbol_names("-u", compiled)
-    assert not framed(compiled)
+def compile_for_msvc(source: Path, to: Path, *words: Word) -> Path:
+    """An object of a program in C, for MSVC, by the kit's clang and the headers of mingw."""
+    options = ["-nostdinc", "-isystem", HEADERS, "-D__USE_MINGW_ANSI_STDIO=0", *words]
+    llvm("clang", f"--target={MSVC}", "-std=gnu99", "-O2", *options, "-c", "-o", to, source)
+    return to
+
+
+def link_for_msvc(to: Path, source: Path, folder: Path, library: str, compiler: str) -> Path:
+    """A program in C over a library of a folder, linked by lld-link with msvcrt.dll in place of MSVC's C
+    library."""
+    start = to.with_suffix(".start.c")
+    start.write_text(START)
+    parts: List[Word] = [
+        compile_for_msvc(start, to.with_suffix(".start.obj")),
+        compile_for_msvc(source, to.with_suffix(".obj"), f"-I{folder}/include"),
+        folder / "lib" / library,
+        MINGW / "libmsvcrt.a",
+        MINGW / "libkernel32.a",
+        succeeds(compiler, "-print-libgcc-file-name").strip(),
+    ]
+    words = ["/nologo", "/entry:start", "/subsystem:console", "/alternatename:__chkstk=___chkstk_ms"]
+    llvm("lld-link", *words, f"/out:{to}", *parts)
+    return to
 
 
 @on("windows-x86_64")

@@ -3,10 +3,10 @@
 It fails if a proof does, and then says where to read more. CRATE is rsp_main, the program (./rsp calls
 this), or rsp_c, the library for C (library/c/build calls this).
 
-It says when each crate begins, how far a long proof is, and how long it took. It does nothing if nothing
-has changed: the mark out/built has the kit's version and the sums of what was built and of what it is made
-of. ./rsp and library/c/build see by the times of these files that nothing has changed (built.sh). If it is
-stopped, the next run goes on from there.
+It prints when each crate begins, how far a long proof is, and how long the proof took. It does nothing if
+nothing has changed: the mark out/built has the kit's version, and the sums of the built file and of its
+sources. ./rsp and library/c/build see by the times of these files that nothing has changed (built.sh). If a
+run is stopped, the next run continues from there.
 """
 
 import argparse
@@ -26,10 +26,10 @@ from rsp_tools.crates import CRATES, LINES, library, proved_with, uses, with_bel
 from rsp_tools.proof import PROCESSORS, Proof
 
 LOGIC = (TOOLS / "logic").read_text().strip()
-# Whose functions proof.py calls.
-TRIED = [f"rattle-kit-{it} {LOGIC}" for it in ("13b", "13f")]
-# Who speaks of a crate, the file that is built of it, what `rt` is asked for, and by how many jobs over the
-# crates below: a third of the program's time is its object file, which only one job makes.
+# The kits whose functions proof.py calls.
+TRIED = [f"rattle-kit-{number} {LOGIC}" for number in ("13b", "13f")]
+# For each crate: the command that prints the messages, the file that is built, the command of `rt`, and its
+# number of jobs over the crates below: a third of the program's time is its object file, made by one job.
 BUILT = {
     "rsp_main": ("rsp", "rsp_main", "run", 1),
     "rsp_c": ("library/c/build", "librsp_c.a", "lib", PROCESSORS),
@@ -39,12 +39,12 @@ PARTS = ("src", "specs", "proofs")  # the folders of a crate
 
 def changed_at(name: str) -> float:
     """When the crate's sources were last changed, by a time that no command sets back."""
-    folders = [found for part in PARTS for found in os.walk(CRATES / name / part)]
-    return max(os.lstat(f"{at}/{it}").st_ctime for at, _, files in folders for it in ["", *files])
+    folders = [folder for part in PARTS for folder in os.walk(CRATES / name / part)]
+    return max(os.lstat(f"{at}/{file}").st_ctime for at, _, files in folders for file in ["", *files])
 
 
 def sum_of(path: Path) -> str:
-    """A line of the file's sum; none if it can't be read."""
+    """A line with the file's sum; empty if the file can't be read."""
     try:
         return f"{hashlib.sha256(path.read_bytes()).hexdigest()}  {path.relative_to(CRATES)}\n"
     except OSError:
@@ -52,16 +52,16 @@ def sum_of(path: Path) -> str:
 
 
 def sources(crate: str) -> str:
-    """What the crate and those below it are made of: their lines of crates.txt, and the sums of all files."""
+    """The sources of the crate and of those below: their lines of crates.txt, and the sums of all files."""
     names = with_below(crate)
-    folders = [found for name in names for part in PARTS for found in os.walk(CRATES / name / part)]
-    files = sorted(Path(at, it) for at, _, files in folders for it in files)
-    return "".join([*(f"{LINES[it]}\n" for it in names), *map(sum_of, files)])
+    folders = [folder for name in names for part in PARTS for folder in os.walk(CRATES / name / part)]
+    paths = sorted(Path(at, file) for at, _, files in folders for file in files)
+    return "".join([*(f"{LINES[name]}\n" for name in names), *map(sum_of, paths)])
 
 
 @functools.lru_cache(None)
 def kit() -> str:
-    """The version of the kit that is here; nothing if there is none."""
+    """The version of the kit on this machine; empty if there is none."""
     if not shutil.which("rt"):
         return ""
     return subprocess.run(["rt", "version"], stdout=subprocess.PIPE, text=True).stdout.strip()
@@ -88,33 +88,33 @@ class Build:
     """A crate that is proved and built."""
 
     def __init__(self, crate: str) -> None:
-        self.crate, (self.speaker, file, self.verb, self.jobs) = crate, BUILT[crate]
+        self.crate, (self.command, file, self.verb, self.jobs) = crate, BUILT[crate]
         out = CRATES / crate / "out"
         self.file, self.object = out / file, out / f"{crate}.o"
         self.mark, self.log = out / "built", out / "built.log"
-        # The system's clock of files is a little behind, so what is changed from now on gets a later time.
-        self.since, self.times = time.time() - 0.02, self.tell_times()
+        # The system's clock of files is a little behind, so a change from now on gets a later time.
+        self.since, self.times = time.time() - 0.02, self.file_times()
         time.sleep(0.02)
         self.sources = sources(crate)
         self.proof: Optional[Proof] = None
 
     def say(self, text: str) -> None:
-        print(f"{self.speaker}: {text}", file=sys.stderr, flush=True)
+        print(f"{self.command}: {text}", file=sys.stderr, flush=True)
 
     def stop(self, number: int, _: object) -> NoReturn:
         self.fail("stopped; the next run goes on from here", 128 + number)
 
     def fail(self, text: str, status: int = 1) -> NoReturn:
-        """Ends at once, with all that the kit has going."""
+        """Ends at once, with all processes of the kit."""
         self.say(text)
         if self.proof:
             self.proof.end()
         os._exit(status)
 
-    def tell_times(self) -> str:
-        """What ./rsp and library/c/build compare."""
-        tell = '. "$1/tools/built.sh" && tell_times "$1" "$2" "$3"'
-        words = ["sh", "-c", tell, "sh", str(TOP), str(self.file.relative_to(CRATES)), self.crates()]
+    def file_times(self) -> str:
+        """The times that ./rsp and library/c/build compare."""
+        script = '. "$1/tools/built.sh" && tell_times "$1" "$2" "$3"'
+        words = ["sh", "-c", script, "sh", str(TOP), str(self.file.relative_to(CRATES)), self.crates()]
         return subprocess.run(words, stdout=subprocess.PIPE, text=True).stdout.strip()
 
     def crates(self) -> str:
@@ -125,27 +125,25 @@ class Build:
         return self.sources + sum_of(self.file)
 
     def marked(self) -> str:
-        """The kit's version, if the mark says that the file is built of these sources, or nothing."""
+        """The kit's version if the mark says that the file is built of these sources, otherwise empty."""
         text = self.mark.read_text(errors="surrogateescape") if self.mark.exists() else ""
         version, *_, made_of = [*text.split("\n", 3), ""][:4]
         return version if self.file.exists() and made_of == self.made_of() else ""
 
     def is_built(self) -> bool:
-        """Whether the file is built of these sources by a kit of the right logic, or by the one here.
-
-        Where there is no kit, any will do.
-        """
+        """Whether the file is built of these sources by a kit of the right logic, by the kit on this machine,
+        or if there is none, by any kit."""
         version = self.marked()
         is_right = version.endswith(LOGIC) or version == kit() or not shutil.which("rt")
         return version != "" and is_right
 
     def put_mark(self, version: str) -> None:
-        """The times of what is proved by another logic don't say whether another kit is here."""
+        """Writes the mark, without times if the kit has another logic: the next run then compares kits."""
         times = self.times if version.endswith(LOGIC) else ""
         text = f"{version}\n{self.crates()}\n{times}\n{self.made_of()}"
-        beside = self.mark.with_name(f"built.{os.getpid()}")
-        beside.write_text(text, errors="surrogateescape")
-        beside.replace(self.mark)
+        new = self.mark.with_name(f"built.{os.getpid()}")
+        new.write_text(text, errors="surrogateescape")
+        new.replace(self.mark)
 
     def prove(self) -> None:
         """Proves what isn't proved, and builds the file."""
@@ -160,105 +158,101 @@ class Build:
         if by_parts:
             self.proof.find_left(kit_folder())
             count, left = len(proved_with(self.crate)), len(self.proof.left)
-            takes = f"takes {self.proof.to_go()}"
-            self.say(f"{count - left} of {count} crates are proved; proving the others {takes}")
+            proved = f"{count - left} of {count} crates are proved"
+            self.say(f"{proved}; proving the others takes {self.proof.to_go()}")
         self.log.write_text("")
-        failed = self.proof.run()
-        if failed:
-            said = self.log.read_text(errors="replace").rpartition(f"== {failed}\n")[2].partition("\n== ")[0]
-            print(*said.splitlines()[-25:], sep="\n", file=sys.stderr)
+        if failed := self.proof.run():
+            output = (
+                self.log.read_text(errors="replace").rpartition(f"== {failed}\n")[2].partition("\n== ")[0]
+            )
+            print(*output.splitlines()[-25:], sep="\n", file=sys.stderr)
             self.fail(f"{failed} isn't proved, for the reason above; all that `rt` said is in {self.log}")
 
     def has_object(self) -> bool:
-        """Whether the program's object file, which ./release links again, is there.
-
-        `rt` makes it just before the program.
-        """
+        """Whether there is the program's object file, which `rt` makes just before the program, and which
+        ./release links again."""
         return self.object.exists() and self.object.stat().st_mtime > self.file.stat().st_mtime - 60
 
     def compile(self, source: str, to: Path) -> None:
-        """Builds a file over what `rt ci` has proved.
-
-        The libraries that it leaves have no stamps, so `rt lib` would prove them all again.
-        """
+        """Builds a file over the libraries of `rt ci`, which lack stamps: `rt lib` would prove them again."""
         words = [*f"{source} --backend llvm --jobs {PROCESSORS} -o".split(), str(to)]
         words += ["--toolchain", f"{kit_folder()}/toolchain"]
         self.run([*over_libraries("build", self.crate), *words])
 
     def build(self, is_proved: bool) -> None:
-        version = self.wanted_kit()
+        version = self.check_kit()
         self.log.parent.mkdir(parents=True, exist_ok=True)
         is_library = self.crate == "rsp_c"
-        stamps = [library(it) / "stamp" for it in with_below(self.crate)]
-        if not is_proved or is_library and any(it.exists() for it in stamps):
+        stamps = [library(name) / "stamp" for name in with_below(self.crate)]
+        if not is_proved or is_library and any(stamp.exists() for stamp in stamps):
             self.prove()
         elif is_library:
             self.compile("src/lib.rt --crate-type staticlib", self.file)
         elif not self.has_object():
             # `rt ci` took the program from what it keeps, and keeps no object file.
             self.compile("src/main.rt", self.object)
-        self.times = self.tell_times()
+        self.times = self.file_times()
         # An edit that was taken back in the meantime leaves the same sums, and may yet be part of the file.
-        edited = [it for it in with_below(self.crate) if changed_at(it) >= self.since]
+        edited = [name for name in with_below(self.crate) if changed_at(name) >= self.since]
         if edited:
             self.say(f"{', '.join(edited)}: edited in the meantime, so the next run proves again")
         else:
             self.put_mark(version)
 
-    def wanted_kit(self) -> str:
+    def check_kit(self) -> str:
         if not shutil.which("rt"):
-            why = "and only it can prove and build this (README.md names its version)"
-            self.fail(f"`rt`, the command of the Rattle kit, isn't on this machine, {why}")
+            reason = "and only it can prove and build this (README.md names its version)"
+            self.fail(f"`rt`, the command of the Rattle kit, isn't on this machine, {reason}")
         if not kit().endswith(LOGIC):
-            wanted = f"the proofs were made with one of `{LOGIC}`"
-            self.say(f"the kit here is `{kit()}`, and {wanted}, so some may not be proved")
+            other = f"the proofs were made with one of `{LOGIC}`"
+            self.say(f"the kit here is `{kit()}`, and {other}, so some may not be proved")
         return kit()
 
 
 def arguments() -> argparse.Namespace:
     form = argparse.RawDescriptionHelpFormatter
-    words = argparse.ArgumentParser("tools/build", description=__doc__, formatter_class=form)
-    kinds = words.add_mutually_exclusive_group()
+    parser = argparse.ArgumentParser("tools/build", description=__doc__, formatter_class=form)
+    kinds = parser.add_mutually_exclusive_group()
     over = "right after `rt ci`: build over what it proved; FILE has what --sources said before it"
     kinds.add_argument("--proved", metavar="FILE", help=over)
     kinds.add_argument("--sources", action="store_true", help="only print what the crate is made of")
     by = "only print what proved the crate, if it is built of the sources as they are"
     kinds.add_argument("--by", action="store_true", help=by)
     kinds.add_argument("--kit", action="store_true", help="only say if the proofs want another kit")
-    words.add_argument("crate", nargs="?", choices=[*BUILT], metavar="CRATE", help=" or ".join(BUILT))
-    words.add_argument("command", nargs=argparse.REMAINDER, metavar="COMMAND")
-    given = words.parse_args()
-    if not given.crate and not given.kit:
-        words.error(f"which CRATE: {' or '.join(BUILT)}?")
-    return given
+    parser.add_argument("crate", nargs="?", choices=[*BUILT], metavar="CRATE", help=" or ".join(BUILT))
+    parser.add_argument("command", nargs=argparse.REMAINDER, metavar="COMMAND")
+    options = parser.parse_args()
+    if not options.crate and not options.kit:
+        parser.error(f"which CRATE: {' or '.join(BUILT)}?")
+    return options
 
 
 def main() -> int:
-    given = arguments()
-    made, proved = Build(given.crate or "rsp_main"), given.proved
-    if given.sources:
-        print(made.sources, end="")
+    options = arguments()
+    build, proved = Build(options.crate or "rsp_main"), options.proved
+    if options.sources:
+        print(build.sources, end="")
         return 0
-    if given.by:
-        print(made.marked())
+    if options.by:
+        print(build.marked())
         return 0
-    if given.kit:
-        made.wanted_kit()
+    if options.kit:
+        build.check_kit()
         return 0
-    for it in (signal.SIGINT, signal.SIGTERM):
-        signal.signal(it, made.stop)
+    for number in (signal.SIGINT, signal.SIGTERM):
+        signal.signal(number, build.stop)
     try:
         if proved:
-            made.sources = Path(proved).read_text(errors="surrogateescape")
-            made.since = os.stat(proved).st_mtime
-        if proved or not made.is_built():
-            made.build(bool(proved))
-        elif os.access(made.mark.parent, os.W_OK):  # what was built elsewhere has other times here
-            made.put_mark(made.marked())
+            build.sources = Path(proved).read_text(errors="surrogateescape")
+            build.since = os.stat(proved).st_mtime
+        if proved or not build.is_built():
+            build.build(bool(proved))
+        elif os.access(build.mark.parent, os.W_OK):  # a file that was built elsewhere has other times here
+            build.put_mark(build.marked())
     except OSError as fault:
-        made.fail(f"{fault.filename or made.log}: {fault.strerror}, so nothing is built here")
-    if given.command:
-        os.execv(given.command[0], given.command)
+        build.fail(f"{fault.filename or build.log}: {fault.strerror}, so nothing is built here")
+    if options.command:
+        os.execv(options.command[0], options.command)
     return 0
 
 

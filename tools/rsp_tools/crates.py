@@ -9,12 +9,13 @@ from rsp_tools import TOP
 
 CRATES = TOP / "crates"
 LINES = {
-    it.split()[0].rstrip(":"): it for it in re.findall(r"(?m)^\w.*:.*", (TOP / "crates.txt").read_text())
+    line.split()[0].rstrip(":"): line
+    for line in re.findall(r"(?m)^\w.*:.*", (TOP / "crates.txt").read_text())
 }
-# How many jobs prove a crate for which many others wait, on four processors. Each job loads anew what the
-# crates below state, so that together they take some 1.5 times the processor's time of one.
+# The number of jobs for a crate for which many others wait, on four processors. Each job loads the statements
+# of the crates below anew, so together the jobs take some 1.5 times the processor's time of one.
 JOBS = {"rsp_decode": 3, "rsp_machine": 2, "rsp_debug": 2, "rsp_bench": 3}
-# The seconds of a processor by one job, for the order of the proofs and for what is said of the time to go.
+# The seconds of a processor by one job, for the order of the proofs and for the time to go.
 SECONDS = """
 rsp_numbers 8 rsp_memory 29 rsp_decode 165 rsp_scalar 26 rsp_lanes 41 rsp_acc 39 rsp_multiply 32
 rsp_compare 30 rsp_divide 21 rsp_loadstore 60 rsp_regs 43 rsp_machine 190 rsp_syntax 61 rsp_operands 54
@@ -29,17 +30,17 @@ def uses(name: str) -> List[str]:
 
 @functools.lru_cache(None)
 def with_below(name: str) -> List[str]:
-    """The crate and those that it uses, each after those that it uses; none for a library of the kit."""
+    """The crate and all below it, each after those that it uses; none for a library of the kit."""
     if name not in LINES:
         return []
-    return [*dict.fromkeys(below for it in uses(name) for below in with_below(it)), name]
+    return [*dict.fromkeys(below for used in uses(name) for below in with_below(used)), name]
 
 
 def proved_with(name: str) -> List[str]:
     """The crates that are proved when this one is built, itself last.
 
-    With the program's they are also the one that only the library needs: it takes a processor that is idle
-    while rsp_main is proved, and the library's build comes next.
+    For the program these include the one that only the library needs, because a processor is idle while
+    rsp_main is proved, and the library's build comes next.
     """
     *below, name = with_below(name)
     return [*below, *(["rsp_feed"] if name == "rsp_main" and "rsp_feed" in LINES else []), name]
@@ -56,14 +57,13 @@ def seconds(name: str) -> int:
 
 
 def jobs_of(name: str, slots: int) -> int:
-    """How many jobs prove the crate, of so many that there may be at once."""
+    """The number of jobs for the crate, of so many that there may be at once."""
     return JOBS.get(name, 1) if slots >= max(JOBS.values()) else 1
 
 
 @functools.lru_cache(None)
 def path_to(top: str, name: str, slots: int) -> float:
-    """The seconds by the clock of the longest path by which the crate leads to the one on top, with those of
-    both."""
-    jobs, above = jobs_of(name, slots), [it for it in with_below(top) if name in uses(it)]
+    """The seconds by the clock of the longest path from the crate to the one on top, both included."""
+    jobs, above = jobs_of(name, slots), [crate for crate in with_below(top) if name in uses(crate)]
     by_clock = seconds(name) * (1.5 / jobs if jobs > 1 else 1)
-    return by_clock + max((path_to(top, it, slots) for it in above), default=0)
+    return by_clock + max((path_to(top, crate, slots) for crate in above), default=0)

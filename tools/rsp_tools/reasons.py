@@ -1,4 +1,4 @@
-"""reasons SAID: of what `rt ci` or `rt must-fail` said, counts the mutations that show something.
+"""reasons OUTPUT: counts the mutations that show something, in the output of `rt ci` or `rt must-fail`.
 
 It fails if one is refused only because a proof cites what it took away, which says nothing of a contract, or
 can't be applied; in `rt ci` neither is a failure. The last line is `N passed, M failed`.
@@ -14,10 +14,10 @@ IDLE = ("refused, as it must be (only because a proof file names", "BAD EDIT")
 
 
 def main() -> int:
-    words = argparse.ArgumentParser("tools/python rsp_tools.reasons", description=__doc__)
-    words.add_argument("said", metavar="SAID", type=Path, help="the file of what it said")
-    tried = TRIED.findall(words.parse_args().said.read_text(errors="replace"))
-    failed = [f"FAIL {name}: {told}" for name, told in tried if told.startswith(IDLE)]
+    parser = argparse.ArgumentParser("tools/python rsp_tools.reasons", description=__doc__)
+    parser.add_argument("output", metavar="OUTPUT", type=Path, help="a file with that output")
+    tried = TRIED.findall(parser.parse_args().output.read_text(errors="replace"))
+    failed = [f"FAIL {name}: {result}" for name, result in tried if result.startswith(IDLE)]
     print(*failed, f"{len(tried) - len(failed)} passed, {len(failed)} failed", sep="\n")
     return int(bool(failed))
 

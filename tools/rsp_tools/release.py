@@ -20,22 +20,22 @@ fail, or a system isn't made. Then it leaves what was in dist. The last lines sa
 """
 
 import argparse
-import os
 import re
 import shutil
 import subprocess
 import sys
 import tempfile
 from pathlib import Path
-from typing import Dict, Iterator, List, NoReturn
+from typing import Iterator, List, NoReturn
 from xml.etree import ElementTree
 
 from rsp_tools import TOP
 from rsp_tools.packaging import release_info, archives, install_tree, archive_formats
 from rsp_tools.packaging.release_info import About
 from rsp_tools.packaging.archives import Archive
+from rsp_tools.packaging.install_tree import File, put_all
 from rsp_tools.packaging.link import linked_program
-from rsp_tools.packaging.repository import said
+from rsp_tools.packaging.repository import output_of
 from rsp_tools.systems import header, places
 from rsp_tools.systems.__main__ import SYSTEMS
 from rsp_tools.systems.toolchain import missing
@@ -64,20 +64,20 @@ def fail(text: str) -> NoReturn:
     sys.exit(f"release: {text}")
 
 
-def succeed(why: str, *words: str) -> None:
-    """Runs a command, and ends if it fails."""
+def run(*words: str, reason: str) -> None:
+    """Runs a command, and ends with a reason if the command fails."""
     if subprocess.run(words, cwd=TOP, stdin=subprocess.DEVNULL).returncode:
-        fail(why)
+        fail(reason)
 
 
 def check_versions() -> None:
     """Ends if a copy of the version differs."""
     dated, number = header.dated_version(), header.version()
-    for wanted, copies in (dated, DATED), (number, NUMBERS):
+    for expected, copies in (dated, DATED), (number, NUMBERS):
         for name, form in copies.items():
-            (named,) = header.found(form, TOP / name)
-            if named != wanted:
-                fail(f"{name} says version {named}, and VERSION says {dated}")
+            (version,) = header.found(form, TOP / name)
+            if version != expected:
+                fail(f"{name} says version {version}, and VERSION says {dated}")
 
 
 def check_day(day: str, tags: List[str]) -> None:
@@ -96,17 +96,16 @@ def check_names(names: List[str]) -> None:
 
 def libraries_of(names: List[str]) -> List[str]:
     """The systems whose libraries these archives have. The page has that for WebAssembly."""
-    return [it for it in SYSTEMS if it in names or (it == "wasm64" and "page" in names)]
+    return [name for name in SYSTEMS if name in names or (name == "wasm64" and "page" in names)]
 
 
 def check_packages(names: List[str], is_tested: bool) -> None:
     """Ends if the kit or a package is missing that makes an archive, or that the newcomer's commands need."""
     if not shutil.which("rt"):
         fail("there is no `rt`, the command of the Rattle kit (README.md names its version)")
-    packages = missing(
-        *PROGRAMS, *(program for it in libraries_of(names) for program in SYSTEMS[it].programs)
-    )
-    more = said("tools/python", "lib.install.needed_packages") if is_tested else ""
+    programs = [program for name in libraries_of(names) for program in SYSTEMS[name].programs]
+    packages = missing(*PROGRAMS, *programs)
+    more = output_of("tools/python", "lib.install.needed_packages") if is_tested else ""
     if packages:
         both = " ".join(dict.fromkeys([*packages.split(), *more.split()]))
         fail(f"packages of Debian are missing: apt-get install {both}")
@@ -116,56 +115,40 @@ def check_packages(names: List[str], is_tested: bool) -> None:
 
 def left_out(report: Path) -> List[str]:
     """The skipped tests of a JUnit report with their reasons, and the properties that tests recorded."""
-    testcases = list(ElementTree.parse(report).iter("testcase"))
+    cases = list(ElementTree.parse(report).iter("testcase"))
     skipped = [
-        f"{case.get('name')}: {skip.get('message')}" for case in testcases for skip in case.iter("skipped")
+        f"{case.get('name')}: {skip.get('message')}" for case in cases for skip in case.iter("skipped")
     ]
-    recorded = [str(prop.get("value")) for case in testcases for prop in case.iter("property")]
+    recorded = [str(prop.get("value")) for case in cases for prop in case.iter("property")]
     return list(dict.fromkeys(skipped + recorded))
 
 
-def tested() -> List[str]:
-    """Runs the newcomer's tests. What they left out."""
+def run_newcomer() -> List[str]:
+    """Runs the newcomer's tests, and returns what they left out."""
     with tempfile.TemporaryDirectory() as folder:
         report = Path(folder, "report.xml")
-        failed = f"tests/all {NEWCOMER} failed, so nothing is made"
-        succeed(failed, "tests/all", NEWCOMER, f"--junitxml={report}")
+        reason = f"tests/all {NEWCOMER} failed, so nothing is made"
+        run("tests/all", NEWCOMER, f"--junitxml={report}", reason=reason)
         return left_out(report)
 
 
 def plugin() -> bytes:
     """The plugin of mupen64plus."""
     with tempfile.TemporaryDirectory() as folder:
-        succeed("plugin/build has built nothing", "plugin/build", f"{folder}/plugin.so")
+        run("plugin/build", f"{folder}/plugin.so", reason="plugin/build has built nothing")
         return Path(folder, "plugin.so").read_bytes()
 
 
-def every(given: Path, names: List[str], release: About) -> Iterator[Archive]:
+def all_archives(object_file: Path, names: List[str], release: About) -> Iterator[Archive]:
     """The archives, of an object file of the program, and of these other systems."""
     libraries = libraries_of(names)
     if libraries:  # each is made anew, so no archive has the library of another commit
-        succeed("tools/systems failed, so nothing is made", "tools/systems", *libraries)
-    yield archives.of_native(linked_program(given), plugin(), release)
+        run("tools/systems", *libraries, reason="tools/systems failed, so nothing is made")
+    yield archives.of_native(linked_program(object_file), plugin(), release)
     yield archives.of_conformance(release)
     yield archives.of_source(release)
-    for it in names:
-        yield archives.of_system(it, places.MADE / it, release)
-
-
-def put(made: Dict[str, bytes]) -> None:
-    """Writes all archives with their sums beside their places, and only then puts them there."""
-    dist, path = TOP / "dist", TOP / "dist"
-    try:
-        dist.mkdir(exist_ok=True)
-        with tempfile.TemporaryDirectory(dir=dist, prefix=".new-") as beside:
-            for name, data in {**made, "SHA256SUMS": HOW + archive_formats.sums(made)}.items():
-                path = dist / name
-                Path(beside, name).write_bytes(data)
-            for it in sorted(Path(beside).iterdir()):
-                path = dist / it.name
-                os.replace(it, path)
-    except OSError as fault:
-        fail(f"cannot write {path}: {fault.strerror}")
+    for name in names:
+        yield archives.of_system(name, places.MADE / name, release)
 
 
 def arguments() -> argparse.Namespace:
@@ -179,28 +162,29 @@ def arguments() -> argparse.Namespace:
 
 
 def main() -> None:
-    asked = arguments()
-    names = [] if asked.systems is None else [*dict.fromkeys(asked.systems)] or OTHERS
+    options = arguments()
+    names = [] if options.systems is None else [*dict.fromkeys(options.systems)] or OTHERS
     check_names(names)
-    check_packages(names, not asked.untested)
-    if said("git", "status", "--porcelain"):
+    check_packages(names, not options.untested)
+    if output_of("git", "status", "--porcelain"):
         fail("the work tree differs from its commit")
     version, day = install_tree.version()
     check_versions()
-    check_day(day, said("git", "tag", "--points-at", "HEAD").split())
-    if asked.object == OBJECT:
-        succeed("./rsp has built nothing", "./rsp", "run")
-    succeed("library/c/build has built nothing", "library/c/build")
-    if not asked.object.is_file():
-        fail(f"{asked.object} isn't there: run `rt run -- run` in crates/rsp_main")
-    left = [f"{NEWCOMER}: --untested"] if asked.untested else tested()
+    check_day(day, output_of("git", "tag", "--points-at", "HEAD").split())
+    if options.object == OBJECT:
+        run("./rsp", "run", reason="./rsp has built nothing")
+    run("library/c/build", reason="library/c/build has built nothing")
+    if not options.object.is_file():
+        fail(f"{options.object} isn't there: run `rt run -- run` in crates/rsp_main")
+    reasons = [f"{NEWCOMER}: --untested"] if options.untested else run_newcomer()
     release = release_info.of_head()
-    made = {it.name: it.packed() for it in every(asked.object, names, release)}
-    put(made)
-    for name, data in made.items():
+    packed = {archive.name: archive.packed() for archive in all_archives(options.object, names, release)}
+    files = {**packed, "SHA256SUMS": HOW + archive_formats.sums(packed)}
+    put_all(TOP / "dist", [File(name, data) for name, data in files.items()], fail)
+    for name, data in packed.items():
         print(f"dist/{name}: {len(data)} bytes, version {version}, commit {release.commit[:12]}")
-    for it in left:
-        print(f"left out: {it}")
+    for reason in reasons:
+        print(f"left out: {reason}")
 
 
 if __name__ == "__main__":

@@ -39,7 +39,6 @@ from typing import (
     cast,
 )
 
-from . import arrays as _arrays
 from . import errors as _errors
 from . import fields as _fields
 from . import savestate as _savestate
@@ -70,12 +69,21 @@ def __dir__() -> List[str]:
     return sorted((*__all__, "__doc__", "__version__", "STATE"))
 
 
+def _numpy(name: str) -> Any:
+    """The module numpy, which isn't imported before a call needs it."""
+    try:
+        import numpy
+    except ImportError:
+        raise ImportError(f"{name} needs numpy, which isn't installed") from None
+    return numpy
+
+
 def __getattr__(name: str) -> Any:
-    """STATE, a numpy dtype with the layout of a State."""
+    """STATE, a numpy dtype with the layout of a State, field by field."""
     if name != "STATE":
         raise AttributeError(f"module rsp has no {name}")
     try:
-        return _arrays.state_type()
+        return _numpy("rsp.STATE").dtype(State)
     except ImportError as fault:
         raise AttributeError(str(fault)) from None
 
@@ -645,7 +653,12 @@ class Machine(_Owner):
         The items are bytes, or of another dtype. Memories have the high byte first, so words are ">u4" and
         lanes ">u2". This call needs numpy.
         """
-        return _arrays.copied(self.memory(bank, address, length), dtype)
+        numpy, data = _numpy("memory_array"), bytearray(self.memory(bank, address, length))
+        kind = numpy.dtype(dtype)
+        if kind.itemsize == 0 or len(data) % kind.itemsize:
+            size = f"the {kind.itemsize} bytes of {kind}"
+            raise ValueError(f"memory_array: length is {len(data)}, not a multiple of {size}")
+        return numpy.frombuffer(data, kind)
 
     def memory_words(self, bank: int, address: int, count: int) -> List[int]:
         """`count` words of a memory, the high byte of each first."""

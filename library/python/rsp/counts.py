@@ -74,20 +74,23 @@ def _note(found: Counted, at: int, text: str) -> None:
     found.labels.update({(it, places[it]): name for name, it in words.labels.items() if it in places})
 
 
+def _lines(found: Counted, place: Place, count: str) -> Iterator[str]:
+    """The line of an instruction, after its label."""
+    if place in found.labels:
+        yield f"{found.labels[place]}:"
+    yield f"{count}  {place[0]:03x} {rsp.text(place[1], place[0])}"
+
+
 def report(found: Counted) -> Iterator[str]:
     """The lines that the program prints."""
     total = sum(found.steps.values())
-    for (place, word), count in sorted(found.steps.items()):
-        if (place, word) in found.labels:
-            yield f"{found.labels[place, word]}:"
-        yield f"{count:8} {100 * count / total:5.1f} %  {place:03x} {rsp.text(word, place)}"
+    for place, count in sorted(found.steps.items()):
+        yield from _lines(found, place, f"{count:8} {100 * count / total:5.1f} %")
     yield f"{total:8} steps"
     if found.unexecuted():
         yield "never executed:"
-    for place, word in found.unexecuted():
-        if (place, word) in found.labels:
-            yield f"{found.labels[place, word]}:"
-        yield f"{'':17}  {place:03x} {rsp.text(word, place)}"
+    for place in found.unexecuted():
+        yield from _lines(found, place, " " * 17)
 
 
 def main() -> int:

@@ -163,6 +163,11 @@ def sp_parts(words: Iterable[int], interrupt: int) -> Named:
     yield "interrupt", interrupt, 1
 
 
+def sp_words_parts(registers: Any) -> Named:
+    """Those of a structure of them."""
+    return sp_parts(registers.words, registers.interrupt)
+
+
 def state_parts(state: Any) -> Named:
     """Those of all registers."""
     return chain(

@@ -17,7 +17,7 @@ import struct
 import sys
 import time
 from pathlib import Path
-from typing import Any, Callable, Dict, List, NamedTuple, Optional, Sequence, Set, Tuple
+from typing import Any, Callable, Dict, List, NamedTuple, Optional, Set, Tuple
 
 import rsp
 import rsp.waits
@@ -236,9 +236,9 @@ class Stub:
             return (b"m" if at + length < len(_XML) else b"l") + _XML[at : at + length]
         if name.startswith("Rcmd,"):
             words = bytes.fromhex(name[5:]).decode("latin-1").split()
-            return _hex(self._monitor(words or ["help"])) or b"OK"
+            return _hex(self._monitor(*words or ["help"]))
         if name == "rsp.goto":
-            return _hex(self._goto()) if self._goal >= 0 else b""
+            return _hex(f"{self._goto()}\n") if self._goal >= 0 else b""
         if name == "rsp.text":
             word, address = _pair(more)
             return _hex(_text(word, address & 0xFFC))
@@ -352,52 +352,68 @@ class Stub:
         at, goal = self.line.goto(self._goal), self._goal
         self._end = math.inf
         if self._was_interrupted and at != goal:
-            return f"step {at}, on the way to {goal}\n"
+            return f"step {at}, on the way to {goal}"
         self._goal = -1
-        return f"step {at}\n"
+        return f"step {at}"
 
-    def _counts(self, least: int = 0) -> str:
-        if self.line.step - least > _COUNTED:
-            raise ValueError(f"name a step at most {_COUNTED} before {self.line.step}")
+    def _begin_goto(self, step: str) -> str:
+        self._goal = _number(step)
+        return self._goto()
+
+    def _counts(self, first: str = "0") -> str:
+        step = self.line.step
+        if step - _number(first) > _COUNTED:
+            raise ValueError(f"name a step at most {_COUNTED} before {step}")
         words = self.line.machine.memory_words(rsp.IMEM, 0, 1024)
-        rows = sorted(self.line.counts(least).items())
-        return "".join(f"{n:9} {at:03x} {_text(words[at // 4], at)}\n" for at, n in rows)
+        rows = sorted(self.line.counts(_number(first)).items())
+        return "\n".join(f"{n:9} {at:03x} {_text(words[at // 4], at)}" for at, n in rows)
 
-    def _query_machine(self, name: str, *operands: str) -> Optional[str]:
-        """The reply to a command that changes nothing, or None if there is no such command."""
-        machine = self.line.machine
-        state = machine.get()
-        texts: Dict[str, Callable[..., Any]] = {
+    def _change(self, call: Callable[..., None], *operands: Any) -> str:
+        """Makes a call that changes the machine."""
+        call(*operands)
+        self.line.changed()
+        return "ok"
+
+    def _read(self, number: str) -> str:
+        word = self.line.machine.read(_number(number))
+        if _number(number) == 7:  # the semaphore, which a read takes
+            self.line.changed()
+        return f"c{number} {word:08x}"
+
+    def _commands(self) -> Dict[str, Callable[..., Any]]:
+        """What GDB's `monitor` does: a function of the operands for each command, which returns the reply."""
+        machine, state = self.line.machine, self.line.machine.get()
+        return {
             "when": lambda: f"step {self.line.step}",
-            "why": lambda: self._why,
+            "goto": self._begin_goto,
+            "counts": self._counts,
             "waits": lambda: "\n".join(map(str, rsp.waits.causes(machine.copy()))) or "none is missing",
+            "why": lambda: self._why,
+            "task": lambda at: self._change(machine.start_task, _number(at)),
+            "pc": lambda at: self._change(machine.set_pc, _number(at)),
+            "load": lambda bank, at, data: self._change(
+                machine.load, _bank(bank), _number(at), bytes.fromhex(data)
+            ),
+            "write": lambda n, value: self._change(machine.write, _number(n), _number(value)),
+            "read": self._read,
             "regs": machine.regs,
             "vregs": lambda: "\n".join(vregs(state.vectors)),
-            "acc": machine.acc,
+            "acc": lambda: state.accumulators,
             "flags": lambda: f"{state.flags} {state.divider}",
             "sp": lambda: "".join(f"c{n} {word:08x}\n" for n, word in enumerate(state.sp))
             + f"interrupt {state.interrupt}",
             "mem": lambda bank, start, length: _memory_lines(machine, bank, start, length),
             "dis": lambda at, count: "\n".join(map(str, machine.listing(_number(at), _number(count)))),
         }
-        return f"{texts[name](*operands)}\n" if name in texts else None
 
-    def _monitor(self, words: Sequence[str]) -> str:
-        name, *operands = words
-        self._goal = -1
+    def _monitor(self, name: str, *operands: str) -> str:
+        """The reply to `monitor`."""
+        self._goal, commands = -1, self._commands()
+        if name not in commands:
+            return _HELP
         try:
-            if name in ("task", "pc", "load", "write", "read"):
-                reply = _change(self.line.machine, *words)
-                if name != "read" or _number(operands[0]) == 7:  # which takes the semaphore
-                    self.line.changed()
-                return reply
-            if name == "goto" and len(operands) == 1:
-                self._goal = _number(operands[0])
-                return self._goto()
-            if name == "counts":
-                return self._counts(*map(_number, operands))
-            return self._query_machine(*words) or _HELP
-        except TypeError:  # too many words, or too few
+            return f"{commands[name](*operands)}\n"
+        except TypeError:  # too many operands, or too few
             return _HELP
         except (rsp.RspError, ValueError) as fault:
             return f"fault: {fault}\n"
@@ -422,19 +438,6 @@ def _memory_lines(machine: rsp.Machine, bank: str, start: str, length: str) -> s
         raise ValueError("LEN is 1 to 4096")
     raw = machine.memory(_bank(bank), at, most)
     return "\n".join(f"{at + n:06x}: {raw[n : n + 16].hex()}" for n in range(0, most, 16))
-
-
-def _change(machine: rsp.Machine, name: str, *operands: str) -> str:
-    """Carries out a command of scripts that changes the machine, and returns its reply."""
-    calls: Dict[str, Callable[..., Optional[int]]] = {
-        "task": lambda at: machine.start_task(_number(at)),
-        "pc": lambda at: machine.set_pc(_number(at)),
-        "load": lambda bank, at, data: machine.load(_bank(bank), _number(at), bytes.fromhex(data)),
-        "write": lambda number, value: machine.write(_number(number), _number(value)),
-        "read": lambda number: machine.read(_number(number)),
-    }
-    value = calls[name](*operands)
-    return "ok\n" if value is None else f"c{operands[0]} {value:08x}\n"
 
 
 def after_script(script: bytes, image: bytes) -> rsp.Machine:

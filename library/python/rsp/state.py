@@ -2,7 +2,7 @@
 the session shows."""
 
 from ctypes import Structure
-from typing import TYPE_CHECKING, Any, ClassVar, Dict, Iterator, List, Type, TypeVar
+from typing import TYPE_CHECKING, Any, Callable, ClassVar, Dict, Iterator, List, Type, TypeVar
 
 from . import formatting
 from .fields import taken
@@ -25,6 +25,7 @@ class Plain(Structure):
     another if all numbers are."""
 
     _kinds: ClassVar[Dict[str, Any]] = {}
+    _parts: ClassVar[Callable[[Any], formatting.Named]]  # the name, the value and the digits of each part
 
     def __init_subclass__(cls, **words: Any) -> None:
         super().__init_subclass__(**words)
@@ -80,10 +81,6 @@ class Plain(Structure):
     def __repr__(self) -> str:
         fields = ", ".join(f"{name}={getattr(self, name)!r}" for name in self._kinds)
         return f"{type(self).__name__}({fields})"
-
-    def _parts(self) -> formatting.Named:
-        """The name, the value and the hexadecimal digits of each part."""
-        raise NotImplementedError
 
     def __str__(self) -> str:
         return formatting.line(self._parts())
@@ -190,9 +187,7 @@ class SpWords(Plain):
 
     words: SpItems
     interrupt: U32
-
-    def _parts(self) -> formatting.Named:
-        return formatting.sp_parts(self.words, self.interrupt)
+    _parts = formatting.sp_words_parts
 
     def __str__(self) -> str:
         return "\n".join(formatting.line([part]) for part in self._parts())

@@ -7,8 +7,8 @@ console.
 
     with rsp.Machine(image) as machine:
         machine.start_task(0x100)
-        for it in rsp.waits.causes(machine):
-            print(it)
+        for missing in rsp.waits.causes(machine):
+            print(missing)
 
 The rules are our own:
 

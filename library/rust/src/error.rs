@@ -83,11 +83,11 @@ impl RspError {
 
     /// The error of a call with these numbers.
     pub(crate) fn of(status: Status, call: &str, given: &[u64]) -> RspError {
-        RspError::told(status, refusal(status, call, given))
+        RspError::with_message(status, refusal(status, call, given))
     }
 
     /// The error with this sentence.
-    pub(crate) fn told(status: Status, what: String) -> RspError {
+    pub(crate) fn with_message(status: Status, what: String) -> RspError {
         RspError { status, what, assembly: None }
     }
 
@@ -95,9 +95,9 @@ impl RspError {
     pub(crate) fn of_text(text: &str, it: AssemblyFault) -> RspError {
         let name = Fault::of(it.fault).map_or("unknown".to_string(), |fault| format!("{fault:?}"));
         let source = text.split('\n').nth(it.line.wrapping_sub(1)).unwrap_or_default().trim();
-        let shown: String = source.chars().map(|it| if it == '\t' { it.to_string() } else { it.escape_debug().to_string() }).collect();
-        let operand = it.operand.map_or(String::new(), |operand| format!("; {}", operand.told(it.fault)));
-        let what = format!("assemble: fault {} {name} line {}: {shown}{operand}", it.fault, it.line);
+        let printed: String = source.chars().map(|it| if it == '\t' { it.to_string() } else { it.escape_debug().to_string() }).collect();
+        let operand = it.operand.map_or(String::new(), |operand| format!("; {}", operand.sentence(it.fault)));
+        let what = format!("assemble: fault {} {name} line {}: {printed}{operand}", it.fault, it.line);
         RspError { status: Status::NoMeaning, what, assembly: Some(it) }
     }
 }
@@ -124,7 +124,7 @@ pub(crate) fn right_version() -> Result<(), RspError> {
 }
 
 fn wrong_version(found: u32) -> RspError {
-    RspError::told(Status::Version(found), format!("the interface of the library has version {found}, not {VERSION}"))
+    RspError::with_message(Status::Version(found), format!("the interface of the library has version {found}, not {VERSION}"))
 }
 
 /// The status of a number of `brsp.h`; none if it is BRSP_OK.

@@ -6,7 +6,7 @@ use crate::refusals::state_refusal;
 use crate::shapes::{
     Accumulators, Bank, Changes, DivideState, Event, FlagBits, Line, MoveEnd, Reason, Scalars, SpWords, State, StepEnd, Stop, Traced,
 };
-use crate::texts::{seen, NO_LINE};
+use crate::texts::{line_of, NO_LINE};
 use crate::{RspError, Status};
 use std::cell::UnsafeCell;
 use std::ptr;
@@ -76,7 +76,7 @@ impl Machine {
     /// Sets all registers, and empties the history. The memories stay unchanged.
     pub fn set(&mut self, state: &State) -> Result<(), RspError> {
         match state.fault() {
-            Some(field) => Err(RspError::told(Status::OutOfRange, state_refusal(field, state))),
+            Some(field) => Err(RspError::with_message(Status::OutOfRange, state_refusal(field, state))),
             None => done(unsafe { raw::brsp_set(self.at(), state) }, "set", &[]),
         }
     }
@@ -337,7 +337,7 @@ impl Machine {
             "listing",
             &[address.into(), count as u64],
         )?;
-        Ok(lines.iter().map(seen).collect())
+        Ok(lines.iter().map(line_of).collect())
     }
 }
 

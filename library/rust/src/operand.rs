@@ -48,7 +48,7 @@ impl Operand {
     }
 
     /// Which operand it is and what it may be, after this fault.
-    pub(crate) fn told(&self, fault: u32) -> String {
+    pub(crate) fn sentence(&self, fault: u32) -> String {
         let is_form = fault == Fault::BadOperand as u32;
         let mut allowed = vec![];
         if is_form {

@@ -73,8 +73,8 @@ fn out_of_range(call: &str, given: &[u64]) -> String {
     }
     named().fold(together(call).to_string(), |text, ((name, _), number)| {
         let banks = ["DMEM", "IMEM", "RDRAM"];
-        let shown = if *name == "bank" { banks[*number as usize].to_string() } else { number.to_string() };
-        text.replace(&format!("{{{name}}}"), &shown)
+        let value = if *name == "bank" { banks[*number as usize].to_string() } else { number.to_string() };
+        text.replace(&format!("{{{name}}}"), &value)
     })
 }
 

@@ -27,8 +27,8 @@ pub enum ScriptError {
 
 /// The beginning of a line, in which no character controls a terminal.
 fn printable(line: &str) -> String {
-    let shown = |it: char| if "\t\"'\\".contains(it) { it.to_string() } else { it.escape_debug().to_string() };
-    line.chars().take(80).map(shown).collect()
+    let escaped = |it: char| if "\t\"'\\".contains(it) { it.to_string() } else { it.escape_debug().to_string() };
+    line.chars().take(80).map(escaped).collect()
 }
 
 impl fmt::Display for ScriptError {

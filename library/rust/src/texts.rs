@@ -9,7 +9,7 @@ const NO_MEANING: u32 = 106;
 
 pub(crate) const NO_LINE: raw::Line = raw::Line { word: 0, address: 0, len: 0, text: [0; 68] };
 
-pub(crate) fn seen(line: &raw::Line) -> Line {
+pub(crate) fn line_of(line: &raw::Line) -> Line {
     Line { address: line.address, word: line.word, text: String::from_utf8_lossy(&line.text[..usize::from(line.len)]).into_owned() }
 }
 
@@ -46,7 +46,7 @@ pub fn text(word: u32, address: u32) -> Result<String, RspError> {
     let mut line = NO_LINE;
     // SAFETY: the pointer is of a borrow.
     done(unsafe { raw::brsp_text(word, address, &mut line) }, "text", &[word.into(), address.into()])?;
-    Ok(seen(&line).text)
+    Ok(line_of(&line).text)
 }
 
 /// The version of the library's interface. A library with another version than [`VERSION`](crate::VERSION) is refused.

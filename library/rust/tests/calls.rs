@@ -249,17 +249,17 @@ fn states_and_memories() {
 fn single_registers() {
     let mut machine = loaded("nop\nnop\n", 4);
     machine.step().unwrap();
-    let mut wanted = machine.get().unwrap();
-    (wanted.words[31], wanted.vectors[31]) = (u32::MAX, [1, 2, 3, 4, 5, 6, 7, 65535]);
+    let mut expected = machine.get().unwrap();
+    (expected.words[31], expected.vectors[31]) = (u32::MAX, [1, 2, 3, 4, 5, 6, 7, 65535]);
     assert_eq!(machine.set_reg(31, u32::MAX), Ok(()));
     assert_eq!(machine.set_vreg(31, [1, 2, 3, 4, 5, 6, 7, 65535]), Ok(()));
-    assert_eq!((machine.set_reg(0, 0), machine.get()), (Ok(()), Ok(wanted)));
+    assert_eq!((machine.set_reg(0, 0), machine.get()), (Ok(()), Ok(expected)));
     assert_eq!(why(machine.back(1)), Some(Status::ShortHistory));
     for (n, value) in [(0, 1), (32, 0), (u32::MAX, 0)] {
         assert_eq!(why(machine.set_reg(n, value)), Some(Status::OutOfRange));
     }
     assert_eq!(why(machine.set_vreg(32, [0; 8])), Some(Status::OutOfRange));
-    assert_eq!(machine.get(), Ok(wanted));
+    assert_eq!(machine.get(), Ok(expected));
 }
 
 #[test]

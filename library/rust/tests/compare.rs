@@ -102,8 +102,8 @@ fn a_fault_is_found_at_its_step() {
         assert_eq!((found.registers.len(), found.registers[0].place.to_string()), (1, "$v2 lane 5".to_string()));
         let (mut machine, mut emulator) = pair(40, 17, byte);
         let found = first_difference(&mut machine, &mut emulator, every, 1000).unwrap().unwrap();
-        let shown = "DMEM 3f0 is 00000000000000000000000000000000 on the machine and 00000000000000800000000000000000 in the emulator";
-        assert_eq!(found.to_string(), format!("step {}, 028: addiu $2, $2, -1\n  {shown}", step + 1));
+        let sentence = "DMEM 3f0 is 00000000000000000000000000000000 on the machine and 00000000000000800000000000000000 in the emulator";
+        assert_eq!(found.to_string(), format!("step {}, 028: addiu $2, $2, -1\n  {sentence}", step + 1));
     }
 }
 
@@ -183,8 +183,8 @@ fn a_panic_of_an_emulator_leaves_the_machine_whole() {
     for is_in_run in [false, true] {
         let (mut machine, _) = pair(0, 99, lane);
         let ended = catch_unwind(AssertUnwindSafe(|| first_difference(&mut machine, &mut Panics { is_in_run }, 1, 9)));
-        let told = if is_in_run { "a run" } else { "registers" };
-        assert_eq!(ended.unwrap_err().downcast_ref(), Some(&told));
+        let message = if is_in_run { "a run" } else { "registers" };
+        assert_eq!(ended.unwrap_err().downcast_ref(), Some(&message));
         assert_eq!(machine.get().unwrap(), alone(u64::from(is_in_run)));
         assert_eq!(machine.run(9).unwrap().steps, 9);
     }
@@ -223,6 +223,6 @@ fn a_stretch_is_named_if_single_steps_dont_show_it() {
     let (mut machine, emulator) = pair(0, 99, lane);
     let found = first_difference(&mut machine, &mut Whole(emulator), 3, 1000).unwrap().unwrap();
     assert_eq!((found.step, found.steps, found.line.address, found.before), (3, 3, 0, alone(0)));
-    let said = "steps 1 to 3, from 000 on: no step alone differs, so get and set leave something out\n";
-    assert!(found.to_string().starts_with(said), "{found}");
+    let head = "steps 1 to 3, from 000 on: no step alone differs, so get and set leave something out\n";
+    assert!(found.to_string().starts_with(head), "{found}");
 }

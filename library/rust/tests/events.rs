@@ -62,8 +62,8 @@ fn a_passed_dma_is_the_step_but_for_the_bytes() -> Result<(), RspError> {
 #[test]
 fn labels_have_their_addresses() -> Result<(), RspError> {
     let found = labels(TEXT, 0x100)?;
-    let wanted = [("start", 0x100), ("transfer", 0x11c), ("end", 0x120)].map(|(name, at)| (name.to_string(), at));
-    assert_eq!(found, wanted);
+    let expected = [("start", 0x100), ("transfer", 0x11c), ("end", 0x120)].map(|(name, at)| (name.to_string(), at));
+    assert_eq!(found, expected);
     assert!(labels("nop", 0)?.is_empty() && labels("j x", 0).unwrap_err().assembly().map(|it| it.line) == Some(1));
     Ok(())
 }

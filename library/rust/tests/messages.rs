@@ -22,12 +22,13 @@ fn flags_and_accumulators() {
     let machine = after("lqv $v1[0], 0($0)\nlqv $v2[0], 16($0)\nvch $v3, $v1, $v2\nsqv $v3[0], 32($0)\nbreak\n", &data, 100);
     let (flags, divider) = (machine.flags().unwrap(), machine.divider().unwrap());
     assert_eq!(format!("{flags} {divider}"), "vco 885b vcc bf7b vce 11 in 0000 out 0000 loaded 0");
-    let wanted = "a0 000000000005\na1 000000000005\na2 000000000000\na3 000000008000\na4 000000008000\na5 000000008000\na6 00000000ffff\n\
+    let expected =
+        "a0 000000000005\na1 000000000005\na2 000000000000\na3 000000008000\na4 000000008000\na5 000000008000\na6 00000000ffff\n\
                   a7 000000000001";
-    assert_eq!(machine.acc().unwrap().to_string(), wanted);
+    assert_eq!(machine.acc().unwrap().to_string(), expected);
 }
 
-/// The source and the replies are those of `ONE_LANE` in tests/library/python/test_states.py, which asks the program.
+/// A state as the lines of scripts, in full.
 #[test]
 fn whole_states() {
     let machine = after("addiu $1, $0, 1\nmtc2 $1, $v1[0]\nvne $v2, $v1, $v0\n", &[], 3);

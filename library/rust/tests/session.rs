@@ -30,8 +30,8 @@ fn one_by_one() {
     let replies: Vec<_> = session.feed_iter(b"step\n#\nasm 0\nnop\nend\nste").map(Result::unwrap).collect();
     assert_eq!(replies, [&b"step Done pc 004\n"[..], b"", b"", b"", b"ok 1 words\n"]);
     let text = "#".repeat(LONGEST);
-    let mut told = session.feed_iter(text.as_bytes());
-    assert_eq!((told.next().map(why), told.next()), (Some(Some(Status::TooLong)), None));
+    let mut replies = session.feed_iter(text.as_bytes());
+    assert_eq!((replies.next().map(why), replies.next()), (Some(Some(Status::TooLong)), None));
 }
 
 /// As many lines as a script may have take no more than their replies need.
@@ -52,8 +52,8 @@ fn refusals() {
         assert_eq!(why(Session::new(&vec![0; length])), Some(Status::OutOfRange));
     }
     let script = format!("step\n{}", "#".repeat(LONGEST - 5));
-    let wanted = b"step Done pc 004\nfault 32 LineTooLong\n".to_vec();
-    assert_eq!(run_script(&script, Some(&[0; 64])), Ok((wanted, vec![0; 64])));
+    let expected = b"step Done pc 004\nfault 32 LineTooLong\n".to_vec();
+    assert_eq!(run_script(&script, Some(&[0; 64])), Ok((expected, vec![0; 64])));
     let mut session = Session::new(&[1; 64]).unwrap();
     assert_eq!(why(session.feed(script + "#")), Some(Status::TooLong));
     assert_eq!((why(session.feed("")), why(session.end())), (Some(Status::TooLong), Some(Status::TooLong)));
@@ -77,8 +77,8 @@ fn strict_scripts() {
         ("asm 2\n", 1, "asm 2", 31, "fault 31 BadNumber"),
     ];
     for (script, line, text, fault, reply) in faults {
-        let wanted = ScriptError::Fault { line, text: text.to_string(), fault, reply: reply.to_string() };
-        assert_eq!(run(script).err(), Some(wanted), "{script}");
+        let expected = ScriptError::Fault { line, text: text.to_string(), fault, reply: reply.to_string() };
+        assert_eq!(run(script).err(), Some(expected), "{script}");
     }
     assert_eq!(run("step\nbrek 0").unwrap_err().to_string(), "line 2: fault 30 BadCommand: brek 0");
     assert_eq!(run("asm 0").unwrap_err().to_string(), "line 2: fault 10 BadLine line 1");

@@ -73,7 +73,7 @@ fn outcome((_, words, wrong, every): &(&str, [u32; 3], Wrong, u32)) -> String {
 fn wrong_uses() {
     let Some(path) = std::env::var_os("RSP_WRONG_USES") else { return };
     let table = std::fs::read_to_string(path).unwrap();
-    let wanted: Vec<_> = table.lines().skip(1).filter(|it| !it.starts_with("no machine\t")).collect();
+    let expected: Vec<_> = table.lines().skip(1).filter(|it| !it.starts_with("no machine\t")).collect();
     let found = USES.iter().map(|it| format!("{}\t{}", it.0, outcome(it).replace("OutOfRange", "OUT_OF_RANGE")));
-    assert_eq!(found.collect::<Vec<_>>(), wanted);
+    assert_eq!(found.collect::<Vec<_>>(), expected);
 }

@@ -26,12 +26,10 @@ rsp_c staticlib: rsp_decode
 """
 LIBRARY = "#![tactic(auto)]\n\npub fn answer() -> u8 {\n    %s\n}\n"
 SOURCES = {
-    "rsp_decode/src/lib.rt": LIBRARY % "0",
-    "rsp_side/src/lib.rt": LIBRARY % "0",
-    "rsp_beside/src/lib.rt": LIBRARY % "0",
-    "rsp_other/src/lib.rt": LIBRARY % "rsp_decode::answer()",
-    "rsp_above/src/lib.rt": LIBRARY % "rsp_decode::answer()",
-    "rsp_middle/src/lib.rt": LIBRARY % "rsp_above::answer()",
+    **{
+        f"{name}/src/lib.rt": LIBRARY % (f"{used}::answer()" if used else "0")
+        for name, used in re.findall(r"(?m)^(?!rsp_main)(\w+):(?: (\w+))?", CRATES)
+    },
     "rsp_main/src/main.rt": """#![tactic(auto)]
 
 use std::process::ExitCode;

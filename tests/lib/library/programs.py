@@ -25,8 +25,8 @@ def built(folder: Path, source: Path, *more: object, compiler: str = "cc") -> Pa
     return compiled(folder / source.stem, *words, compiler=compiler)
 
 
-def said_by(folder: Path, text: str, compiler: str = "cc") -> str:
-    """What the program of a text says."""
+def output_of(folder: Path, text: str, compiler: str = "cc") -> str:
+    """The output of the program of a text."""
     source = folder / "text.c"
     source.write_text(text)
     return succeeds(built(folder, source, compiler=compiler))
@@ -37,8 +37,8 @@ def main_of(lines: str) -> str:
     return f'#include "brsp_savestate.h"\n#include <stdio.h>\nint main(void)\n{{\n{lines}\nreturn 0;\n}}\n'
 
 
-def passes(program: Path) -> None:
-    """A program that counts its checks ends with `N passed, 0 failed`."""
+def assert_passes(program: Path) -> None:
+    """Asserts that a program, which counts its checks, ends with `N passed, 0 failed`."""
     ran = run(program)
     has_passed = re.search(r"(?m)^[1-9]\d* passed, 0 failed\n\Z", ran.stdout)
     assert ran.returncode == 0 and has_passed, f"status {ran.returncode}\n{ran.stdout}"

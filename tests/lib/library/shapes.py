@@ -131,10 +131,10 @@ def structs_of(text: str, known: Optional[Mapping[str, Struct]] = None) -> Dict[
     form = r"#\[repr\(C\)\]\n(?:#\[[^\n]*\n)*pub struct (\w+) \{(.*?)\n\}"
     for name, body in re.findall(form, text, re.S):
         if name not in HANDLES:
-            held = [
+            fields = [
                 (field, typed(kind)) for field, kind in re.findall(r"pub(?:\(crate\))? (\w+): (.+),", body)
             ]
-            made[name] = type(name, (ctypes.Structure,), {"_fields_": held})
+            made[name] = type(name, (ctypes.Structure,), {"_fields_": fields})
     return made
 
 

@@ -1,6 +1,7 @@
-"""Programs and tests in Chromium: a server on this machine's own address gives its page files, and takes what
-they say."""
+"""Programs and tests in Chromium: a server on this machine's own address gives its page files, and takes
+their output."""
 
+import shutil
 import threading
 from functools import cached_property
 from http.server import SimpleHTTPRequestHandler, ThreadingHTTPServer
@@ -8,13 +9,48 @@ from pathlib import Path
 from typing import Any, Dict, List, Optional, Tuple
 
 from lib.processes import Ended
-from lib.systems import chromium
 from lib.systems.runners import Runner
 from rsp_tools.systems import places, wasm
 from rsp_tools.systems.toolchain import llvm
 
 PAGES = places.TOP / "tests/systems/wasm"
+PROGRAMS = ("chromium", "chromedriver", "python:selenium")
+# As root Chromium has no sandbox of its own; a small window, with room for replies beside scripts, is painted
+# sooner; gc() is for machines that are dropped.
+WORDS = """
+--headless=new --no-sandbox --disable-gpu --disable-dev-shm-usage --no-first-run
+--window-size=1000,400 --js-flags=--expose-gc
+""".split()
+LONGEST = 1800  # seconds that a script in a page may take
+PROBES = places.TOP / "tests/systems/page/probes.js"  # what tests ask of a page
 HEADERS = ("stddef", "stdint", "stdio", "stdlib", "string", "time")
+
+
+def start_chromium(saved: Path, *words: str) -> Any:
+    """A Chromium of its own, with more words, whose downloads go to a folder. It leaves dialogs to the tests,
+    and logs what a page requests and opens. `quit()` ends it."""
+    from selenium import webdriver
+    from selenium.webdriver.chrome.service import Service
+
+    options = webdriver.ChromeOptions()
+    options.binary_location = str(shutil.which("chromium"))
+    for word in (*WORDS, *words):
+        options.add_argument(word)
+    # Chromium asks before it saves file after file, and where nobody answers it saves none.
+    several = "profile.default_content_setting_values.automatic_downloads"
+    options.add_experimental_option("prefs", {"download.default_directory": str(saved), several: 1})
+    # That a page is left without a question is the rule of chromedriver, except with a socket.
+    capabilities: Dict[str, Any] = {
+        "webSocketUrl": True,
+        "unhandledPromptBehavior": {"default": "ignore", "beforeUnload": "ignore"},
+        "goog:loggingPrefs": {"performance": "ALL"},
+    }
+    for name, value in capabilities.items():
+        options.set_capability(name, value)
+    driver = webdriver.Chrome(service=Service(str(shutil.which("chromedriver"))), options=options)
+    driver.set_script_timeout(LONGEST)
+    driver.execute_cdp_cmd("Page.addScriptToEvaluateOnNewDocument", {"source": PROBES.read_text()})
+    return driver
 
 
 class Handler(SimpleHTTPRequestHandler):
@@ -28,7 +64,7 @@ class Handler(SimpleHTTPRequestHandler):
         return str(folder.joinpath(*rest)) if folder and ".." not in rest else "/nothing"
 
     def log_message(self, *_: Any) -> None:
-        """Says nothing."""
+        """Logs nothing."""
 
     def guess_type(self, path: Any) -> str:
         return self.server.types.get(Path(path).name) or super().guess_type(path)
@@ -38,31 +74,30 @@ class Handler(SimpleHTTPRequestHandler):
         super().end_headers()
 
     def do_POST(self) -> None:
-        self.server.said = self.rfile.read(int(self.headers["Content-Length"]))
+        self.server.output = self.rfile.read(int(self.headers["Content-Length"]))
         self.send_response(204)
         self.end_headers()
 
 
 class Server(ThreadingHTTPServer):
-    """Serves some folders, files of some names with other types, and has what the page said last."""
+    """Serves some folders, files of some names with other types, and has the page's last output."""
 
     daemon_threads = True
 
     def __init__(self, folders: Dict[str, Path], types: Optional[Dict[str, str]] = None) -> None:
         super().__init__(("127.0.0.1", 0), Handler)
-        self.folders, self.types, self.said = folders, types or {}, b""
+        self.folders, self.types, self.output = folders, types or {}, b""
         threading.Thread(target=self.serve_forever, daemon=True).start()
 
     def handle_error(self, *_: Any) -> None:
-        """A page that is ended takes no answer."""
+        """Logs nothing: a page that is ended takes no answer."""
 
 
 class Chromium(Runner):
     """WebAssembly in a browser. `folder` is the library's, with rsp.js. Programs in C are linked with the
-    objects of which the library was linked: those of the folder `way`, or such that are made of the
-    sources."""
+    objects of which the library was linked: those of the folder `way`, or else they are made again."""
 
-    programs = ("rt", *chromium.PROGRAMS)
+    programs = ("rt", *PROGRAMS)
 
     def __init__(self, name: str, folder: Path, at: Path) -> None:
         super().__init__(name, folder, at)
@@ -75,7 +110,7 @@ class Chromium(Runner):
     @cached_property
     def driver(self) -> Any:
         """A Chromium with the page that runs what it is given."""
-        driver = chromium.started(self.at)
+        driver = start_chromium(self.at)
         driver.get(f"http://127.0.0.1:{self.server.server_address[1]}/tests/page.html")
         return driver
 
@@ -108,33 +143,33 @@ class Chromium(Runner):
         llvm("clang", *wasm.CLANG, "-O2", *places_of, *defined, "-c", "-o", part, source)
         if "-c" in words:
             return part
-        given = [part for it in words if it.startswith("-Wl,") for part in it.split(",")[1:]]
+        linked = [word for it in words if it.startswith("-Wl,") for word in it.split(",")[1:]]
         libraries = self.static() if library is None else library
         more = [Path(it) for it in [*words, *libraries] if it.endswith(".o")]
         made = self.at / f"{name or source.stem}{self.ending}"
-        wasm.link(made, [part, *more], "--export=test_main", "--import-undefined", *given)
+        wasm.link(made, [part, *more], "--export=test_main", "--import-undefined", *linked)
         return made
 
     def does(self, url: str, library: str, *words: object) -> Tuple[bytes, int]:
-        """What a program of WebAssembly or a test in JavaScript says, beside a library, and its status."""
+        """The output of a program of WebAssembly or a test in JavaScript over a library, and its status."""
         job = {"url": url, "library": library, "words": [str(it) for it in words]}
-        self.server.said = b""
+        self.server.output = b""
         script = "const [job, done] = arguments; does(job).then(done, () => done(1));"
         status = self.driver.execute_async_script(script, job)
-        return self.server.said, status
+        return self.server.output, status
 
     def run(self, program: Path, *words: object) -> "Ended[str]":
-        said, status = self.does(f"/at/{program.name}", "/library", *words)
-        return Ended([program], status, said.decode(errors="replace"))
+        output, status = self.does(f"/at/{program.name}", "/library", *words)
+        return Ended([program], status, output.decode(errors="replace"))
 
     def test(self, name: str, *words: object, library: str = "/library") -> bytes:
-        """What a test in JavaScript says, which has to end well."""
-        said, status = self.does(f"/tests/{name}", library, *words)
-        assert status == 0, f"{name}: {said[:2000]!r}"
-        return said
+        """The output of a test in JavaScript, which has to end well."""
+        output, status = self.does(f"/tests/{name}", library, *words)
+        assert status == 0, f"{name}: {output[:2000]!r}"
+        return output
 
     def says(self, name: str, text: str) -> str:
-        """What code that imports the package says."""
+        """The output of code that imports the package."""
         (self.at / name).write_text(text.replace('from "rsp"', 'from "/library/rsp.js"'))
         return self.test("code.js", f"/at/{name}").decode()
 

@@ -1,13 +1,11 @@
-"""What the files of a system show and need, and its wheel."""
+"""The names in the files of a system, and its wheel."""
 
 import base64
 import hashlib
-import json
 import re
 import sys
 import tempfile
 import zipfile
-from email import message_from_string
 from pathlib import Path
 from typing import Dict, Set
 
@@ -24,6 +22,8 @@ ctypes.CDLL = load
 sys.platform = sys.argv[1]
 import rsp
 """
+# How pip's tags name each system of Python.
+TAGS = {"linux": "{}linux.*_{}", "win32": "win_amd64", "darwin": "macosx_11_0_universal2"}
 
 
 def symbol_names(*words: object) -> Set[str]:
@@ -34,30 +34,11 @@ def symbol_names(*words: object) -> Set[str]:
 
 def check_record(text: str, files: Dict[str, bytes]) -> None:
     """A wheel's record has each file with its sum and length, only itself without."""
-    recorded = {
-        name: (digest, length) for name, digest, length in (it.split(",") for it in text.splitlines())
-    }
-    sums = {it: base64.urlsafe_b64encode(hashlib.sha256(data).digest()) for it, data in files.items()}
-    wanted = {it: (f"sha256={sums[it].decode().rstrip('=')}", str(len(data))) for it, data in files.items()}
-    assert recorded == {it: ("", "") if it.endswith("/RECORD") else wanted[it] for it in files}
-
-
-def check_metadata(text: str) -> None:
-    """What a wheel says of itself: by the rules of Python's core metadata, of which a mail has the form."""
-    found, project = message_from_string(text), (places.PYTHON / "pyproject.toml").read_text()
-    assert (found["Name"], found["Version"]) == ("rsp", header.version())
-    for key, name in ("Summary", "description"), ("Requires-Python", "requires-python"):
-        assert f'\n{name} = "{found[key]}"\n' in project
-    lists = {"classifiers": found.get_all("Classifier"), "keywords": found["Keywords"].split(",")}
-    for name, items in lists.items():
-        (wanted,) = re.findall(rf"(?ms)^{name} = (\[.*?\])$", project)
-        assert json.loads(wanted.replace(",\n]", "\n]")) == items
-    assert "Topic :: System :: Emulators" in lists["classifiers"]
-    assert found["Description-Content-Type"] == "text/markdown"
-    assert found.get_payload() == (places.PYTHON / "README.md").read_text()
-
-
-INFO = "METADATA", "WHEEL", "RECORD"
+    expected = set()
+    for name, data in files.items():
+        digest = base64.urlsafe_b64encode(hashlib.sha256(data).digest()).decode().rstrip("=")
+        expected.add(f"{name},," if name.endswith("/RECORD") else f"{name},sha256={digest},{len(data)}")
+    assert sorted(text.splitlines()) == sorted(expected)
 
 
 def check_wheel(system: str, folder: Path) -> None:
@@ -65,22 +46,24 @@ def check_wheel(system: str, folder: Path) -> None:
     info, target = f"rsp-{header.version()}.dist-info", TARGETS[system]
     (path,) = (folder / "python").glob("*.whl")
     assert path.name == f"rsp-{header.version()}-py3-none-{'.'.join(target.wheel)}.whl"
+    for tag in target.wheel:  # of which pip takes one that names its own system and processor
+        libc = "musl" if "musl" in target.name else "many"
+        assert re.fullmatch(TAGS[target.python].format(libc, target.processor), tag)
     library = f"rsp/{Path(target.shared).name}"
     ours = (places.PYTHON / "rsp").iterdir()
     modules = {f"rsp/{it.name}" for it in ours if it.suffix in (".py", ".pyi") or it.name == "py.typed"}
     with tempfile.TemporaryDirectory() as at, zipfile.ZipFile(path) as wheel:
         files = {it: wheel.read(it) for it in wheel.namelist()}
         wheel.extractall(at)
-        said = run(sys.executable, "-c", IMPORTED, target.python, cwd=at).stdout
-        assert said == f"loads {Path(at).resolve()}/{library}\n"
+        output = run(sys.executable, "-c", IMPORTED, target.python, cwd=at).stdout
+        assert output == f"loads {Path(at).resolve()}/{library}\n"
     commands = {f"rsp-{header.version()}.data/scripts/{it}": it for it in [Path(target.program).name] if it}
-    wanted = modules | {library} | {f"{info}/{it}" for it in INFO} | {*commands}
-    if system.startswith("linux"):
-        wanted.add(f"{info}/entry_points.txt")  # of rsp-gdb
-    assert {*files} == wanted
+    expected = modules | {library} | {f"{info}/{it}" for it in ("METADATA", "WHEEL", "RECORD")} | {*commands}
+    if target.is_linux:
+        expected.add(f"{info}/entry_points.txt")  # of rsp-gdb
+    assert {*files} == expected
     are_same = [files[it] == (folder / "bin" / name).read_bytes() for it, name in commands.items()]
     assert all(are_same), "the wheel has another program"
-    check_metadata(files[f"{info}/METADATA"].decode())
     is_same = files[library] == (folder / target.shared).read_bytes()
     assert is_same, "the wheel has another library"
     assert re.findall(r"(?m)^Tag: py3-none-(.*)$", files[f"{info}/WHEEL"].decode()) == [*target.wheel]

@@ -10,17 +10,14 @@ from typing import List
 import pytest
 
 from lib.processes import run, run_bytes, succeeds
+from lib.systems.browser import PAGES
 from lib.systems.runners import LONGEST, Runner
-from rsp_tools.systems import places
 
-OLDEST, PLAIN = (
-    20,
-    24,
-)  # the Node that has 64-bit memories with tables by a flag, and that which has them without
+
+OLDEST, PLAIN = 20, 24  # the Node that has 64-bit memories with tables by a flag, and the one without a flag
 FLAG = "--experimental-wasm-memory64"
 WITHOUT = "rsp needs WebAssembly with 64-bit memories: Chrome and Edge have them since 133, Firefox since 134"
 USE = 'import { Reason, Machine } from "rsp"; console.log(Reason[new Machine().run(5).reason]);'
-PAGES = places.TOP / "tests/systems/wasm"
 
 
 @functools.lru_cache(None)
@@ -50,9 +47,11 @@ def check_use(project: Path) -> None:
     (project / "use.mjs").write_text(USE)
     assert succeeds(*command(), "use.mjs", cwd=project).splitlines()[-1] == "LIMIT"
     if version() < PLAIN:
-        said = run("node", "use.mjs", cwd=project)
+        ended = run("node", "use.mjs", cwd=project)
         # V8's own error, which follows, names the flag too.
-        assert said.returncode == 1 and WITHOUT in said.stdout and f"or since 20 with {FLAG};" in said.stdout
+        assert (
+            ended.returncode == 1 and WITHOUT in ended.stdout and f"or since 20 with {FLAG};" in ended.stdout
+        )
 
 
 class Node(Runner):
@@ -68,20 +67,20 @@ class Node(Runner):
 
     def url(self, word: object) -> str:
         """A word of a test, or the address of the file that it names."""
-        places_of = {"/library": self.folder, "/at": self.at}
-        top, slash, rest = str(word)[1:].partition("/")
-        place = places_of.get(f"/{top}")
-        return (place / rest).as_uri() if place and str(word).startswith("/") else str(word)
+        top, _, rest = str(word).removeprefix("/").partition("/")
+        folder = {"library": self.folder, "at": self.at}.get(top)
+        return (folder / rest).as_uri() if folder else str(word)
 
     def test(self, name: str, *words: object, library: str = "/library") -> bytes:
-        """What a test in JavaScript says, which has to end well."""
-        given = [*command(), "--expose-gc", "node.mjs", name, *map(self.url, (library, *words))]
-        ended = run_bytes(given[0], given[1:], cwd=self.at / "tests", timeout=LONGEST)
+        """The output of a test in JavaScript, which has to end well."""
+        program, *flags = command()
+        arguments = [*flags, "--expose-gc", "node.mjs", name, *map(self.url, (library, *words))]
+        ended = run_bytes(program, arguments, cwd=self.at / "tests", timeout=LONGEST)
         assert ended.returncode == 0, f"{name}: {ended.stdout[-1000:]!r}{ended.stderr[-2000:]!r}"
         return ended.stdout
 
     def says(self, name: str, text: str) -> str:
-        """What code that imports the package says."""
+        """The output of code that imports the package."""
         rsp = self.url("/library/rsp.js")
         (self.at / name).write_text(text.replace('from "rsp"', f'from "{rsp}"'))
         return self.test("code.js", f"/at/{name}").decode()

@@ -8,44 +8,17 @@ import sys
 import time
 from contextlib import contextmanager
 from pathlib import Path
-from typing import Any, Callable, Iterator, List
+from typing import Any, Callable, Iterator, List, Tuple
 
 LINKED = 24000  # bytes of a script that a link carries
 TYPED = 4000  # bytes that are typed: Chromium takes long for more
 LONGEST = 60  # seconds that the page may take
 # What Selenium calls these keys.
 TAB, ENTER, SHIFT, CONTROL, DOWN, F1 = "\ue004", "\ue007", "\ue008", "\ue009", "\ue015", "\ue031"
+ESCAPE = "\ue00c"
 FIRST = "Eight sums at once"  # the example that is there at first
-LINES = {"vregs": 32, "regs": 9, "step": 1}  # how many lines a reply has
-
-
-def the(name: str) -> str:
-    """An element of the page, as JavaScript."""
-    return f"document.getElementById('{name}')"
-
-
-# How many replies are shown, if one of them is near the view.
-SHOWN = "Number(document.querySelector('#replies > li')?.getAttribute('aria-setsize') ?? 0)"
-# All lines of the replies, unfolded, which are brought into the document in turn.
-ALL_SHOWN = f"""(async () => {{
-  const scroller = {the('surface')}, found = [];
-  const painted = () => new Promise((done) => requestAnimationFrame(() => requestAnimationFrame(done)));
-  const text = (it) => (it.className ? "" : "\\n") + it.textContent;
-  if (!{the('whole')}.checked) {the('whole')}.click();
-  const height = {the('probe')}.getBoundingClientRect().height;
-  let count = 0; // a reply may be far below the first line
-  const is_whole = () => count && Object.keys(found).length === count;
-  for (let top = 0; top < scroller.scrollHeight && !is_whole(); top += 100 * height) {{
-    scroller.scrollTo(0, top);
-    await painted();
-    for (const it of {the('replies')}.children) {{
-      count = Number(it.getAttribute("aria-setsize"));
-      found[it.getAttribute("aria-posinset") - 1] = [...it.querySelectorAll("samp")].map(text).join("");
-    }}
-  }}
-  for (let item = 0; item < count; item++) if (found[item] === undefined) return `item ${{item}} isn't shown`;
-  return found.join("").slice(1) + (count ? "\\n" : "");
-}})()"""
+ENDLESS = "asm 0\nj 0\nnop\nend\n" + 5000 * "run 1000000\n"
+SELECTED = "the('script').value.slice(the('script').selectionStart, the('script').selectionEnd)"
 
 
 def linked(script: bytes) -> str:
@@ -69,17 +42,20 @@ class Host:
         program, *words = command.split()
         assert program == "python3", command
         self.folder = folder
-        self.process = subprocess.Popen(
-            [sys.executable, "-u", *words, "0"],
-            cwd=folder,
-            stdout=subprocess.PIPE,
-            stderr=subprocess.DEVNULL,
-            text=True,
-        )
+        words, out, err = [sys.executable, "-u", *words, "0"], subprocess.PIPE, subprocess.DEVNULL
+        self.process = subprocess.Popen(words, cwd=folder, stdout=out, stderr=err, text=True)
         assert self.process.stdout
         self.url = re.findall(r"http://\S+/", self.process.stdout.readline())[0]
 
-    def stop(self) -> None:
+    def url_of(self, name: str) -> str:
+        """The address of a page, which may be in the folder that is named by its contents."""
+        (path,) = (*self.folder.glob(name), *self.folder.glob(f"*/{name}"))
+        return f"{self.url}{path.relative_to(self.folder)}"
+
+    def __enter__(self) -> "Host":
+        return self
+
+    def __exit__(self, *_: object) -> None:
         self.process.terminate()
         self.process.wait(LONGEST)
 
@@ -92,21 +68,22 @@ class Page:
         self.log: List[Any] = []
 
     def call(self, method: str, **params: Any) -> Any:
-        """What a command of DevTools is answered."""
+        """The answer to a command of DevTools."""
         return self.driver.execute_cdp_cmd(method, params)
 
     def value(self, expression: str) -> Any:
-        """The value of an expression in the page; None if it opens a dialog. That costs a third of Selenium's
-        execute_script."""
-        found = self.call("Runtime.evaluate", expression=expression, awaitPromise=True, returnByValue=True)
+        """The value in the page of an expression, which may use `the`, `all` and `probes` of probes.js; None
+        if it opens a dialog. That costs a third of Selenium's execute_script."""
+        function = f"(({{ the, all }}) => ({expression}))(globalThis.probes ?? {{}})"
+        found = self.call("Runtime.evaluate", expression=function, awaitPromise=True, returnByValue=True)
         assert "exceptionDetails" not in (found or {}), f"{expression}: {found}"
         return found["result"].get("value") if found else None
 
     def until(self, expression: str) -> None:
         """Waits until an expression is true."""
         end = f"const end = Date.now() + {1000 * LONGEST}"
-        see = f"() => ({expression}) || Date.now() > end ? done() : setTimeout(see, 5)"
-        self.value(f"new Promise((done) => {{ {end}; const see = {see}; see(); }})")
+        look = f"() => ({expression}) || Date.now() > end ? done() : setTimeout(look, 5)"
+        self.value(f"new Promise((done) => {{ {end}; const look = {look}; look(); }})")
         assert self.value(expression), f"{expression} doesn't become true"
 
     def open(self, url: str) -> None:
@@ -115,46 +92,51 @@ class Page:
         if "#" in url:
             self.driver.get("about:blank")
         self.driver.get(url)
-
-    def leave_and_come_back(self) -> None:
-        """Leaves the page without a question, and goes back to it."""
-        self.value("(onbeforeunload = null)")
-        self.driver.get("about:blank")
-        self.driver.back()
-        self.until(f"document.readyState === 'complete' && !{the('absent')}")
+        self.until("document.readyState === 'complete'")
 
     def ready(self) -> None:
         """Waits until the page has begun, and its first example is answered."""
-        begun = f"({the('ran')}.textContent || {the('said')}.textContent || {the('script')}.value)"
-        is_running = f"{the('run')}.getAttribute('aria-disabled') === 'true'"
-        self.until(f"document.readyState === 'complete' && !{the('absent')} && !({is_running}) && {begun}")
+        begun = "(the('ran').textContent || the('said').textContent || the('script').value)"
+        is_running = "the('run').getAttribute('aria-disabled') === 'true'"
+        self.until(f"document.readyState === 'complete' && !the('absent') && !({is_running}) && {begun}")
 
     def text(self, name: str) -> str:
-        return str(self.value(f"{the(name)}.textContent"))
+        return str(self.value(f"the('{name}').textContent"))
 
     @property
     def script(self) -> str:
         """The text of the script."""
-        return str(self.value(f"{the('script')}.value"))
+        return str(self.value("the('script').value"))
 
     @property
     def address(self) -> str:
         return str(self.value("location.href"))
 
     def click(self, name: str) -> None:
-        self.value(f"{the(name)}.click()")
+        self.value(f"the('{name}').click()")
 
-    def is_disabled(self, name: str) -> bool:
-        return bool(self.value(f"{the(name)}.disabled"))
+    def count(self) -> int:
+        """How many replies are shown."""
+        return int(self.value("probes.count()"))
+
+    def select(self, start: int, end: int = -1) -> None:
+        """Puts the caret into the script, or selects a part of it."""
+        self.value(f"(the('script').focus(), the('script').setSelectionRange({start}, {max(start, end)}))")
+
+    def insert(self, at: int, text: str) -> None:
+        """Types a text somewhere in the script."""
+        self.select(at)
+        self.call("Input.insertText", text=text)
+        self.painted()
 
     def type(self, script: str) -> None:
         """Types another script over the one that is there. A long one is put there at once."""
         if len(script) <= TYPED:
-            self.value(f"({the('script')}.focus(), {the('script')}.select())")
+            self.value("(the('script').focus(), the('script').select())")
             self.call("Input.insertText", text=script)
         else:
-            self.value(f"({the('script')}.value = {json.dumps(script)}, 0)")
-            self.value(f"{the('script')}.dispatchEvent(new Event('input'))")
+            self.value(f"(the('script').value = {json.dumps(script)}, 0)")
+            self.value("the('script').dispatchEvent(new Event('input'))")
 
     def press(self, key: str, *held: str) -> None:
         """Presses a key while others are held, and lets them go."""
@@ -168,10 +150,20 @@ class Page:
             keys.key_up(it)
         keys.perform()
 
+    def tap(self, x: float, y: float) -> None:
+        """Clicks a place of the screen."""
+        for kind in "mousePressed", "mouseReleased":
+            self.call("Input.dispatchMouseEvent", type=kind, x=x, y=y, button="left", clickCount=1)
+
+    def scroll(self, top: str) -> None:
+        """Scrolls script and replies."""
+        self.value(f"(the('surface').scrollTop = {top}, 0)")
+        self.painted()
+
     def choose(self, number: int) -> None:
         """Chooses an example."""
-        self.value(f"({the('example')}.value = {number}, 0)")
-        self.value(f"{the('example')}.dispatchEvent(new Event('change'))")
+        self.value(f"(the('example').value = {number}, 0)")
+        self.value("the('example').dispatchEvent(new Event('change'))")
 
     def answer(self, is_accepted: bool) -> str:
         """Answers a dialog, and returns its text."""
@@ -183,11 +175,11 @@ class Page:
         dialog.accept() if is_accepted else dialog.dismiss()
         return text
 
-    def told(self, does: Callable[[], object]) -> str:
-        """What the page says of what is done."""
-        self.value(f"({the('said')}.textContent = '')")
-        does()
-        self.until(f"{the('said')}.textContent")
+    def message_after(self, act: Callable[[], object]) -> str:
+        """Does something, and returns what the page says of it."""
+        self.value("(the('said').textContent = '')")
+        act()
+        self.until("the('said').textContent")
         return self.text("said")
 
     def give_file(self, name: str, path: Path) -> None:
@@ -195,12 +187,12 @@ class Page:
         self.driver.find_element("id", name).send_keys(str(path))
 
     def open_file(self, name: str, data: bytes, called: str = "given.rsp") -> str:
-        """Opens a file in an input, and returns what the page says of it."""
+        """Opens a file in an input, and returns what the page says."""
         (self.folder / called).write_bytes(data)
-        return self.told(lambda: self.give_file(name, self.folder / called))
+        return self.message_after(lambda: self.give_file(name, self.folder / called))
 
     def open_link(self, fragment: str) -> str:
-        return self.told(lambda: self.value(f"(location.hash = '{fragment}')"))
+        return self.message_after(lambda: self.value(f"(location.hash = '{fragment}')"))
 
     def open_image(self, data: bytes) -> None:
         """Opens an image that is taken."""
@@ -215,6 +207,13 @@ class Page:
         else:
             self.open_file("script-file", script)
 
+    def answered(self, script: str) -> None:
+        """Types a script, and runs it."""
+        self.type(script)
+        self.click("run")
+        self.ended()
+        self.painted()
+
     def run(self) -> str:
         """Runs the script, and returns the replies that are shown."""
         self.click("run")
@@ -223,11 +222,11 @@ class Page:
     def replies(self) -> str:
         """The replies that are shown when no run is under way."""
         self.ended()
-        return str(self.value(ALL_SHOWN))
+        return str(self.value("probes.replies()"))
 
     def ended(self) -> str:
         """What the page says of a run that has ended."""
-        self.until(f"{the('run')}.getAttribute('aria-disabled') !== 'true'")
+        self.until("the('run').getAttribute('aria-disabled') !== 'true'")
         return self.text("ran")
 
     def saved(self, button: str, name: str) -> bytes:
@@ -236,15 +235,17 @@ class Page:
         self.click(button)
         return self.download(name)
 
+    def saved_script(self) -> bytes:
+        return self.saved("save-script", "script.rsp")
+
     def download(self, name: str) -> bytes:
         """A file that the page has saved, when it is whole."""
         end = time.monotonic() + LONGEST
         while True:
-            begun = [
-                it["guid"] for it in self.events("Page.downloadWillBegin") if it["suggestedFilename"] == name
-            ]
-            ended = [it["guid"] for it in self.events("Page.downloadProgress") if it["state"] == "completed"]
-            if {*begun} & {*ended}:
+            begun = self.events("Page.downloadWillBegin")
+            guids = {it["guid"] for it in begun if it["suggestedFilename"] == name}
+            ended = self.events("Page.downloadProgress")
+            if guids & {it["guid"] for it in ended if it["state"] == "completed"}:
                 break
             assert time.monotonic() < end, f"{name} isn't saved"
             time.sleep(0.01)
@@ -258,13 +259,20 @@ class Page:
         self.log += [json.loads(it["message"])["message"] for it in self.driver.get_log("performance")]
         return [it["params"] for it in self.log if it["method"] == method]
 
+    def read_aloud(self) -> List[Tuple[str, str, str]]:
+        """The role, the name and the value of each node that a program gets which reads the page aloud."""
+        nodes = self.call("Accessibility.getFullAXTree")["nodes"]
+        fields = ("role", "name", "value")
+        found = [[it.get(name, {}).get("value", "") for name in fields] for it in nodes if not it["ignored"]]
+        return [(role, name, value) for role, name, value in found]
+
     def settle(self) -> None:
         """Lets the page do what is under way."""
         self.value("new Promise((done) => setTimeout(done, 100))")
 
     def painted(self) -> None:
         """Waits until what was drawn is painted."""
-        self.value("new Promise((done) => requestAnimationFrame(() => requestAnimationFrame(done)))")
+        self.value("probes.painted()")
 
     @contextmanager
     def sized(
@@ -283,11 +291,14 @@ class Page:
 
     @contextmanager
     def preferring(self, **features: str) -> Iterator[None]:
-        """A browser whose user or screen has features, as a scheme of colours, by their names in CSS."""
+        """A browser whose user or screen has features, as a scheme of colours, by their names in CSS. With a
+        pointer the screen is touched."""
         given = [{"name": name.replace("_", "-"), "value": value} for name, value in features.items()]
         self.call("Emulation.setEmulatedMedia", features=given)
+        self.call("Emulation.setTouchEmulationEnabled", enabled="pointer" in features)
         self.settle()
         try:
             yield
         finally:
             self.call("Emulation.setEmulatedMedia", features=[])
+            self.call("Emulation.setTouchEmulationEnabled", enabled=False)

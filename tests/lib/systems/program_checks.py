@@ -23,10 +23,8 @@ WORDS = """
 run asm dis help a b c -- - -h -V -x -hV -Vh -4 -\u00fc --help --help=x --version --version=x --foo --foo=bar
 --at --at= --at=4 --at=x --at=4096 0 4 --listing --listing=x --explain --places --labels --rdram --rdram=
 --rdram=a --save --save=c --save= --strict --strict=x \u00fc = \x1b[31m -\x1b --\x7f --at=\x9b
-""".split() + [
-    "",
-    "a\nb",
-]
+""".split()
+WORDS += ["", "a\nb"]
 LINES = 400
 GIVEN = {"a": b"x: j x\nnop\n", "b": bytes(64)}
 
@@ -62,22 +60,22 @@ def command_lines() -> Iterator[List[str]]:
 
 
 def answered(program: Path, line: List[str], folder: Path) -> Tuple[Result, Dict[str, Optional[bytes]]]:
-    """What a program says of a command line, and the files that it leaves. Of a refusal, and of the help of
-    `help`, only the first line of the errors."""
+    """A program's result for a command line, and the files that it leaves. Of the errors of a refusal, and of
+    the help of `help`, only the first line."""
     for path in folder.iterdir():
         path.unlink()
     for name, data in GIVEN.items():
         (folder / name).write_bytes(data)
-    got = run_program(program, line, b"step\n", cwd=folder)
-    if got.errors.startswith(b"error: ") or "help" in line[:2]:
-        got = got._replace(errors=got.errors.split(b"\n")[0])
-    return got, {it.name: content(it) for it in folder.iterdir()}
+    result = run_program(program, line, b"step\n", cwd=folder)
+    if result.errors.startswith(b"error: ") or "help" in line[:2]:
+        result = result._replace(errors=result.errors.split(b"\n")[0])
+    return result, {it.name: content(it) for it in folder.iterdir()}
 
 
 def check_command_lines(program: Path, proved: Path, folder: Path) -> None:
-    """Command lines, of which both programs have to make the same."""
+    """Both programs have the same result for each command line."""
     differ = []
     for line in command_lines():
-        got, wanted = (answered(it, line, folder) for it in (program, proved))
-        differ += [(line, got, wanted)] if got != wanted else []
+        result, expected = (answered(it, line, folder) for it in (program, proved))
+        differ += [(line, result, expected)] if result != expected else []
     assert differ == []

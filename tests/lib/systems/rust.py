@@ -17,8 +17,8 @@ TARGETS = {it.name: it.rust for it in CROSS if it.rust}
 TESTED = {"windows-x86_64": ("x86_64-pc-windows-gnu", "libstd-rust-dev-windows")}
 
 
-def said(script: Path, target: str) -> Tuple[int, str]:
-    """The status of the crate's build script for a target, and what it says."""
+def build_script(script: Path, target: str) -> Tuple[int, str]:
+    """The status of the crate's build script for a target, and its output."""
     env = {**os.environ, "TARGET": target, "HOST": "x86_64-unknown-linux-gnu"}
     env.pop("RSP_LIB_DIR", None)
     ended = run(script, env=env)
@@ -26,12 +26,12 @@ def said(script: Path, target: str) -> Tuple[int, str]:
 
 
 def cargo(runner: Runner, *words: str, at: Path, **more: str) -> str:
-    """What cargo says in a folder that builds for a runner's target and runs there."""
+    """The output of cargo in a folder; it builds for a runner's target, and runs what it has built there."""
     target, package = TESTED[runner.target.name]
-    folder, named = rust_for(target), f"CARGO_TARGET_{target.upper().replace('-', '_')}"
+    folder, prefix = rust_for(target), f"CARGO_TARGET_{target.upper().replace('-', '_')}"
     if not folder:
         pytest.skip(f"there is no Rust for {target} (Debian's packages cargo and {package})")
-    tools = {f"{named}_LINKER": runner.compiler, f"{named}_RUNNER": " ".join(runner.start)}
+    tools = {f"{prefix}_LINKER": runner.compiler, f"{prefix}_RUNNER": " ".join(runner.start)}
     env = {**runner.env, **tools, "PATH": f"{folder}{os.pathsep}{os.environ['PATH']}", **more}
     return succeeds("cargo", *words, "--offline", "-q", "--target", target, cwd=at, env=env, timeout=1700)
 

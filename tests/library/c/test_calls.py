@@ -14,7 +14,7 @@ import pytest
 
 from lib import TOP
 from lib.library import LOCKSTEP, shapes
-from lib.library.programs import COUNTED, HERE, built, by_both, main_of, passes, said_by
+from lib.library.programs import COUNTED, HERE, assert_passes, built, by_both, main_of, output_of
 from lib.pages import block_with, blocks_of, page
 from lib.processes import STRICT, compiled, run, succeeds
 
@@ -27,7 +27,7 @@ SANITIZER = "-fsanitize=thread"
 
 @by_both
 def test_calls(compiler: str, folder: Path) -> None:
-    passes(built(folder, HERE / "calls.c", compiler=compiler))
+    assert_passes(built(folder, HERE / "calls.c", compiler=compiler))
 
 
 @by_both
@@ -39,14 +39,15 @@ def test_lockstep(compiler: str, folder: Path) -> None:
 def test_page(compiler: str, folder: Path) -> None:
     """The program at the top of EMBEDDING.md, and its section for emulators, print what the page says."""
     text = page("docs/EMBEDDING.md")
-    wanted = re.findall(r"It prints `(.*)`", text)[0]
-    assert said_by(folder, block_with("docs/EMBEDDING.md", '#include "brsp.h"'), compiler) == f"{wanted}\n"
+    expected = re.findall(r"It prints `(.*)`", text)[0]
+    first = block_with("docs/EMBEDDING.md", '#include "brsp.h"')
+    assert output_of(folder, first, compiler) == f"{expected}\n"
     section = re.findall(r"(?ms)^## The calls for an emulator\n(.*?)^## ", text)[0]
     lines = re.findall(r"[Tt]his\sprints\s`([^`]*)`", section)
     begin = "static const uint8_t image[64] = { 0 };\nbrsp_machine m = BRSP_NONE;\n"
     begin += "if (brsp_new(&m, image, 64, 100) != BRSP_OK) return 1;\n"
     program = main_of(begin + "\n".join(blocks_of(section)))
-    assert lines and said_by(folder, program, compiler).splitlines() == lines
+    assert lines and output_of(folder, program, compiler).splitlines() == lines
 
 
 @pytest.mark.needs("c++")
@@ -55,7 +56,7 @@ def test_console(folder: Path) -> None:
     how long it is."""
     (lines,) = re.findall(r"(\d+) lines of\sC\+\+17", page("docs/EMBEDDING.md"))
     assert len(CONSOLE.read_text().splitlines()) == int(lines) <= 120
-    passes(built(folder, HERE / "host.cpp", *BY_CONSOLE, compiler="c++"))
+    assert_passes(built(folder, HERE / "host.cpp", *BY_CONSOLE, compiler="c++"))
 
 
 @pytest.mark.needs("c++")
@@ -82,7 +83,7 @@ def program(name: str, folder: Path) -> Path:
 
 @pytest.mark.parametrize("name", ("balance", "no_memory", "owner", "stack", "threads"))
 def test_program(name: str, folder: Path) -> None:
-    passes(program(name, folder))
+    assert_passes(program(name, folder))
 
 
 @pytest.mark.needs("valgrind")

@@ -19,8 +19,8 @@ LENGTHS = {"4 KiB": (0xFFF, 64), "1 MiB": (0xFFFFF, 2)}
 
 
 def instructions(program: Path, *numbers: int) -> int:
-    said = succeeds("valgrind", "--tool=callgrind", "--callgrind-out-file=/dev/null", program, *numbers)
-    return int(re.findall(r"Collected : (\d+)", said)[0])
+    output = succeeds("valgrind", "--tool=callgrind", "--callgrind-out-file=/dev/null", program, *numbers)
+    return int(re.findall(r"Collected : (\d+)", output)[0])
 
 
 @pytest.mark.parametrize("register", (2, 3), ids=("from RDRAM", "to RDRAM"))

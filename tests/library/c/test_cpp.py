@@ -10,7 +10,7 @@ from typing import Tuple
 import pytest
 
 from lib import TOP
-from lib.library.programs import HERE, passes
+from lib.library.programs import HERE, assert_passes
 from lib.pages import block_with, page
 from lib.packages import need
 from lib.processes import STRICT, compiled, run, succeeds
@@ -30,7 +30,7 @@ def program(folder: Path, source: Path, compiler: str = "c++", standard: str = "
 @pytest.mark.parametrize("standard", ["c++17", "c++20"])
 @pytest.mark.parametrize("compiler", COMPILERS)
 def test_class(compiler: str, standard: str, folder: Path) -> None:
-    passes(program(folder, HERE / "machine.cpp", compiler, standard))
+    assert_passes(program(folder, HERE / "machine.cpp", compiler, standard))
 
 
 @pytest.mark.needs("valgrind")
@@ -56,8 +56,8 @@ def test_page(folder: Path) -> None:
     """The program in C++ of EMBEDDING.md prints what the page says."""
     source = folder / "page.cpp"
     source.write_text(block_with("docs/EMBEDDING.md", '#include "brsp.hpp"'))
-    wanted = page("docs/EMBEDDING.md").partition('#include "brsp.hpp"')[2].partition("It prints `")[2]
-    assert succeeds(program(folder, source)) == f"{wanted.partition('`')[0]}\n"
+    expected = page("docs/EMBEDDING.md").partition('#include "brsp.hpp"')[2].partition("It prints `")[2]
+    assert succeeds(program(folder, source)) == f"{expected.partition('`')[0]}\n"
 
 
 REFUSED = """#include <cstdio>
@@ -85,10 +85,3 @@ def test_refusal(handler: str, status: int, words: Tuple[str, ...], folder: Path
     made = compiled(folder / "refused", "-std=c++17", *STRICT, *words, source, LIBRARY, compiler="c++")
     ran = run(made)
     assert ran.returncode == status and SENTENCE.rstrip() in ran.stdout
-
-
-def test_standard(folder: Path) -> None:
-    source = folder / "old.cpp"
-    source.write_text('#include "brsp.hpp"\n')
-    ran = run("c++", "-std=c++14", f"-I{TOP / 'library/c'}", "-fsyntax-only", source)
-    assert ran.returncode != 0 and "brsp.hpp needs C++17 or later" in ran.stdout

@@ -10,7 +10,7 @@ from typing import Dict
 import pytest
 
 from lib.library import shapes
-from lib.library.programs import main_of, said_by
+from lib.library.programs import main_of, output_of
 from lib.pages import page
 from lib.processes import succeeds
 
@@ -27,8 +27,8 @@ def test_calls() -> None:
 
 @pytest.mark.needs("nm")
 def test_exports(library: Path) -> None:
-    shown = succeeds("nm", "-D", "--defined-only", "--without-symbol-versions", library / "libbrsp.so")
-    names = {it.split()[-1] for it in shown.splitlines()}
+    output = succeeds("nm", "-D", "--defined-only", "--without-symbol-versions", library / "libbrsp.so")
+    names = {it.split()[-1] for it in output.splitlines()}
     assert {it for it in names if not it.startswith("BRSP_")} == {name for name, *_ in shapes.exported()}
 
 
@@ -57,25 +57,25 @@ def test_apart() -> None:
 def test_layouts(library: Path, folder: Path) -> None:
     """offsetof and sizeof, as the C compiler has them."""
     layouts = shapes.layouts(shapes.structs())
-    lines, wanted = [], []
+    lines, expected = [], []
     for name, (size, fields) in zip(map(shapes.c_name, layouts), layouts.values()):
         lines.append(f'printf("{name} %zu\\n", sizeof({name}));')
-        wanted.append(f"{name} {size}")
+        expected.append(f"{name} {size}")
         for field, offset, width in fields:
             numbers = f"offsetof({name}, {field}), sizeof((({name} *)0)->{field})"
             lines.append(f'printf("{name}.{field} %zu %zu\\n", {numbers});')
-            wanted.append(f"{name}.{field} {offset} {width}")
-    assert said_by(folder, main_of("\n".join(lines))).splitlines() == wanted
+            expected.append(f"{name}.{field} {offset} {width}")
+    assert output_of(folder, main_of("\n".join(lines))).splitlines() == expected
     assert len(layouts) == 17
 
 
 @pytest.mark.needs("cc")
 def test_names(library: Path, folder: Path) -> None:
     """The tables of names in brsp.h beside the library's numbers, for the numbers 0 to 149."""
-    lines, wanted = ["unsigned n;"], []
+    lines, expected = ["unsigned n;"], []
     tables = {"status": shapes.STATUSES, "fault": shapes.FAULTS, "reason": shapes.REASONS}
     for kind, known in tables.items():
         lines.append(f'for (n = 0; n < 150; n++) printf("{kind} %u %s\\n", n, brsp_{kind}_name(n));')
         names = {value: name for name, value in known.items()}
-        wanted += [f"{kind} {n} {names.get(n, 'unknown')}" for n in range(150)]
-    assert said_by(folder, main_of("\n".join(lines))).splitlines() == wanted
+        expected += [f"{kind} {n} {names.get(n, 'unknown')}" for n in range(150)]
+    assert output_of(folder, main_of("\n".join(lines))).splitlines() == expected

@@ -131,29 +131,26 @@ def test_changed_memory(runner: Path, vectors: bytes, folder: Path) -> None:
 
 def test_line_of_page(runner: Path, program: Path, folder: Path) -> None:
     """The line that the page shows: a case of a choice, with the value that CFC2 doesn't give."""
-    (shown,) = [it for it in blocks("conformance/README.md") if re.match(r"\w+-\d+ \(.*, choice\), ", it)]
+    (line,) = [it for it in blocks("conformance/README.md") if re.match(r"\w+-\d+ \(.*, choice\), ", it)]
     form = r"(\w+-\d+) .*, (\$\d+): expected (\w+), got (\w+)\n"
-    name, register, expected, got = re.findall(form, shown)[0]
+    name, register, expected, result = re.findall(form, line)[0]
     succeeds("conformance/generate", "--flat", "--of", TOP / "conformance/vectors", folder, "CFC2")
     data, at = (folder / "flat/CFC2.bin").read_bytes(), 16
     while data[at + 12 :][: len(name)] != name.encode():
         at += struct.unpack("<I", data[at : at + 4])[0]
     to = at + 32 + 772 + 4 * int(register[1:])
     assert struct.unpack("<I", data[to : to + 4])[0] == int(expected, 16)
-    (folder / "changed").write_bytes(with_number(data, to, int(got, 16)))
-    told = run(runner, folder / "changed").stdout
-    assert (
-        told
-        == f"{shown.replace(expected, '*').replace(got, expected).replace('*', got)}19 passed, 1 failed\n"
-    )
+    (folder / "changed").write_bytes(with_number(data, to, int(result, 16)))
+    exchanged = line.replace(expected, "*").replace(result, expected).replace("*", result)
+    assert run(runner, folder / "changed").stdout == f"{exchanged}19 passed, 1 failed\n"
 
 
 def test_emulator_of_page(folder: Path, vectors: bytes, library: Path) -> None:
     """The functions that the page names are all that it takes: an emulator with these is linked, and named if
     it executes nothing."""
     text = " ".join(page("conformance/README.md").split())
-    (said,) = re.findall(r"`mine\.c` defines (.*?), with", text)
-    names = re.findall(r"`(brsp_\w+)`", said)
+    (sentence,) = re.findall(r"`mine\.c` defines (.*?), with", text)
+    names = re.findall(r"`(brsp_\w+)`", sentence)
     header = (library / "brsp.h").read_text()
     calls = [re.search(rf"(?m)^\w+ {name}\(.*\);$", header) for name in names]
     assert len(calls) == 7 and all(calls)

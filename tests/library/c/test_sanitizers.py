@@ -12,12 +12,11 @@ import pytest
 
 from lib import TESTS, TOP
 from lib.library import LOCKSTEP
-from lib.library.programs import HERE, built, passes
-from lib.pages import block_with
+from lib.library.programs import HERE, assert_passes, built
 from lib.processes import compiled, succeeds
 from lib.program import run_program
 from lib.sanitizers import sanitizers
-from lib.script_cases import stored
+from lib.script_cases import all_cases
 from rsp_tools.systems import places
 
 pytestmark = [pytest.mark.needs("cc"), pytest.mark.usefixtures("library")]
@@ -32,29 +31,22 @@ def words() -> Tuple[str, ...]:
 
 @pytest.mark.parametrize("name", ("calls", "owner", "threads"))
 def test_program(name: str, words: Tuple[str, ...], folder: Path) -> None:
-    passes(built(folder, HERE / f"{name}.c", "-pthread", *words))
+    assert_passes(built(folder, HERE / f"{name}.c", "-pthread", *words))
 
 
 def test_lockstep(words: Tuple[str, ...], folder: Path) -> None:
     assert succeeds(built(folder, TOP / "examples/c/lockstep.c", *words)) == LOCKSTEP
 
 
-def test_page(words: Tuple[str, ...], folder: Path) -> None:
-    """The program at the top of EMBEDDING.md."""
-    source = folder / "text.c"
-    source.write_text(block_with("docs/EMBEDDING.md", '#include "brsp.h"'))
-    assert succeeds(built(folder, source, *words)) == "2 steps, $2 is 1234\n"
-
-
 def test_scripts(words: Tuple[str, ...], folder: Path) -> None:
     """All stored scripts, seven bytes a call."""
     session, image = built(folder, HERE / "script.c", *words), folder / "image"
-    for script in stored():
+    for script in all_cases():
         image.write_bytes(script.image() or bytes(4194304))
-        assert run_program(session, [7, image, "/dev/null"], script.script) == script.wanted, script
+        assert run_program(session, [7, image, "/dev/null"], script.script) == script.expected, script
 
 
 def test_allocator(words: Tuple[str, ...], folder: Path) -> None:
     names = ("-Dmalloc=heap_malloc", "-Drealloc=heap_realloc", "-Dfree=heap_free", "-ffreestanding")
     part = compiled(folder / "part.o", *words, *names, "-c", places.PARTS / "allocator.c")
-    passes(compiled(folder / "allocator", *words, TESTS / "systems/allocator.c", part))
+    assert_passes(compiled(folder / "allocator", *words, TESTS / "systems/allocator.c", part))

@@ -29,10 +29,10 @@ def machine(word: int) -> "rsp.Rsp":
     state = made.get()
     state.words[1], state.sp[0], state.sp[1] = LARGEST, 8, 0x63248
     made.set(state)
-    for it in range(16):
-        made.add_break(4092 - 4 * it)  # after the jump back
-    for it in range(8):
-        made.add_watch(64 * it, 64)
+    for n in range(16):
+        made.add_break(4092 - 4 * n)  # after the jump back
+    for n in range(8):
+        made.add_watch(64 * n, 64)
     return made
 
 

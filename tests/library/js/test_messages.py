@@ -16,7 +16,7 @@ pytestmark = pytest.mark.needs("node")
 # Each of Python's categories of characters that aren't printable, and some that are.
 STRANGE = "\0\x1b\x7f\x9b\xa0\xad\u2028\u2029\u202e\u3000\ue000\ufeff"
 PLAIN = " \t\\'\"\xfc\u20ac\U0001f600"
-SAYING = f"""
+SCRIPT = f"""
 import {{ AssemblyError, ScriptError }} from "{TOP}/library/js/errors.js";
 const line = %s;
 const errors = [new AssemblyError(2, 10, line, "more"), new ScriptError(3, line, "fault 33 NotText")];
@@ -24,9 +24,9 @@ console.log(JSON.stringify(errors.flatMap((it) => [it.message, it.source ?? it.t
 """
 
 
-def said_of(line: str, folder: Path) -> List[str]:
+def messages_with(line: str, folder: Path) -> List[str]:
     """The message of each error with a line, and the line that it holds."""
-    (folder / "saying.mjs").write_text(SAYING % json.dumps(line))
+    (folder / "saying.mjs").write_text(SCRIPT % json.dumps(line))
     found: List[str] = json.loads(succeeds("node", folder / "saying.mjs"))
     return found
 
@@ -34,16 +34,16 @@ def said_of(line: str, folder: Path) -> List[str]:
 def test_line_of_a_stranger(folder: Path) -> None:
     """The messages have its strange characters as Python writes them. The errors hold the line as it is."""
     assert not any(map(str.isprintable, STRANGE))
-    line, told = f"foo{PLAIN}{STRANGE}", f"foo{PLAIN}{ascii(STRANGE)[1:-1]}"
-    wanted = (f"assemble: fault 10 BadLine line 2: {told}; more", f"line 3: fault 33 NotText: {told}")
-    assert said_of(line, folder) == [wanted[0], line, wanted[1], line]
+    line, escaped = f"foo{PLAIN}{STRANGE}", f"foo{PLAIN}{ascii(STRANGE)[1:-1]}"
+    expected = (f"assemble: fault 10 BadLine line 2: {escaped}; more", f"line 3: fault 33 NotText: {escaped}")
+    assert messages_with(line, folder) == [expected[0], line, expected[1], line]
 
 
 def test_other_escapes(folder: Path) -> None:
     """CR, and a character of more than 16 bits, which JavaScript writes in braces."""
-    assert said_of("a\rb\U000e0001", folder)[0].endswith(": a\\x0db\\u{e0001}; more")
+    assert messages_with("a\rb\U000e0001", folder)[0].endswith(": a\\x0db\\u{e0001}; more")
 
 
 def test_long_line(folder: Path) -> None:
     """A script's error shows 80 characters of a line."""
-    assert said_of(100 * "x", folder)[2] == f"line 3: fault 33 NotText: {80 * 'x'}"
+    assert messages_with(100 * "x", folder)[2] == f"line 3: fault 33 NotText: {80 * 'x'}"

@@ -31,8 +31,8 @@ import("./rsp.js").catch((fault) => console.log(fault.message));
 def test_older_library(folder: Path) -> None:
     shutil.copytree(TOP / "library/js", folder / "js")
     (folder / "js/rsp.wasm").write_bytes(OLDER)
-    said = succeeds("node", "-e", LOADING, cwd=folder / "js")
-    assert said.startswith("rsp.wasm is older than this module: it lacks brsp_new, brsp_copy, ")
+    output = succeeds("node", "-e", LOADING, cwd=folder / "js")
+    assert output.startswith("rsp.wasm is older than this module: it lacks brsp_new, brsp_copy, ")
 
 
 def test_calls() -> None:

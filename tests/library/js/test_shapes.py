@@ -23,17 +23,10 @@ TYPES = page("library/js/rsp.d.ts")
 RENAMED = {"bytes": "stored_bytes"}
 # What one of the classes of Python and JavaScript has alone: a call of numpy, and how a machine is freed.
 PYTHON_ALONE, JAVASCRIPT_ALONE = {"close", "memory_array"}, {"free"}
-# The fields of a state that can have a fault.
-FIELDS = {
-    "ZERO": "words[0]",
-    "LOADED": "divider.loaded",
-    "PC": "pc",
-    "NPC": "npc",
-    "INTERRUPT": "interrupt",
-    "SP": "sp[0]",
-}
-# A module that tells the numbers and the layouts of shapes.js, and the calls of errors.js.
-TELLING = f"""
+# The fields of a state that can have a fault and another name than the number has.
+FIELDS = {"ZERO": "words[0]", "LOADED": "divider.loaded", "SP": "sp[0]"}
+# A script that prints the numbers and the layouts of shapes.js, and the calls of errors.js.
+DESCRIPTION = f"""
 import * as shapes from "{FOLDER}/shapes.js";
 import {{ ARGUMENTS }} from "{FOLDER}/errors.js";
 const layout = (it) => {{
@@ -47,18 +40,18 @@ console.log(JSON.stringify({{ layouts, Status, Bank, Reason, FAULTS, FIELDS, cal
 
 
 @pytest.fixture
-def told(folder: Path) -> Dict[str, Any]:
-    """What Node tells of them."""
+def library_js(folder: Path) -> Dict[str, Any]:
+    """The description of library/js by Node."""
     need("node")
-    (folder / "told.mjs").write_text(TELLING)
-    found: Dict[str, Any] = json.loads(succeeds("node", folder / "told.mjs"))
+    (folder / "description.mjs").write_text(DESCRIPTION)
+    found: Dict[str, Any] = json.loads(succeeds("node", folder / "description.mjs"))
     return found
 
 
-def numbers(held: Dict[str, Any]) -> Dict[str, int]:
+def numbers(enum: Dict[str, Any]) -> Dict[str, int]:
     """The names of an enum of JavaScript with their numbers. Each number has its name too."""
-    names = {name: value for name, value in held.items() if not name.isdigit()}
-    assert {str(value): name for name, value in names.items()}.items() <= held.items()
+    names = {name: value for name, value in enum.items() if not name.isdigit()}
+    assert {str(value): name for name, value in names.items()}.items() <= enum.items()
     return names
 
 
@@ -70,20 +63,20 @@ def python_names(name: str) -> Set[str]:
     return {it for it in names if not it.startswith("_")}
 
 
-def test_layouts(told: Dict[str, Any]) -> None:
-    assert told["layouts"] == json.loads(json.dumps(shapes.layouts(shapes.structs())))
+def test_layouts(library_js: Dict[str, Any]) -> None:
+    assert library_js["layouts"] == json.loads(json.dumps(shapes.layouts(shapes.structs())))
 
 
-def test_numbers_and_calls(told: Dict[str, Any]) -> None:
-    assert numbers(told["Status"]) == shapes.STATUSES
-    assert numbers(told["Bank"]) == shapes.BANKS
-    assert numbers(told["Reason"]) == shapes.REASONS
-    assert {name: int(number) for number, name in told["FAULTS"].items()} == shapes.FAULTS
-    fields = {FIELDS[name]: number for name, number in shapes.FIELDS.items()}
+def test_numbers_and_calls(library_js: Dict[str, Any]) -> None:
+    assert numbers(library_js["Status"]) == shapes.STATUSES
+    assert numbers(library_js["Bank"]) == shapes.BANKS
+    assert numbers(library_js["Reason"]) == shapes.REASONS
+    assert {name: int(number) for number, name in library_js["FAULTS"].items()} == shapes.FAULTS
+    fields = {FIELDS.get(name, name.lower()): number for name, number in shapes.FIELDS.items()}
     fields.update({f"sp[{n}]": fields["sp[0]"] + n for n in range(8)})
-    assert {it: int(n) for n, it in told["FIELDS"].items()} == fields
+    assert {it: int(n) for n, it in library_js["FIELDS"].items()} == fields
     known = python_names("Machine") | {"Machine", "assemble", "text", "first_difference"}
-    assert {*told["calls"]} - known == set()
+    assert {*library_js["calls"]} - known == set()
 
 
 def body(head: str) -> str:
@@ -105,8 +98,9 @@ def methods_of(name: str) -> Set[str]:
 
 @pytest.mark.parametrize("struct", shapes.CLASSES)
 def test_declared_fields(struct: str) -> None:
-    wanted = [RENAMED.get(field, field) for field, *_ in shapes.structs()[struct]._fields_ if field != "zero"]
-    assert re.findall(r"(?m)^  (?:readonly )?(\w+): ", body(f"class {shapes.CLASSES[struct]}")) == wanted
+    fields = (field for field, *_ in shapes.structs()[struct]._fields_ if field != "zero")
+    expected = [RENAMED.get(field, field) for field in fields]
+    assert re.findall(r"(?m)^  (?:readonly )?(\w+): ", body(f"class {shapes.CLASSES[struct]}")) == expected
 
 
 def test_declared_numbers() -> None:

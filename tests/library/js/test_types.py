@@ -28,6 +28,6 @@ def test_types(folder: Path) -> None:
     for name, text in texts.items():
         (folder / name).write_text(text)
     (folder / "tsconfig.json").write_text(json.dumps({"compilerOptions": OPTIONS, "files": [*texts]}))
-    said = run("tsc", "-p", ".", cwd=folder).stdout
-    errors = re.findall(r"(?m)^(\S+)\(\d+,\d+\): error TS", said)
-    assert sorted(errors) == sorted({*texts} - {"use.ts"}), said
+    output = run("tsc", "-p", ".", cwd=folder).stdout
+    errors = re.findall(r"(?m)^(\S+)\(\d+,\d+\): error TS", output)
+    assert sorted(errors) == sorted({*texts} - {"use.ts"}), output

@@ -1,29 +1,17 @@
-"""The module `rsp` of library/python, over the library that the sources make.
-
-Where it can't be imported, because no library is built, it is imported over one without calls: its tests can
-be listed then, and the first that runs says what to type.
-"""
+"""The module `rsp` of library/python, over the library that the sources make."""
 
 from pathlib import Path
 from typing import List
-from unittest import mock
 
 import pytest
 
 HERE = Path(__file__).parent
-FAULT = ""
-try:
-    import rsp
-except (AttributeError, ImportError, OSError) as fault:
-    FAULT = str(fault)
-    CALLS = mock.Mock(**{"brsp_version.return_value": 1})
-    with mock.patch("ctypes.CDLL", return_value=CALLS), mock.patch("os.path.exists", return_value=True):
-        import rsp  # noqa: F401
 
 
 @pytest.fixture(scope="session", autouse=True)
-def module(library: Path) -> None:
-    assert not FAULT, f"`import rsp` fails: {FAULT}"
+def built_library(library: Path) -> Path:
+    """Stops the tests if the library isn't built of the sources as they are."""
+    return library
 
 
 def pytest_collection_modifyitems(items: List[pytest.Item]) -> None:

@@ -58,12 +58,12 @@ def made(folder: Path) -> List[str]:
     return ["gdb-multiarch", "-nx", "-q", "-x", side, "text.elf", "-ex", stub, "-ex", "load"]
 
 
-def see_parts(told: str, parts: List[str]) -> None:
+def assert_parts(output: str, parts: List[str]) -> None:
     """That the parts are in a text, in this order."""
     at = 0
     for part in parts:
-        found = told.find(part, at)
-        assert found >= 0, f"{part!r} isn't in its place in:\n{told}"
+        found = output.find(part, at)
+        assert found >= 0, f"{part!r} isn't in its place in:\n{output}"
         at = found + len(part)
 
 
@@ -134,9 +134,9 @@ def test_session(name: str, folder: Path) -> None:
     lines = SESSIONS[name].strip().split("\n")
     commands = [part for it in lines if it[0] != " " for part in it.split("; ")]
     words = [*made(folder), "-batch", *(word for it in commands for word in ("-ex", it))]
-    told = run(*words, cwd=folder, env=ENV).stdout.partition("Transfer rate")[2]
-    see_parts(told, [part for it in lines if it[0] == " " for part in it.strip(" ").split(" | ")])
-    assert not re.search("identical|corrupt|SIGTRAP", told)  # SIGTRAP is a stop that GDB doesn't expect
+    output = run(*words, cwd=folder, env=ENV).stdout.partition("Transfer rate")[2]
+    assert_parts(output, [part for it in lines if it[0] == " " for part in it.strip(" ").split(" | ")])
+    assert not re.search("identical|corrupt|SIGTRAP", output)  # SIGTRAP is a stop that GDB doesn't expect
 
 
 @with_gdb
@@ -151,8 +151,8 @@ def test_page(folder: Path) -> None:
     path = f"{folder}:{Path(sys.executable).parent}:{os.environ['PATH']}"
     typed = "\n".join(re.findall(r"(?m)^\(gdb\) (.*)$", session))
     words = "sh", "-ec", block_with(name, "python3 examples/python/make_elf.py")
-    told = succeeds(*words, cwd=folder, env={**ENV, "PATH": path}, input=typed)
-    see_parts(told, [it for it in session.splitlines() if it and not it.startswith("(gdb)")])
+    output = succeeds(*words, cwd=folder, env={**ENV, "PATH": path}, input=typed)
+    assert_parts(output, [it for it in session.splitlines() if it and not it.startswith("(gdb)")])
 
 
 @contextmanager
@@ -165,10 +165,10 @@ def terminal(folder: Path, *words: str) -> Iterator[Callable[[str, str], str]]:
 
     def typed(text: str, until: str) -> str:
         os.write(at, text.encode())
-        shown = ""
-        while until not in shown:
-            shown += os.read(at, 4096).decode(errors="replace")
-        return shown
+        screen = ""
+        while until not in screen:
+            screen += os.read(at, 4096).decode(errors="replace")
+        return screen
 
     with gdb:
         try:
@@ -186,20 +186,20 @@ def test_interrupts(folder: Path) -> None:
     with terminal(folder) as typed:
         typed("set var *(int*)0x04001000 = 0x08000000\n", "(gdb)")  # j 0x000
         typed("monitor goto 9999999999999\n", "on the way to 9999999999999")
-        said = typed("\3", "(gdb)")
+        screen = typed("\3", "(gdb)")
         typed("monitor when\n", "step ")
-        while "SIGINT" not in said:
+        while "SIGINT" not in screen:
             typed("continue\n", "Continuing.")
-            said = typed("\3", "(gdb)")
+            screen = typed("\3", "(gdb)")
         typed("reverse-continue\n", "No more reverse-execution history")
 
 
-def see_said(link: socket.socket, sent: bytes, wanted: bytes) -> None:
+def assert_received(link: socket.socket, sent: bytes, expected: bytes) -> None:
     """That what comes back has this."""
     link.sendall(sent)
-    got = b""
-    while wanted not in got:
-        got += link.recv(65536) or pytest.fail(f"it ends after {got!r}")
+    result = b""
+    while expected not in result:
+        result += link.recv(65536) or pytest.fail(f"it ends after {result!r}")
 
 
 def test_port(folder: Path) -> None:
@@ -213,13 +213,13 @@ def test_port(folder: Path) -> None:
         assert "in use" in run(*STUB, "--port", here[1], env=ENV).stdout
         pytest.raises(ConnectionRefusedError, socket.create_connection, ("127.0.0.2", here[1]))
         with socket.create_connection(here) as link:
-            see_said(link, b"$m4001000,4#22", b"$24020007#")
+            assert_received(link, b"$m4001000,4#22", b"$24020007#")
             pytest.raises(ConnectionRefusedError, socket.create_connection, here)
             random_bytes = random.Random(2).randbytes(1000000).replace(b"-", b"")
             for wrong in random_bytes, b"$" + 1000000 * b"a", 1000000 * b"$", 1000 * b"$m0,4#00":
                 link.sendall(wrong + b"#00")
-            for sent, wanted in (b"$?#3f", b"$T05"), (b"+$c#63\3", b"$T02"), (b"+$D#44", b"$OK#"):
-                see_said(link, sent, wanted)
+            for sent, expected in (b"$?#3f", b"$T05"), (b"+$c#63\3", b"$T02"), (b"+$D#44", b"$OK#"):
+                assert_received(link, sent, expected)
         assert stub.wait() == 0
 
 
@@ -248,23 +248,23 @@ def test_script() -> None:
     """After a script the machine is what the steps of its program make of it."""
     text = """lqv $v1[0], 0($0)\nvmudh $v2, $v1, $v1\nvch $v3, $v1, $v2\nvrcph $v4[0], $v1[1]\nmtc0 $1, $c0
 mfc0 $5, $c7\nvaddc $v5, $v1, $v1\nlui $6, 0x8123\nmtc0 $6, $c1\njr $6\naddiu $7, $0, -1\nbreak"""
-    data, wanted = random.Random(3).randbytes(16), loaded(text)
+    data, expected = random.Random(3).randbytes(16), loaded(text)
     script = f"load dmem 0 {data.hex()}\nasm 0\n{text}\nend\nrun 10\nload rdram 8 01\n"
-    told = after_script(script.encode(), bytes(4096))
-    wanted.load(rsp.DMEM, 0, data)
-    wanted.run(10)
-    wanted.load(rsp.RDRAM, 8, b"\1")
-    assert told.get() == wanted.get() and told.regs().npc != told.regs().pc + 4
+    machine = after_script(script.encode(), bytes(4096))
+    expected.load(rsp.DMEM, 0, data)
+    expected.run(10)
+    expected.load(rsp.RDRAM, 8, b"\1")
+    assert machine.get() == expected.get() and machine.regs().npc != machine.regs().pc + 4
     for bank in rsp.Bank:
-        assert told.memory(bank, 0, 4096) == wanted.memory(bank, 0, 4096)
+        assert machine.memory(bank, 0, 4096) == expected.memory(bank, 0, 4096)
 
 
 def stub() -> Stub:
-    return Stub(rsp.Timeline(loaded(SCALE)), lambda: False, lambda told: None)
+    return Stub(rsp.Timeline(loaded(SCALE)), lambda: False, lambda text: None)
 
 
 def test_packets() -> None:
-    """Wrong ones change nothing; limits are told; and others have a reply."""
+    """Wrong ones change nothing; limits have a message; and others have a reply."""
     asked, chance = stub(), random.Random(1)
     before = asked.reply(b"g"), asked.reply(b"m4000000,1f00")
     wrong = (
@@ -274,8 +274,8 @@ def test_packets() -> None:
         b" qXfer:features:read:target.xml:-1,5 qRcmd,zz qrsp.text:100000000,0 qrsp.text:0 vCont;x z9,0,4"
     )
     for packet in wrong.split():
-        told = asked.reply(packet)
-        assert told is not None and (not told or told.startswith(b"E")), packet
+        reply = asked.reply(packet)
+        assert reply is not None and (not reply or reply.startswith(b"E")), packet
     assert (asked.reply(b"g"), asked.reply(b"m4000000,1f00")) == before
     replies = [asked.reply(b"Z0,400%x,4" % n) for n in range(0x1000, 0x1044, 4)]
     most = b"E.there are at most sixteen breakpoints, one of them GDB's own"

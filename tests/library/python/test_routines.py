@@ -1,7 +1,7 @@
 """rsp.routines beside microcode/ and crates/rsp_routines/specs, and what it finds in runs.
 
 They fail if its words aren't those of a routine's text, its premises aren't those of the routine's theorem,
-or a run is told otherwise.
+or a run is message otherwise.
 """
 
 import re
@@ -129,11 +129,11 @@ def test_premises() -> None:
     machine = machine_at("copy", 0, {1: 0x100, 3: 0x100, 4: 0x20})
     assert [*routines.entries(machine)] == [("copy", 0, ())]
     machine = machine_at("copy", 0, {1: 0x100, 3: 0x110, 4: 0x20})
-    told = "($3 <= $1) or ($1 + $4 <= $3): $3 is 0x110, $1 is 0x100, $4 is 0x20"
-    assert routines.broken(machine, "copy") == (told,)
+    message = "($3 <= $1) or ($1 + $4 <= $3): $3 is 0x110, $1 is 0x100, $4 is 0x20"
+    assert routines.broken(machine, "copy") == (message,)
     machine = machine_at("dot", 0, {})
-    told = "$v31 == [1] * 8: $v31 is [0, 0, 0, 0, 0, 0, 0, 0]"
-    assert routines.broken(machine, "dot") == (told,)
+    message = "$v31 == [1] * 8: $v31 is [0, 0, 0, 0, 0, 0, 0, 0]"
+    assert routines.broken(machine, "dot") == (message,)
     assert_raises(ValueError, "broken: there is no routine clap", routines.broken, machine, "clap")
 
 
@@ -145,7 +145,7 @@ def test_places() -> None:
     assert routines.name_at_pc(machine) == "clip", "over the end of IMEM"
     machine = machine_at("clip", 8, {}, "j 64\nnop\n")
     machine.load_words(rsp.IMEM, 4, routines.WORDS["clip"])
-    told = "npc == (pc + 4) % 4096: npc is 0x40, pc is 0x4"
-    assert [it.broken for it in routines.entries(machine, 2)] == [(told,)], "in a delay slot"
+    message = "npc == (pc + 4) % 4096: npc is 0x40, pc is 0x4"
+    assert [it.broken for it in routines.entries(machine, 2)] == [(message,)], "in a delay slot"
     machine = machine_at("clip", 8, {}, "nop\nnop")
     assert [*routines.entries(machine, 2)] == [], "at most so many steps"

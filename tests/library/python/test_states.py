@@ -243,22 +243,24 @@ def test_without_numpy() -> None:
     assert_raises(ImportError, "memory_array needs numpy", rsp.Rsp().memory_array, rsp.DMEM, 0, 8)
 
 
-def numbers_of(it: Any) -> List[int]:
+def numbers_of(value: Any) -> List[int]:
     """The numbers of a structure of ctypes, or of an array of numpy, in order."""
-    if hasattr(it, "_fields_"):
-        it = [getattr(it, name) for name, *_ in it._fields_]
-    return [number for part in it for number in numbers_of(part)] if hasattr(it, "__len__") else [int(it)]
+    if hasattr(value, "_fields_"):
+        value = [getattr(value, name) for name, *_ in value._fields_]
+    if not hasattr(value, "__len__"):
+        return [int(value)]
+    return [number for part in value for number in numbers_of(part)]
 
 
 @pytest.mark.needs("python:numpy")
 def test_states_as_arrays() -> None:
     import numpy
 
-    held: Any = shapes.structs()["RspState"]
-    raw = random.Random(1).randbytes(ctypes.sizeof(held))
+    struct: Any = shapes.structs()["RspState"]
+    raw = random.Random(1).randbytes(ctypes.sizeof(struct))
     assert rsp.STATE.itemsize == len(raw)
-    assert numbers_of(numpy.frombuffer(raw, rsp.STATE)[0]) == numbers_of(held.from_buffer_copy(raw))
-    assert list(rsp.STATE.names) == [name for name, *_ in held._fields_]
+    assert numbers_of(numpy.frombuffer(raw, rsp.STATE)[0]) == numbers_of(struct.from_buffer_copy(raw))
+    assert list(rsp.STATE.names) == [name for name, *_ in struct._fields_]
     state: Any = State(pc=8)
     state.vectors[3][2] = 77
     row = numpy.frombuffer(state, rsp.STATE)[0]

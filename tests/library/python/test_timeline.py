@@ -39,8 +39,8 @@ def words(text: str) -> bytes:
     return b"".join(it.to_bytes(4, "big") for it in rsp.assemble(text.replace("; ", "\n")))
 
 
-def changed(machine: rsp.Rsp, task: bool) -> None:
-    """A change by the user: of a register and RDRAM, or the start of a task, which is the program again."""
+def change(machine: rsp.Rsp, task: bool) -> None:
+    """Changes a register and RDRAM, or starts a task, which is the program again, as a user does."""
     if task:
         machine.start_task(0x100)
     else:
@@ -60,8 +60,8 @@ def both(chance: random.Random) -> Tuple[rsp.Timeline, List[Seen]]:
     while machine.step() is rsp.Status.OK:
         if len(steps) == at:
             assert line.run_to(at) == (Reason.LIMIT, at, None)
-            for it in machine, line.machine:
-                changed(it, task_starts)
+            for one in machine, line.machine:
+                change(one, task_starts)
             line.changed()
         steps.append(seen(machine))
     assert line.run_to(EVER) == (Reason.HALT, len(steps) - 1, None)
@@ -99,9 +99,9 @@ def test_steps_and_searches(seed: int) -> None:
         begin = chance.randrange(len(steps))
         for forwards in (False, True):
             line.goto(begin)
-            got = line.run_to(EVER) if forwards else line.back()
-            assert got == found(line, steps, begin, forwards)
-            assert line.step == got.step and seen(line.machine) == steps[got.step]
+            result = line.run_to(EVER) if forwards else line.back()
+            assert result == found(line, steps, begin, forwards)
+            assert line.step == result.step and seen(line.machine) == steps[result.step]
 
 
 @pytest.mark.parametrize("single, reason", ((0x40, Reason.HALT), (0, Reason.RESERVED)))
@@ -126,8 +126,8 @@ def test_interrupted(way: str) -> None:
     assert line._gap > here >> 4  # so there are few marks
     line.watches = {(0, 4)}
     line.is_interrupted = lambda: next(answers)
-    got = getattr(line, way)(*[] if way == "back" else [EVER])
-    assert got in ((Reason.LIMIT, line.step, None), line.step) and 0 < line.step != here
+    result = getattr(line, way)(*[] if way == "back" else [EVER])
+    assert result in ((Reason.LIMIT, line.step, None), line.step) and 0 < line.step != here
     assert line.machine.reg(1) == (line.step + 2) // 3
 
 

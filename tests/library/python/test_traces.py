@@ -94,8 +94,8 @@ def test_entry(case: Dict[str, str]) -> None:
     assert (entry.scalar, entry.vector, entry.stored, entry.address) == named(case["Worked"], scalars)
     assert entry.scalar != 0 or entry.value == 0, "a value of a register without one"
     assert entry.vector != 32 or not any(entry.lanes), "lanes of a register without one"
-    for part, shown, wanted in values(entry, case["After"]):
-        assert shown == wanted, part
+    for part, actual, expected in values(entry, case["After"]):
+        assert actual == expected, part
 
 
 @ALL

@@ -84,6 +84,12 @@ mtc0 $3, $c2
 """
 
 
+# A loop that fills one buffer again while it is sent.
+ONE_BUFFER = (
+    f"{BEGIN}ori $8, $0, 3\nturn: {STORE}{wait(5)}{PUT}bne $8, $0, turn\naddiu $8, $8, -1\n{wait(6, 'end')}"
+)
+
+
 def overlay(waits: str) -> str:
     """A program that brings 64 bytes to 100 in IMEM, where only `break` is, and jumps there."""
     lines = f"ori $2, $0, 0x1100\nori $1, $0, 0x800\nori $3, $0, 63\n{GET}{waits}j 0x100\nnop\n"
@@ -129,16 +135,7 @@ WRONG: Dict[str, Tuple[str, Named]] = {
         ROUTINE.format("", BEFORE),
         [*LOADS, ("lqv $v2[0], -16($2)", "loads")],
     ),
-    "one buffer for what goes in each turn": (
-        BEGIN
-        + "ori $8, $0, 3\nturn: "
-        + STORE
-        + wait(5)
-        + PUT
-        + "bne $8, $0, turn\naddiu $8, $8, -1\n"
-        + wait(6, "end"),
-        STORES,
-    ),
+    "one buffer for what goes in each turn": (ONE_BUFFER, STORES),
     "a branch to the next line, and a wait at the end": (
         BEGIN + GET + "mfc0 $4, $c6\nbne $4, $0, go\nnop\ngo: " + LOAD + wait(6, "end"),
         LOADS,
@@ -181,8 +178,8 @@ def test_right(name: str) -> None:
 
 @pytest.mark.parametrize("name", WRONG)
 def test_wrong(name: str) -> None:
-    program, wanted = WRONG[name]
-    assert sorted(named(program)) == sorted(wanted)
+    program, expected = WRONG[name]
+    assert sorted(named(program)) == sorted(expected)
 
 
 def test_sentences() -> None:
@@ -214,27 +211,28 @@ def test_end(end: str, order: str, waits: str, read: Optional[int]) -> None:
     """Only if it is asked for, an end while a transfer is under way."""
     program = BEGIN + order + waits + end + "\n"
     assert list(rsp.waits.missing(loaded(program))) == []
-    (it,) = rsp.waits.missing(loaded(program), at_end=True)
-    assert (it.transfer.place, it.what, it.text, it.read) == (0x14, "ends", end.splitlines()[-1], read)
+    (found,) = rsp.waits.missing(loaded(program), at_end=True)
+    assert (found.transfer.place, found.what, found.read) == (0x14, "ends", read)
+    assert found.text == end.splitlines()[-1]
     assert list(rsp.waits.missing(loaded(BEGIN + order + wait() + end + "\n"), at_end=True)) == []
 
 
 def test_order_after_another_move() -> None:
     second = GET.replace("mtc0 $3, $c2", "mfc0 $5, $c7\nmtc0 $3, $c2")
-    (it,) = rsp.waits.missing(loaded(BEGIN + GET + SECOND + second + LOAD + "break\n"))
-    assert (it.transfer.place, it.transfer.address, it.place) == (0x28, 0x500, 0x2C)
+    (found,) = rsp.waits.missing(loaded(BEGIN + GET + SECOND + second + LOAD + "break\n"))
+    assert (found.transfer.place, found.transfer.address, found.place) == (0x28, 0x500, 0x2C)
 
 
 def test_rows_and_the_end_of_dmem() -> None:
     """Two rows of 16 bytes from ff0 on are bytes ff0 to 00f."""
     rows = "ori $2, $0, 0xff0\nlui $3, 0x80\nori $3, $3, 0x100f\n" + GET
-    for line, wanted in {
+    for line, expected in {
         "lw $5, 12($0)": 1,
         "lw $5, 16($0)": 0,
         "lb $5, 0xff0($0)": 1,
         "lb $5, 0xfef($0)": 0,
     }.items():
-        assert len(list(rsp.waits.missing(loaded(f"{rows}{line}\nbreak\n")))) == wanted, line
+        assert len(list(rsp.waits.missing(loaded(f"{rows}{line}\nbreak\n")))) == expected, line
 
 
 def test_machine_afterwards() -> None:
@@ -275,14 +273,14 @@ def test_microcode(path: Path) -> None:
 def test_cookbook(folder: Path) -> None:
     """The code of the page names the load that it says, in the loop of two buffers without its wait."""
     name = "docs/COOKBOOK.md"
-    code, told = (block_with(name, "import rsp, rsp.waits", more) for more in (0, 1))
+    code, line = (block_with(name, "import rsp, rsp.waits", more) for more in (0, 1))
     block = block_with(name, "        jal   fetch             # the first block")
     text = "ori $1, $0, 0x800\nori $7, $0, 0xc00\n" + block.replace("# its address", "\nlw $5, 0($4)")
     env = {**os.environ, "PYTHONPATH": str(TOP / "library/python")}
-    for program, wanted in (text, []), (re.sub(r"(?m)^(next:).*\n.*\n", r"\1\n", text), [told.strip()]):
+    for program, expected in (text, []), (re.sub(r"(?m)^(next:).*\n.*\n", r"\1\n", text), [line.strip()]):
         (folder / "text.s").write_text(program)
-        said = succeeds(sys.executable, "-c", textwrap.dedent(code), cwd=folder, env=env)
-        assert said.splitlines()[:1] == wanted
+        output = succeeds(sys.executable, "-c", textwrap.dedent(code), cwd=folder, env=env)
+        assert output.splitlines()[:1] == expected
 
 
 @pytest.mark.needs("cc")
@@ -292,11 +290,11 @@ def test_in_c(folder: Path) -> None:
     assert len(example.read_text().splitlines()) <= 120
     made, text = built(folder, example), folder / "text.s"
     right: Dict[str, Tuple[str, Named]] = {f"right: {name}": (text, []) for name, text in RIGHT.items()}
-    for name, (program, wanted) in {**right, **WRONG}.items():
+    for name, (program, expected) in {**right, **WRONG}.items():
         text.write_text(program + "break\n")
         ended = run(made, text)
-        told = re.findall(r"(?m)^\w+: (.*): (.*) before the end of the transfer of \w+$", ended.stdout)
-        assert (ended.returncode, sorted({*told})) == (int(bool(wanted)), sorted(wanted)), name
+        found = re.findall(r"(?m)^\w+: (.*): (.*) before the end of the transfer of \w+$", ended.stdout)
+        assert (ended.returncode, sorted({*found})) == (int(bool(expected)), sorted(expected)), name
     text.write_text(f"{BEGIN}{GET}{wait()}lw $5, 0($2)\nbeq $5, $0, end\nnop\n{GET}{LOAD}end: break\n")
     image = folder / "image"
     for data, status in (b"\x00" * 4096, 0), (b"\x01" * 4096, 1), (b"", 2):

@@ -86,11 +86,11 @@ def test_campaign(cargo: Cargo, folder: Path, monkeypatch: pytest.MonkeyPatch) -
     made = cargo("build", "--offline", "-q", "--example", "cases", CARGO_TARGET_DIR=folder / "target")
     assert (made.returncode, made.stdout) == (0, "")
     emulator = folder / "target/debug/examples/libcases.so"
-    said = output_of(folder / "out", emulator, "--instructions", "lui,sw,sra,vadd", "--cases", 300)
+    output = output_of(folder / "out", emulator, "--instructions", "lui,sw,sra,vadd", "--cases", 300)
     counts = counts_of(folder / "out")
-    assert [counts[it] for it in ("lui", "sw")] == [(300, 0, 0)] * 2, said
+    assert [counts[it] for it in ("lui", "sw")] == [(300, 0, 0)] * 2, output
     assert 50 < counts["sra"][1] < 300, "where the sign is set"
-    assert re.search(r"(?m)^Not there, .*VADD \(300 of 300 cases\)|^VADD +300 +0 +300 ", said), said
+    assert re.search(r"(?m)^Not there, .*VADD \(300 of 300 cases\)|^VADD +300 +0 +300 ", output), output
 
 
 def test_examples() -> None:

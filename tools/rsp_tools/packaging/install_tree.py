@@ -1,12 +1,13 @@
-"""What an installation holds below its prefix. library/c/install writes it, and the release packs it."""
+"""The files of an installation below its prefix: library/c/install writes them, the release packs them."""
 
 import os
+import tempfile
 from pathlib import Path
-from typing import Iterator, List, NamedTuple, Optional, Tuple, Union
+from typing import Callable, Iterable, Iterator, List, NamedTuple, NoReturn, Optional, Tuple, Union
 
 from rsp_tools import TOOLS, TOP
 from rsp_tools.systems import header
-from rsp_tools.targets import NATIVE
+from rsp_tools.targets import NATIVE, Target
 
 # The script `rsp` of an archive. On another processor an emulator may run the program; if none does, what the
 # shell says of it doesn't name the processor.
@@ -28,7 +29,7 @@ RPATH = " -Wl,-rpath,${libdir}"
 # What pkg-config and CMake read, and the templates in tools/packaging.
 TEMPLATES = {
     "lib/pkgconfig/brsp.pc": "brsp.pc.in",
-    "lib/cmake/brsp/brspConfig.cmake": "brspConfig-unix.cmake.in",
+    "lib/cmake/brsp/brspConfig.cmake": "brspConfig-{kind}.cmake.in",
     "lib/cmake/brsp/brspConfigVersion.cmake": "brspConfigVersion.cmake.in",
 }
 
@@ -41,14 +42,32 @@ class File(NamedTuple):
     can_run: bool = False
 
     def write(self, path: Path) -> None:
-        """Puts it there, where nothing may be: a link that is there leads to another's file."""
+        """Writes the file to a path at which nothing may be yet: a link there would lead to another file."""
         path.parent.mkdir(parents=True, exist_ok=True)
         if isinstance(self.data, str):
             path.symlink_to(self.data)
             return
-        with path.open("xb") as made:
-            made.write(self.data)
-            os.fchmod(made.fileno(), 0o755 if self.can_run else 0o644)
+        with path.open("xb") as file:
+            file.write(self.data)
+            os.fchmod(file.fileno(), 0o755 if self.can_run else 0o644)
+
+
+def put_all(folder: Path, files: Iterable[File], fail: Callable[[str], NoReturn]) -> None:
+    """Writes all files into a folder beside their places, for which there may be no room, and only then puts
+    each in its place, so that a library in use stays as it is."""
+    path = folder
+    try:
+        folder.mkdir(parents=True, exist_ok=True)
+        with tempfile.TemporaryDirectory(dir=folder, prefix=".rsp-") as beside:
+            for file in (listed := [*files]):
+                path = folder / file.name
+                file.write(Path(beside, file.name))
+            for file in listed:
+                path = folder / file.name
+                path.parent.mkdir(parents=True, exist_ok=True)
+                os.replace(Path(beside, file.name), path)
+    except OSError as fault:
+        fail(f"cannot write {path}: {fault.strerror}")
 
 
 def file(name: str, path: Path) -> File:
@@ -56,16 +75,16 @@ def file(name: str, path: Path) -> File:
 
 
 def shared() -> Iterator[File]:
-    """What is below share/ wherever the program is: the man page, and what completes its words in shells."""
+    """The files of share/: the man page, and the completions of the program's words in shells."""
     number, day = version()
-    for path in sorted(it for it in SHARE.rglob("*") if it.is_file()):
+    for path in sorted(path for path in SHARE.rglob("*") if path.is_file()):
         text = path.read_text().replace("@VERSION@", number).replace("@DAY@", day)
         yield File(str(path.relative_to(SHARE.parent)), text.encode())
 
 
 def starter(about: Tuple[str, str], processor: str) -> File:
-    """The script `rsp` of an archive for a processor, by the name that `uname -m` gives it. It says these two
-    lines of its version."""
+    """The script `rsp` of an archive for a processor, by the name that `uname -m` gives it, with the two
+    lines that it prints of its version."""
     built, proved = about
     return File("rsp", STARTER.format(built=built, proved=proved, processor=processor).encode(), True)
 
@@ -84,24 +103,37 @@ def soname() -> str:
 def names() -> List[str]:
     """The names of all files that an installation may have."""
     libraries = ("lib/libbrsp.a", f"lib/{soname()}", "lib/libbrsp.so")
-    shares = (it.name for it in shared())
-    return [*(f"include/{it}" for it in HEADERS), *libraries, *TEMPLATES, *shares, "bin/rsp"]
+    shares = (file.name for file in shared())
+    return [*(f"include/{name}" for name in HEADERS), *libraries, *TEMPLATES, *shares, "bin/rsp"]
+
+
+def headers() -> Iterator[File]:
+    """brsp.h, its class for C++, what compares machines, and savestates."""
+    yield from (File(f"include/{it}", (TOP / "library/c" / it).read_bytes()) for it in HEADERS)
+
+
+def descriptions(
+    target: Target, library: str, soname: str, prefix: str = "${pcfiledir}/../..", rpath: str = RPATH
+) -> Iterator[File]:
+    """What pkg-config and CMake read of a library, which is this file in lib/ and has this SONAME. brsp.pc
+    finds its own folder, unless it names a prefix. By `rpath` a program finds the library."""
+    kind, (system, processors) = "windows" if target.python == "win32" else "unix", target.cmake
+    words = {"LIBRARY": library, "SONAME": soname, "SYSTEM": system, "PROCESSORS": processors}
+    for name, template in TEMPLATES.items():
+        path = TOOLS / "packaging" / template.format(kind=kind)
+        text = header.filled(path, PREFIX=prefix, RPATH=rpath, **words)
+        yield File(name, text.encode(errors="surrogateescape"))
 
 
 def contents(prefix: str, program: Optional[bytes], rpath: str = RPATH) -> Iterator[File]:
     """Each file. `prefix` and `rpath` are what brsp.pc says, and `program` the bytes of the program, if there
     is one."""
     library = TOP / "library/c"
-    for name in HEADERS:
-        yield File(f"include/{name}", (library / name).read_bytes())
+    yield from headers()
     yield File("lib/libbrsp.a", (library / "libbrsp.a").read_bytes())
     yield File(f"lib/{soname()}", (library / soname()).read_bytes(), True)
     yield File("lib/libbrsp.so", soname())
-    system, processors = NATIVE.cmake
-    words = {"LIBRARY": soname(), "SONAME": soname(), "SYSTEM": system, "PROCESSORS": processors}
-    for name, template in TEMPLATES.items():
-        text = header.filled(TOOLS / "packaging" / template, PREFIX=prefix, RPATH=rpath, **words)
-        yield File(name, text.encode(errors="surrogateescape"))
+    yield from descriptions(NATIVE, soname(), soname(), prefix, rpath)
     yield from shared()
     if program:
         yield File("bin/rsp", program, True)

@@ -1,13 +1,13 @@
-"""What a release is made of: its version, its commit, and what proved it."""
+"""The facts of a release: its version, its commit, and the kit that proved it."""
 
 from typing import NamedTuple, Tuple
 
 from rsp_tools.packaging import install_tree
-from rsp_tools.packaging.repository import committed, said
+from rsp_tools.packaging.repository import commit_time, output_of
 
 
 class About(NamedTuple):
-    """`time` is that of the commit, in seconds since 1970."""
+    """A release. `time` is that of its commit, in seconds since 1970."""
 
     version: str
     day: str
@@ -16,12 +16,12 @@ class About(NamedTuple):
     kit: str
 
     def lines(self) -> Tuple[str, str]:
-        """What `rsp --version` prints in an archive."""
+        """The lines that `rsp --version` prints in an archive."""
         built = f"rsp {self.version} ({self.day}), commit {self.commit}"
         return built, f"proved and built by {self.kit}"
 
 
 def of_head() -> About:
-    """A release of the newest commit."""
-    commit = said("git", "rev-parse", "HEAD")
-    return About(*install_tree.version(), commit, committed(), said("rt", "version"))
+    """The release of the newest commit."""
+    commit = output_of("git", "rev-parse", "HEAD")
+    return About(*install_tree.version(), commit, commit_time(), output_of("rt", "version"))

@@ -1,4 +1,4 @@
-"""What archives have of the repository's tracked files."""
+"""The tracked files of the repository that go into archives."""
 
 import functools
 import subprocess
@@ -11,36 +11,36 @@ from rsp_tools.packaging.install_tree import File, file
 OF_CONFORMANCE = ("conformance/", "docs/CAMPAIGN.md")
 
 
-def said(*words: str) -> str:
-    """What a command says at the top of the repository."""
+def output_of(*words: str) -> str:
+    """The output of a command at the top of the repository."""
     return subprocess.run(words, cwd=TOP, capture_output=True, text=True, check=True).stdout.strip()
 
 
 @functools.lru_cache(None)
-def committed() -> int:
-    """When HEAD was committed, in seconds since 1970. An unpacked archive of the source may be inside another
-    repository, whose commits aren't its own: there it fails as without git."""
+def commit_time() -> int:
+    """The time of HEAD, in seconds since 1970. Fails in an unpacked archive of the source, which may be in
+    another repository, whose commits aren't its own."""
     if not (TOP / ".git").exists():
         raise FileNotFoundError(f"{TOP} isn't a repository of git")
-    return int(said("git", "log", "-1", "--format=%ct"))
+    return int(output_of("git", "log", "-1", "--format=%ct"))
 
 
 def names(*parts: str) -> Iterator[str]:
-    """The files of these parts, or of all, that are no links."""
-    listed = said("git", "ls-files", "-z", "--", *parts).split("\0")
-    yield from (it for it in listed if it and not (TOP / it).is_symlink())
+    """The names of the files of these parts, or of all files, except links."""
+    listed = output_of("git", "ls-files", "-z", "--", *parts).split("\0")
+    yield from (name for name in listed if name and not (TOP / name).is_symlink())
 
 
 def tracked(parts: Sequence[str]) -> Iterator[File]:
-    """The files of these parts, in the places where the repository has them."""
-    yield from (file(it, TOP / it) for it in names(*parts) if not it.endswith(".gitignore"))
+    """The files of these parts, with the names that they have in the repository."""
+    yield from (file(name, TOP / name) for name in names(*parts) if not name.endswith(".gitignore"))
 
 
 def of_systems(parts: Sequence[str]) -> Iterator[File]:
-    """The same for the archive of a system, without what only that of the test vectors has."""
-    yield from (it for it in tracked(parts) if not it.name.startswith(OF_CONFORMANCE))
+    """The files of these parts for the archive of a system, without those of the test vectors' archive."""
+    yield from (file for file in tracked(parts) if not file.name.startswith(OF_CONFORMANCE))
 
 
 def every() -> Iterator[File]:
-    """All files, under their own names."""
-    yield from (file(it, TOP / it) for it in names())
+    """All files."""
+    yield from (file(name, TOP / name) for name in names())

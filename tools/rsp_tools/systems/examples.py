@@ -1,5 +1,5 @@
-"""The scripts to choose from in the page that answers scripts: the repository's, each with what the pages say
-of it."""
+"""The scripts to choose from in the page that answers scripts: the repository's, each with its description
+from the pages."""
 
 import re
 from pathlib import Path
@@ -29,31 +29,31 @@ def example(group: str, name: str, script: str) -> Example:
 
 
 def first(page: str) -> Example:
-    """The README's example, by the words in bold before it."""
-    found = re.search(r"(?m)^## Example\n\n\*\*([^*]*)\.\*\*", page)
-    if not found:
+    """The README's example, named by the words in bold before it."""
+    title = re.search(r"(?m)^## Example\n\n\*\*([^*]*)\.\*\*", page)
+    if not title:
         raise Refused("README.md has no section Example that begins with words in bold")
-    return example("First steps", found[1], FIRST.read_text())
+    return example("First steps", title[1], FIRST.read_text())
 
 
-def named(page: str) -> Dict[str, str]:
-    """What the cookbook says of the scripts of examples/: in its table, and of those that show
-    `rsp run` itself in a sentence."""
+def descriptions(page: str) -> Dict[str, str]:
+    """The cookbook's descriptions of the scripts of examples/: in its table, and in a sentence on those that
+    show `rsp run` itself."""
     table = re.findall(r"(?m)^\| \[(\w+)\.rsp\]\(\S*\) \| ([^|]*) \|", page)
     sentence = re.findall(r"(?s)Smaller ones show `rsp run` itself:.*?\n\n", page)[0]
     return dict(table + re.findall(r"\[(\w+)\.rsp\]\([^)]*\)\s+([^,.]*)", sentence))
 
 
 def scripts(page: str) -> Iterator[Example]:
-    """Those of examples/."""
-    said = named(page)
-    held = {it.stem: it.read_text() for it in sorted(places.TOP.glob("examples/*.rsp")) if it != FIRST}
-    if missing := held.keys() - said.keys():
+    """The scripts of examples/ except the README's."""
+    described = descriptions(page)
+    texts = {it.stem: it.read_text() for it in sorted(places.TOP.glob("examples/*.rsp")) if it != FIRST}
+    if missing := texts.keys() - described.keys():
         raise Refused(f"docs/COOKBOOK.md says nothing of examples/{min(missing)}.rsp")
-    if missing := held.keys() - {*" ".join(GROUPS.values()).split()}:
+    if missing := texts.keys() - {*" ".join(GROUPS.values()).split()}:
         raise Refused(f"examples/{min(missing)}.rsp is in no group of examples.py")
     for group, names in GROUPS.items():
-        yield from (example(group, f"{it}: {said[it]}", held[it]) for it in names.split())
+        yield from (example(group, f"{it}: {described[it]}", texts[it]) for it in names.split())
 
 
 def idioms(page: str) -> Iterator[Example]:

@@ -1,4 +1,4 @@
-"""What library/c/brsp.h declares, the version that is packed, and templates that have both."""
+"""What library/c/brsp.h declares, the version of the project, and templates with both."""
 
 import re
 from pathlib import Path
@@ -8,11 +8,11 @@ from . import places
 
 
 def found(form: str, path: Path) -> Tuple[str, ...]:
-    """The groups of a form that a file of the repository has."""
-    text = re.search(form, path.read_text(), re.M)
-    if not text:
+    """The groups of the first match of a form in a file of the repository."""
+    match = re.search(form, path.read_text(), re.M)
+    if not match:
         raise ValueError(f"{path.relative_to(places.TOP)} has nothing of the form {form}")
-    return text.groups()
+    return match.groups()
 
 
 def calls() -> List[str]:
@@ -21,7 +21,7 @@ def calls() -> List[str]:
 
 
 def interface() -> str:
-    """The version of the interface, which the name of a shared library has."""
+    """The version of the interface, which is in the name of a shared library."""
     return found(r"^#define BRSP_VERSION (\d+)$", places.HEADER)[0]
 
 

@@ -16,7 +16,7 @@ LINKED = "-Wl,-z,defs,--gc-sections"
 
 def make(target: Target, out: Path, at: Path, source: Source = module) -> None:
     """Writes the folder of a target, from the modules of a source. `at` is for files on the way."""
-    shown = [f"--keep-global-symbol={it}" for it in header.calls()]
+    exported = [f"--keep-global-symbol={it}" for it in header.calls()]
     soname = f"libbrsp.so.{header.interface()}"
     words = [f"--target={target.triples[target.processor]}", "-O2", "-fPIC", "-ffreestanding"]
     words += hardening.words(target.name, "compile")
@@ -24,16 +24,14 @@ def make(target: Target, out: Path, at: Path, source: Source = module) -> None:
     archive = source(target.processor).archive
     words = ["-m", target.linker, "-r", "-o", str(at / "all.o"), "--whole-archive"]
     llvm("ld.lld", *words, archive, at / "heap.o")
-    llvm("llvm-objcopy", *shown, at / "all.o", at / "rsp.o")
+    llvm("llvm-objcopy", *exported, at / "all.o", at / "rsp.o")
     (out / "lib").mkdir(parents=True)
     llvm("llvm-ar", "rcsD", out / "lib" / "libbrsp.a", at / "rsp.o")
     words = ["-shared", f"-Wl,-soname,{soname}", *hardening.words(target.name, "link"), LINKED]
     words.append(f"-Wl,--version-script={places.HEADER.with_name('brsp.map')}")
     call(target.compiler, *words, "-o", out / "lib" / soname, at / "rsp.o")
     shutil.copy(out / "lib" / soname, out / target.shared)  # a link would do, but `rt ci` refuses links
-    packages.header(out)
-    packages.pkg_config(out)
-    packages.cmake(out, target, LIBRARY=soname, SONAME=soname)
+    packages.describe(out, target, soname, soname)
     program = out / target.program
     link_program(target, program, at / "heap.o", modules.program(target.processor))
     packages.wheel(out, out / "lib" / soname, "libbrsp.so", target.wheel, program)

@@ -37,7 +37,5 @@ def make(out: Path, at: Path, source: Source = module) -> None:
     (out / "lib").mkdir(parents=True)
     llvm("llvm-lipo", "-create", *shared, "-output", out / "lib" / "libbrsp.dylib")
     llvm("llvm-lipo", "-create", *static, "-output", out / "lib" / "libbrsp.a")
-    packages.header(out)
-    packages.pkg_config(out)
-    packages.cmake(out, target, LIBRARY="libbrsp.dylib", SONAME="@rpath/libbrsp.dylib")
+    packages.describe(out, target, "libbrsp.dylib", "@rpath/libbrsp.dylib")
     packages.wheel(out, out / "lib" / "libbrsp.dylib", "libbrsp.dylib", target.wheel)

@@ -49,13 +49,13 @@ def is_here(target: str) -> bool:
 
 def converted(text: str) -> str:
     """A page's Markdown as HTML. Links lead to pages that are here, and others are their words alone."""
-    live = LINK.sub(lambda link: link[0] if is_here(link[2]) else link[1], text)
+    text = LINK.sub(lambda link: link[0] if is_here(link[2]) else link[1], text)
     # The anchors of the pages are HTML.
-    made = call(CONVERTER, "--unsafe", "--extension", "table", "--to", "html", given=live)
-    made = re.sub(r"<h([1-6])>(.*?)</h\1>", with_anchor, made)
-    made = re.sub(r'(<a href="\w+)\.md(?=["#])', r"\1.html", made)
+    body = call(CONVERTER, "--unsafe", "--extension", "table", "--to", "html", text=text)
+    body = re.sub(r"<h([1-6])>(.*?)</h\1>", with_anchor, body)
+    body = re.sub(r'(<a href="\w+)\.md(?=["#])', r"\1.html", body)
     return with_rows(
-        made.replace("<table>", '<div class="wide"><table>').replace("</table>", "</table></div>")
+        body.replace("<table>", '<div class="wide"><table>').replace("</table>", "</table></div>")
     )
 
 
@@ -78,5 +78,7 @@ def page(name: str) -> str:
 def made() -> Dict[str, bytes]:
     """All files, by their names in the folder."""
     pages = {f"{it}.html": page(it).encode() for it in PAGES}
-    shown = {it for text in pages.values() for it in re.findall(r'"(pictures/[\w-]+\.svg)"', text.decode())}
-    return {**pages, **{it: (DOCS / it).read_bytes() for it in sorted(shown)}}
+    pictures = {
+        it for page in pages.values() for it in re.findall(r'"(pictures/[\w-]+\.svg)"', page.decode())
+    }
+    return {**pages, **{it: (DOCS / it).read_bytes() for it in sorted(pictures)}}

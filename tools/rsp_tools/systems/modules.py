@@ -136,8 +136,8 @@ def module(processor: str) -> Module:
             llvm("clang", "-x", "ir", Path(at, "module"), *as_text, "-o", Path(at, "module.ll"))
             names = {"module.ll": "module.ll", "module.words": "module.words", "librsp_c.a": "made"}
             keep(kept, made_of, {name: Path(at, made) for name, made in names.items()})
-    given = kept.joinpath("module.words").read_text().splitlines()
-    return Module(kept / "module.ll", kept / "librsp_c.a", flags(given))
+    words = kept.joinpath("module.words").read_text().splitlines()
+    return Module(kept / "module.ll", kept / "librsp_c.a", flags(words))
 
 
 def program(processor: str) -> Path:

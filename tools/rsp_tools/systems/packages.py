@@ -1,52 +1,33 @@
-"""What lies beside a library: the header, pkg-config's file, CMake's files, and the Python wheel."""
+"""What lies beside a library: the headers, pkg-config's file, CMake's files, and the Python wheel."""
 
-import shutil
 import subprocess
 from pathlib import Path
-from typing import Sequence
+from typing import Iterable, Sequence
 
 import wheels
-from rsp_tools import TOOLS
-from rsp_tools.packaging import repository
+from rsp_tools.packaging import install_tree, repository
+from rsp_tools.packaging.install_tree import File
 from rsp_tools.targets import Target
 
-from . import places
-from .header import filled
 
-TEMPLATES = TOOLS / "packaging"
-
-
-def header(out: Path) -> None:
-    """Puts brsp.h beside a library, its class for C++, what compares machines, and savestates."""
-    (out / "include").mkdir(parents=True)
-    for it in (
-        places.HEADER,
-        *map(places.HEADER.with_name, ("brsp.hpp", "brsp_compare.h", "brsp_savestate.h")),
-    ):
-        shutil.copyfile(it, out / "include" / it.name)
+def write(out: Path, files: Iterable[File]) -> None:
+    """Writes files below a folder."""
+    for file in files:
+        file.write(out / file.name)
 
 
-def pkg_config(out: Path, rpath: str = " -Wl,-rpath,${libdir}") -> None:
-    """Writes brsp.pc, which finds its own folder. By `rpath` a program finds the library there."""
-    (out / "lib" / "pkgconfig").mkdir(parents=True)
-    text = filled(TEMPLATES / "brsp.pc.in", PREFIX="${pcfiledir}/../..", RPATH=rpath)
-    (out / "lib" / "pkgconfig" / "brsp.pc").write_text(text)
-
-
-def cmake(out: Path, target: Target, **words: str) -> None:
-    """Writes what find_package(brsp) reads. `words` are LIBRARY, its file in lib/, and its SONAME."""
-    folder, kind = out / "lib/cmake/brsp", "unix" if words else "windows"
-    system, processors = target.cmake
-    folder.mkdir(parents=True)
-    for made, template in ("brspConfig", f"brspConfig-{kind}"), ("brspConfigVersion", "brspConfigVersion"):
-        text = filled(TEMPLATES / f"{template}.cmake.in", SYSTEM=system, PROCESSORS=processors, **words)
-        (folder / f"{made}.cmake").write_text(text)
+def describe(
+    out: Path, target: Target, library: str = "", soname: str = "", rpath: str = install_tree.RPATH
+) -> None:
+    """Writes the headers, and what pkg-config and CMake read."""
+    write(out, install_tree.headers())
+    write(out, install_tree.descriptions(target, library, soname, rpath=rpath))
 
 
 def date() -> int:
     """That of a wheel's files: the time of the commit. In an unpacked archive of the source there is none."""
     try:
-        return repository.committed()
+        return repository.commit_time()
     except (OSError, subprocess.CalledProcessError):
         return wheels.FIRST
 

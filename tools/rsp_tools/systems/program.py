@@ -22,15 +22,15 @@ def initializers(lines: Sequence[Sequence[object]]) -> str:
 def texts() -> Dict[str, str]:
     """The version, the texts of --help and the tables of --explain, as C has them: those of the proved
     program, each in its one place."""
-    given = {"VERSION": header.dated_version()}
+    single = {"VERSION": header.dated_version()}
     for it in ("rsp", "run", "asm", "dis"):
-        given[f"HELP_{it.upper()}"] = (places.HELP / f"{it}.txt").read_text()
-    given["INSTRUCTIONS"] = " ".join(it["Instruction"].lower() for it in page_tables.data("instructions"))
+        single[f"HELP_{it.upper()}"] = (places.HELP / f"{it}.txt").read_text()
+    single["INSTRUCTIONS"] = " ".join(it["Instruction"].lower() for it in page_tables.data("instructions"))
     tables: Dict[str, Sequence[Sequence[object]]] = {
         "COMMAND_FORMS": page_tables.command_forms(),
         "FAULT_TEXTS": page_tables.fault_texts(),
     }
-    strings = {name: json.dumps(text) for name, text in given.items()}
+    strings = {name: json.dumps(text) for name, text in single.items()}
     return {**strings, **{name: initializers(lines) for name, lines in tables.items()}}
 
 

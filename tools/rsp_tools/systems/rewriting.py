@@ -4,56 +4,30 @@ A module is text in LLVM's language. What a processor alone has, the rules have 
 something else is refused, since nobody has looked at it."""
 
 import re
-from typing import AbstractSet, Callable, Iterable, NamedTuple
+from typing import AbstractSet, Callable, Iterable
 
 from .toolchain import Refused
 
-PROCESSORS = "x86|aarch64|arm|wasm"
+Change = Callable[[str], str]  # of a module's text
 
 
-class Change(NamedTuple):
-    """A change of a module's text, and why a system needs it."""
-
-    reason: str
-    made: Callable[[str], str]
-
-
-# Drops how the stack is probed, and how often.
-STACK_PROBES = Change(
-    "the module wants the stack probed by inline assembler, which LLVM has neither for Windows nor for"
-    " WebAssembly: it would call a function of that name. Windows has probes of its own",
-    lambda text: re.sub(r' "(?:probe-stack|stack-probe-size)"="[^"]*"', "", text),
-)
-# Has LLVM write a table of the frame of each function that the module defines. These alone name their
-# processor.
-UNWIND_TABLES = Change(
-    "Windows and its debuggers walk the stack by a table of each frame, and take a function without one for"
-    " one that has no frame",
-    lambda text: re.sub(r'(?m)^(attributes #\d+ = \{ )(.*"target-cpu")', r"\1uwtable \2", text),
-)
+def without_stack_probes(text: str) -> str:
+    """The module wants the stack probed by inline assembler, which LLVM has neither for Windows nor for
+    WebAssembly: it would call a function of that name. Windows has probes of its own."""
+    return re.sub(r' "(?:probe-stack|stack-probe-size)"="[^"]*"', "", text)
 
 
-def intrinsics(text: str) -> AbstractSet[str]:
-    """The instructions of one processor that a module calls by LLVM's names."""
-    return {*re.findall(rf"@(llvm\.(?:{PROCESSORS})\.[\w.]+)", text)}
+def with_unwind_tables(text: str) -> str:
+    """Windows and its debuggers walk the stack by a table of each frame, and take a function without one for
+    one that has no frame. Only the functions that the module defines name their processor."""
+    return re.sub(r'(?m)^(attributes #\d+ = \{ )(.*"target-cpu")', r"\1uwtable \2", text)
 
 
-def rewritten(text: str, known: AbstractSet[str], changes: Iterable[Change] = ()) -> str:
-    """A module after the changes. Refused if it has an intrinsic of a processor that no rule names."""
-    unknown = sorted(intrinsics(text) - known)
-    if unknown:
-        raise Refused(f"the module has the intrinsic {unknown[0]}, which no rule names")
-    for it in changes:
-        text = it.made(text)
-    return text
+def without_processor(text: str) -> str:
+    """Functions name a processor and its features, which go before those of clang's words: WebAssembly would
+    have no SIMD."""
+    return re.sub(r' "(?:target-cpu|target-features|tune-cpu)"(?:="[^"]*")?', "", text)
 
-
-# Drops which processor each function is for.
-PROCESSOR = Change(
-    "functions name a processor and its features, which go before those of clang's words: WebAssembly would"
-    " have no SIMD",
-    lambda text: re.sub(r' "(?:target-cpu|target-features|tune-cpu)"(?:="[^"]*")?', "", text),
-)
 
 PSHUFB = "llvm.x86.ssse3.pshuf.b.128"
 # Each byte of the second operand selects one of the first by its low four bits, or 0 by its high bit.
@@ -68,13 +42,17 @@ declare <16 x i8> @llvm.wasm.swizzle(<16 x i8>, <16 x i8>)
 
 
 def with_swizzle(text: str) -> str:
-    """Puts a function over WebAssembly's swizzle in the place of x86's PSHUFB."""
+    """WebAssembly has no PSHUFB of x86. Its swizzle gives 0 for each selector above 15, so the bits that
+    PSHUFB ignores are cleared first."""
     text = re.sub(rf"(?m)^declare .*@{re.escape(PSHUFB)}\(.*\n", "", text)
     return text.replace(f"@{PSHUFB}(", "@rsp.shuffled(") + SHUFFLED
 
 
-SWIZZLE = Change(
-    "WebAssembly hasn't x86's PSHUFB. Its swizzle gives 0 for each selector above 15, so the bits that PSHUFB"
-    " ignores are cleared first",
-    with_swizzle,
-)
+def rewritten(text: str, known: AbstractSet[str], changes: Iterable[Change] = ()) -> str:
+    """A module after the changes. Refused if it has an intrinsic of a processor that no rule names."""
+    intrinsics = {*re.findall(r"@(llvm\.(?:x86|aarch64|arm|wasm)\.[\w.]+)", text)}
+    if unknown := sorted(intrinsics - known):
+        raise Refused(f"the module has the intrinsic {unknown[0]}, which no rule names")
+    for change in changes:
+        text = change(text)
+    return text

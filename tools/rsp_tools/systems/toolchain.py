@@ -31,13 +31,13 @@ def missing(*programs: str) -> str:
     return " ".join(dict.fromkeys(PACKAGES.get(it, it) for it in programs if not shutil.which(it)))
 
 
-def call(program: str, *words: Word, executable: str = "", given: str = "") -> str:
-    """What a program says that is given a text. Refused, with its last lines, if it fails."""
+def call(program: str, *words: Word, executable: str = "", text: str = "") -> str:
+    """The output of a program for a text. Refused, with its last lines, if it fails."""
     if not executable and not shutil.which(program):
         raise Refused(f"there is no {program}: Debian's package {missing(program)} has it")
     command = [program, *map(str, words)]
     ended = subprocess.run(
-        command, executable=executable or None, input=given, capture_output=True, text=True, errors="replace"
+        command, executable=executable or None, input=text, capture_output=True, text=True, errors="replace"
     )
     if ended.returncode:
         last = "\n".join((ended.stdout + ended.stderr).strip().splitlines()[-20:])
@@ -51,11 +51,10 @@ def kit() -> Path:
     if not shutil.which("rt"):
         raise Refused("there is no `rt`, the command of the Rattle kit (README.md names its version)")
     folder = Path(call("rt", "doc").strip()).parent
-    said = call("clang", "--version", executable=f"{folder}/toolchain/bin/clang")
-    version = re.search(r"clang version (\S+)", said)
-    if not version or version[1] != CLANG:
-        named = version[1] if version else said.strip()
-        raise Refused(f"the kit's clang is {named}, and the rules on modules are for {CLANG}")
+    output = call("clang", "--version", executable=f"{folder}/toolchain/bin/clang")
+    version = re.findall(r"clang version (\S+)", output)
+    if version != [CLANG]:
+        raise Refused(f"the kit's clang is {' '.join(version)}, and the rules on modules are for {CLANG}")
     return folder
 
 

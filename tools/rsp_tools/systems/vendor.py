@@ -7,6 +7,8 @@ import shutil
 from pathlib import Path
 from typing import Dict, Tuple
 
+from rsp_tools import TOOLS
+from rsp_tools.packaging import install_tree
 from rsp_tools.targets import TARGETS
 
 from . import packages, places, program
@@ -14,7 +16,7 @@ from .header import filled
 from .modules import Source
 from .modules import module as module_of
 from .objects import compiled
-from .rewriting import STACK_PROBES, UNWIND_TABLES
+from .rewriting import with_unwind_tables, without_stack_probes
 from .windows import GNU
 
 
@@ -37,10 +39,11 @@ LACKING = (".addrsig", ".seh_startepilogue", ".seh_endepilogue")
 def assembly(name: str, at: Path, source: Source) -> str:
     """The text of a file. For Windows GNU's assembler can't read a section for each function."""
     processor, triple = FILES[name]
-    module, changes = source(processor), (STACK_PROBES, UNWIND_TABLES)
+    module, changes = source(processor), []
     if triple == GNU:
         module = module._replace(flags=[it for it in module.flags if not it.endswith("-sections")])
-    made = compiled(module, processor, triple, at, changes if triple == GNU else (), kind="-S")
+        changes = [without_stack_probes, with_unwind_tables]
+    made = compiled(module, processor, triple, at, changes, kind="-S")
     lines = made.read_text().splitlines(keepends=True)
     return "".join(it for it in lines if not it.lstrip().startswith(LACKING))
 
@@ -59,7 +62,7 @@ def make(out: Path, at: Path, source: Source = module_of) -> None:
         (out / folder).mkdir(parents=True)
     for name in FILES:
         (out / "src" / f"{name}.s").write_text(assembly(name, at, source))
-    packages.header(out)
+    packages.write(out, install_tree.headers())
     copy_program(out / "program")
-    text = filled(packages.TEMPLATES / "vendor/CMakeLists.txt.in", FILES=" ".join(FILES))
+    text = filled(TOOLS / "packaging/vendor/CMakeLists.txt.in", FILES=" ".join(FILES))
     (out / "CMakeLists.txt").write_text(text)

@@ -1,19 +1,19 @@
 """The library for browsers, Node and Deno: a module of WebAssembly with 64-bit memories and SIMD, and the ES
 module over it. The module is that for x86-64, changed where WebAssembly differs."""
 
-import re
 import shutil
 from pathlib import Path
 from typing import List
 
 from . import header, places
-from .modules import Source, module
-from .rewriting import PROCESSOR, PSHUFB, SWIZZLE, rewritten
-from .toolchain import Refused, llvm
+from .modules import Source
+from .modules import module as module_of
+from .rewriting import PSHUFB, rewritten, with_swizzle, without_processor
+from .toolchain import llvm
 
 CLANG = ["--target=wasm64-unknown-unknown", "-msimd128", "-mbulk-memory", "-ffreestanding"]
 LINUX = ["--target=x86_64-unknown-linux-gnu", "-ffreestanding"]
-CHANGES = [PROCESSOR, SWIZZLE]
+CHANGES = [without_processor, with_swizzle]
 SCRIPTS = places.TOP / "library" / "js"
 # The library, the kit's functions of the heap, and what these need.
 PARTS = ["rsp", "heap", "allocator", "memory_wasm"]
@@ -23,15 +23,15 @@ def as_ir(source: Path, to: Path) -> None:
     """Compiles C for Linux to LLVM's language, and changes it for wasm: the heap's functions return two
     numbers in registers, as the library expects, which C for wasm would return by a pointer."""
     llvm("clang", *LINUX, "-O2", "-S", "-emit-llvm", "-o", to, source)
-    to.write_text(rewritten(to.read_text(), set(), [PROCESSOR]))
+    to.write_text(rewritten(to.read_text(), set(), [without_processor]))
 
 
-def objects(at: Path, source: Source = module) -> List[Path]:
+def objects(at: Path, source: Source = module_of) -> List[Path]:
     """Compiles the library with its heap and its memory, in a folder. The files to be linked."""
-    given = source("x86_64")
-    (at / "rsp.ll").write_text(rewritten(given.text.read_text(), {PSHUFB}, CHANGES))
+    module = source("x86_64")
+    (at / "rsp.ll").write_text(rewritten(module.text.read_text(), {PSHUFB}, CHANGES))
     as_ir(places.PARTS / "heap.c", at / "heap.ll")
-    flags = [*CLANG, *given.flags, "-Wno-override-module", "-c", "-o"]
+    flags = [*CLANG, *module.flags, "-Wno-override-module", "-c", "-o"]
     for name in PARTS[:2]:
         llvm("clang", *flags, at / f"{name}.o", "-x", "ir", at / f"{name}.ll")
     for name in PARTS[2:]:
@@ -42,23 +42,19 @@ def objects(at: Path, source: Source = module) -> List[Path]:
 def link(out: Path, files: List[Path], *words: str) -> None:
     """Links files to a module that exports the calls of brsp.h, malloc and free. Its stack is at 0, so that a
     call that needs more is stopped."""
-    shown = [f"--export={it}" for it in [*header.calls(), "malloc", "free"]]
+    exported = [f"--export={it}" for it in [*header.calls(), "malloc", "free"]]
     stack = ["--stack-first", "-z", f"stack-size={header.stack()}"]
-    llvm("wasm-ld", "-m", "wasm64", "--no-entry", "--strip-all", *stack, *shown, *words, "-o", out, *files)
+    llvm("wasm-ld", "-m", "wasm64", "--no-entry", "--strip-all", *stack, *exported, *words, "-o", out, *files)
 
 
 def folder(out: Path, files: List[Path], *words: str) -> None:
-    """Writes a folder with the ES module, and the library of these files beside it. Refused if the version of
-    the ES module isn't that of the library."""
-    named = re.search(r'"version": "(.*)"', (SCRIPTS / "package.json").read_text())
-    if not named or named[1] != header.version():
-        raise Refused(f"library/js/package.json has another version than {header.version()}")
+    """Writes a folder with the ES module, and the library of these files beside it."""
     out.mkdir(parents=True)
     for path in sorted(SCRIPTS.iterdir()):
         shutil.copyfile(path, out / path.name)
     link(out / "rsp.wasm", files, *words)
 
 
-def make(out: Path, at: Path, source: Source = module) -> None:
+def make(out: Path, at: Path, source: Source = module_of) -> None:
     """Writes the library's folder, from the module of a source. `at` is for files on the way."""
     folder(out, objects(at, source))

@@ -8,7 +8,7 @@ import re
 from pathlib import Path
 from typing import Dict, List
 
-from rsp_tools.page_tables import data
+from rsp_tools.page_tables import command_forms, data, fault_texts
 
 from . import examples, header, manual, places
 from .toolchain import Refused
@@ -35,25 +35,14 @@ def scripts() -> bytes:
 
 def faults() -> Dict[str, List[str]]:
     """What each fault means, and what helps, by its number."""
-    found = {}
-    for it in data("faults"):
-        means, helps = (
-            re.sub(r"`|\[([^]]*)\]\([^)]*\)", r"\1", it[name]) for name in ("Cause", "What helps")
-        )
-        means = re.sub(r"^[\w, ]*: ", "", means)  # the commands, of which one is in the line
-        found[it["Fault"].split()[0]] = [f"{text[0].upper()}{text[1:]}." for text in (means, helps)]
-    return found
+    found = fault_texts(is_replied=False)
+    return {str(number): [f"{it[0].upper()}{it[1:]}." for it in texts] for number, *texts in found}
 
 
 def commands() -> Dict[str, str]:
     """The form of each command, with the range of its numbers, by its name."""
-    ranges = {it["Command"].split()[0]: it["Range of its numbers"] for it in data("commands")}
-    found = {}
-    for it in data("commands"):
-        name = it["Command"].split()[0]
-        told = re.sub(r"as `(\w+)`", lambda other: ranges[other[1]], ranges[name])
-        found[name] = it["Command"] + (f" ({told})" if told else "")
-    return found
+    forms = {name: form + (f" ({numbers})" if numbers else "") for name, form, numbers in command_forms()}
+    return {**forms, "end": "end"}
 
 
 def advice() -> Dict[str, str]:
@@ -69,11 +58,9 @@ def advice() -> Dict[str, str]:
 
 def names() -> bytes:
     """The module with the names of commands and of what source text has, and with what helps at a fault."""
-    found = {
-        "STATEMENTS": STATEMENTS,
-        "INSTRUCTIONS": [it["Instruction"].lower() for it in data("instructions")],
-    }
-    sets = {name: f"new Set({json.dumps(it)})" for name, it in found.items()}
+    instructions = [it["Instruction"].lower() for it in data("instructions")]
+    lists = {"STATEMENTS": STATEMENTS, "INSTRUCTIONS": instructions}
+    sets = {name: f"new Set({json.dumps(it)})" for name, it in lists.items()}
     tables = {"COMMANDS": commands(), "ADVICE": advice()}
     maps = {name: f"new Map(Object.entries({json.dumps(it)}))" for name, it in tables.items()}
     return module("Names in scripts, and faults", **sets, **maps, FAULTS=json.dumps(faults()))

@@ -10,7 +10,7 @@ from rsp_tools.targets import TARGETS
 from . import header, packages, places, program
 from .modules import Source, module
 from .objects import compiled
-from .rewriting import STACK_PROBES, UNWIND_TABLES
+from .rewriting import with_unwind_tables, without_stack_probes
 from .toolchain import call, llvm
 
 TARGET = TARGETS["windows-x86_64"]
@@ -25,8 +25,8 @@ def resources(at: Path, file: str, kind: str) -> Path:
     """An object with the properties of a file of this kind, and of a program (VFT_APP) its manifest. `at`
     is for files on the way."""
     numbers, made = [*header.version().split("."), "0"], at / f"{file}.o"
-    given = {"NUMBERS": ",".join(numbers), "KIND": kind, "FILE": file}
-    text = header.filled(places.PARTS / "resources.rc.in", **given)
+    words = {"NUMBERS": ",".join(numbers), "KIND": kind, "FILE": file}
+    text = header.filled(places.PARTS / "resources.rc.in", **words)
     if kind == "VFT_APP":
         manifest = at / f"{file}.manifest"
         manifest.write_text(header.filled(places.PARTS / "rsp.manifest.in", DOTTED=".".join(numbers)))
@@ -53,7 +53,7 @@ def link_program(to: Path, at: Path, library: Path) -> None:
 def make(out: Path, at: Path, source: Source = module) -> None:
     """Writes the library's folder, from the modules of a source. `at` is for files on the way."""
     made = source("x86_64")
-    changes = [STACK_PROBES, UNWIND_TABLES]
+    changes = [without_stack_probes, with_unwind_tables]
     gnu, msvc = (compiled(made, "x86_64", it, at, changes) for it in (GNU, MSVC))
     for folder in ("bin", "lib"):
         (out / folder).mkdir(parents=True)
@@ -66,7 +66,5 @@ def make(out: Path, at: Path, source: Source = module) -> None:
     llvm("llvm-ar", "rcsD", out / "lib" / "libbrsp.a", gnu)
     llvm("llvm-ar", "rcsD", "--format=coff", out / "lib" / "brsp_static.lib", msvc)
     link_program(out / "bin" / "rsp.exe", at, out / "lib" / "libbrsp.a")
-    packages.header(out)
-    packages.pkg_config(out, rpath="")
-    packages.cmake(out, TARGET)
+    packages.describe(out, TARGET, rpath="")
     packages.wheel(out, out / "bin" / "brsp.dll", "brsp.dll", TARGET.wheel, out / "bin" / "rsp.exe")

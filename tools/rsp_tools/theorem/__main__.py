@@ -82,8 +82,8 @@ def assembled(text: str) -> tuple[list[int], list[str]]:
         if done.returncode:
             stop(f"the text isn't assembled: {done.stderr.strip()}")
         data = Path(out.name).read_bytes()
-        shown = subprocess.run([PROGRAM, "dis", out.name], capture_output=True, text=True).stdout.splitlines()
-    return [int.from_bytes(data[at : at + 4], "big") for at in range(0, len(data), 4)], shown
+        listing = subprocess.run([PROGRAM, "dis", out.name], capture_output=True, text=True).stdout
+    return [int.from_bytes(data[at : at + 4], "big") for at in range(0, len(data), 4)], listing.splitlines()
 
 
 def lines_of(text: str) -> list[str]:
@@ -92,14 +92,14 @@ def lines_of(text: str) -> list[str]:
     return [" ".join(line.split()) for line in lines if line.strip()]
 
 
-def proof(it: Routine | Joined) -> str:
-    if isinstance(it, Joined):
-        return joined_proof(it)
-    if it.counter:
-        return loop_proof(it)
-    if it.wait:
-        return wait_proof(it, it.wait)
-    return routine_proof(it) if it.returns else straight_proof(it)
+def proof(routine: Routine | Joined) -> str:
+    if isinstance(routine, Joined):
+        return joined_proof(routine)
+    if routine.counter:
+        return loop_proof(routine)
+    if routine.wait:
+        return wait_proof(routine, routine.wait)
+    return routine_proof(routine) if routine.returns else straight_proof(routine)
 
 
 def write(path: str, text: str) -> None:
@@ -108,13 +108,13 @@ def write(path: str, text: str) -> None:
     print("wrote", (CRATE / path).relative_to(TOP))
 
 
-def declare(it: Routine | Joined) -> None:
+def declare(routine: Routine | Joined) -> None:
     """Adds the routine's lines to lib.rt and to both Lib.antt."""
     lib = CRATE / "src/lib.rt"
     code = lib.read_text().rstrip("\n")
     first = code.index("\npub mod ") + 1
-    lib.write_text(f"{code[:first]}pub mod {it.name};\n{code[first:]}\n")
-    for path, module in ("specs/Lib.antt", it.module), ("proofs/Lib.antt", f"{it.module}Runs"):
+    lib.write_text(f"{code[:first]}pub mod {routine.name};\n{code[first:]}\n")
+    for path, module in ("specs/Lib.antt", routine.module), ("proofs/Lib.antt", f"{routine.module}Runs"):
         with (CRATE / path).open("a") as file:
             file.write(f"pub mod {module}\n")
 
@@ -123,20 +123,20 @@ def main(name: str, text: str) -> None:
     check_name(name)
     if not os.path.exists(text):
         stop(f"there is no file {text}")
-    words, shown = assembled(text)
+    words, disassembly = assembled(text)
     if not words:
         stop("the text has no instruction")
-    it = routine_of(name, lines_of(text), words, shown)
+    routine = routine_of(name, lines_of(text), words, disassembly)
     files = {
-        f"src/{name}.rt": source(it),
-        f"specs/{it.module}.antt": statement(it),
-        f"proofs/{it.module}Runs.antt": proof(it),
-        f"proofs/{name}/theorem/Answers.antt": theorem_answer(it),
-        f"proofs/{name}/words/Answers.antt": text_answer(it),
+        f"src/{name}.rt": source(routine),
+        f"specs/{routine.module}.antt": statement(routine),
+        f"proofs/{routine.module}Runs.antt": proof(routine),
+        f"proofs/{name}/theorem/Answers.antt": theorem_answer(routine),
+        f"proofs/{name}/words/Answers.antt": text_answer(routine),
     }
     for path, contents in files.items():
         write(path, contents)
-    declare(it)
+    declare(routine)
     print(f"now: cd crates/rsp_routines && rt check --only {name}")
 
 
@@ -146,5 +146,5 @@ if __name__ == "__main__":
     )
     reader.add_argument("name", metavar="NAME")
     reader.add_argument("text", metavar="TEXT")
-    asked = reader.parse_args()
-    main(asked.name, asked.text)
+    options = reader.parse_args()
+    main(options.name, options.text)

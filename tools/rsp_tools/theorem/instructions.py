@@ -162,10 +162,10 @@ def instruction_of(word: int) -> Instruction:
 def uses(code: list[Instruction]) -> str:
     """The lines that bring the names of these instructions."""
     homes: dict[str, set[str]] = {"inst.Inst": {it.variant for it in code}}
-    for it in code:
-        if it.row:
-            homes.setdefault(OPERATION[it.variant], set()).add(it.row)
-        if it.variant == "MoveControl":
-            homes.setdefault("vector.Control", set()).add(it.control)
+    for instruction in code:
+        if instruction.row:
+            homes.setdefault(OPERATION[instruction.variant], set()).add(instruction.row)
+        if instruction.variant == "MoveControl":
+            homes.setdefault("vector.Control", set()).add(instruction.control)
     lines = (f"{home}.TheVariants.{{{', '.join(sorted(names))}}}" for home, names in sorted(homes.items()))
     return "".join(f"use Rattle.rsp_decode.specs.declared.{line}\n" for line in lines)

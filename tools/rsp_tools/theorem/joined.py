@@ -20,65 +20,66 @@ use Rattle.rsp_microcode.proofs.Joins.{blocks_join, ran_at, ran_others, ran_retu
 """
 
 
-def joined_proof(it: Joined) -> str:
-    for block, name in (it.front, "front"), (it.back, "back"):
+def joined_proof(joined: Joined) -> str:
+    for block, name in (joined.front, "front"), (joined.back, "back"):
         for piece in block.pieces if block else []:
             piece.name = f"{name}_{piece.name}" if piece.name else ""
-    names = f"{it.module}Does, Does{it.module}" + ("" if it.wait else f", {it.module}Entered")
-    turns = wait_lemmas(it.loop, it.wait) if it.wait else lemmas(it.loop)
-    blocks = code_text(it.front, "front_words", "front", "front_decoded") if it.front else ""
-    if it.back and it.returns:
-        blocks += record_text(it.back, "Routine", "back", "back_decoded")
-    elif it.back:
-        blocks += code_text(it.back, "back_words", "back", "back_decoded")
-    return f"""-- {it.name}.
-{KIT}{uses(it.code)}{JOINS}{WAITS if it.wait else ''}use Rattle.rsp_routines.specs.{it.module}.{{{names}}}
-{result_use(it.loop)}
+    names = f"{joined.module}Does, Does{joined.module}" + ("" if joined.wait else f", {joined.module}Entered")
+    turns = wait_lemmas(joined.loop, joined.wait) if joined.wait else lemmas(joined.loop)
+    blocks = code_text(joined.front, "front_words", "front", "front_decoded") if joined.front else ""
+    if joined.back and joined.returns:
+        blocks += record_text(joined.back, "Routine", "back", "back_decoded")
+    elif joined.back:
+        blocks += code_text(joined.back, "back_words", "back", "back_decoded")
+    kit = f"{KIT}{uses(joined.code)}{JOINS}{WAITS if joined.wait else ''}"
+    return f"""-- {joined.name}.
+{kit}use Rattle.rsp_routines.specs.{joined.module}.{{{names}}}
+{result_use(joined.loop)}
 {turns}
 {blocks}abbrev words : List ℕ
-words = {f"front_words ++ {rest(it)}" if it.front else rest(it).strip("()")}
+words = {f"front_words ++ {rest(joined)}" if joined.front else rest(joined).strip("()")}
 
-{moved(it)}{does(it)}"""
+{moved(joined)}{does(joined)}"""
 
 
-def does(it: Joined) -> str:
+def does(joined: Joined) -> str:
     """The theorem: each block by its law, and all of them joined."""
-    before, each, after = it.steps
-    facts = "".join(f" a{base}" for base in it.straight_bases)
-    cuts = [f"steps_after {before} ({it.later_steps}) s"] if it.front else []
-    cuts += [f"steps_after {each if it.wait else f'(n * {each})'} {after} u"] if it.back else []
-    turns = wait_lines(it, it.wait) if it.wait else loop_lines(it)
-    lines = [*front_lines(it), *turns, *back_lines(it)]
-    results = marked(f"      filled = {filled(it)};") if it.loop.target else ""
-    rounds = "" if it.wait else " n"
-    claimed = f"{it.module}Does words s"
+    before, each, after = joined.steps
+    facts = "".join(f" a{base}" for base in joined.straight_bases)
+    cuts = [f"steps_after {before} ({joined.later_steps}) s"] if joined.front else []
+    cuts += [f"steps_after {each if joined.wait else f'(n * {each})'} {after} u"] if joined.back else []
+    turns = wait_lines(joined, joined.wait) if joined.wait else loop_lines(joined)
+    lines = [*front_lines(joined), *turns, *back_lines(joined)]
+    results = marked(f"      filled = {filled(joined)};") if joined.loop.target else ""
+    rounds = "" if joined.wait else " n"
+    claimed = f"{joined.module}Does words s"
     return f"""\
-pub does : SumsOfProducts → Does{it.module} words
+pub does : SumsOfProducts → Does{joined.module} words
 unfolding {OPENED}
-does law s is at{facts}{given(it)} =
+does law s is at{facts}{given(joined)} =
 {"".join(f"    {line}{chr(10)}" for line in lines)}    let done : {claimed} t{rounds} = record {{
-{results}      others = {others(it)};
+{results}      others = {others(joined)};
     }} in
     subst (λ (x : State). {claimed} x{rounds}) (sym ({' ∙ '.join(cuts)})) done
 """
 
 
-def given(it: Joined) -> str:
+def given(joined: Joined) -> str:
     """The last arguments of the theorem."""
-    if it.wait:
-        return "" if it.wait.is_quiet else " ready"
+    if joined.wait:
+        return "" if joined.wait.is_quiet else " ready"
     return " n entered"
 
 
-def moved(it: Joined) -> str:
+def moved(joined: Joined) -> str:
     """What the loop fills, as of the first state."""
-    if not it.loop.target or it.entry != "s":
+    if not joined.loop.target or joined.entry != "s":
         return ""
-    bases = [*dict.fromkeys([*it.loop.sources, it.loop.target])]
+    bases = [*dict.fromkeys([*joined.loop.sources, joined.loop.target])]
     names = dict(zip(bases, "abcdefgh"))
     equal = " → ".join(f"register u.registers {base} ≡ register s.registers {base}" for base in bases)
-    vectors = " ".join(f"(lanes_at w ({names[base]} + 16 * k))" for base in it.loop.sources)
-    made = f"IsFilled (λ k. result_of {vectors}) w m {names[it.loop.target]} n"
+    vectors = " ".join(f"(lanes_at w ({names[base]} + 16 * k))" for base in joined.loop.sources)
+    made = f"IsFilled (λ k. result_of {vectors}) w m {names[joined.loop.target]} n"
     numbers = [f"(register u.registers {base})" for base in bases]
     proof, facts = "f", [f"e{base}" for base in bases]
     for place, base in enumerate(bases):
@@ -91,7 +92,7 @@ def moved(it: Joined) -> str:
             f"""\
 -- what the loop fills, as of the first state
 moved : (s u : State) (m : List ℕ) (n : ℕ) → {equal} → u.dmem ≡ s.dmem
-    → {filled.format("u", it.loop.target)} → {filled.format("s", it.loop.target)}
+    → {filled.format("u", joined.loop.target)} → {filled.format("s", joined.loop.target)}
 moved s u m n {" ".join(facts)} d f =
     let made = λ ({" ".join(names.values())} : ℕ) (w : List ℕ). {made} in
     subst (λ w. made {last} w) d ({proof})
@@ -101,82 +102,82 @@ moved s u m n {" ".join(facts)} d f =
     )
 
 
-def filled(it: Joined) -> str:
+def filled(joined: Joined) -> str:
     """The proof of what the whole fills."""
-    stores = [block for block in (it.front, it.back) if block and "dmem" in block.parts]
+    stores = [block for block in (joined.front, joined.back) if block and "dmem" in block.parts]
     if stores:
         return "?"
-    start, target = it.entry, it.loop.target
+    start, target = joined.entry, joined.loop.target
     proof = "mid.holds.filled"
-    if it.front and start == "s":
-        bases = [*dict.fromkeys([*it.loop.sources, target])]
+    if joined.front and start == "s":
+        bases = [*dict.fromkeys([*joined.loop.sources, target])]
         same = " ".join(f"(first.spares.scalars {base} refl)" for base in bases)
         proof = f"moved s u v.dmem n {same} (ap (λ (x : State). x.dmem) first.frame) {proof}"
-    if not it.back:
+    if not joined.back:
         return proof
     goal = f"IsFilled (result {start}) {start}.dmem m (register {start}.registers {target}) n"
     return f"subst (λ m. {goal}) (sym (ap (λ (x : State). x.dmem) last.frame)) ({proof})"
 
 
-def middle(it: Joined) -> str:
+def middle(joined: Joined) -> str:
     """The name of the loop or the wait."""
-    return "wait" if it.wait else "loop"
+    return "wait" if joined.wait else "loop"
 
 
-def rest(it: Joined) -> str:
+def rest(joined: Joined) -> str:
     """The words from the loop on."""
-    back = "back.words" if it.returns else "back_words"
-    return f"({middle(it)}.words ++ {back})" if it.back else f"{middle(it)}.words"
+    back = "back.words" if joined.returns else "back_words"
+    return f"({middle(joined)}.words ++ {back})" if joined.back else f"{middle(joined)}.words"
 
 
-def front_lines(it: Joined) -> list[str]:
+def front_lines(joined: Joined) -> list[str]:
     """The code before the loop: u is the state after it."""
-    if not it.front:
+    if not joined.front:
         return ["let u = s in", "let at_u = at in", "let ok = is in"]
     return [
-        f"let u = steps_of {it.steps[0]} s in",
+        f"let u = steps_of {joined.steps[0]} s in",
         "let first = pieces_run law front_words front front_decoded refl s is"
-        f" (first_block front_words {rest(it)} s at) {aligned(it.front.pieces, 'front', 's')} in",
+        f" (first_block front_words {rest(joined)} s at) {aligned(joined.front.pieces, 'front', 's')} in",
         "let ran_u = pieces_ran front_words front s u at.next first in",
-        f"let at_u = ran_at front_words {rest(it)} _ s u at ran_u in",
+        f"let at_u = ran_at front_words {rest(joined)} _ s u at ran_u in",
         "let ok = first.ranges in",
     ]
 
 
-def loop_lines(it: Joined) -> list[str]:
+def loop_lines(joined: Joined) -> list[str]:
     """The loop: v is the state after it."""
-    back = "back.words" if it.returns else "back_words"
-    at = f"(first_block loop.words {back} u at_u)" if it.back else "at_u"
+    back = "back.words" if joined.returns else "back_words"
+    at = f"(first_block loop.words {back} u at_u)" if joined.back else "at_u"
     lines = [
-        f"let entered_u : {it.module}Entered u n = {entered(it)} in",
+        f"let entered_u : {joined.module}Entered u n = {entered(joined)} in",
         f"let mid = ends law u ok {at} n entered_u in",
-        f"let v = steps_of (n * {it.steps[1]}) u in",
+        f"let v = steps_of (n * {joined.steps[1]}) u in",
         "let ran_v = loop_ran loop n (Holds u n) u v at_u.next mid in",
     ]
-    return [*lines, f"let at_v = ran_at loop.words {back} _ u v at_u ran_v in"] if it.back else lines
+    return [*lines, f"let at_v = ran_at loop.words {back} _ u v at_u ran_v in"] if joined.back else lines
 
 
-def wait_lines(it: Joined, wait: Wait) -> list[str]:
+def wait_lines(joined: Joined, wait: Wait) -> list[str]:
     """The wait: v is the state after it."""
-    back = "back.words" if it.returns else "back_words"
-    at = f"(first_block wait.words {back} u at_u)" if it.back else "at_u"
+    back = "back.words" if joined.returns else "back_words"
+    at = f"(first_block wait.words {back} u at_u)" if joined.back else "at_u"
     lines = []
-    if it.front and not wait.is_quiet:
+    if joined.front and not wait.is_quiet:
         lines.append("let same : u.sp ≡ s.sp = ap (λ (x : State). x.sp) first.frame in")
         lines.append(f"let ready : {wait.ready('u')} = rw same ready in")
     lines += [
-        f"let mid = waits law u ok {at}{given(it)} in",
-        f"let v = steps_of {it.steps[1]} u in",
+        f"let mid = waits law u ok {at}{given(joined)} in",
+        f"let v = steps_of {joined.steps[1]} u in",
         "let ran_v = mid in",
     ]
-    return [*lines, f"let at_v = ran_at wait.words {back} _ u v at_u ran_v in"] if it.back else lines
+    return [*lines, f"let at_v = ran_at wait.words {back} _ u v at_u ran_v in"] if joined.back else lines
 
 
-def entered(it: Joined) -> str:
+def entered(joined: Joined) -> str:
     """The loop's premises, of the state after the code before it."""
-    if not it.front or it.entry != "s":
+    if not joined.front or joined.entry != "s":
         return "entered"
-    loop = it.loop
+    loop = joined.loop
     names = ["some", "count", *(["small"] if needs_bound(loop) else [])]
     names += [f"{'buffer' if loop.target else 'aligned'}_{base}" for base in loop.bases]
     names += [f"spares_{base}" for base in dict.fromkeys(loop.sources) if loop.target and base != loop.target]
@@ -198,34 +199,38 @@ def rewritten(name: str, loop: Routine) -> str:
     return f"rw ({facts}) entered.{name}"
 
 
-def back_lines(it: Joined) -> list[str]:
+def back_lines(joined: Joined) -> list[str]:
     """The code after the loop: t is the state after it."""
-    if not it.back:
+    if not joined.back:
         return ["let t = v in"]
-    kept = "mid.spares.scalars {0} refl" + (" ∙ first.spares.scalars {0} refl" if it.front else "")
-    bases = bases_of(it.back.pieces)
+    kept = "mid.spares.scalars {0} refl" + (" ∙ first.spares.scalars {0} refl" if joined.front else "")
+    bases = bases_of(joined.back.pieces)
     facts = [f"let c{base} = ap (λ x. x % 16) ({kept.format(base)}) ∙ a{base} in" for base in bases]
-    law = "routine_run law back" if it.returns else "pieces_run law back_words back"
-    pieces = "back.pieces" if it.returns else "back"
-    proof = aligned(it.back.pieces, pieces, "v", "mid.ranges", "c")
+    law = "routine_run law back" if joined.returns else "pieces_run law back_words back"
+    pieces = "back.pieces" if joined.returns else "back"
+    proof = aligned(joined.back.pieces, pieces, "v", "mid.ranges", "c")
     return [
         *facts,
         f"let last = {law} back_decoded refl v mid.ranges at_v {proof} in",
-        f"let t = steps_of {it.steps[2]} v in",
+        f"let t = steps_of {joined.steps[2]} v in",
     ]
 
 
-def others(it: Joined) -> str:
+def others(joined: Joined) -> str:
     """The frame of all blocks."""
-    sets = f"{it.numbers} {it.vectors} refl"
-    if it.returns:
-        ran = f"(blocks_join front_words {middle(it)}.words _ _ s u v ran_u ran_v)" if it.front else "ran_v"
-        words = f"(front_words ++ {middle(it)}.words)" if it.front else f"{middle(it)}.words"
+    sets = f"{joined.numbers} {joined.vectors} refl"
+    if joined.returns:
+        ran = (
+            f"(blocks_join front_words {middle(joined)}.words _ _ s u v ran_u ran_v)"
+            if joined.front
+            else "ran_v"
+        )
+        words = f"(front_words ++ {middle(joined)}.words)" if joined.front else f"{middle(joined)}.words"
         return f"ran_returns {words} _ back s v t is {ran} refl last {sets}"
     ran = "ran_v"
-    if it.back:
+    if joined.back:
         last = "(pieces_ran back_words back v t at_v.next last)"
-        ran = f"(blocks_join {middle(it)}.words back_words _ _ u v t ran_v {last})"
-    if it.front:
-        ran = f"(blocks_join front_words {rest(it)} _ _ s u t ran_u {ran})"
+        ran = f"(blocks_join {middle(joined)}.words back_words _ _ u v t ran_v {last})"
+    if joined.front:
+        ran = f"(blocks_join front_words {rest(joined)} _ _ s u t ran_u {ran})"
     return f"ran_others words _ s t is at.next {ran} {sets}"

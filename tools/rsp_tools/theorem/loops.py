@@ -23,52 +23,55 @@ def after_rounds(base: int, amount: int, count: str) -> str:
     return f"({start} + {wide(amount)} * {count}) % 2 ^ 32" if amount else start
 
 
-def loop_proof(it: Routine) -> str:
-    names = f"{it.module}Entered, Does{it.module}"
-    return f"""-- {it.name}.
-{KIT}{uses(it.code)}use Rattle.rsp_routines.specs.{it.module}.{{{names}}}
-{result_use(it)}
-{lemmas(it)}
-{does(it)}"""
+def loop_proof(routine: Routine) -> str:
+    names = f"{routine.module}Entered, Does{routine.module}"
+    return f"""-- {routine.name}.
+{KIT}{uses(routine.code)}use Rattle.rsp_routines.specs.{routine.module}.{{{names}}}
+{result_use(routine)}
+{lemmas(routine)}
+{does(routine)}"""
 
 
-def lemmas(it: Routine) -> str:
+def lemmas(routine: Routine) -> str:
     """The loop, and what one round does."""
-    return f"""{record_text(it, "Loop", "loop", "decoded")}\
-{invariant_text(it)}
-{counted(it)}
+    return f"""{record_text(routine, "Loop", "loop", "decoded")}\
+{invariant_text(routine)}
+{counted(routine)}
 -- whether a round is left
-{more(it)}
-{stored(it)}{one_round(it)}"""
+{more(routine)}
+{stored(routine)}{one_round(routine)}"""
 
 
-def invariant_text(it: Routine) -> str:
+def invariant_text(routine: Routine) -> str:
     """The invariant of the rounds."""
-    count = it.rounds.register
+    count = routine.rounds.register
     bases = "".join(
-        f"  base_{base} : register t.registers {base} ≡ {after_rounds(base, it.far[base], 'k')}\n"
-        for base in it.bases
+        f"  base_{base} : register t.registers {base} ≡ {after_rounds(base, routine.far[base], 'k')}\n"
+        for base in routine.bases
     )
-    filled = f"  filled : IsFilled (result s) s.dmem t.dmem (register s.registers {it.target}) k\n"
+    filled = f"  filled : IsFilled (result s) s.dmem t.dmem (register s.registers {routine.target}) k\n"
     return f"""-- what holds after k rounds
 record Holds (s : State) (n k : ℕ) (t : State) : Type 0 where
-  count : {it.rounds.held(f"register t.registers {count}", f"register s.registers {count}")}
+  count : {routine.rounds.held(f"register t.registers {count}", f"register s.registers {count}")}
 {bases}  -- TODO: what k rounds have done
-{marked(filled) if it.target else ""}"""
+{marked(filled) if routine.target else ""}"""
 
 
-def counted(it: Routine) -> str:
+def counted(routine: Routine) -> str:
     """The registers after a round: the counter, the bases, and those that the branch reads."""
 
     def moved(register: int, amount: int) -> str:
         return f"(register r {register} + {amount}) % 2 ^ 32" if amount else f"register r {register}"
 
-    count = it.rounds.register
-    counts = moved(count, it.rounds.step % 2**32)
-    sides = [("q", count, counts), *(("q", base, moved(base, wide(it.far[base]))) for base in it.bases)]
-    sides.append(("p", count, f"register r {count}" if it.rounds.is_late else counts))
-    if it.rounds.branch == "bne":
-        sides.append(("p", it.rounds.other, f"register r {it.rounds.other}"))
+    count = routine.rounds.register
+    counts = moved(count, routine.rounds.step % 2**32)
+    sides = [
+        ("q", count, counts),
+        *(("q", base, moved(base, wide(routine.far[base]))) for base in routine.bases),
+    ]
+    sides.append(("p", count, f"register r {count}" if routine.rounds.is_late else counts))
+    if routine.rounds.branch == "bne":
+        sides.append(("p", routine.rounds.other, f"register r {routine.rounds.other}"))
     types = "\n    × ".join(f"(register {when} {register} ≡ {value})" for when, register, value in sides)
     proofs = ", ".join(f"ap ({when} {register}) e" for when, register, _ in sides)
     begun = "(record t { registers = r })"
@@ -87,18 +90,18 @@ counted t n =
 """
 
 
-def in_letters(it: Routine, fact: str) -> str:
+def in_letters(routine: Routine, fact: str) -> str:
     """A fact of the start, with c for the counter and z for what it is compared with."""
-    letters = {str(it.rounds.register): "c", str(it.rounds.other): "z"}
+    letters = {str(routine.rounds.register): "c", str(routine.rounds.other): "z"}
     return re.sub(r"register s\.registers (\d+)", lambda found: letters[found[1]], fact)
 
 
-def more(it: Routine) -> str:
+def more(routine: Routine) -> str:
     """The branch is taken exactly if a round is left. It reads `after`, of r at the start of a round."""
-    counter = it.rounds
+    counter = routine.rounds
     after = "r" if counter.is_late else f"(r + {counter.step % 2**32}) % 2 ^ 32"
-    facts = ["k < n", "r < 2 ^ 32", counter.held("r", "c"), in_letters(it, counter.entered)]
-    small = in_letters(it, counter.small)
+    facts = ["k < n", "r < 2 ^ 32", counter.held("r", "c"), in_letters(routine, counter.entered)]
+    small = in_letters(routine, counter.small)
     facts += [small] if small else []
     given = f"h w e l{' m' if small else ''}"
     if counter.branch == "bne":
@@ -121,12 +124,12 @@ more r c n k {given} =
 """
 
 
-def taken(it: Routine) -> str:
+def taken(routine: Routine) -> str:
     """The proof in one round that the branch does as `more` says."""
-    counter, last = it.rounds, len(it.bases) + 1
+    counter, last = routine.rounds, len(routine.bases) + 1
     count = f"(register t.registers {counter.register}) (register s.registers {counter.register})"
     facts = f"h (is.registers.words {counter.register}) e entered.count"
-    facts += f" {small_fact(it)}" if counter.small else ""
+    facts += f" {small_fact(routine)}" if counter.small else ""
     if counter.branch == "bgtz":
         return f"ap (λ x. int_lt (pos 0) (s32 x)) q.{last} ∙ more {count} n k {facts}"
     if counter.other:
@@ -138,68 +141,72 @@ def taken(it: Routine) -> str:
     )
 
 
-def needs_bound(it: Routine) -> bool:
+def needs_bound(routine: Routine) -> bool:
     """Whether the bound of the counted numbers is a premise: buffers inside DMEM bound what steps with
     them."""
-    counts_buffer = it.rounds.step < 0 or it.rounds.register in it.bases
-    return bool(it.rounds.small) and not (it.target and counts_buffer)
+    counts_buffer = routine.rounds.step < 0 or routine.rounds.register in routine.bases
+    return bool(routine.rounds.small) and not (routine.target and counts_buffer)
 
 
-def small_fact(it: Routine) -> str:
-    return "entered.small" if needs_bound(it) else "(omega arith)"
+def small_fact(routine: Routine) -> str:
+    return "entered.small" if needs_bound(routine) else "(omega arith)"
 
 
-def facts_of(it: Routine) -> str:
+def facts_of(routine: Routine) -> str:
     """The facts of one round about the base registers."""
     lines = []
-    for base in it.bases:
+    for base in routine.bases:
         lines.append(f"let b{base} = holds.base_{base} in")
-        if it.target:
+        if routine.target:
             lines.append(f"let f{base} = entered.buffer_{base} in")
             lines.append(f"let s{base} = f{base}.aligned in")
             lines.append(f"let i{base} = f{base}.inside in")
         else:
             lines.append(f"let s{base} = entered.aligned_{base} in")
-    lines += [f"let a{base} : register t.registers {base} % 16 ≡ 0 = omega arith in" for base in it.bases]
+    lines += [
+        f"let a{base} : register t.registers {base} % 16 ≡ 0 = omega arith in" for base in routine.bases
+    ]
     return "".join(f"    {line}\n" for line in lines)
 
 
-def one_round(it: Routine) -> str:
+def one_round(routine: Routine) -> str:
     bases = "".join(
         f"        base_{base} = let f = q.{number} in omega arith;\n"
-        for number, base in enumerate(it.bases, 1)
+        for number, base in enumerate(routine.bases, 1)
     )
-    words = f"is.registers.words {it.rounds.register}"
-    small = f"let m = {small_fact(it)} in " if it.rounds.small and needs_bound(it) else ""
+    words = f"is.registers.words {routine.rounds.register}"
+    small = f"let m = {small_fact(routine)} in " if routine.rounds.small and needs_bound(routine) else ""
     return f"""\
-one_round : (s : State) (n : ℕ) → {it.module}Entered s n → HandsOn loop s n (Holds s n)
+one_round : (s : State) (n : ℕ) → {routine.module}Entered s n → HandsOn loop s n (Holds s n)
 unfolding {OPENED}
 one_round s n entered k t h is spares holds =
     let q = counted t is.registers.count in
     let e = holds.count in
-{facts_of(it)}{memory(it)}    (
-      {aligned(it.pieces, "loop.pieces", "t")},
-      {taken(it)},
+{facts_of(routine)}{memory(routine)}    (
+      {aligned(routine.pieces, "loop.pieces", "t")},
+      {taken(routine)},
       record {{
         count = let f = q.0 in let w = {words} in let c = entered.count in {small}omega arith;
-{bases}{filled(it)}      }},
+{bases}{filled(routine)}      }},
     )
 
-{ends(it)}"""
+{ends(routine)}"""
 
 
-def ends(it: Routine) -> str:
+def ends(routine: Routine) -> str:
     """The law of loops, with the invariant."""
-    starts = [f"count = omega (arith, is.registers.words {it.rounds.register});"]
-    for base in it.bases:
-        proof = f"omega (arith, is.registers.words {base})" if it.far[base] else "refl"
+    starts = [f"count = omega (arith, is.registers.words {routine.rounds.register});"]
+    for base in routine.bases:
+        proof = f"omega (arith, is.registers.words {base})" if routine.far[base] else "refl"
         starts.append(f"base_{base} = {proof};")
     start = "".join(f"      {line}\n" for line in starts)
-    if it.target:
-        start += f"{MARK}      filled = filled_none (result s) s.dmem (register s.registers {it.target});\n"
+    if routine.target:
+        start += (
+            f"{MARK}      filled = filled_none (result s) s.dmem (register s.registers {routine.target});\n"
+        )
     return f"""\
-ends : SumsOfProducts → (s : State) → IsState s → IsAt loop.words s → (n : ℕ) → {it.module}Entered s n
-    → AfterLoop loop n (Holds s n) s (steps_of (n * {len(it.code)}) s)
+ends : SumsOfProducts → (s : State) → IsState s → IsAt loop.words s → (n : ℕ) → {routine.module}Entered s n
+    → AfterLoop loop n (Holds s n) s (steps_of (n * {len(routine.code)}) s)
 ends law s is at n entered =
     let start : Holds s n 0 s = record {{
 {start}    }} in
@@ -207,15 +214,17 @@ ends law s is at n entered =
 """
 
 
-def does(it: Routine) -> str:
-    results = "".join(f"      base_{base} = end.holds.base_{base};\n" for base in it.bases if it.far[base])
-    if it.target:
+def does(routine: Routine) -> str:
+    results = "".join(
+        f"      base_{base} = end.holds.base_{base};\n" for base in routine.bases if routine.far[base]
+    )
+    if routine.target:
         results += f"{MARK}      filled = end.holds.filled;\n"
     return f"""\
-pub does : SumsOfProducts → Does{it.module} loop.words
+pub does : SumsOfProducts → Does{routine.module} loop.words
 does law s is at n entered =
     let end = ends law s is at n entered in
     record {{
-{results}      others = end.others {it.numbers} {it.vectors} refl;
+{results}      others = end.others {routine.numbers} {routine.vectors} refl;
     }}
 """

@@ -28,9 +28,11 @@ def listing(members: list[str]) -> str:
     return " ∷ ".join([*members, "[]"])
 
 
-def is_whole(it: Instruction) -> bool:
+def is_whole(instruction: Instruction) -> bool:
     """Whether it loads or stores a whole register, with an offset that keeps the base aligned."""
-    return it.name in ("lqv", "sqv") and it.fields["e"] == 0 and it.fields["off"] < 64
+    return (
+        instruction.name in ("lqv", "sqv") and instruction.fields["e"] == 0 and instruction.fields["off"] < 64
+    )
 
 
 def pieces_of(code: list[Instruction], steady: dict[int, int]) -> list[Piece]:
@@ -41,25 +43,25 @@ def pieces_of(code: list[Instruction], steady: dict[int, int]) -> list[Piece]:
     pieces: list[Piece] = []
     written: set[int] = set()
     summed: set[int] = set()  # the vector registers that the last sum wrote
-    for before, it, after in zip([None, *code], code, [*code[1:], None]):
-        if before and are_codes(before, it):
+    for before, instruction, after in zip([None, *code], code, [*code[1:], None]):
+        if before and are_codes(before, instruction):
             continue
-        if after and are_codes(it, after):
-            pieces.append(Piece("clips", [f"{it.values} {after.values}"]))
+        if after and are_codes(instruction, after):
+            pieces.append(Piece("clips", [f"{instruction.values} {after.values}"]))
             continue
         last = pieces[-1].kind if pieces else None
-        kind, member = kind_of(it, last, summed, steady.keys() - written)
-        if kind == "puts" or kind != last or kind == "sums" and not adds(it):
+        kind, member = kind_of(instruction, last, summed, steady.keys() - written)
+        if kind == "puts" or kind != last or kind == "sums" and not adds(instruction):
             pieces.append(Piece(kind))
             summed = set()
         if kind == "sums":
-            summed.add(it.fields["vd"])
+            summed.add(instruction.fields["vd"])
         piece = pieces[-1]
         piece.members.append(member)
         if kind in ("takes", "puts"):
-            piece.bases.append(it.fields["base"])
-        if it.scalar:
-            written.add(it.scalar)
+            piece.bases.append(instruction.fields["base"])
+        if instruction.scalar:
+            written.add(instruction.scalar)
             piece.moves = True
     return named(pieces)
 
@@ -72,21 +74,23 @@ def are_codes(high: Instruction, low: Instruction) -> bool:
     return is_pair and high.fields["vd"] not in (low.fields["vs"], low.fields["vt"])
 
 
-def adds(it: Instruction) -> bool:
+def adds(instruction: Instruction) -> bool:
     """Whether a multiply adds to the accumulator, and doesn't begin anew."""
-    return it.name.startswith("vma")
+    return instruction.name.startswith("vma")
 
 
-def kind_of(it: Instruction, last: str | None, summed: set[int], steady: set[int]) -> tuple[str, str]:
+def kind_of(
+    instruction: Instruction, last: str | None, summed: set[int], steady: set[int]
+) -> tuple[str, str]:
     """The kind of piece that an instruction is in, after one of the kind `last`, and its text there."""
-    fields = it.fields
-    if is_whole(it) and fields["base"] in steady:
+    fields = instruction.fields
+    if is_whole(instruction) and fields["base"] in steady:
         where = f"{fields['vt']} {fields['off']} {fields['base']}"
-        return ("takes", f"load {where}") if it.name == "lqv" else ("puts", where)
-    reads_sum = it.variant == "Multiply" and {fields["vs"], fields["vt"]} & summed
-    if it.variant == "Multiply" and (not adds(it) or last == "sums" and not reads_sum):
-        return "sums", f"term {it.row} {fields['vd']} {fields['vs']} {fields['vt']} {fields['e']}"
-    return "rows", it.term
+        return ("takes", f"load {where}") if instruction.name == "lqv" else ("puts", where)
+    reads_sum = instruction.variant == "Multiply" and {fields["vs"], fields["vt"]} & summed
+    if instruction.variant == "Multiply" and (not adds(instruction) or last == "sums" and not reads_sum):
+        return "sums", f"term {instruction.row} {fields['vd']} {fields['vs']} {fields['vt']} {fields['e']}"
+    return "rows", instruction.term
 
 
 def named(pieces: list[Piece]) -> list[Piece]:
@@ -101,9 +105,10 @@ def definitions(pieces: list[Piece]) -> str:
     """The definitions of the pieces that have names."""
     text = ""
     for kind, member in ("takes", "WholeLoad"), ("sums", "Term"):
-        for it in pieces:
-            if it.kind == kind:
-                text += f"abbrev {it.name} : List {member}\n{it.name} = {listing(it.members)}\n\n"
+        for piece in pieces:
+            if piece.kind == kind:
+                name = piece.name
+                text += f"abbrev {name} : List {member}\n{name} = {listing(piece.members)}\n\n"
     return text
 
 

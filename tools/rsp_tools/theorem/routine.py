@@ -218,11 +218,11 @@ def listed(numbers: set[int]) -> str:
     return f"({listing([*map(str, sorted(numbers))])})" if numbers else "[]"
 
 
-def routine_of(name: str, lines: list[str], words: list[int], shown: list[str]) -> Routine | Joined:
-    """The routine of these words. `shown` is their disassembly, if the text hasn't one line for each word."""
+def routine_of(name: str, lines: list[str], words: list[int], disassembly: list[str]) -> Routine | Joined:
+    """The routine of these words. Their disassembly is used if the text hasn't one line for each word."""
     code = [instruction_of(word) for word in words]
     written = [line for line in lines if not line.endswith(":")]
-    text = Text(name, lines, written if len(written) == len(code) else shown, code)
+    text = Text(name, lines, written if len(written) == len(code) else disassembly, code)
     turns = [number for number, it in enumerate(code) if it.is_branch]
     back = [number for number in turns if code[number].form.startswith("branch")]
     if not turns or turns == [len(code) - 2] and not back:
@@ -243,8 +243,8 @@ def routine_of(name: str, lines: list[str], words: list[int], shown: list[str]) 
         return loop_of(text, code)
     front = code[:first]
     loop = loop_of(text, code[first:end])
-    held = dict.fromkeys({*range(1, 32)} - {it.scalar for it in code[:end]}, 0)
-    after = straight(text, code[end:], held) if code[end:] else None
+    unchanged = dict.fromkeys({*range(1, 32)} - {it.scalar for it in code[:end]}, 0)
+    after = straight(text, code[end:], unchanged) if code[end:] else None
     return Joined(name, lines, text.comments, code, straight(text, front) if front else None, loop, after)
 
 
@@ -320,10 +320,10 @@ def counter_of(code: list[Instruction]) -> Counter:
     return counter
 
 
-def added(it: Instruction, register: int) -> int | None:
+def added(instruction: Instruction, register: int) -> int | None:
     """What an ADDIU adds to a register, from 0 to 65535. None of any other instruction."""
-    is_step = it.name == "addiu" and it.fields["s"] == it.fields["t"] == register
-    return it.fields["imm"] if is_step else None
+    is_step = instruction.name == "addiu" and instruction.fields["s"] == instruction.fields["t"] == register
+    return instruction.fields["imm"] if is_step else None
 
 
 def steady_in_loop(code: list[Instruction]) -> dict[int, int]:

@@ -30,35 +30,35 @@ use Rattle.rsp_microcode.specs.Text.{line}
 """
 
 
-def statement(it: Routine | Joined) -> str:
-    text = "\n    ++ ".join(f'line (codes "{line}")' for line in it.lines)
-    inner = it.loop if isinstance(it, Joined) else it
+def statement(routine: Routine | Joined) -> str:
+    text = "\n    ++ ".join(f'line (codes "{line}")' for line in routine.lines)
+    inner = routine.loop if isinstance(routine, Joined) else routine
     loop = inner if inner.counter else None
-    what, rounds = f"the {len(it.code)} steps from s to t do", ""
+    what, rounds = f"the {len(routine.code)} steps from s to t do", ""
     if loop:
         what, rounds = "all steps from s to t do", " (n : ℕ)"
-    start = it.entry if isinstance(it, Joined) else "s"
+    start = routine.entry if isinstance(routine, Joined) else "s"
     filled = ""
     if loop and loop.target:
         target = f"(register {start}.registers {loop.target})"
         filled = f"  pub filled : IsFilled (result {start}) {start}.dmem t.dmem {target} n\n"
-    return f"""-- {it.name}.
+    return f"""-- {routine.name}.
 {KIT}
 abbrev pub text : List ℕ
 text =
     {text}
 
 {result(loop)}{entered(loop)}-- what {what}
-pub record {it.module}Does (words : List ℕ) (s t : State){rounds} : Type 0 where
+pub record {routine.module}Does (words : List ℕ) (s t : State){rounds} : Type 0 where
   -- TODO: the result
-{marked(filled)}{moved_bases(it)}  -- nothing else changed
+{marked(filled)}{moved_bases(routine)}  -- nothing else changed
   pub others : t ≡ record s {{
-    {(";" + chr(10) + "    ").join(changed_fields(it))};
+    {(";" + chr(10) + "    ").join(changed_fields(routine))};
   }}
 
 -- from each state that is about to execute the words
-abbrev pub Does{it.module} : List ℕ → Type 0
-Does{it.module} words = (s : State) → IsState s → IsAt words s → {claim(it)}
+abbrev pub Does{routine.module} : List ℕ → Type 0
+Does{routine.module} words = (s : State) → IsState s → IsAt words s → {claim(routine)}
 """
 
 
@@ -102,43 +102,43 @@ pub record {loop.module}Entered (s : State) (n : ℕ) : Type 0 where
 """
 
 
-def moved_bases(it: Routine | Joined) -> str:
+def moved_bases(routine: Routine | Joined) -> str:
     """What the base registers hold after a loop."""
-    if isinstance(it, Joined):
+    if isinstance(routine, Joined):
         return ""
-    moved = [base for base in it.bases if it.counter and it.far[base]]
+    moved = [base for base in routine.bases if routine.counter and routine.far[base]]
     return "".join(
-        f"  pub base_{base} : register t.registers {base} ≡ {after_rounds(base, it.far[base], 'n')}\n"
+        f"  pub base_{base} : register t.registers {base} ≡ {after_rounds(base, routine.far[base], 'n')}\n"
         for base in moved
     )
 
 
-def changed_fields(it: Routine | Joined) -> list[str]:
+def changed_fields(routine: Routine | Joined) -> list[str]:
     """The fields of the state after, which the routine may change."""
-    end = "return_of s" if it.returns else "address_after_words words s.pc"
-    after_end = "address_after (return_of s)" if it.returns else end.replace("s.pc", "s.npc")
+    end = "return_of s" if routine.returns else "address_after_words words s.pc"
+    after_end = "address_after (return_of s)" if routine.returns else end.replace("s.pc", "s.npc")
     fields = [f"pc = {end}", f"npc = {after_end}"]
-    if it.numbers != "[]":
-        fields.append(f"registers = registers_but {it.numbers} s.registers t.registers")
-    if it.vectors != "[]":
-        fields.append(f"vectors = vectors_but {it.vectors} s.vectors t.vectors")
-    return fields + [f"{part} = t.{part}" for part in it.parts]
+    if routine.numbers != "[]":
+        fields.append(f"registers = registers_but {routine.numbers} s.registers t.registers")
+    if routine.vectors != "[]":
+        fields.append(f"vectors = vectors_but {routine.vectors} s.vectors t.vectors")
+    return fields + [f"{part} = t.{part}" for part in routine.parts]
 
 
-def claim(it: Routine | Joined) -> str:
-    does, steps = f"{it.module}Does words s", len(it.code)
-    if isinstance(it, Joined) and not it.wait:
-        rounds = f"(n : ℕ) → {it.module}Entered {it.entry} n"
-        return f"{premises(it)}{rounds} → {does} (steps_of ({it.all_steps}) s) n"
-    if it.counter:
-        return f"(n : ℕ) → {it.module}Entered s n → {does} (steps_of (n * {steps}) s) n"
-    return f"{premises(it)}{does} (steps_of {steps} s)"
+def claim(routine: Routine | Joined) -> str:
+    does, steps = f"{routine.module}Does words s", len(routine.code)
+    if isinstance(routine, Joined) and not routine.wait:
+        rounds = f"(n : ℕ) → {routine.module}Entered {routine.entry} n"
+        return f"{premises(routine)}{rounds} → {does} (steps_of ({routine.all_steps}) s) n"
+    if routine.counter:
+        return f"(n : ℕ) → {routine.module}Entered s n → {does} (steps_of (n * {steps}) s) n"
+    return f"{premises(routine)}{does} (steps_of {steps} s)"
 
 
-def premises(it: Routine | Joined) -> str:
+def premises(routine: Routine | Joined) -> str:
     """That the addresses of straight code are aligned, and that a wait ends."""
-    bases = it.straight_bases if isinstance(it, Joined) else it.bases
+    bases = routine.straight_bases if isinstance(routine, Joined) else routine.bases
     facts = [f"register s.registers {base} % 16 ≡ 0" for base in bases]
-    if it.wait and not it.wait.is_quiet:
-        facts.append(it.wait.ready("s"))
+    if routine.wait and not routine.wait.is_quiet:
+        facts.append(routine.wait.ready("s"))
     return "".join(f"{fact} → " for fact in facts)

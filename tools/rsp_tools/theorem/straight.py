@@ -8,48 +8,48 @@ from .pieces import aligned, definitions, pieces_text
 from .routine import Routine
 
 
-def straight_proof(it: Routine) -> str:
-    return f"""-- {it.name}.
-{KIT}{uses(it.code)}use Rattle.rsp_routines.specs.{it.module}.{{Does{it.module}}}
+def straight_proof(routine: Routine) -> str:
+    return f"""-- {routine.name}.
+{KIT}{uses(routine.code)}use Rattle.rsp_routines.specs.{routine.module}.{{Does{routine.module}}}
 
-{code_text(it, "words", "pieces", "decoded")}\
-{does(it, "words", "pieces", "pieces_run law words pieces")}"""
+{code_text(routine, "words", "pieces", "decoded")}\
+{does(routine, "words", "pieces", "pieces_run law words pieces")}"""
 
 
-def routine_proof(it: Routine) -> str:
-    return f"""-- {it.name}.
-{KIT}{uses(it.code)}use Rattle.rsp_microcode.specs.Calls.{{Routine, routine_code}}
-use Rattle.rsp_routines.specs.{it.module}.{{Does{it.module}}}
+def routine_proof(routine: Routine) -> str:
+    return f"""-- {routine.name}.
+{KIT}{uses(routine.code)}use Rattle.rsp_microcode.specs.Calls.{{Routine, routine_code}}
+use Rattle.rsp_routines.specs.{routine.module}.{{Does{routine.module}}}
 use Rattle.rsp_microcode.proofs.Calls.{{routine_run}}
 
-{record_text(it, "Routine", "routine", "decoded")}\
-{does(it, "routine.words", "routine.pieces", "routine_run law routine")}"""
+{record_text(routine, "Routine", "routine", "decoded")}\
+{does(routine, "routine.words", "routine.pieces", "routine_run law routine")}"""
 
 
-def code_text(it: Routine, words: str, pieces: str, fact: str) -> str:
+def code_text(routine: Routine, words: str, pieces: str, fact: str) -> str:
     """Straight code by these names: its words, its pieces, and that they are the same."""
     return f"""\
-{definitions(it.pieces)}abbrev {words} : List ℕ
-{words} = {it.listed_words}
+{definitions(routine.pieces)}abbrev {words} : List ℕ
+{words} = {routine.listed_words}
 
 abbrev {pieces} : List Piece
 {pieces} =
-    {pieces_text(it.pieces, 4)}
+    {pieces_text(routine.pieces, 4)}
 
 {same_text(fact, words, f"code_of {pieces}")}
 """
 
 
-def record_text(it: Routine, kind: str, name: str, fact: str) -> str:
+def record_text(routine: Routine, kind: str, name: str, fact: str) -> str:
     """A Routine or a Loop of this name, and that its words are its pieces."""
-    branch = f"  branch = {it.code[-2].term};\n" if it.counter or it.wait else ""
+    branch = f"  branch = {routine.code[-2].term};\n" if routine.counter or routine.wait else ""
     return f"""\
-{definitions(it.pieces)}abbrev {name} : {kind}
+{definitions(routine.pieces)}abbrev {name} : {kind}
 {name} = record {{
-  words = {it.listed_words};
+  words = {routine.listed_words};
   pieces =
-      {pieces_text(it.pieces, 4)};
-{branch}  slot = {it.code[-1].term};
+      {pieces_text(routine.pieces, 4)};
+{branch}  slot = {routine.code[-1].term};
 }}
 
 {same_text(fact, f"{name}.words", f"{kind.lower()}_code {name}")}
@@ -64,14 +64,14 @@ unfolding inst_of row_of
 """
 
 
-def does(it: Routine, words: str, pieces: str, law: str) -> str:
+def does(routine: Routine, words: str, pieces: str, law: str) -> str:
     """The theorem: the law that runs the pieces, and the frame."""
-    kinds = {piece.kind for piece in it.pieces}
-    is_opened = "rows" in kinds and (it.bases or "clips" in kinds)
-    facts = "".join(f" a{base}" for base in it.bases)
+    kinds = {piece.kind for piece in routine.pieces}
+    is_opened = "rows" in kinds and (routine.bases or "clips" in kinds)
+    facts = "".join(f" a{base}" for base in routine.bases)
     return f"""\
-pub does : SumsOfProducts → Does{it.module} {words}
+pub does : SumsOfProducts → Does{routine.module} {words}
 {f"unfolding {OPENED}{chr(10)}" if is_opened else ""}does law s is at{facts} =
-    let end = {law} decoded refl s is at {aligned(it.pieces, pieces, "s")} in
-    record {{ others = end.others {it.numbers} {it.vectors} refl }}
+    let end = {law} decoded refl s is at {aligned(routine.pieces, pieces, "s")} in
+    record {{ others = end.others {routine.numbers} {routine.vectors} refl }}
 """

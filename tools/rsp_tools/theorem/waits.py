@@ -13,35 +13,35 @@ use Rattle.rsp_microcode.proofs.Branches.{block_runs}
 """
 
 
-def wait_proof(it: Routine, wait: Wait) -> str:
+def wait_proof(routine: Routine, wait: Wait) -> str:
     given = "" if wait.is_quiet else " ready"
-    sets = f"{it.numbers} {it.vectors}"
-    return f"""-- {it.name}.
+    sets = f"{routine.numbers} {routine.vectors}"
+    return f"""-- {routine.name}.
 {KIT}{USES}use Rattle.rsp_microcode.proofs.Joins.{{ran_others}}
-{uses(it.code)}use Rattle.rsp_routines.specs.{it.module}.{{Does{it.module}}}
+{uses(routine.code)}use Rattle.rsp_routines.specs.{routine.module}.{{Does{routine.module}}}
 
-{wait_lemmas(it, wait)}
-pub does : SumsOfProducts → Does{it.module} wait.words
+{wait_lemmas(routine, wait)}
+pub does : SumsOfProducts → Does{routine.module} wait.words
 does law s is at{given} = record {{
   others = ran_others wait.words _ s _ is at.next (waits law s is at{given}) {sets} refl;
 }}
 """
 
 
-def wait_lemmas(it: Routine, wait: Wait) -> str:
+def wait_lemmas(routine: Routine, wait: Wait) -> str:
     """The wait as a block, and that its branch isn't taken."""
     premise, given, ready = f"{wait.ready('s')} → ", " ready", "ready"
     if wait.is_quiet:
         premise, given, ready = "", "", "quiet s.sp"
         if wait.mask is not None:
             ready = f"ap (λ n. bit_and n {wait.mask}) (quiet s.sp)"
-    if wait.until_set and it.code[-2].fields["s"]:
+    if wait.until_set and routine.code[-2].fields["s"]:
         ready = f"ne_eqb ({wait.value('s')}) 0 {ready}"
     elif wait.until_set:
         ready = f"ne_eqb 0 ({wait.value('s')}) (λ e. {ready} (sym e))"
-    ran = f"Ran wait.words (loop_code wait) s (steps_of {len(it.code)} s)"
+    ran = f"Ran wait.words (loop_code wait) s (steps_of {len(routine.code)} s)"
     listed = "register (after_pieces wait.pieces (record s { registers = r })).registers i"
-    return f"""{record_text(it, "Loop", "wait", "wait_decoded")}\
+    return f"""{record_text(routine, "Loop", "wait", "wait_decoded")}\
 {quiet(wait)}-- the registers that the branch compares
 compared : (s : State) → length s.registers ≡ 32 →
     let r = (after_pieces wait.pieces s).registers in

@@ -7,7 +7,7 @@ const LEAST = 8, surface = the("surface");
 /** In pixels: how wide a letter is and how high a row, as they are drawn, and what is in view. A browser that is asked for
  * them lays out the whole text first: so it isn't when a key was pressed. */
 export const view = { letter: 1, row: 1, width: 0, height: 0, top: 0, is_whole: false };
-const lists = /** @type {Rows[]} */ ([]);
+const lists = /** @type {VirtualList[]} */ ([]);
 
 function measure() {
   const { width, height } = the("probe").getBoundingClientRect();
@@ -30,7 +30,7 @@ export function set(name, value) {
   if (surface.style.getPropertyValue(name) !== String(value)) surface.style.setProperty(name, String(value));
 }
 
-export class Rows {
+export class VirtualList {
   #list;
   #make;
   #around;
