@@ -188,8 +188,8 @@ def test_plugin(archive: Path, folder: Path, is_own: bool) -> None:
     file = folder / "plugin.so" if is_own else archive / PLUGIN
     if is_own:
         succeeds("plugin/build", file, cwd=archive, env=BARE)
-    shown = re.findall(r" g +DF \.text\s.* (\w+)$", succeeds("objdump", "-T", file), re.M)
-    assert sorted(shown) == PLUGIN_CALLS
+    calls = re.findall(r" g +DF \.text\s.* (\w+)$", succeeds("objdump", "-T", file), re.M)
+    assert sorted(calls) == PLUGIN_CALLS
     check_pytest_passes(f"--plugin={file}", f"--program={archive}/bin/rsp", "tests/plugin/test_interface.py")
 
 
