@@ -79,7 +79,7 @@ def test_quoted(block: Block) -> None:
         [line.strip() for line in text.strip("\n").splitlines()] for text in (page(name), block.text)
     )
     assert matches(lines, ["..", *quoted, ".."])
-    assert name.startswith("conformance/") or f"`{name.partition('crates/')[2]}`" in page(block.page)
+    assert not name.startswith("crates/") or f"`{name.partition('crates/')[2]}`" in page(block.page)
 
 
 @for_blocks("in the repository", lambda block: block.mark.get("run") == "in the repository")
