@@ -71,9 +71,10 @@ def test_results_of_an_earlier_run(folder: Path) -> None:
     first = campaign(*MINE, "out", cwd=folder).stdout
     core_in(folder, "Forgets")
     again = campaign(*MINE, "out", cwd=folder).stdout
-    expected = "Not run again: 1 of 1 task, whose results an earlier run has left in out. They count because "
-    expected += f"these files of the emulator haven't changed since: {folder}/mine.py. "
-    expected += "If it has others, name them by --files.\n"
+    expected = (
+        "Not run again: 1 of 1 task, because these files of the emulator haven't changed since an earlier "
+    )
+    expected += f"run: {folder}/mine.py. If it has others, name them by --files.\n"
     assert "20 cases and 0 programs: 0 differ" in first and again == first + expected
 
 

@@ -45,7 +45,8 @@ from rsp_tools.targets import CROSS, PAGE, PROCESSORS, TARGETS
 # What an archive for C, Python and Rust has on each system.
 COMMON = """
 include/brsp.h include/brsp.hpp include/brsp_compare.h include/brsp_savestate.h
-lib/cmake/brsp/brspConfig.cmake lib/cmake/brsp/brspConfigVersion.cmake library/python/rsp/__init__.py
+lib/cmake/brsp/brspConfig.cmake lib/cmake/brsp/brspConfigVersion.cmake lib/pkgconfig/brsp.pc
+library/python/rsp/__init__.py
 library/rust/Cargo.toml library/rust/build.rs library/rust/src/lib.rs library/c/brsp.h docs/README.md
 docs/SYSTEMS.md examples/first.rsp examples/c/lockstep.c microcode/README.md microcode/copy.s
 """
@@ -78,7 +79,7 @@ def made_files(system: str) -> List[str]:
     """The files that tools/systems makes for an archive; the first is the library."""
     target = TARGETS[system]
     names = [target.shared, target.program, *(f"lib/{name}" for name in target.rust.values())]
-    names += ["lib/libbrsp.so.1"] * target.is_linux + ["lib/pkgconfig/brsp.pc"] * bool(target.wheel)
+    names += ["lib/libbrsp.so.1"] * target.is_linux
     return [name for name in (*names, *MADE.get(system, "").split()) if name]
 
 

@@ -184,7 +184,7 @@ def test_unproved_files() -> None:
 def is_a_test(name: str) -> bool:
     """Whether a test in which allocations fail has this name."""
     tests = (TESTS / "program/test_failing_allocations.py").read_text()
-    return f'::{name}"' in tests or (TESTS / "library/c" / name).is_file()
+    return f'"{name}"' in tests or (TESTS / "library/c" / name).is_file()
 
 
 def test_allocations() -> None:

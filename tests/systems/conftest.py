@@ -12,8 +12,9 @@ from lib.packages import need
 from lib.systems.browser import PROGRAMS, start_chromium
 from lib.systems.target_params import RUNNERS
 from lib.systems.page_driver import Host, Page
-from lib.systems.runners import Native, Runner, target_of
+from lib.systems.runners import Runner, target_of
 from rsp_tools.systems import manual, places, web_page
+from rsp_tools.targets import NATIVE
 
 WHY = "what tools/systems makes takes minutes, and wants cross compilers and emulators"
 
@@ -64,9 +65,13 @@ def runner(request: pytest.FixtureRequest, at: Path) -> Iterator[Runner]:
 
 
 @pytest.fixture(scope="session")
-def native(library: Path, at: Path) -> Native:
-    (at / "native").mkdir()
-    return Native(at / "native")
+def native(library: Path, at: Path) -> Runner:
+    """What runs programs here, over the library of the clone."""
+    folder = at / "native"
+    folder.mkdir()
+    for name in "include", "lib":
+        (folder / name).symlink_to(library)
+    return Runner(NATIVE.name, folder, folder)
 
 
 @pytest.fixture(scope="session")

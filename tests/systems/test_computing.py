@@ -20,7 +20,7 @@ from lib import TESTS, TOP
 from lib.systems.browser import Chromium
 from lib.systems.target_params import RUNNERS, on
 from lib.systems.node import Node
-from lib.systems.runners import Native, Runner
+from lib.systems.runners import Runner
 from rsp_conformance import bench, library_states, steps
 from rsp_conformance.seeded_random import Random
 from rsp_conformance.corrupt import spoilt_entries
@@ -120,7 +120,7 @@ def program_of(runner: Runner) -> Lines:
 
 
 @pytest.fixture(scope="session")
-def expected(native: Native) -> Lines:
+def expected(native: Runner) -> Lines:
     return program_of(native)
 
 

@@ -159,7 +159,7 @@ def test_undo(page: Page) -> None:
     assert page.saved_script() == script
     page.click("undo")
     assert page.script == text_of("examples/first.rsp")
-    assert page.is_disabled("undo")
+    assert page.value("the('undo').disabled")
 
 
 def test_undo_of_typing(page: Page) -> None:

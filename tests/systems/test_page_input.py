@@ -29,7 +29,7 @@ def test_script_too_long(page: Page) -> None:
     page.type("step\n" + "#" * (LONGEST - 4))
     assert page.run() == "step Done pc 004\n"
     assert page.text("ran") == "rsp: fault 42 ScriptTooLong. Answered: 1 line."
-    assert page.is_disabled("save-image")
+    assert page.value("the('save-image').disabled")
 
 
 def test_longest_script(page: Page) -> None:

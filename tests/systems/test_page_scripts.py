@@ -104,7 +104,7 @@ def test_stop(page: Page) -> None:
     message = f"Stopped after {count + BLOCK:,} lines. The machine is gone: there is no RDRAM to save."
     assert page.text("ran") == message
     assert 6 < count < 5001
-    assert page.is_disabled("save-image")
+    assert page.value("the('save-image').disabled")
     assert replies == "ok 2 words\n" + (count - 1) * "stop Limit steps 1000000 pc 000\n"
     assert page.run() == "step Done pc 004\n"
     is_new = page.saved("save-image", "rdram.bin") == bytes(1 << 22)

@@ -30,10 +30,6 @@ def test_unknown_system() -> None:
     assert (ended.returncode, ended.stdout) == (1, f"tools/systems: {expected}")
 
 
-def test_unknown_word() -> None:
-    assert run_systems("--all").returncode == 2
-
-
 @pytest.mark.parametrize("target", [it for it in CROSS if it.compiler], ids=lambda it: it.name)
 def test_missing_package(target: Target, folder: Path) -> None:
     ended = run_systems(target.name, path=str(folder))

@@ -15,6 +15,14 @@ from rsp_tools.systems import header, places
 
 
 @pytest.mark.needs("rustc")
+def test_targets() -> None:
+    """rustc knows the targets by these names."""
+    known = succeeds("rustc", "--print", "target-list").split()
+    for system, targets in TARGETS.items():
+        assert [it for it in targets if it not in known or ("musl" in it) != ("musl" in system)] == []
+
+
+@pytest.mark.needs("rustc")
 @of(*TARGETS)
 def test_build_script(made: Path, folder: Path) -> None:
     """Each target of a system, without its library and with it."""

@@ -5,7 +5,7 @@ import os
 import re
 import shutil
 from pathlib import Path
-from typing import Any, Set
+from typing import Any, List, Set
 from xml.etree import ElementTree
 
 import pytest
@@ -16,10 +16,10 @@ from lib.hardening import SMASHED, check_pe
 from lib.processes import succeeds
 from lib.systems.built_files import symbol_names
 from lib.systems.target_params import of, on
-from lib.systems.windows import link_for_msvc
 from rsp_tools import hardening
 from rsp_tools.systems import header, places
-from rsp_tools.systems.toolchain import llvm
+from rsp_tools.systems.toolchain import Word, llvm
+from rsp_tools.systems.windows import MSVC
 from rsp_tools.targets import TARGETS
 
 CALLS = {*header.calls()}
@@ -34,6 +34,11 @@ NEEDED = {
 }
 # These call nothing, and take no room on the stack.
 FRAMELESS = {"brsp_state_fault", "brsp_version"}
+
+MINGW = Path("/usr/x86_64-w64-mingw32/lib")
+HEADERS = "/usr/share/mingw-w64/include"
+# The start of a program for MSVC, in place of that of MSVC's C library.
+START = "int main(void);\n__declspec(noreturn) void exit(int);\nvoid start(void) { exit(main()); }\n"
 
 
 def uses_library(program: Path) -> bool:
@@ -125,6 +130,31 @@ def test_static(made: Path, name: str) -> None:
     needed = symbol_names("-u", library)
     assert {"free", "malloc"} <= needed <= STATIC[name]
     assert CALLS - framed(library) <= FRAMELESS
+
+
+def compile_for_msvc(source: Path, to: Path, *words: Word) -> Path:
+    """An object of a program in C, for MSVC, by the kit's clang and the headers of mingw."""
+    options = ["-nostdinc", "-isystem", HEADERS, "-D__USE_MINGW_ANSI_STDIO=0", *words]
+    llvm("clang", f"--target={MSVC}", "-std=gnu99", "-O2", *options, "-c", "-o", to, source)
+    return to
+
+
+def link_for_msvc(to: Path, source: Path, folder: Path, library: str, compiler: str) -> Path:
+    """A program in C over a library of a folder, linked by lld-link with msvcrt.dll in place of MSVC's C
+    library."""
+    start = to.with_suffix(".start.c")
+    start.write_text(START)
+    parts: List[Word] = [
+        compile_for_msvc(start, to.with_suffix(".start.obj")),
+        compile_for_msvc(source, to.with_suffix(".obj"), f"-I{folder}/include"),
+        folder / "lib" / library,
+        MINGW / "libmsvcrt.a",
+        MINGW / "libkernel32.a",
+        succeeds(compiler, "-print-libgcc-file-name").strip(),
+    ]
+    words = ["/nologo", "/entry:start", "/subsystem:console", "/alternatename:__chkstk=___chkstk_ms"]
+    llvm("lld-link", *words, f"/out:{to}", *parts)
+    return to
 
 
 @on("windows-x86_64")

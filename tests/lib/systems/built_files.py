@@ -22,6 +22,8 @@ ctypes.CDLL = load
 sys.platform = sys.argv[1]
 import rsp
 """
+# How pip's tags name each system of Python.
+TAGS = {"linux": "{}linux.*_{}", "win32": "win_amd64", "darwin": "macosx_11_0_universal2"}
 
 
 def symbol_names(*words: object) -> Set[str]:
@@ -44,6 +46,9 @@ def check_wheel(system: str, folder: Path) -> None:
     info, target = f"rsp-{header.version()}.dist-info", TARGETS[system]
     (path,) = (folder / "python").glob("*.whl")
     assert path.name == f"rsp-{header.version()}-py3-none-{'.'.join(target.wheel)}.whl"
+    for tag in target.wheel:  # of which pip takes one that names its own system and processor
+        libc = "musl" if "musl" in target.name else "many"
+        assert re.fullmatch(TAGS[target.python].format(libc, target.processor), tag)
     library = f"rsp/{Path(target.shared).name}"
     ours = (places.PYTHON / "rsp").iterdir()
     modules = {f"rsp/{it.name}" for it in ours if it.suffix in (".py", ".pyi") or it.name == "py.typed"}

@@ -10,14 +10,14 @@ from typing import List
 import pytest
 
 from lib.processes import run, run_bytes, succeeds
+from lib.systems.browser import PAGES
 from lib.systems.runners import LONGEST, Runner
-from rsp_tools.systems import places
+
 
 OLDEST, PLAIN = 20, 24  # the Node that has 64-bit memories with tables by a flag, and the one without a flag
 FLAG = "--experimental-wasm-memory64"
 WITHOUT = "rsp needs WebAssembly with 64-bit memories: Chrome and Edge have them since 133, Firefox since 134"
 USE = 'import { Reason, Machine } from "rsp"; console.log(Reason[new Machine().run(5).reason]);'
-PAGES = places.TOP / "tests/systems/wasm"
 
 
 @functools.lru_cache(None)

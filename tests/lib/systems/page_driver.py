@@ -115,9 +115,6 @@ class Page:
     def click(self, name: str) -> None:
         self.value(f"the('{name}').click()")
 
-    def is_disabled(self, name: str) -> bool:
-        return bool(self.value(f"the('{name}').disabled"))
-
     def count(self) -> int:
         """How many replies are shown."""
         return int(self.value("probes.count()"))

@@ -11,7 +11,6 @@ from lib.library import LOCKSTEP
 from lib.packages import need
 from lib.processes import Ended, run, succeeds
 from lib.systems import macho
-from rsp_tools.systems import places
 from rsp_tools.targets import CROSS, NATIVE, PROCESSORS, TARGETS, Target
 
 STRICT = ("-std=c99", "-O2", "-Wall", "-Wextra", "-Werror")
@@ -108,16 +107,6 @@ class Runner:
 
     def stop(self) -> None:
         """Ends the processes that the runs have left."""
-
-
-class Native(Runner):
-    """Linux on x86-64, whose library is that of the clone."""
-
-    def __init__(self, at: Path) -> None:
-        super().__init__(NATIVE.name, places.HEADER.parent, at)
-
-    def static(self) -> List[str]:
-        return [str(self.folder / "libbrsp.a")]
 
 
 class Windows(Runner):

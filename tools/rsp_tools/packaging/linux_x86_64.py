@@ -11,15 +11,12 @@ from typing import Iterator
 
 import wheels
 from rsp_tools import TOP
-from rsp_tools.packaging import install_tree, repository
+from rsp_tools.packaging import cross_archives, install_tree, repository
 from rsp_tools.packaging.release_info import About
 from rsp_tools.packaging.install_tree import File
 from rsp_tools.targets import NATIVE
 
-PARTS = """
-library/c/brsp.h library/c/brsp.hpp library/c/brsp_compare.h library/c/brsp_savestate.h library/python/rsp
-library/python/README.md library/rust docs examples microcode plugin tools/hardening CHANGELOG.md
-""".split()
+PARTS = [*cross_archives.PARTS, "plugin", "tools/hardening"]
 
 
 def wheel(program: bytes, date: int) -> File:
