@@ -66,7 +66,10 @@ exec {rt} "$@"
     "broken": "exit 2",
 }
 # In place of the kit's `rattle`: it holds one crate until it may go on.
-HOLDS = """case "$* " in *"--crate-name $HELD "*) touch "$GO.waits"; until [ -e "$GO" ]; do sleep 0.1; done ;; esac
+HOLDS = """case "$* " in *"--crate-name $HELD "*)
+    touch "$GO.waits"
+    until [ -e "$GO" ]; do sleep 0.1; done ;;
+esac
 exec {rattle} "$@"
 """
 RSP, C = "./rsp run", "library/c/build"
