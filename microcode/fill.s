@@ -8,7 +8,7 @@
 # Theorem  Byte i is byte i mod 16 of $v1, for each i below the number, and no other byte of DMEM changes.
 #          crates/rsp_routines/specs/Fill.antt
         addu  $5, $3, $4            # the end
-        lqv   $v30[0], 0($5)        # what follows it in its last 16 bytes is put back at the end
+        lqv   $v30[0], 0($5)        # the bytes after the end, which the last SQV restores
 fill:   sqv   $v1[0], 0($3)
         addiu $4, $4, -16
         bgtz  $4, fill

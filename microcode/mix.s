@@ -12,7 +12,7 @@
 #          for samples a and b and the volumes v and w, and no byte outside of the mix changes.
 #          crates/rsp_routines/specs/Mix.antt
         addu  $5, $3, $4            # the end of the mix
-        lqv   $v30[0], 0($5)        # what follows it in its last 16 bytes is put back at the end
+        lqv   $v30[0], 0($5)        # the bytes after the end, which the last SQV restores
 mix:    lqv   $v1[0], 0($1)
         lqv   $v2[0], 0($2)
         addiu $4, $4, -16

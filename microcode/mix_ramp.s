@@ -12,7 +12,7 @@
 #          outside of the mix changes. After each 8 samples the volumes grow by the steps, as numbers of 32 bits; a high half
 #          that leaves 16 bits is clamped. crates/rsp_routines/specs/MixRamp.antt
         addu  $5, $3, $4            # the end of the mix
-        lqv   $v30[0], 0($5)        # what follows it in its last 16 bytes is put back at the end
+        lqv   $v30[0], 0($5)        # the bytes after the end, which the last SQV restores
 ramp:   lqv   $v1[0], 0($1)
         lqv   $v2[0], 0($2)
         addiu $4, $4, -16
