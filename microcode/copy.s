@@ -1,4 +1,4 @@
-# copy: bytes of DMEM to another place in DMEM.
+# copy: copies bytes of DMEM to another address there.
 #
 # In       $1 the address of the bytes, $3 that of the copy, $4 their number
 # Needs    both addresses multiples of 16 below 4096; the number below 4096, and each address plus the number at most 4096;

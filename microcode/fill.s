@@ -1,4 +1,4 @@
-# fill: bytes of DMEM with the sixteen bytes of a vector register, over and over.
+# fill: fills bytes of DMEM with the sixteen bytes of a vector register, repeated.
 #
 # In       $3 the address, $4 the number of bytes, $v1 the sixteen bytes
 # Needs    the address a multiple of 16 below 4096; the number below 4096, and the address plus it at most 4096

@@ -1,4 +1,4 @@
-# filter: a sound by four coefficients.
+# filter: filters a sound by four coefficients.
 #
 # In       $1 the address of the samples, $3 of the result, $4 the number of bytes of the result, two for a sample;
 #          $v6 lanes 0 to 3 the coefficients c0 to c3, fractions of 32768

@@ -1,4 +1,4 @@
-# mix: a sound, at a volume, into another.
+# mix: mixes a sound, at a volume, into another.
 #
 # In       $1 the address of the first sound, $2 of the second, $3 of the mix, $4 the number of bytes, two for a sample;
 #          $v3 lane 0 the volume of the first as a fraction of 32768, lane 1 that of the second as a whole number;

@@ -1,4 +1,4 @@
-# mix_ramp: a sound, at volumes that grow, into another.
+# mix_ramp: mixes a sound, at volumes that grow, into another.
 #
 # In       $1 the address of the first sound, $2 of the second, $3 of the mix, $4 the number of bytes, two for a sample;
 #          $v3 and $v4 the high and the low halves of the first sound's volumes, one for each lane, $v5 and $v6 those of the
