@@ -12,7 +12,7 @@ from pathlib import Path
 from typing import List, Sequence
 
 from lib.plugin import CORE, HEADERS, Z64, Bench, speed_task, start_lines
-from measure import add_program, need, parser_of
+from measure import PROGRAM, need, parser_of
 from measure.speed import DATA, LOOPS, PROLOGUE, host_instructions, print_heading, print_row
 
 # Signals of check mode need exact registers under valgrind.
@@ -28,24 +28,20 @@ for name, register in (("SP_STATUS", 4), ("SP_DMA_BUSY", 6)):
     STOPS[f"a read of {name}"] = SETTING % 0 + f"mfc0 $4, $c{register}\n{TURN}"
 
 
+def driven(bench: Bench, plugin: Path, lines: Sequence[str], rounds: int, tasks: int) -> int:
+    """Host instructions of tasks whose rounds are as many as ff0 says."""
+    script = [*lines, f"put dmem ff0 {rounds:x} 128000", f"tasks {tasks}", ""]
+    return host_instructions(([bench.driver, plugin], "\n".join(script).encode()), EXACT)
+
+
 def per_round(bench: Bench, plugin: Path, lines: Sequence[str], short: int = 500, long: int = 1500) -> float:
-    """Host instructions for each of the rounds whose number is in ff0."""
-
-    def counted(rounds: int) -> int:
-        script = [*start_lines(), *lines, f"put dmem ff0 {rounds:x} 128000", "tasks 1", ""]
-        return host_instructions(([bench.driver, plugin], "\n".join(script).encode()), EXACT)
-
-    return (counted(long) - counted(short)) / (long - short)
+    costs = [driven(bench, plugin, [*start_lines(), *lines], rounds, 1) for rounds in (short, long)]
+    return (costs[1] - costs[0]) / (long - short)
 
 
 def per_task(bench: Bench, plugin: Path, lines: Sequence[str], options: Sequence[str]) -> float:
-    """Host instructions for each task, of three rounds."""
-
-    def counted(tasks: int) -> int:
-        script = [*start_lines(*options), *lines, "put dmem ff0 3 128000", f"tasks {tasks}", ""]
-        return host_instructions(([bench.driver, plugin], "\n".join(script).encode()), EXACT)
-
-    return (counted(30) - counted(10)) / 20
+    costs = [driven(bench, plugin, [*start_lines(*options), *lines], 3, tasks) for tasks in (10, 30)]
+    return (costs[1] - costs[0]) / 20
 
 
 def print_steps(bench: Bench) -> None:
@@ -94,11 +90,10 @@ def main() -> None:
     parser = parser_of(__doc__)
     rom = "print the seconds from the emulator's start to the ROM's end, 1,000 tasks of 67,000 instructions"
     parser.add_argument("--rom", action="store_true", help=rom)
-    add_program(parser)
     arguments = parser.parse_args()
     need("valgrind", Z64, *((HEADERS, CORE, "mips-linux-gnu-gcc") if arguments.rom else ()))
     with tempfile.TemporaryDirectory() as folder:
-        bench = Bench(Path(folder), arguments.program)
+        bench = Bench(Path(folder), PROGRAM)
         for print_part in [print_seconds] if arguments.rom else [print_steps, print_stops, print_tasks]:
             print_part(bench)
             print()

@@ -2,10 +2,10 @@
 
 These are host instructions, as valgrind's callgrind counts them, for each step of three loops: scalar
 instructions, vector computing instructions, and both mixed with loads and stores. The steps are made by calls
-of the library for C (measure/speed.c), without a history and with one of 100 states, and by the command `run`
-of PROGRAM, which records its steps too: with nothing to stop at, with a breakpoint that is never reached, and
-with a watch of bytes that never change. Then follow lines of a script: what PROGRAM takes to read one, to
-carry it out and to write its reply.
+of the library for C (measure/speed.c), without a history and with one of 100 states, and by the program's
+`run`, which records its steps too: with nothing to stop at, with a breakpoint that is never reached, and with
+a watch of bytes that never change. Then follow calls without a step, and lines of a script: what the program
+takes to read one, to carry it out and to write its reply.
 
 A figure is the difference between a long and a short run, divided by the difference of their steps or lines.
 With --time, `run` and the plugin z64 take turns, and the least time counts, so that other work disturbs
@@ -23,7 +23,7 @@ from typing import Callable, Dict, Iterable, Sequence, Tuple
 
 from lib import z64
 from lib.processes import STRICT, compiled
-from measure import LIBRARY, add_program, need, parser_of
+from measure import LIBRARY, PROGRAM, need, parser_of
 
 SHORT, LONG = 102_400, 512_000  # in steps: multiples of the 1,024 that one call of brsp_trace makes
 SHORT_SCRIPT, LONG_SCRIPT = 2_000, 4_000  # in lines
@@ -57,6 +57,7 @@ CALLS = {
     "`brsp_run` of one step": "run1",
     "`brsp_step_changes`": "changes",
 }
+OTHER_CALLS = {"`brsp_reg`": "reg", "`brsp_get`": "get", "`brsp_set`": "set"}
 STOPS = {"`run`": "", "`run`, one breakpoint": "break 4092", "`run`, one watch": "watch 4000 4"}
 # Lines of a script. They are carried out while IMEM has a loop of two words, `j 0` and `nop`.
 COMMANDS = "step|run 1|pc 0|read 4|write 4 0|regs|vregs|acc|flags|sp|mem dmem 0 256|dis 0 64"
@@ -111,9 +112,9 @@ def by_calls(caller: Path, how: str, name: str, depth: int = 0) -> CommandOf:
     return lambda steps: ([caller, how, depth, steps, text], b"")
 
 
-def by_script(program: Path, name: str, before: str = "") -> CommandOf:
+def by_script(name: str, before: str = "") -> CommandOf:
     """The steps of a loop, made by `run`."""
-    return lambda steps: ([program, "run"], script(code(name), before, f"run {steps}"))
+    return lambda steps: ([PROGRAM, "run"], script(code(name), before, f"run {steps}"))
 
 
 def on_z64(name: str) -> CommandOf:
@@ -153,38 +154,40 @@ def print_heading(title: str, names: Iterable[str] = LOOPS) -> None:
     print(f"| {title} | {' | '.join(names)} |\n|---|{'---|' * len([*names])}", flush=True)
 
 
-def print_steps(program: Path) -> None:
+def print_steps() -> None:
     print_heading("Host instructions a step")
     with tempfile.TemporaryDirectory() as folder:
         caller = compile_caller(Path(folder))
         for depth, more in ((0, ""), (100, ", a history of 100 states")):
             for title, how in CALLS.items():
                 print_row(title + more, [figure(by_calls(caller, how, name, depth)) for name in LOOPS])
+        for title, how in OTHER_CALLS.items():
+            print_row(title, [figure(by_calls(caller, how, "scalar"))])
     for title, before in STOPS.items():
-        print_row(title, [figure(by_script(program, name, before)) for name in LOOPS])
+        print_row(title, [figure(by_script(name, before)) for name in LOOPS])
     print()
-    print_lines(program)
+    print_lines()
 
 
-def print_lines(program: Path, lines: Dict[str, str] = LINES) -> None:
+def print_lines(lines: Dict[str, str] = LINES) -> None:
     print_heading("Host instructions a line", [""])
     for title, line in lines.items():
 
         def repeated(count: int) -> Command:
-            return [program, "run"], "\n".join(["load imem 0 08000000", *[line] * count, ""]).encode()
+            return [PROGRAM, "run"], "\n".join(["load imem 0 08000000", *[line] * count, ""]).encode()
 
         print_row(title, [figure(repeated, SHORT_SCRIPT, LONG_SCRIPT)])
 
 
-def print_z64(program: Path) -> None:
+def print_z64() -> None:
     print_heading("Host instructions a step")
     print_row("z64", [figure(on_z64(name)) for name in LOOPS])
 
 
-def print_times(program: Path) -> None:
+def print_times() -> None:
     def runs(name: str) -> CommandOf:
         lines = [f"run {MOST_STEPS}"]
-        return lambda steps: ([program, "run"], script(code(name), *lines * (steps // MOST_STEPS)))
+        return lambda steps: ([PROGRAM, "run"], script(code(name), *lines * (steps // MOST_STEPS)))
 
     print_heading("Nanoseconds a step")
     ours, others = zip(*(nanoseconds(runs(name), on_z64(name)) for name in LOOPS))
@@ -194,7 +197,7 @@ def print_times(program: Path) -> None:
 
 
 # The tables: what prints one, what it needs, and what --help says.
-TABLES: Dict[str, Tuple[Callable[[Path], None], Sequence[str], str]] = {
+TABLES: Dict[str, Tuple[Callable[[], None], Sequence[str], str]] = {
     "steps": (print_steps, ("cc", "valgrind"), "steps, and lines of scripts (unless another is named)"),
     "lines": (print_lines, ("valgrind",), "lines of scripts alone"),
     "z64": (print_z64, ("valgrind", z64.PLUGIN), "steps of the same loops on z64"),
@@ -204,7 +207,6 @@ TABLES: Dict[str, Tuple[Callable[[Path], None], Sequence[str], str]] = {
 
 def main() -> None:
     parser = parser_of(__doc__)
-    add_program(parser)
     group = parser.add_mutually_exclusive_group()
     for name, (_, _, text) in TABLES.items():
         group.add_argument(
@@ -215,9 +217,9 @@ def main() -> None:
     print_table, needed, _ = TABLES["lines" if arguments.line else arguments.table]
     need(*needed)
     if arguments.line:
-        print_lines(arguments.program, {f"`{arguments.line}`": arguments.line})
+        print_lines({f"`{arguments.line}`": arguments.line})
     else:
-        print_table(arguments.program)
+        print_table()
 
 
 if __name__ == "__main__":

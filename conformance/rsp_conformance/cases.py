@@ -212,13 +212,13 @@ def make_lane(row: Row, random: Random, number: int, window: int) -> Made:
         fields["vd"] = fields["vt"]
     before = {**vector_state(random), **divider(random, loaded)}
     is_long = row.name[-1] == "l" and before["loaded"] == "1"
-    whole = dividend(random, number, is_long)
+    number_divided = dividend(random, number, is_long)
     if number in ENTRIES:
-        whole = dividend_of(row, ENTRIES.index(number))
+        number_divided = dividend_of(row, ENTRIES.index(number))
     if is_long:
-        before["in"] = f"{whole >> 16 & 0xFFFF:04x}"
+        before["in"] = f"{number_divided >> 16 & 0xFFFF:04x}"
     vt = random.lanes()
-    vt[fields["e"] % 8] = whole % 65536
+    vt[fields["e"] % 8] = number_divided % 65536
     before[f"v{fields['vd']}"] = text_of_lanes(random.lanes())
     before[f"v{fields['vt']}"] = text_of_lanes(vt)
     return fields, before

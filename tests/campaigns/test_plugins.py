@@ -9,7 +9,7 @@ import pytest
 
 from lib import TOP
 from lib.campaigns import SOURCES, agreed, campaign, counts_of, results_of, output_of
-from lib.pages import blocks_of, page
+from lib.page_blocks import Block, blocks_in
 from lib.z64 import PLUGIN as Z64
 from rsp_conformance.campaign.build import built
 from rsp_conformance.campaign.protocol import name_of
@@ -72,11 +72,10 @@ def test_table_of_z64(folder: Path) -> None:
 
 
 @pytest.mark.needs(Z64)
-def test_example_of_page(folder: Path) -> None:
-    """The commands for z64 on docs/CAMPAIGN.md print what the page shows, except for the seconds."""
-    blocks = blocks_of(page("docs/CAMPAIGN.md"))
-    first = next(number for number, block in enumerate(blocks) if "conformance/campaign plugin:" in block)
-    for command, expected in (blocks[first : first + 2], blocks[first + 2 : first + 4]):
-        words = shlex.split(command.replace("\\\n", "").replace("/tmp/first", str(folder / "first")))
-        output = campaign(*words[1:]).stdout
-        assert re.sub(r"\d+ seconds?", "", output) == re.sub(r"\d+ seconds?", "", expected)
+@pytest.mark.parametrize(
+    "block", [block for block in blocks_in("docs/CAMPAIGN.md") if "campaign plugin:" in block.text], ids=str
+)
+def test_example_of_page(block: Block, folder: Path) -> None:
+    """The commands for z64 print what the page shows."""
+    command = block.text.replace("\\\n", "").replace("/tmp/first", f"{folder}/first")
+    block.check_printed(campaign(*shlex.split(command)[1:]).stdout)

@@ -12,7 +12,7 @@ from lib.campaigns import SOURCES, campaign
 from lib.packages import is_here
 from lib.processes import run
 
-ADD = '{"name":"ADD-0","word":"00000020","text":"","before":{},"after":{}}\n'
+ADD = '{"name":"ADD-0","word":"00000020","text":"","before":{},"after":{"pc":"004","npc":"008"}}\n'
 # The files in FOLDER.
 FILES = {
     "file": "",

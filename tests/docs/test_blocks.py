@@ -42,16 +42,17 @@ def test_mark(block: Block) -> None:
 @for_blocks("rsp", lambda block: block.kind == "rsp")
 def test_rsp(block: Block, program: Path) -> None:
     """The program, given the block as it stands, replies what the block shows."""
-    session = [block]
-    for before in reversed(blocks_in(block.page)[: blocks_in(block.page).index(block)]):
-        if session[0].option != "continues":
-            break
-        session[:0] = [before] * (before.kind == "rsp")
-    assert session[0].option != "continues", "there is no block before it"
-    lacking = [command for command, reply in split_replies(block.text)[1] if not reply]
+    blocks = blocks_in(block.page)
+    session = ""
+    if block.option == "continues":
+        before = [other for other in blocks[: blocks.index(block)] if other.kind == "rsp"]
+        first = max(i for i, other in enumerate(before) if other.option == "")
+        session = "".join(other.text for other in before[first:])
+    turns = split_replies(block.text)[1]
+    lacking = [command for command, reply in turns if not reply]
     assert not lacking, f"these commands have no reply: {lacking}"
-    expected = "".join(reply for it in session for _, reply in split_replies(it.text)[1])
-    printed = replies(program, "".join(it.text for it in session))
+    expected = "".join(reply for _, reply in turns)
+    printed = replies(program, session + block.text)[len(replies(program, session)) :]
     assert matches(printed.splitlines(), expected.splitlines()), f"rsp replies\n{printed}and not\n{expected}"
 
 
@@ -78,7 +79,7 @@ def test_quoted(block: Block) -> None:
         [line.strip() for line in text.strip("\n").splitlines()] for text in (page(name), block.text)
     )
     assert matches(lines, ["..", *quoted, ".."])
-    assert name.startswith("conformance/") or f"`{name.partition('crates/')[2]}`" in page(block.page)
+    assert not name.startswith("crates/") or f"`{name.partition('crates/')[2]}`" in page(block.page)
 
 
 @for_blocks("in the repository", lambda block: block.mark.get("run") == "in the repository")

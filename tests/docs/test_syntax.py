@@ -1,42 +1,33 @@
 """Lines in the syntax of other assemblers: those of docs/data/syntax.tsv and of docs/ASSEMBLY.md.
 
-It fails if the program takes what is said to be refused, refuses what is said to be taken, makes another word
-of a line that means something else, or doesn't explain what to write for a line that it refuses.
+It fails if the program takes what is said to be refused, refuses what is said to be taken, or makes another
+word of a line that means something else. What `--explain` says is in tests/program/explanations.tsv.
 """
 
 import re
 from pathlib import Path
-from typing import Any, Dict
+from typing import Dict
 
 import pytest
 
-from lib.pages import data, replies, tables
+from lib.pages import data, page, replies, tables
 
-# Names of other assemblers: libdragon's, those of armips and bass, pseudo-instructions, and directives.
-OTHERS = """
-vzero vcopy vsll .definelabel constant li la move not neg b bal beqz bnez .org .data .half .set .text .align
-""".split()
-REFUSED = [line["Line"] for line in data("syntax") if line["Answer"].startswith("fault")]
-REFUSED += ["addu $1, r1, t0", "vmudn $v1, $v2, $v3[e8]", *(f"{name} $1, 2" for name in OTHERS)]
+PAGE, HEADING = "docs/ASSEMBLY.md", "## Coming from another assembler"
 
 
 @pytest.mark.parametrize("line", data("syntax"), ids=lambda line: line["Line"])
 def test_line(line: Dict[str, str], program: Path) -> None:
+    """A line has its reply and its word. The page shows the lines that mean something else."""
     printed = replies(program, f"asm 0\nx: {line['Line']}\nend\ndis 0 1\n")
     assert printed.startswith(line["Answer"])
-    assert line["Word"] == "-" or f"\n000 {line['Word']} " in printed
+    if line["Word"] != "-":
+        assert f"\n000 {line['Word']} " in printed
+        assert f"`{line['Line']}`" in page(PAGE).partition(HEADING)[2]
 
 
 def test_page(program: Path) -> None:
     """What the page says to write is assembled."""
-    cells = [cells[-1] for cells in tables("docs/ASSEMBLY.md", "## Coming from another assembler")]
+    cells = [cells[-1] for cells in tables(PAGE, HEADING)]
     lines = [line for cell in cells for line in re.findall(r"`([.\w]+ \S[^`]*)`", cell)]
     printed = replies(program, "".join(f"asm 0\n{line}\nend\n" for line in lines))
-    assert lines and printed == "ok 1 words\n" * len(lines)
-
-
-@pytest.mark.parametrize("line", REFUSED)
-def test_explanation(line: str, rsp: Any, folder: Path) -> None:
-    """`rsp asm --explain` says what to write instead of a line that is refused."""
-    (folder / "text").write_text(f"x: {line}\n")
-    assert "\n  write: " in rsp("asm", "text", "words", "--explain").errors.decode()
+    assert len(lines) >= 5 and printed == "ok 1 words\n" * len(lines)

@@ -13,7 +13,7 @@ import pytest
 
 from lib import TOP
 from lib.install.clone import cloned
-from lib.install.unpacked import given, unpacked
+from lib.install.unpacked import archives_for, unpacked
 from lib.packages import need
 from lib.processes import succeeds
 
@@ -55,7 +55,7 @@ def released(request: pytest.FixtureRequest, tmp_path_factory: pytest.TempPathFa
 
 def found(request: pytest.FixtureRequest, system: str) -> Path:
     """An archive, by what it is for."""
-    paths = given(request.config, system)
+    paths = archives_for(request.config, system)
     if request.config.getoption("--archive") and not paths:
         pytest.skip(f"--archive names none for {system}")
     if not paths:

@@ -16,7 +16,6 @@ from pathlib import Path
 import pytest
 
 from lib import TESTS, TOP
-from lib.cmake import check_cmake
 from lib.install.unpacked import (
     BARE,
     check_common,
@@ -24,9 +23,8 @@ from lib.install.unpacked import (
     check_pack,
     unpacked,
 )
-from lib.library import FIRST_DIFFERENCE, LOCKSTEP
+from lib.library import LOCKSTEP
 from lib.links import broken_everywhere, broken_in
-from lib.packages import need
 from lib.pages import page
 from lib.processes import run, succeeds
 from lib.symbols import check_needs
@@ -34,7 +32,6 @@ from lib.symbols import check_needs
 pytestmark = pytest.mark.timeout(900)  # conformance/check takes all processors, of which others have few
 PLUGIN = "plugin/mupen64plus-rsp-proved.so"
 PLUGIN_CALLS = "DoRspCycles InitiateRSP PluginGetVersion PluginShutdown PluginStartup RomClosed".split()
-DESCRIBED = TOP / "library/python/README.md"  # which the wheel's METADATA has
 PASSED = r"[1-9]\d* passed, 0 failed"
 VERSION = r"rsp [\d.]+ \([\w-]+\), commit [0-9a-f]{40}\nproved and built by \S+"
 
@@ -182,22 +179,6 @@ def test_start_asks_the_processor(folder: Path) -> None:
         succeeds(*command.split(), **where)
 
 
-@pytest.mark.needs("cc")
-@pytest.mark.parametrize("way", ["static", "shared", "pkg-config"])
-def test_c(archive: Path, folder: Path, way: str) -> None:
-    words = {
-        "static": ["-Iinclude", "lib/libbrsp.a"],
-        "shared": ["-Iinclude", "-Llib", "-lbrsp", f"-Wl,-rpath,{archive}/lib"],
-    }.get(way)
-    if words is None:
-        need("pkg-config")
-        where = {**BARE, "PKG_CONFIG_PATH": f"{archive}/lib/pkgconfig"}
-        words = succeeds("pkg-config", "--cflags", "--libs", "brsp", env=where).split()
-    compiler = ("cc", "-O2", "-Wall", "-Werror", "-o", folder / "lockstep", "examples/c/lockstep.c")
-    succeeds(*compiler, *words, cwd=archive, env=BARE)
-    assert succeeds(folder / "lockstep", env=BARE) == LOCKSTEP
-
-
 @pytest.mark.needs("cc", "objdump")
 @pytest.mark.parametrize("is_own", [False, True], ids=["the archive's", "of its sources"])
 def test_plugin(archive: Path, folder: Path, is_own: bool) -> None:
@@ -206,32 +187,9 @@ def test_plugin(archive: Path, folder: Path, is_own: bool) -> None:
     file = folder / "plugin.so" if is_own else archive / PLUGIN
     if is_own:
         succeeds("plugin/build", file, cwd=archive, env=BARE)
-    shown = re.findall(r" g +DF \.text\s.* (\w+)$", succeeds("objdump", "-T", file), re.M)
-    assert sorted(shown) == PLUGIN_CALLS
+    calls = re.findall(r" g +DF \.text\s.* (\w+)$", succeeds("objdump", "-T", file), re.M)
+    assert sorted(calls) == PLUGIN_CALLS
     check_pytest_passes(f"--plugin={file}", f"--program={archive}/bin/rsp", "tests/plugin/test_interface.py")
-
-
-@pytest.mark.needs("cmake", "make", "cc", "objdump")
-def test_cmake(archive: Path, folder: Path) -> None:
-    """From another folder, with a copy of what the archive installs."""
-    for name in "bin", "include", "lib", "share":
-        shutil.copytree(archive / name, folder / "prefix" / name, symlinks=True)
-    check_cmake(folder / "prefix", folder / "mine")
-
-
-@pytest.mark.needs("/usr/lib/python3*/ensurepip")
-def test_wheel(archive: Path, folder: Path) -> None:
-    where = {"cwd": folder, "env": BARE}
-    succeeds(sys.executable, "-m", "venv", "own", **where)
-    pip = ("own/bin/pip", "install", "--no-index", "--disable-pip-version-check")
-    succeeds(*pip, *(archive / "python").glob("*.whl"), **where)
-    example = archive / "examples/python/first_difference.py"
-    assert succeeds("own/bin/python", example, **where) == FIRST_DIFFERENCE
-    code, printed = re.findall(r"(?ms)^```python\n(.*?)^```\n+This prints `(.*?)`", DESCRIBED.read_text())[0]
-    assert succeeds("own/bin/python", "-c", code, **where) == f"{printed}\n"
-    first = succeeds("own/bin/rsp", "run", input=page("examples/first.rsp"), **where)
-    assert first == page("examples/first.out")
-    assert Path(succeeds("own/bin/rsp-gdb", "--side", **where).strip()).is_file()
 
 
 @pytest.mark.needs("objdump")
@@ -311,12 +269,3 @@ def test_crate_beside_the_archive(archive: Path, cargo: str) -> None:
             succeeds(cargo, "run", "--quiet", "--offline", cwd=mine, env=rust_environment(cargo))
             == "Halt 1234\n"
         )
-
-
-@pytest.mark.needs("cargo")
-def test_least_rustc(archive: Path) -> None:
-    """That which the crate names builds it too, where it is here."""
-    (least,) = re.findall(r'(?m)^rust-version = "(.*)"$', (archive / "library/rust/Cargo.toml").read_text())
-    versions = [succeeds("rustc", "--version", env=rust_environment(cargo)) for cargo in cargos()]
-    if not any(version.startswith(f"rustc {least}.") for version in versions):
-        pytest.skip(f"there is no rustc {least}")

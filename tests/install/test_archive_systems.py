@@ -24,7 +24,7 @@ from lib.install.unpacked import (
     check_date_of_wheel,
     check_pack,
     date,
-    given,
+    archives_for,
     unpacked,
 )
 from lib.library import LOCKSTEP
@@ -68,7 +68,7 @@ MORE = {
     "vendor": "docs/EMBEDDING.md examples/c/console.hpp examples/first.rsp",
     "wasm64": "docs/EMBEDDING.md examples/js/lockstep.js microcode/copy.s",
 }
-SYSTEMS = [it.name for it in (*CROSS, PAGE)]
+SYSTEMS = [target.name for target in (*CROSS, PAGE)]
 # What none of them has, since it was never run there, or is in an archive of its own.
 ABSENT = "plugin docs/PLUGIN.md docs/CAMPAIGN.md conformance".split()
 ABOUT = About(install_tree.version()[0], "2000-01-01", "0123", 946684800, "no logic")
@@ -76,15 +76,15 @@ outside = pytest.mark.outside("it tests archives of other systems: `--archive di
 
 
 def made_files(system: str) -> List[str]:
-    """What tools/systems makes for an archive; the first is the library."""
+    """The files that tools/systems makes for an archive; the first is the library."""
     target = TARGETS[system]
-    names = [target.shared, target.program, *(f"lib/{it}" for it in target.rust.values())]
+    names = [target.shared, target.program, *(f"lib/{name}" for name in target.rust.values())]
     names += ["lib/libbrsp.so.1"] * target.is_linux
-    return [it for it in (*names, *MADE.get(system, "").split()) if it]
+    return [name for name in (*names, *MADE.get(system, "").split()) if name]
 
 
 def more_files(system: str) -> List[str]:
-    """What an archive has beside these."""
+    """The other files of an archive."""
     target = TARGETS[system]
     names = "README.md CHANGELOG.md SHA256SUMS".split() + MORE.get(system, "").split()
     names += COMMON.split() * bool(target.wheel) + SHELLS.split() * bool(target.program)
@@ -96,14 +96,14 @@ def check_files(top: Path, system: str) -> None:
     """The files that it has and hasn't, those that its README names, and the links of its pages."""
     check_common(top)
     assert broken_everywhere(top, 0 if system == "page" else 21) == []
-    assert [it for it in made_files(system) + more_files(system) if not (top / it).exists()] == []
-    assert [it for it in ABSENT if (top / it).exists()] == []
+    assert [name for name in made_files(system) + more_files(system) if not (top / name).exists()] == []
+    assert [name for name in ABSENT if (top / name).exists()] == []
     text = (top / "README.md").read_text()
     assert text.startswith(f"# rsp {install_tree.version()[0]} for ")
     folders = "bin|lib|include|share|python|library|examples|conformance"
     named = re.findall(rf"(?<![\w/\\~-])(?:{folders})[/\\][\w./\\*-]+", text.replace(elsewhere(top), ""))
-    paths = [it.replace("\\", "/") for it in named]
-    assert [it for it in paths if not [*top.glob(it), *top.glob(f"{it}.exe")]] == []
+    paths = [path.replace("\\", "/") for path in named]
+    assert [path for path in paths if not [*top.glob(path), *top.glob(f"{path}.exe")]] == []
 
 
 def stand_in(system: str, folder: Path) -> None:
@@ -121,14 +121,16 @@ def stand_in(system: str, folder: Path) -> None:
 def test_stand_in(folder: Path, library: Path, system: str) -> None:
     """Its files, links and sums, the time of the commit, and that two archives are alike."""
     stand_in(system, folder / "made")
-    made = archives.of_system(system, folder / "made", ABOUT, lambda library, processor: processor.encode())
-    is_alike = made.packed() == made.packed()
+    archive = archives.of_system(
+        system, folder / "made", ABOUT, lambda library, processor: processor.encode()
+    )
+    is_alike = archive.packed() == archive.packed()
     assert is_alike
-    packed = folder / made.name
-    packed.write_bytes(made.packed())
+    packed = folder / archive.name
+    packed.write_bytes(archive.packed())
     check_pack(packed)
-    committed = int(succeeds("git", "log", "-1", "--format=%ct"))
-    assert 0 <= committed - date(packed) < 2
+    commit_time = int(succeeds("git", "log", "-1", "--format=%ct"))
+    assert 0 <= commit_time - date(packed) < 2
     (folder / "into").mkdir()
     top = unpacked(packed, folder / "into")
     check_files(top, system)
@@ -149,7 +151,7 @@ def test_wheel_where_there_is_no_git(folder: Path, monkeypatch: pytest.MonkeyPat
 @pytest.fixture
 def packed_for(request: pytest.FixtureRequest, system: str) -> Path:
     """The archive for a system."""
-    found = given(request.config, system)
+    found = archives_for(request.config, system)
     if not found:
         pytest.skip(f"--archive names none for {system}: `./release --systems {system}` makes one")
     return found[0]
@@ -163,7 +165,7 @@ def top(packed_for: Path, folder: Path) -> Path:
 
 
 def of(*names: str) -> pytest.MarkDecorator:
-    return pytest.mark.parametrize("system", [pytest.param(it, marks=outside) for it in names])
+    return pytest.mark.parametrize("system", [pytest.param(name, marks=outside) for name in names])
 
 
 @of(*SYSTEMS)
@@ -211,8 +213,8 @@ def runner(top: Path, folder: Path, system: str) -> Iterator[Runner]:
 def test_c(top: Path, runner: Runner, system: str) -> None:
     """The example by the files, static and shared."""
     for how, library in runner.libraries().items():
-        made = runner.compile(top / EXAMPLE, name=f"lockstep {how}", library=library)
-        runner.check_lockstep(made, how != "static")
+        program = runner.compile(top / EXAMPLE, name=f"lockstep {how}", library=library)
+        runner.check_lockstep(program, how != "static")
 
 
 @pytest.mark.needs("python:pip")
@@ -251,23 +253,23 @@ def test_example_of_the_crate(top: Path, runner: Runner, system: str) -> None:
     assert rust.cargo(runner, "run", "--example", "lockstep", at=crate) == LOCKSTEP
 
 
-def of_archive(runner: Runner, *words: str, given: bytes = b"") -> "Ended[bytes]":
+def run_of_archive(runner: Runner, *words: str, script: bytes = b"") -> "Ended[bytes]":
     """A run of a program of the archive, in its folder."""
     command = [*runner.start, *words]
-    return run_bytes(command[0], command[1:], given, cwd=runner.folder, env=runner.env)
+    return run_bytes(command[0], command[1:], script, cwd=runner.folder, env=runner.env)
 
 
 @of(*COMPILED)
 def test_program(top: Path, runner: Runner, system: str) -> None:
     """The first script, an assembly and a disassembly, and a file that isn't there."""
     program = f"bin/rsp{runner.ending}"
-    first = of_archive(runner, program, "run", given=FIRST)
+    first = run_of_archive(runner, program, "run", script=FIRST)
     assert first.stdout == page("examples/first.out").encode()
     (top / "loop.s").write_text(LOOP_TEXT)
-    assert of_archive(runner, program, "asm", "loop.s", "loop.bin").stdout == b"ok 4 words\n"
+    assert run_of_archive(runner, program, "asm", "loop.s", "loop.bin").stdout == b"ok 4 words\n"
     assert (top / "loop.bin").read_bytes().hex() == LOOP_CODE
-    assert of_archive(runner, program, "dis", "loop.bin").stdout == LOOP_WORDS.encode()
-    lost = of_archive(runner, program, "run", "--rdram", "no-such-file")
+    assert run_of_archive(runner, program, "dis", "loop.bin").stdout == LOOP_WORDS.encode()
+    lost = run_of_archive(runner, program, "run", "--rdram", "no-such-file")
     assert lost.returncode == 1 and not lost.stdout
 
 
@@ -281,8 +283,8 @@ def test_vectors(top: Path, runner: Runner, suite: Path, system: str, name: str)
     script.chmod(0o755)
     where = {**BARE, **runner.env, "PYTHONPATH": "conformance"}
     words = ("-B", "-m", "rsp_conformance.run", "--program", script, "conformance/vectors", name)
-    told = succeeds("python3", *words, cwd=suite, env=where)
-    assert re.fullmatch(r"[1-9]\d* passed, 0 failed", told.splitlines()[-1])
+    output = succeeds("python3", *words, cwd=suite, env=where)
+    assert re.fullmatch(r"[1-9]\d* passed, 0 failed", output.splitlines()[-1])
 
 
 @of("windows-x86_64")
@@ -290,7 +292,7 @@ def test_first_line_of_windows(top: Path, runner: Runner) -> None:
     """The README's, by the command interpreter."""
     line = r"bin\rsp run examples\first.rsp"
     assert f"`{line}`" in (top / "README.md").read_text()
-    assert of_archive(runner, "cmd", "/c", line).stdout == page("examples/first.out").encode()
+    assert run_of_archive(runner, "cmd", "/c", line).stdout == page("examples/first.out").encode()
 
 
 @pytest.mark.needs("rt")
@@ -299,15 +301,15 @@ def test_macos(top: Path, folder: Path) -> None:
     """The files are only read."""
     macos.check(top, folder)
     for triple in TARGETS["macos"].rust:
-        held = llvm("llvm-lipo", "-archs", top / "library/rust/lib" / triple / "libbrsp.a").split()
-        assert held == [PROCESSORS[triple.partition("-")[0]].apple], triple
+        processors = llvm("llvm-lipo", "-archs", top / "library/rust/lib" / triple / "libbrsp.a").split()
+        assert processors == [PROCESSORS[triple.partition("-")[0]].apple], triple
 
 
 @of("wasm64")
 def test_package(packed_for: Path, top: Path) -> None:
     described = json.loads((top / "package.json").read_text())
     named = [described["types"], described["exports"]["."]["default"], described["exports"]["./rsp.wasm"]]
-    assert [it for it in named if not (top / it).is_file()] == []
+    assert [name for name in named if not (top / name).is_file()] == []
     assert f"-{described['version']}-" in packed_for.name
     assert (top / "rsp.d.ts").read_text() == page("library/js/rsp.d.ts")
 
@@ -321,10 +323,10 @@ def project(packed_for: Path, folder: Path) -> Path:
 @of("wasm64")
 def test_npm(top: Path, project: Path) -> None:
     """What it installs, and that Node runs it."""
-    held, wanted = (
-        {str(it.relative_to(at)) for it in at.rglob("*")} for at in (project / "node_modules/rsp", top)
+    installed, packed = (
+        {str(path.relative_to(at)) for path in at.rglob("*")} for at in (project / "node_modules/rsp", top)
     )
-    assert held == wanted
+    assert installed == packed
     node.check_use(project)
 
 
@@ -360,8 +362,8 @@ NEAR = ("http://www.w3.org/", "http://127.0.0.1:", "http://localhost:")
 def loaded(path: Path) -> Iterator[Path]:
     """What a file of the page loads."""
     if path.suffix in (".html", ".js"):
-        found = ["".join(it) for it in re.findall(LOADED, path.read_text())]
-        yield from ((path.parent / it).resolve() for it in found if not re.match(r"\w+:", it))
+        names = ["".join(groups) for groups in re.findall(LOADED, path.read_text())]
+        yield from ((path.parent / name).resolve() for name in names if not re.match(r"\w+:", name))
 
 
 @of("page")
@@ -374,14 +376,14 @@ def test_page(top: Path) -> None:
         assert path.is_file()
         seen.add(path)
         waiting += {*loaded(path)} - seen - {*waiting}
-    (folder,) = (it for it in top.iterdir() if it.is_dir())
+    (folder,) = (path for path in top.iterdir() if path.is_dir())
     assert re.fullmatch("[0-9a-f]{16}", folder.name)
     needed = (
         "page.js worker.js rsp/rsp.js rsp/rsp.wasm help/SCRIPT.html help/FAULTS.html help/INSTRUCTIONS.html"
     )
-    assert {folder / it for it in needed.split()} <= seen
-    there = {it for it in top.rglob("*") if it.is_file() and it.name not in BESIDE}
+    assert {folder / name for name in needed.split()} <= seen
+    there = {path for path in top.rglob("*") if path.is_file() and path.name not in BESIDE}
     assert there <= seen
-    texts = [it.read_text() for it in there - {folder / "rsp/rsp.wasm"}]
-    addresses = {it for text in texts for it in re.findall(ADDRESS, text)}
-    assert {it for it in addresses if not it.startswith(NEAR)} == set()
+    texts = [path.read_text() for path in there - {folder / "rsp/rsp.wasm"}]
+    addresses = {address for text in texts for address in re.findall(ADDRESS, text)}
+    assert {address for address in addresses if not address.startswith(NEAR)} == set()

@@ -75,8 +75,7 @@ def program_repository() -> Iterator[ToyRepository]:
                 with repository.changed(f"crates/{phase.crate}/src/{file}", faulty):
                     result = repository.run(RSP)
             repository.results[name] = result
-        for name, kit in ("by another logic", "other"), ("by it again", "other"), ("by the right one", ""):
-            repository.results[name] = repository.run(RSP, kit)
+        assert repository.run(RSP).status == 0
         yield repository
 
 
@@ -91,7 +90,7 @@ def library_repository() -> Iterator[ToyRepository]:
 @pytest.fixture
 def repository(request: pytest.FixtureRequest, what: str) -> ToyRepository:
     """That of the program or of the library."""
-    built: ToyRepository = request.getfixturevalue(f"{what}_tree")
+    built: ToyRepository = request.getfixturevalue(f"{what}_repository")
     return built
 
 
@@ -116,12 +115,6 @@ def test_in_a_read_only_checkout(folder: Path, command: str) -> None:
     assert result.status == 1 and re.fullmatch(r".*Permission denied.*\n", result.output)
 
 
-@pytest.mark.parametrize("word, status", [("--nonsense", 2), ("--help", 0)])
-def test_words_of_the_library(folder: Path, word: str, status: int) -> None:
-    result = ToyRepository(folder).run([C, word])
-    assert result.status == status and f"{C} [--proved FILE]" in result.output
-
-
 @of_program
 @pytest.mark.parametrize("name", PHASES)
 def test_ended_in_a_phase(program_repository: ToyRepository, name: str) -> None:
@@ -142,17 +135,6 @@ def test_ended_in_a_phase(program_repository: ToyRepository, name: str) -> None:
 def test_proves_nothing_twice(program_repository: ToyRepository) -> None:
     proved = [crate for name in PHASES for crate in program_repository.results[name].proved]
     assert len(proved) == len({*proved})
-
-
-@of_program
-def test_kit_of_another_logic(program_repository: ToyRepository) -> None:
-    """It builds, and says that it may not; one of the right logic builds again, which is the last run."""
-    first, again, last = (
-        program_repository.results[name] for name in ("by another logic", "by it again", "by the right one")
-    )
-    assert first.status == 0 and first.proved == {"rsp_main"} and "`rattle-kit-0 logic 0`" in first.output
-    assert again == NOTHING
-    assert last.status == 0 and last.proved == {"rsp_main"}
 
 
 @of_library
@@ -235,6 +217,8 @@ def test_mark_of_another_logic(program_repository: ToyRepository) -> None:
         _version, crates, _times, sums = mark.split(b"\n", 3)
         return b"\n".join([b"rattle-kit-0 logic 0", crates, b"", sums])
 
+    warning = program_repository.run(["tools/build", "--kit"], "other").output
+    assert "`rattle-kit-0 logic 0`" in warning
     assert program_repository.run(RSP, "broken") == NOTHING
     with program_repository.changed("tools/logic", b"logic 1\n"):
         assert_builds_again(program_repository, RSP)
@@ -244,20 +228,6 @@ def test_mark_of_another_logic(program_repository: ToyRepository) -> None:
         result = program_repository.run("./rsp --version")
         assert result.status == 0 and result.output.endswith("\nproved and built by rattle-kit-0 logic 0\n")
         assert_builds_again(program_repository, RSP)
-
-
-@of_program
-def test_edit_on_a_full_disk(program_repository: ToyRepository, folder: Path) -> None:
-    """It fails there, and goes on where there is room."""
-    repository = program_repository.copied(folder)
-    repository.edit(MIDDLE, "rsp_above::answer()", "rsp_above::answer() & 3")
-    mount = "mount -t tmpfs -o size=16k none crates/rsp_middle/out && ./rsp run"
-    full = repository.run(["unshare", "--mount", "--map-root-user", "sh", "-c", mount])
-    result = repository.run(RSP)
-    assert result.status == 0 and result.proved == {"rsp_middle", "rsp_main"}
-    if "begins" not in full.output:
-        pytest.skip(f"no full disk can be mounted here ({full.output.strip()})")
-    assert full.status == 1 and "rsp_middle isn't proved" in full.last
 
 
 @of_program

@@ -225,8 +225,7 @@ def test_man_shows_the_page(prefix: Path) -> None:
     assert "warning" not in text and "rsp run [OPTIONS] [SCRIPT]" in text
 
 
-# Rust: as a path the crate finds what library/c/build has made, as a package it has its library in lib/, and
-# as a checkout without a library it finds what is installed.
+# A program in Rust that depends on the crate.
 DEPENDS = """
 [package]
 name = "uses"
@@ -245,26 +244,6 @@ fn main() {
 COMMIT = "git init -q && git add -A && git -c user.name=a -c user.email=a@example.org commit -qm a"
 
 
-def copied_crate(to: Path) -> Path:
-    shutil.copytree(CRATE, to, ignore=shutil.ignore_patterns("target", "Cargo.lock"))
-    return to
-
-
-def by_cargo(folder: Path, **more: str) -> dict[str, str]:
-    """An environment in which the crate finds no library by a variable."""
-    own = {"RSP_LIB_DIR", "PKG_CONFIG_PATH"}
-    where = {name: value for name, value in os.environ.items() if name not in own}
-    return {**where, "CARGO_TARGET_DIR": str(folder / "target"), **more}
-
-
-def check_dependency(folder: Path, source: str, **more: str) -> None:
-    """A program that depends on the crate from a source is built, and runs."""
-    (folder / "uses/src").mkdir(parents=True)
-    (folder / "uses/Cargo.toml").write_text(DEPENDS % source)
-    (folder / "uses/src/main.rs").write_text(USES)
-    assert succeeds("cargo", "run", "-q", cwd=folder / "uses", env=by_cargo(folder, **more)) == "nop\n"
-
-
 @pytest.mark.needs("cargo")
 def test_layout_of_the_crate() -> None:
     ended = run("cargo", "fmt", "--check", cwd=CRATE)
@@ -273,27 +252,22 @@ def test_layout_of_the_crate() -> None:
     assert ended.returncode == 0, ended.stdout
 
 
-@pytest.mark.needs("cargo")
-def test_crate_as_a_package(library: Path, folder: Path) -> None:
-    pack = copied_crate(folder / "rust")
-    (pack / "lib").mkdir()
-    shutil.copy(library / "libbrsp.a", pack / "lib")
-    words = ("cargo", "package", "--offline", "--allow-dirty")
-    succeeds(*words, cwd=pack, env=by_cargo(folder, PKG_CONFIG="false"))
-    assert (folder / f"target/package/rsp-{VERSION}.crate").is_file()
-
-
-@pytest.mark.needs("cargo")
-def test_crate_as_a_path(library: Path, folder: Path) -> None:
-    check_dependency(folder, f'path = "{CRATE}"', PKG_CONFIG="false")
-
-
 @pytest.mark.needs("cargo", "git", "pkg-config")
-def test_crate_as_a_git_dependency(prefix: Path, folder: Path) -> None:
-    copied_crate(folder / "git/rust")
-    succeeds("sh", "-c", COMMIT, cwd=folder / "git")
-    path = str(prefix / "lib/pkgconfig")
-    check_dependency(folder, f'git = "file://{folder}/git"', PKG_CONFIG_PATH=path)
+@pytest.mark.parametrize("source", ["path", "git"])
+def test_crate(prefix: Path, folder: Path, source: str) -> None:
+    """By its path, the crate finds the library that is built; by git, the one that is installed."""
+    where = {name: value for name, value in with_prefix(prefix).items() if name != "RSP_LIB_DIR"}
+    where["CARGO_TARGET_DIR"] = str(folder / "target")
+    if source == "git":
+        shutil.copytree(CRATE, folder / "git/rust", ignore=shutil.ignore_patterns("target", "Cargo.lock"))
+        succeeds("sh", "-c", COMMIT, cwd=folder / "git")
+        dependency = f'git = "file://{folder}/git"'
+    else:
+        dependency, where["PKG_CONFIG"] = f'path = "{CRATE}"', "false"
+    (folder / "uses/src").mkdir(parents=True)
+    (folder / "uses/Cargo.toml").write_text(DEPENDS % dependency)
+    (folder / "uses/src/main.rs").write_text(USES)
+    assert succeeds("cargo", "run", "-q", cwd=folder / "uses", env=where) == "nop\n"
 
 
 def test_install_under_a_strict_umask(library: Path, folder: Path) -> None:

@@ -1,8 +1,8 @@
-"""What a stranger does first, in a clone of HEAD in a folder `a b/rsp`: the tests, and the commands of pages.
+"""What a newcomer does first, in a clone of HEAD in a folder `a b/rsp`: the tests, and the blocks of pages.
 
-It fails if one doesn't end well there, or leaves the work tree of the clone changed. What is built here for
-HEAD is copied into the clone. All runs there with an empty HOME, and with the system's programs and the kit
-on its PATH; if root starts it, as the user nobody.
+It fails if one doesn't end well there, or leaves the work tree of the clone changed. The files that are built
+here for HEAD are copied into the clone. All runs there with an empty HOME, with the system's programs and the
+kit on its PATH, and if root starts it, as the user nobody.
 """
 
 import re
@@ -24,8 +24,8 @@ pytestmark = [
     pytest.mark.xdist_group("newcomer"),
     pytest.mark.timeout(3700),
 ]
-# These tests read neither names nor paths nor git.
-OF_NO_PLACE = """
+# These tests read neither names nor paths nor git, so in a clone they do the same.
+ELSEWHERE = """
 tests/mathematics tests/program/test_vectors.py tests/program/test_bad_input.py
 tests/program/test_failing_allocations.py tests/docs/test_flags.py tests/install/test_building.py
 """.split()
@@ -48,11 +48,11 @@ def stranger() -> Iterator[User]:
 def test_suite(stranger: User, record_property: Callable[[str, object], None]) -> None:
     """The tests outside the crates, except those that would do the same anywhere. The report of this test has
     those that were skipped, for ./release."""
-    left = OF_NO_PLACE + [OTHER_COMPILER[0]] * (not (stranger.at / OTHER_COMPILER[1]).exists())
-    assert [it for it in left if not (TOP / it).exists()] == []
-    got = stranger.types(f"tests/all -k 'not valgrind' {' '.join(f'--ignore={it}' for it in left)}")
-    assert got.returncode == 0, f"{got.stdout[-5000:]}{got.stderr[-1000:]}"
-    for skipped in re.findall(r"(?m)^SKIPPED \[\d+\] (.*)$", got.stdout):
+    ignored = ELSEWHERE + [OTHER_COMPILER[0]] * (not (stranger.at / OTHER_COMPILER[1]).exists())
+    assert [path for path in ignored if not (TOP / path).exists()] == []
+    ended = stranger.types(f"tests/all -k 'not valgrind' {' '.join(f'--ignore={path}' for path in ignored)}")
+    assert ended.returncode == 0, f"{ended.stdout[-5000:]}{ended.stderr[-1000:]}"
+    for skipped in re.findall(r"(?m)^SKIPPED \[\d+\] (.*)$", ended.stdout):
         record_property("left out", skipped)
 
 

@@ -26,8 +26,8 @@ exec chroot "$0" /srv/rsp/tests/all --archive=/srv/rsp "$1/test_archive.py" "$1/
 """
 
 
-def made(root: Path) -> Path:
-    """A Debian 11 with what the tests use."""
+def with_debian(root: Path) -> Path:
+    """The folder of a Debian 11 with the packages that the tests use."""
     if not (root / "usr/bin/cmake").exists():
         words = ("--variant=minbase", f"--include={PACKAGES}", "bullseye", root, MIRROR)
         succeeds("debootstrap", *words, timeout=1800)
@@ -37,14 +37,14 @@ def made(root: Path) -> Path:
 def test_archive_on_debian_11(packed: Path, vectors: Path, folder: Path) -> None:
     if os.getuid():
         pytest.skip("only root can do it")
-    root = made(Path(os.environ.get("DEBIAN_11") or folder / "root").resolve())
+    root = with_debian(Path(os.environ.get("DEBIAN_11") or folder / "root").resolve())
     inside = root / "srv/rsp"
     shutil.rmtree(inside, ignore_errors=True)
     inside.mkdir(parents=True)
     succeeds("sh", "-c", 'git archive HEAD | tar x -C "$0"', inside)
-    for it in packed, vectors:
-        shutil.copy(it, inside)
+    for archive in packed, vectors:
+        shutil.copy(archive, inside)
     where = {"PATH": "/usr/sbin:/usr/bin:/sbin:/bin", "HOME": "/root"}
     words = ("unshare", "--mount", "sh", "-c", ENTER, root, "tests/install")
-    got = run(*words, env=where, timeout=1800)
-    assert got.returncode == 0, got.stdout[-5000:]
+    ended = run(*words, env=where, timeout=1800)
+    assert ended.returncode == 0, ended.stdout[-5000:]

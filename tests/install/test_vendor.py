@@ -12,7 +12,7 @@ import pytest
 
 from lib import TESTS, TOP
 from lib.cmake import EXAMPLE
-from lib.install.unpacked import check_common, given, unpacked
+from lib.install.unpacked import archives_for, check_common, unpacked
 from lib.library import LOCKSTEP
 from lib.pages import page
 from lib.processes import STRICT, compiled, run, run_bytes, succeeds
@@ -76,10 +76,10 @@ def test_clone(library: Path, folder: Path) -> None:
 
 @pytest.fixture
 def packed(request: pytest.FixtureRequest) -> Path:
-    found = given(request.config, "vendor")
-    if not found:
+    paths = archives_for(request.config, "vendor")
+    if not paths:
         pytest.skip("--archive names none for vendor: `./release --systems vendor` makes one")
-    return found[0]
+    return paths[0]
 
 
 @pytest.fixture
@@ -130,13 +130,13 @@ def test_refuses(top: Path, folder: Path) -> None:
     assert ended.returncode and "there is no file for Linux-riscv64" in " ".join(ended.stdout.split())
 
 
-# Those whose file is run here: all but macOS.
-RUN = [it for it in TARGETS.values() if it.compiler]
+# The systems whose file is run here: all except macOS.
+RUN = [target for target in TARGETS.values() if target.compiler]
 
 
 @outside
 @pytest.mark.timeout(1800)
-@pytest.mark.parametrize("target", RUN, ids=lambda it: it.name)
+@pytest.mark.parametrize("target", RUN, ids=lambda target: target.name)
 @pytest.mark.parametrize("name", ["calls", "owner", "threads"])
 def test_calls(name: str, target: Target, top: Path, folder: Path) -> None:
     """A program of tests over a file of src/."""
@@ -157,9 +157,9 @@ def test_calls(name: str, target: Target, top: Path, folder: Path) -> None:
 def test_macos_is_assembled(top: Path, folder: Path, triple: str) -> None:
     """The kit's assembler takes the file, and the object has the calls of brsp.h. Nothing runs it here."""
     source = top / f"src/Darwin-{triple.partition('-')[0]}.s"
-    llvm("clang", f"--target={triple}", "-c", source, "-o", folder / "made.o")
-    named = llvm("llvm-nm", "-g", "--defined-only", folder / "made.o")
-    assert {*re.findall(r" T _(\w+)$", named, re.M)} == {*header.calls()}
+    llvm("clang", f"--target={triple}", "-c", source, "-o", folder / "brsp.o")
+    symbols = llvm("llvm-nm", "-g", "--defined-only", folder / "brsp.o")
+    assert {*re.findall(r" T _(\w+)$", symbols, re.M)} == {*header.calls()}
 
 
 @outside
@@ -168,8 +168,8 @@ def test_speed(library: Path, top: Path, folder: Path) -> None:
     """A step takes as many host instructions as with libbrsp.a, within 2 percent."""
     succeeds("cc", "-c", top / "src/Linux-x86_64.s", "-o", folder / "brsp.o")
     programs = [
-        compiled(folder / f"speed-{it.stem}", *STRICT, TOP / "measure/speed.c", it)
-        for it in (LIBRARY, folder / "brsp.o")
+        compiled(folder / f"speed-{library.stem}", *STRICT, TOP / "measure/speed.c", library)
+        for library in (LIBRARY, folder / "brsp.o")
     ]
     for name in LOOPS:
         text = "".join(f".word 0x{word}\n" for word in code(name).hex(" ", 4).split())

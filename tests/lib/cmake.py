@@ -27,8 +27,8 @@ def configured(prefix: Path, folder: Path, out: str, *words: str) -> "Ended[str]
 def built(prefix: Path, folder: Path, *words: str) -> Path:
     """The folder of the programs that CMake makes in a new folder, `shared` and `static`."""
     folder.mkdir()
-    for it in PROJECT, EXAMPLE:
-        shutil.copy(it, folder)
+    for source in PROJECT, EXAMPLE:
+        shutil.copy(source, folder)
     ended = configured(prefix, folder, "out", *words)
     assert ended.returncode == 0, ended.stdout
     succeeds("cmake", "--build", folder / "out")
@@ -37,14 +37,14 @@ def built(prefix: Path, folder: Path, *words: str) -> Path:
 
 def check_cmake(prefix: Path, folder: Path) -> None:
     """By CMake in a new folder, shared and static; a version that isn't there is refused."""
-    made = built(prefix, folder)
+    out = built(prefix, folder)
     for name in "shared", "static":
-        program = made / name
+        program = out / name
         assert succeeds(program, cwd="/") == LOCKSTEP, name
         assert ("libbrsp" in succeeds("objdump", "-p", program)) == (name == "shared")
     major, minor = map(int, header.version().split(".")[:2])
-    for asked in f"{major + 1}.0", f"{major}.{minor + 1}":
-        text, count = re.subn(r"find_package\(brsp [\d.]+", f"find_package(brsp {asked}", PROJECT.read_text())
+    for version in f"{major + 1}.0", f"{major}.{minor + 1}":
+        text, count = re.subn(r"(?<=find_package\(brsp )[\d.]+", version, PROJECT.read_text())
         assert count == 1
         (folder / PROJECT.name).write_text(text)
-        assert configured(prefix, folder, f"out-{asked}").returncode, f"version {asked} isn't refused"
+        assert configured(prefix, folder, f"out-{version}").returncode, f"version {version} isn't refused"

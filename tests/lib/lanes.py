@@ -1,4 +1,4 @@
-"""Computing instructions on lanes, accumulators and flags, and what the program leaves of them."""
+"""Cases of computing instructions by their lanes, accumulators and flags, run on the program."""
 
 from typing import Any, Dict, List, Sequence, Tuple
 
@@ -10,7 +10,7 @@ Flags = Dict[str, str]
 Lanes = Sequence[int]
 Case = Tuple[Any, int, Look]
 
-# The flags in the words of the pages: each with its register, and the bit of lane 0 there.
+# The flags by their names on the pages, each with its register, and the bit of lane 0 there.
 FLAGS = {coverage.NAMES.get(flag, flag): at for flag, at in outcomes.FLAGS.items()}
 CLEAR = {"vco": "0000", "vcc": "0000", "vce": "00"}
 ZEROS = [0] * 8
@@ -19,18 +19,18 @@ ZEROS = [0] * 8
 def case(
     name: str, a: Lanes = ZEROS, b: Lanes = ZEROS, accs: Lanes = ZEROS, flags: Flags = CLEAR, **fields: int
 ) -> Case:
-    """An instruction `$v3, $v1, $v2`, but for these fields, on these lanes, accumulators and flags."""
+    """An instruction `$v3, $v1, $v2`, or with other fields, on these lanes, accumulators and flags."""
     word = word_of(ROWS[name], {"e": 0, "vt": 2, "vs": 1, "vd": 3, "de": 0, **fields})
     vectors = {
-        f"v{n}": "".join(f"{it % 65536:04x}" for it in lanes) for n, lanes in enumerate((a, b, ZEROS), 1)
+        f"v{n}": "".join(f"{lane % 65536:04x}" for lane in lanes) for n, lanes in enumerate((a, b, ZEROS), 1)
     }
-    values = {f"a{lane}": f"{it % 2**48:012x}" for lane, it in enumerate(accs)}
+    values = {f"a{lane}": f"{acc % 2**48:012x}" for lane, acc in enumerate(accs)}
     return ROWS[name], word, {**bench.DEFAULT, **flags, **vectors, **values}
 
 
 def after(program: str, cases: Sequence[Case]) -> List[Look]:
-    """The looks after these instructions."""
-    return [it["after"] for it in bench.observe(program, cases)]
+    """The states after these instructions."""
+    return [observation["after"] for observation in bench.observe(program, cases)]
 
 
 def accumulators_of(look: Look) -> List[int]:

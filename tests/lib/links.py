@@ -17,7 +17,7 @@ def headings(page: Path) -> List[str]:
 
 
 def links_of(page: Path) -> Iterator[Tuple[str, str]]:
-    """The links of a page to files, each as its file ("" for the page itself) and its heading or ""."""
+    """The links of a page to files, as a file ("" for the page itself) and a heading or ""."""
     for file, heading in re.findall(r"\]\(([^)#\s]*)(?:#([^)\s]*))?\)", page.read_text()):
         if ":" not in file:
             yield file, heading
@@ -37,24 +37,24 @@ def broken_in(page: Path) -> List[str]:
 def broken(root: Path, least: int = 1) -> List[str]:
     """The links below a folder that lead nowhere. All its pages must have at least so many links."""
     pages = pages_below(root)
-    count = sum(len([*links_of(it)]) for it in pages)
+    count = sum(len([*links_of(page)]) for page in pages)
     assert count >= least, f"{root} has only {count} links in {len(pages)} pages"
-    return [it for page in pages for it in broken_in(page)]
+    return [link for page in pages for link in broken_in(page)]
 
 
 def elsewhere(archive: Path) -> str:
-    """What an archive's README says of files that aren't there."""
-    (told,) = re.findall(r"files that aren't here: (.*)\. All", (archive / "README.md").read_text())
-    return str(told)
+    """The part of an archive's README that lists the files that aren't in the archive."""
+    (listed,) = re.findall(r"files that aren't here: (.*)\. All", (archive / "README.md").read_text())
+    return str(listed)
 
 
 def broken_everywhere(archive: Path, least: int) -> List[str]:
-    """The links of an archive's pages that lead nowhere, except to what the README names and the repository
-    has at that place."""
+    """The links of an archive's pages that lead nowhere, except to files that the README names and that the
+    repository has at that place."""
     named = tuple(re.findall("`(.*?)`", elsewhere(archive)))
-    assert not [it for it in named if (archive / it).exists()]
+    assert not [name for name in named if (archive / name).exists()]
     lost = []
-    for page, _, link in (it.partition(": ") for it in broken(archive, least)):
+    for page, _, link in (text.partition(": ") for text in broken(archive, least)):
         at = Path(page).relative_to(archive)
         target = os.path.normpath(at.parent / link.partition("#")[0])
         if f"{TOP / at}: {link}" in broken_in(TOP / at) or not f"{target}/".startswith(named):

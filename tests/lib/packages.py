@@ -12,7 +12,7 @@ import sys
 from lib import TOP
 from rsp_tools.systems import toolchain
 
-# Debian's package of a tool, if it has another name, or of a file or a module of Python.
+# Debian's packages of tools whose package has another name, of files, and of modules of Python.
 PACKAGES = {
     **toolchain.PACKAGES,
     "c++": "g++",
@@ -44,7 +44,7 @@ PACKAGES = {
     "/usr/lib/x86_64-linux-gnu/mupen64plus/mupen64plus-video-z64.so": "mupen64plus-video-z64",
     "/usr/lib/x86_64-linux-gnu/mupen64plus/mupen64plus-rsp-z64.so": "mupen64plus-rsp-z64",
 }
-# What no package of Debian gives, with what is said of it.
+# Tools that are in no package of Debian, with the message if one is missing.
 OTHERS = {
     "rt": "there is no `rt`, the Rattle kit (README.md)",
     "clean-tree": "the work tree differs from its commit",
@@ -66,24 +66,24 @@ def is_here(tool: str) -> bool:
 
 @functools.lru_cache(None)
 def broken(tool: str) -> str:
-    """What a program says that is here and doesn't work, such as rustup's cargo without a toolchain: it can't
-    even give its version. Empty if it works."""
+    """The message of a program that is here and doesn't work, such as rustup's cargo without a toolchain: it
+    can't even print its version. Empty if the program works."""
     if tool in SILENT or "/" in tool or ":" in tool or not shutil.which(tool):
         return ""
     words = [tool, "--version"]
     try:
-        ran = subprocess.run(words, stdin=subprocess.DEVNULL, capture_output=True, text=True, timeout=60)
+        ended = subprocess.run(words, stdin=subprocess.DEVNULL, capture_output=True, text=True, timeout=60)
     except (OSError, subprocess.TimeoutExpired) as fault:
         return f"{tool} --version: {fault}"
-    said = (ran.stderr + ran.stdout).strip()
-    return f"{tool} --version: {said.splitlines()[0] if said else ran.returncode}" if ran.returncode else ""
+    first = (ended.stderr + ended.stdout).strip().partition("\n")[0]
+    return f"{tool} --version: {first or ended.returncode}" if ended.returncode else ""
 
 
 def packages(*tools: str) -> list[str]:
     """Debian's packages of those of these tools that aren't here, each once."""
-    absent = (it for it in tools if it not in OTHERS and not is_here(it))
-    named = " ".join(PACKAGES.get(it, os.path.basename(it)) for it in absent)
-    return [*dict.fromkeys(named.split())]
+    missing = (tool for tool in tools if tool not in OTHERS and not is_here(tool))
+    names = " ".join(PACKAGES.get(tool, os.path.basename(tool)) for tool in missing)
+    return [*dict.fromkeys(names.split())]
 
 
 def without(tool: str) -> str:
@@ -101,7 +101,7 @@ def need(*tools: str) -> None:
     Debian has the tool."""
     import pytest  # here, because what measures uses this module without pytest
 
-    missing = [it for it in tools if not is_here(it)]
+    missing = [tool for tool in tools if not is_here(tool)]
     faults = [*map(without, missing), *filter(None, map(broken, tools))]
     if os.environ.get("CI") == "true" and (len(faults) > len(missing) or {*missing} - {*OTHERS}):
         pytest.fail("; ".join(faults), pytrace=False)

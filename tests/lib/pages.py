@@ -30,9 +30,10 @@ def blocks(name: str) -> List[str]:
 
 
 def block_with(name: str, start: str, more: int = 0) -> str:
-    """The block of a page that begins so, or one `more` blocks after it."""
-    shown = blocks(name)
-    return shown[next(i for i, block in enumerate(shown) if block.lstrip("\n").startswith(start)) + more]
+    """The block of a page that begins with a text, or a block `more` blocks after it."""
+    found = blocks(name)
+    first = next(i for i, block in enumerate(found) if block.lstrip("\n").startswith(start))
+    return found[first + more]
 
 
 def cells_of(line: str) -> List[str]:
@@ -56,37 +57,39 @@ def matches(lines: Sequence[str], expected: Sequence[str]) -> bool:
     return re.fullmatch(form, "".join(f"{line}\n" for line in lines)) is not None
 
 
-def said(program: object, *words: object, given: str = "") -> str:
+def output_of(program: object, *words: object, script: str = "") -> str:
     """The standard output of the program, which has to succeed."""
     command = [str(program), *map(str, words)]
-    ran = subprocess.run(command, input=given, stdout=subprocess.PIPE, check=True, text=True, timeout=280)
-    return ran.stdout
+    pipe = subprocess.PIPE
+    return subprocess.run(command, input=script, stdout=pipe, check=True, text=True, timeout=280).stdout
 
 
 def replies(program: object, script: str) -> str:
-    return said(program, "run", given=script)
+    return output_of(program, "run", script=script)
 
 
 def names_of(program: object, words: Sequence[int]) -> List[Optional[str]]:
-    """The instruction that the program names for each of these words, None of a reserved one.
+    """The instruction that the program names for each of these words, and None for a reserved word.
 
-    A small branch of 512 words at 0 stays in IMEM.
+    They are disassembled in pieces of 512, so that the small branches among them stay in IMEM.
     """
     names: List[Optional[str]] = []
     for first in range(0, len(words), 512):
         with tempfile.NamedTemporaryFile() as file:
-            Path(file.name).write_bytes(b"".join(it.to_bytes(4, "big") for it in words[first : first + 512]))
-            found = [text.split()[0] for text in said(program, "dis", file.name).splitlines()]
-        names += [{"nop": "SLL", ".word": None}.get(it, it.upper()) for it in found]
+            piece = words[first : first + 512]
+            Path(file.name).write_bytes(b"".join(word.to_bytes(4, "big") for word in piece))
+            found = [text.split()[0] for text in output_of(program, "dis", file.name).splitlines()]
+        names += [{"nop": "SLL", ".word": None}.get(name, name.upper()) for name in found]
     return names
 
 
 def words_of(program: object, named: Iterable[Tuple[str, object]]) -> List[List[str]]:
-    """The word of each of these texts at its address, and its disassembly; the label `over` is 3 words on."""
-    lines = [
-        f"asm {place}\n{text}\n" + "nop\nnop\nover: nop\n" * ("over" in text) + f"end\ndis {place} 1\n"
-        for text, place in named
-    ]
-    found = iter(replies(program, "".join(lines)).splitlines())
-    pairs = zip(found, found)
-    return [shown.split(" ", 2) if told.startswith("ok") else [told, "", ""] for told, shown in pairs]
+    """The address, the word and the disassembly of each of these texts; the label `over` is 3 words on.
+
+    A text that is refused has its fault instead, and two empty texts.
+    """
+    more = "nop\nnop\nover: nop\n"
+    commands = [f"asm {at}\n{text}\n{more * ('over' in text)}end\ndis {at} 1\n" for text, at in named]
+    lines = iter(replies(program, "".join(commands)).splitlines())
+    pairs = zip(lines, lines)
+    return [listed.split(" ", 2) if reply.startswith("ok") else [reply, "", ""] for reply, listed in pairs]

@@ -5,7 +5,7 @@ theorems. NAME.script is what `rsp run` reads, NAME.expected what it must print.
   NAME.rdram    the length of an image for --rdram: zeros, or with `count` after it bytes that count up
   NAME.saved    the image that --save writes must be the one that was read
   NAME.stderr   what must be written to standard error (else nothing)
-  NAME.status   the exit status that is wanted (else 0)
+  NAME.status   the expected exit status (else 0)
 Of the examples and of microcode/, NAME.rsp must print NAME.out.
 """
 
@@ -19,13 +19,13 @@ from lib.program import Result, content
 SCRIPTS = TESTS / "program/scripts"
 
 
-class Stored:
-    """A script with what is beside it."""
+class ScriptCase:
+    """A script with the files beside it."""
 
     def __init__(self, path: Path) -> None:
         self.path, self.script = path, path.read_bytes()
         status, expected, out, errors = map(self.beside, ("status", "expected", "out", "stderr"))
-        self.wanted = Result(int(status or 0), (expected or b"") + (out or b""), errors or b"")
+        self.expected = Result(int(status or 0), (expected or b"") + (out or b""), errors or b"")
         self.is_saved = self.beside("saved") is not None
 
     def __str__(self) -> str:
@@ -39,7 +39,7 @@ class Stored:
         return bytes(i % 256 if count else 0 for i in range(int(length))) if length else None
 
     def words(self, folder: Path) -> List[str]:
-        """The words of the command in a folder, into which the image is written."""
+        """The words of the command in a folder, into which this writes the image."""
         words, image = ["run", *["--save", "saved"] * self.is_saved], self.image()
         if image is not None:
             (folder / "image").write_bytes(image)
@@ -47,13 +47,13 @@ class Stored:
         return words
 
 
-# How many lines a reply has that isn't a fault, if not one.
+# The number of lines of a reply that isn't a fault, if it isn't 1.
 REPLY_LINES = {b"regs": 9, b"vregs": 32, b"acc": 8, b"sp": 17}
 OPENING = re.compile(rb"[ \t]*asm[ \t]+(\d{1,10}|0x[0-9A-Fa-f]{1,8})[ \t]*(#.*)?")
 
 
 def lines_of(words: List[bytes]) -> int:
-    """How many lines the reply to a command has."""
+    """The number of lines of the reply to a command."""
     if words[0] == b"mem":
         return (int(words[3], 0) + 15) // 16
     return int(words[2], 0) if words[0] == b"dis" else REPLY_LINES.get(words[0], 1)
@@ -64,7 +64,7 @@ def faults_in(script: bytes, output: bytes) -> Iterator[Tuple[int, bytes]]:
 
     A fault of a block counts from the line after `asm`.
     """
-    told, block = output.splitlines(), 0
+    replies, block = output.splitlines(), 0
     lines = re.split(rb"\r?\n", script)
     for number, line in enumerate(lines, 1):
         words = line.partition(b"#")[0].split()
@@ -75,15 +75,15 @@ def faults_in(script: bytes, output: bytes) -> Iterator[Tuple[int, bytes]]:
         if opening and not block and int(opening[1], 16 if b"x" in opening[1] else 10) in range(0, 4096, 4):
             block = number
             continue
-        if told[0].startswith(b"fault "):
-            yield (block + int(told[0].split()[-1]) if block else number), told[0]
-        told = told[1 if block or told[0].startswith(b"fault ") else lines_of(words) :]
+        if replies[0].startswith(b"fault "):
+            yield (block + int(replies[0].split()[-1]) if block else number), replies[0]
+        replies = replies[1 if block or replies[0].startswith(b"fault ") else lines_of(words) :]
         block = 0
-    for reply in told:
+    for reply in replies:
         yield block + int(reply.split()[-1]), reply
 
 
-def stored() -> List[Stored]:
-    places = [*SCRIPTS.glob("*/*.script"), *TOP.glob("examples/*.rsp"), *TOP.glob("microcode/*.rsp")]
-    assert len(places) > 100
-    return [Stored(it) for it in sorted(places)]
+def all_cases() -> List[ScriptCase]:
+    paths = [*SCRIPTS.glob("*/*.script"), *TOP.glob("examples/*.rsp"), *TOP.glob("microcode/*.rsp")]
+    assert len(paths) > 100
+    return [ScriptCase(path) for path in sorted(paths)]

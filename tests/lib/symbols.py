@@ -1,4 +1,4 @@
-"""What a program or a shared library needs of the system, by objdump."""
+"""Checks by objdump what a program or a shared library needs of the system."""
 
 import re
 from pathlib import Path
@@ -9,9 +9,9 @@ OLDEST = (2, 17)  # glibc's version of 2012, and that of the wheel's tag, manyli
 
 
 def check_needs(file: Path) -> None:
-    """It needs the C library alone, and of glibc no symbol that is newer than the wheel's tag says."""
+    """Asserts that a file only needs the C library, and that the wheel's tag allows its symbols of glibc."""
     libraries = re.findall(r"NEEDED +(\S+)", succeeds("objdump", "-p", file))
     versions = re.findall(r"\bGLIBC_([\d.]+)", succeeds("objdump", "-T", file))
-    newest = max((tuple(map(int, it.split("."))) for it in versions), default=())
+    newest = max((tuple(map(int, version.split("."))) for version in versions), default=())
     assert libraries == ["libc.so.6"]
     assert newest and newest <= OLDEST

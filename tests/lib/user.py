@@ -7,13 +7,13 @@ from pathlib import Path
 from lib.processes import Ended, run
 
 NOBODY = 65534
-# The words before a command by which it obeys the rights of files. Root's commands don't.
+# The words before a command by which the command obeys the rights of files. Root's commands don't.
 AS_NOBODY = ["setpriv", f"--reuid={NOBODY}", f"--regid={NOBODY}", "--clear-groups"] * (os.geteuid() == 0)
 LONGEST = 3600  # seconds that a script may take
 
 
 class User:
-    """One who owns what is below some folders. If this process isn't root, he is the one who started it."""
+    """The owner of all files below some folders: nobody, or who started this process if that isn't root."""
 
     def __init__(self, at: Path, home: Path, *owned: Path, path: str = "/usr/bin:/bin") -> None:
         self.at = at

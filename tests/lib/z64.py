@@ -18,7 +18,7 @@ CALL = ctypes.CFUNCTYPE(None)
 
 
 class Info(ctypes.Structure):
-    """What the library is given: its memories and registers, and what it may call."""
+    """The memories, the registers and the callbacks of the library."""
 
     _fields_ = [
         *((name, ctypes.c_void_p) for name in MEMORIES),
@@ -28,14 +28,14 @@ class Info(ctypes.Structure):
 
 
 def swapped(image: bytes) -> bytes:
-    """An image as the library keeps it: words in the order of this machine."""
+    """An image with the bytes of its words in this machine's order, as the library stores them."""
     return b"".join(image[at : at + 4][::-1] for at in range(0, len(image), 4))
 
 
 def run(plugin: str, imem: bytes, dmem: bytes) -> bytes:
-    """Runs a program from its images, and gives DMEM at its end.
+    """Runs a program from its images, and returns DMEM at its end.
 
-    A program may crash the library or never end: run it in a process of its own.
+    Run it in a process of its own, because it may crash the library or never end.
     """
     library = ctypes.CDLL(plugin)
     memories = ctypes.create_string_buffer(1 << 23), ctypes.create_string_buffer(8192)

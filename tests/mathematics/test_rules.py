@@ -12,7 +12,7 @@ from typing import Any, Dict, Iterator, List
 import pytest
 
 from lib.fixed_point import pack_halves, random_half, to_signed
-from lib.lanes import CLEAR, FLAGS, Flags, accumulators_of, after, case
+from lib.lanes import CLEAR, FLAGS, Case, Flags, accumulators_of, after, case
 from lib.pages import blocks, page, tables
 from rsp_conformance import bench
 from rsp_conformance.table import ROWS, word_of
@@ -41,14 +41,14 @@ def flags_of(look: Look, at: int) -> List[bool]:
     return [bool(int(look[register], 16) >> shift + at & 1) for register, shift in FLAGS.values()]
 
 
-def clip_states(random: Random) -> Iterator[Look]:
+def clip_cases(name: str) -> Iterator[Case]:
     """Operands of which many are equal, opposite or near that, and flags."""
+    random = Random(name)
     for _ in range(ROUNDS):
         a = [random_half(random) for _ in range(8)]
         b = [random.choice((it, -it, ~it, it + 1, 1 - it, random_half(random))) for it in a]
-        flags = {it: f"{random.getrandbits(16):04x}" for it in ("vco", "vcc")}
-        flags["vce"] = f"{random.getrandbits(8):02x}"
-        yield {**bench.DEFAULT, **flags, "v1": pack_halves(a).hex(), "v2": pack_halves(b).hex()}
+        flags = {it: f"{random.getrandbits(4 * len(CLEAR[it])):0{len(CLEAR[it])}x}" for it in CLEAR}
+        yield case(name, a, b, flags=flags)
 
 
 def divided(x: int) -> Look:
@@ -60,9 +60,8 @@ def divided(x: int) -> Look:
 
 @pytest.mark.parametrize("name", ["vch", "vcl", "vcr"])
 def test_clip(name: str, program: Path) -> None:
-    row, rule = ROWS[name], page_rules()[name]
-    cases = [(row, word_of(row, FIELDS), it) for it in clip_states(Random(name))]
-    for look in bench.observe(str(program), cases):
+    rule = page_rules()[name]
+    for look in bench.observe(str(program), [*clip_cases(name)]):
         before, after = look["before"], look["after"]
         for at in range(8):
             a, b = lane(before, "v1", at), lane(before, "v2", at)

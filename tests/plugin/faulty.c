@@ -10,23 +10,17 @@
 #include <sys/wait.h>
 #include <unistd.h>
 
-uint32_t __real_brsp_step(brsp_machine *m);
-uint32_t __real_brsp_run_until_move(brsp_machine *m, uint32_t n, uint32_t reads, uint32_t writes, brsp_move *out);
-uint32_t __wrap_brsp_step(brsp_machine *m);
-uint32_t __wrap_brsp_run_until_move(brsp_machine *m, uint32_t n, uint32_t reads, uint32_t writes, brsp_move *out);
+#define WRAP(result, name, parameters) result __real_##name parameters; result __wrap_##name parameters; result __wrap_##name parameters
 
-void *__real_malloc(size_t len), *__real_calloc(size_t n, size_t len), *__real_realloc(void *at, size_t len);
-void *__wrap_malloc(size_t len), *__wrap_calloc(size_t n, size_t len), *__wrap_realloc(void *at, size_t len);
-void __real_free(void *at), __wrap_free(void *at);
 static pid_t loaded_by;
 
 static __attribute__((constructor)) void note_process(void) { loaded_by = getpid(); }
-static void see_process(void) { if (getpid() != loaded_by) abort(); }
+static void check_process(void) { if (getpid() != loaded_by) abort(); }
 
-void *__wrap_malloc(size_t len) { return see_process(), __real_malloc(len); }
-void *__wrap_calloc(size_t n, size_t len) { return see_process(), __real_calloc(n, len); }
-void *__wrap_realloc(void *at, size_t len) { return see_process(), __real_realloc(at, len); }
-void __wrap_free(void *at) { see_process(), __real_free(at); }
+WRAP(void *, malloc, (size_t len)) { return check_process(), __real_malloc(len); }
+WRAP(void *, calloc, (size_t n, size_t len)) { return check_process(), __real_calloc(n, len); }
+WRAP(void *, realloc, (void *at, size_t len)) { return check_process(), __real_realloc(at, len); }
+WRAP(void, free, (void *at)) { check_process(), __real_free(at); }
 
 static uint32_t next_word(brsp_machine *m)
 {
@@ -47,8 +41,7 @@ static void spoil(brsp_machine *m, uint32_t word)
 }
 
 /* For a plugin with another DMA. */
-void __real_rows_out(rsp_unit *unit, uint32_t address, uint32_t length_word);
-void __wrap_rows_out(rsp_unit *unit, uint32_t address, uint32_t length_word)
+WRAP(void, rows_out, (rsp_unit *unit, uint32_t address, uint32_t length_word))
 {
     if (FAULT != 3) __real_rows_out(unit, address, length_word + (FAULT == 2 ? 8 : 0));
 }
@@ -66,14 +59,14 @@ static void end_children(void)
     if (in) fclose(in);
 }
 
-uint32_t __wrap_brsp_step(brsp_machine *m)
+WRAP(uint32_t, brsp_step, (brsp_machine *m))
 {
     uint32_t word = next_word(m), status = __real_brsp_step(m);
     if (status == BRSP_OK) spoil(m, word);
     return status;
 }
 
-uint32_t __wrap_brsp_run_until_move(brsp_machine *m, uint32_t n, uint32_t reads, uint32_t writes, brsp_move *out)
+WRAP(uint32_t, brsp_run_until_move, (brsp_machine *m, uint32_t n, uint32_t reads, uint32_t writes, brsp_move *out))
 {
     uint32_t steps = 0, status;
     if (FAULT == 4) end_children();

@@ -4,14 +4,13 @@ Each block of the scalar instructions that a plain big-endian MIPS has too is ru
 run`; the 32 scalar registers and the 4096 bytes of DMEM are compared. `BLOCKS=3000 tests/all
 tests/program/test_against_qemu.py` makes another number of blocks than 300, the same ones first.
 
-How a block runs on both: its words are in IMEM from 0 on, and in the ELF file that QEMU runs at 4000 hex, a
-multiple of 4096, so that the processor, which takes addresses modulo 4096, reads the same J and JR as QEMU.
-Data are at 0 to FFF hex for both. A block begins with LUI and ORI words for all registers, and goes on with
-random instructions, with short branches and jumps forward, and with counted loops. In a delay slot is a nop
-or an instruction that computes. On the processor it ends with BREAK; for QEMU with stores of all registers
-and a system call that writes them out.
+A block's words are in IMEM from 0 on, and in the ELF file that QEMU runs at 4000 hex, a multiple of 4096, so
+that the processor, which takes addresses modulo 4096, reads the same J and JR as QEMU. Data are at 0 to FFF
+hex for both. A block sets all registers, and continues with random instructions, short branches and jumps
+forward, and counted loops. A delay slot has a nop or an instruction that computes. On the processor the block
+ends with BREAK; for QEMU with stores of all registers and a system call that writes them out.
 
-Left out, since the two differ there on purpose or a plain MIPS lacks it:
+Left out, because the two differ there on purpose or a plain MIPS lacks it:
   - the overflow trap: QEMU runs ADD, SUB, ADDI as ADDU, SUBU, ADDIU, and LWU as LW
   - links (JAL, JALR, BLTZAL, BGEZAL), which are taken modulo 4096 here, a branch in a delay slot, and a block
     that passes the end of IMEM

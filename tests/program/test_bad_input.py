@@ -18,7 +18,7 @@ from typing import Any, Dict, Iterator, List, Optional
 import pytest
 
 from lib.program import content
-from lib.script_cases import SCRIPTS, Stored
+from lib.script_cases import SCRIPTS, ScriptCase
 
 STOP = re.compile(rb"stop (Reserved|Halted|Limit) steps (\d+) pc [0-9a-f]{3}")
 TOO_LONG = b"rsp: fault 42 ScriptTooLong\n"
@@ -117,8 +117,8 @@ def prefix_replies(name: str, script: bytes, replies: bytes, length: int) -> byt
 @pytest.mark.parametrize("name", ("blocks/block", "runs/watch", "registers/task-run"))
 def test_prefixes(name: str, rsp: Any, folder: Path) -> None:
     """Each prefix of a script gives exactly its replies, which follow from the stored ones."""
-    stored = Stored(SCRIPTS / f"{name}.script")
-    words, script, replies = stored.words(folder), stored.script, stored.wanted.output
+    stored = ScriptCase(SCRIPTS / f"{name}.script")
+    words, script, replies = stored.words(folder), stored.script, stored.expected.output
     for length in range(len(script) + 1):
         result = rsp(*words, script=script[:length])
         assert result == (0, prefix_replies(name, script, replies, length), b""), f"the first {length} bytes"

@@ -19,7 +19,7 @@ import pytest
 from lib import TOP, failing
 from lib.pages import page
 from lib.program import Result, need_binary, run_program
-from lib.script_cases import SCRIPTS, Stored
+from lib.script_cases import SCRIPTS, ScriptCase
 
 pytestmark = pytest.mark.needs("cc")
 
@@ -28,7 +28,7 @@ TEXT = b"loop: addiu $1, $1, 1\nbne $1, $2, loop\nnop\nbreak\n"
 BLOCK = b"step\nasm 0\n" + TEXT + b"end\nmem imem 0 16\n"
 BLOCK_REPLIES = b"step Done pc 004\nok 4 words\n000000: 242100011422fffe000000000000000d\n"
 LISTING = b"addiu $1, $1, 1\nbne $1, $2, 0x000\nnop\nbreak\n"
-TASK = Stored(SCRIPTS / "registers/task-run.script")
+TASK = ScriptCase(SCRIPTS / "registers/task-run.script")
 
 # The answers while the program reads its command line and its files. One allocation there only saves later
 # ones (for the list of arguments).
@@ -44,46 +44,42 @@ SESSION = (
 # test's own prints nothing. Tests that do their work twice print it for each time.
 ANSWERS = {
     "rsp_tests_script": {
-        "out_of_memory::a_text_is_assembled_when_memory_is_there": (
+        "a_text_is_assembled_when_memory_is_there": (
             r"((no memory at line 2;)+(no memory at line ([1-4][02468]|[468]);)+){2}"
         ),
-        "out_of_memory::a_text_is_explained_when_memory_is_there": r"(no memory for a label;)+",
-        "out_of_memory::labels_are_listed_when_memory_is_there": (
-            r"((no memory for a label;)+(no memory for the list;)+){2}"
-        ),
-        "out_of_memory::labels_are_added_when_memory_is_there": (
+        "a_text_is_explained_when_memory_is_there": r"(no memory for a label;)+",
+        "labels_are_listed_when_memory_is_there": r"((no memory for a label;)+(no memory for the list;)+){2}",
+        "labels_are_added_when_memory_is_there": (
             r"(no memory for a label at 0;)+(no memory for a label at 12;)*"
         ),
-        "out_of_memory::a_block_is_assembled_when_memory_is_there": (
+        "a_block_is_assembled_when_memory_is_there": (
             r"(no memory for loop: [^;]*;)+(no memory for nop;)*(no memory for end: [^;]*;)*"
             r"((no memory at line 1;)+(no memory at line 3;)*){2}"
         ),
-        "out_of_memory::a_session_goes_on_when_memory_is_there": SESSION,
-        "out_of_memory::a_line_is_answered_when_memory_is_there": SESSION,
+        "a_session_goes_on_when_memory_is_there": SESSION,
+        "a_line_is_answered_when_memory_is_there": SESSION,
         # The end of input ends a block without labels, which takes no memory.
-        "out_of_memory::a_bench_goes_on_when_memory_is_there": r";(no session;)+(no memory for a piece;)+",
-        "out_of_memory::a_script_in_pieces_is_answered_when_memory_is_there": (
-            r"(;(no memory for the script;)+){2}"
-        ),
-        "out_of_memory::a_script_is_answered_when_memory_is_there": (
+        "a_bench_goes_on_when_memory_is_there": r";(no session;)+(no memory for a piece;)+",
+        "a_script_in_pieces_is_answered_when_memory_is_there": r"(;(no memory for the script;)+){2}",
+        "a_script_is_answered_when_memory_is_there": (
             r"(;(no session;)+(no sink;)+(no memory after 17 bytes;)+){2}"
         ),
-        "out_of_memory::a_run_is_whole_when_memory_is_there": (
+        "a_run_is_whole_when_memory_is_there": (
             r"(no sink;;(no memory after 0 bytes;)+(no memory after 17 bytes;)+){2}"
         ),
     },
     "rsp_tests_machine": {
-        "out_of_memory::a_listing_is_assembled_when_memory_is_there": r"(no memory for a listing;)+",
-        "out_of_memory::a_machine_comes_back_when_there_is_no_memory": "".join(
+        "a_listing_is_assembled_when_memory_is_there": r"(no memory for a listing;)+",
+        "a_machine_comes_back_when_there_is_no_memory": "".join(
             rf";(no debugger of depth {n};)+" for n in (0, 1, 256, 4096)
         ),
     },
     "rsp_tests_cli": {
-        "program::out_of_memory::work_is_done_when_memory_is_there": (
+        "work_is_done_when_memory_is_there": (
             r";+((17 after 0;|;)+(43 after 0;)+(43 after 17;)+){2};+(17 after 0;|;)+"
         ),
-        "program::out_of_memory::arguments_are_read_when_memory_is_there": r";+(no memory for arguments;|;)+",
-        "program::out_of_memory::a_file_is_read_when_memory_is_there": r"(no memory for a file;)+",
+        "arguments_are_read_when_memory_is_there": r";+(no memory for arguments;|;)+",
+        "a_file_is_read_when_memory_is_there": r"(no memory for a file;)+",
     },
 }
 
@@ -123,7 +119,7 @@ def answers_of(
 
 @pytest.mark.parametrize(
     "script, output, first",
-    ((BLOCK, BLOCK_REPLIES, "(43 after 17;)+"), (TASK.script, TASK.wanted.output, "")),
+    ((BLOCK, BLOCK_REPLIES, "(43 after 17;)+"), (TASK.script, TASK.expected.output, "")),
     ids=("a block", "a task"),
 )
 def test_run(script: bytes, output: bytes, first: str, binary: Path, calls: Path, folder: Path) -> None:
@@ -166,13 +162,14 @@ def test_small_stack(words: str, script: bytes, output: bytes, binary: Path, fol
 @pytest.mark.parametrize(
     "crate, name",
     [(crate, name) for crate, named in ANSWERS.items() for name in named],
-    ids=lambda it: it.split("::")[-1],
+    ids=str,
 )
 def test_crates(crate: str, name: str, calls: Path) -> None:
     tests, answers = TOP / f"crates/{crate}/out/{crate}_tests", ""
+    path = "program::out_of_memory" if crate == "rsp_tests_cli" else "out_of_memory"
     if not tests.is_file():
         pytest.skip(f"{crate} has no built tests: `rt ci` builds them, or `rt test` in its folder")
-    for is_failed, ended in failing.runs(calls, [tests, name]):
+    for is_failed, ended in failing.runs(calls, [tests, f"{path}::{name}"]):
         printed, mark, _ = ended.stdout.decode().partition("\ntest result: ok")
         assert (ended.returncode, bool(mark)) == (0, True), (ended.stdout[-200:], ended.stderr[-200:])
         assert is_failed or not printed.strip(), "it prints something though nothing fails"

@@ -114,7 +114,7 @@ NewTrial = Callable[..., Trial]
 
 @pytest.fixture
 def new_trial(writer: Writer, folder: Path) -> NewTrial:
-    return lambda *arguments, **named: Trial(writer, folder, *arguments, **named)
+    return lambda *more, **named: Trial(writer, folder, *more, **named)
 
 
 @pytest.fixture
@@ -177,12 +177,18 @@ def test_killed_by_the_limit(trial: Trial) -> None:
     trial.run(trial.folder / "free", limited).assert_refused().assert_files("file", beside)
 
 
-def test_no_room_on_a_device(trial: Trial, folder: Path) -> None:
-    trial.run(devices.full(folder)).assert_refused()
+def link_to_itself(folder: Path) -> Path:
+    (folder / "around").symlink_to("around")
+    return folder / "around"
 
 
-def test_no_folder(trial: Trial, folder: Path) -> None:
-    trial.run(folder / "missing/file").assert_refused()
+@pytest.mark.parametrize(
+    "make",
+    (devices.full, lambda folder: folder / "missing/file", link_to_itself),
+    ids=("full", "no folder", "link to itself"),
+)
+def test_name_that_is_refused(make: Callable[[Path], Path], trial: Trial, folder: Path) -> None:
+    trial.run(make(folder)).assert_refused()
 
 
 # Names and modes.
@@ -255,12 +261,6 @@ def test_link_to_nothing(trial: Trial, folder: Path) -> None:
     bare.symlink_to("free")
     trial.run(bare).assert_saved(folder / "free")
     assert bare.is_symlink()
-
-
-def test_link_to_itself(trial: Trial, folder: Path) -> None:
-    around = folder / "around"
-    around.symlink_to("around")
-    trial.run(around).assert_refused()
 
 
 # What no new file can replace.

@@ -18,7 +18,7 @@ import pytest
 from lib import TOP
 from lib.processes import run
 from lib.program import Result, content, run_program
-from lib.script_cases import Stored, faults_in, stored
+from lib.script_cases import ScriptCase, all_cases, faults_in
 
 LONGEST_IMAGE = 8388608
 LONGEST_SCRIPT = 1048576
@@ -40,13 +40,13 @@ def packets(script: bytes, size: int) -> Iterator[IO[bytes]]:
         yield pipe
 
 
-@pytest.mark.parametrize("script", stored(), ids=str)
-def test_stored(script: Stored, rsp: Any, folder: Path) -> None:
+@pytest.mark.parametrize("script", all_cases(), ids=str)
+def test_stored(script: ScriptCase, rsp: Any, folder: Path) -> None:
     """Each script is answered alike however its bytes come."""
     words = script.words(folder)
 
     def check(how: str, result: Result) -> None:
-        assert result == script.wanted, how
+        assert result == script.expected, how
         is_kept = not script.is_saved or content(folder / "saved") == script.image()
         assert is_kept, f"{how}: the saved image isn't the one that was read"
 
@@ -58,10 +58,10 @@ def test_stored(script: Stored, rsp: Any, folder: Path) -> None:
             check(f"{size} bytes a read", rsp(*words, stdin=pipe))
 
 
-@pytest.mark.parametrize("script", stored(), ids=str)
-def test_strict(script: Stored, rsp: Any, folder: Path) -> None:
+@pytest.mark.parametrize("script", all_cases(), ids=str)
+def test_strict(script: ScriptCase, rsp: Any, folder: Path) -> None:
     """`--strict` changes the status and standard error, if a stored reply is a fault, and nothing else."""
-    expected = script.wanted
+    expected = script.expected
     faults = [*faults_in(script.script, expected.output)]
     assert len(faults) == (b"\n" + expected.output).count(b"\nfault ")
     if faults and not expected.status:
@@ -70,13 +70,13 @@ def test_strict(script: Stored, rsp: Any, folder: Path) -> None:
     assert not script.is_saved or content(folder / "saved") == script.image()
 
 
-@pytest.mark.parametrize("script", stored(), ids=str)
-def test_explained(script: Stored, rsp: Any, folder: Path) -> None:
+@pytest.mark.parametrize("script", all_cases(), ids=str)
+def test_explained(script: ScriptCase, rsp: Any, folder: Path) -> None:
     """`--explain` names the line of each fault among the replies, at most 20, and changes nothing else."""
-    words, faults = script.words(folder), [*faults_in(script.script, script.wanted.output)]
+    words, faults = script.words(folder), [*faults_in(script.script, script.expected.output)]
     (folder / "script").write_bytes(script.script)
     by_file, by_pipe = rsp(*words, "--explain", "script"), rsp(*words, "--explain", script=script.script)
-    assert by_file[:2] == by_pipe[:2] == script.wanted[:2]
+    assert by_file[:2] == by_pipe[:2] == script.expected[:2]
     for errors, head in ((by_file.errors, rb"script:"), (by_pipe.errors, rb"line ")):
         found = re.findall(rb"(?m)^%s(\d+): (fault .*)$" % head, errors)
         assert dict((int(line), reply) for line, reply in found).items() >= dict(faults[:20]).items()

@@ -4,12 +4,11 @@ It fails if such a DMA takes more than twice the host instructions of one inside
 counts them.
 """
 
-import re
 from pathlib import Path
 
 import pytest
 
-from lib.processes import run
+from measure.speed import host_instructions
 
 pytestmark = pytest.mark.needs("valgrind")
 
@@ -31,20 +30,15 @@ def script(register: int, word: int, address: int, steps: int) -> str:
     return f"asm 0\n{''.join(loads)}again: mtc0 $2, $c1\nj again\nmtc0 $1, $c{register}\nend\nrun {steps}\n"
 
 
-def instructions(program: Path, text: str) -> int:
-    """The host instructions of a script that runs to its limit."""
-    command = ["valgrind", "--tool=callgrind", "--callgrind-out-file=/dev/null", program, "run"]
-    output = run(*command, input=text).stdout
-    assert "stop Limit" in output, output
-    return int(re.findall(r"Collected : (\d+)", output)[0])
-
-
 @pytest.mark.parametrize("register", (2, 3), ids=("from RDRAM", "to RDRAM"))
 @pytest.mark.parametrize("word, steps", LENGTHS.values(), ids=LENGTHS)
 def test_dma_past_the_end(word: int, steps: int, register: int, program: Path) -> None:
-    start = instructions(program, script(5, word, 0, steps))  # register 5 keeps nothing, and starts no DMA
-    inside = instructions(program, script(register, word, 0, steps)) - start
+    def cost_of(register: int, address: int) -> int:
+        return host_instructions(([program, "run"], script(register, word, address, steps).encode()))
+
+    start = cost_of(5, 0)  # register 5 keeps nothing, and starts no DMA
+    inside = cost_of(register, 0) - start
     assert inside > 50 * steps
-    costs = {name: instructions(program, script(register, word, at, steps)) for name, at in PLACES.items()}
+    costs = {name: cost_of(register, address) for name, address in PLACES.items()}
     ratios = {name: (cost - start) / inside for name, cost in costs.items()}
     assert {name: ratio for name, ratio in ratios.items() if ratio > 2} == {}

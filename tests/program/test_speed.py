@@ -11,7 +11,6 @@ import pytest
 from lib.packages import need
 from lib.pages import data
 from lib.processes import run
-from measure import PROGRAM
 from measure.speed import LOOPS, by_calls, by_script, compile_caller, figure
 
 ROWS = {row["call"]: row for row in data("speed")}
@@ -34,5 +33,5 @@ def test_host_instructions(call: str, caller: Path) -> None:
         pytest.skip(f"the figures are those of {row['kit']} at {row['commit']}, and this is {kit}")
     for name in LOOPS:
         how = call.removeprefix("brsp_")
-        steps = by_script(PROGRAM, name) if call == "run" else by_calls(caller, how, name)
+        steps = by_script(name) if call == "run" else by_calls(caller, how, name)
         assert figure(steps, *STEPS) == pytest.approx(float(row[name]), rel=0.03), name

@@ -362,7 +362,8 @@ def test_explanation_of_size(rsp: Any, folder: Path) -> None:
 # Blocks of pages.
 
 
-# An overlay as libdragon links it, which adds two words of its data. `mark` is a label of data.
+# An overlay as libdragon links it: what begins at 0 adds two words of its data, and a command at 040 stores
+# a part of its first word. `mark` is a label of data.
 OVERLAY = """
     .set noreorder
     .text
@@ -374,6 +375,10 @@ _start: lw $a0, 0($0)
     break
 add: jr $ra
     addu $v0, $a0, $a1
+    .org 0x40
+command: andi $t0, $a0, 0xff
+    jr $ra
+    sw $t0, 12($0)
     .data
     .word 30, 12
 mark: .word 0, 0
@@ -392,7 +397,7 @@ def overlay(files: Files) -> Files:
     """The files with an ELF, and what the page makes of it up to the cleared code."""
     link(files.folder, OVERLAY)
     names = files.run_shell(block_with(ASSEMBLY, "mips-linux-gnu-objcopy -O binary -j .text"))
-    for form in "04000008 . mark", "04001000 T _start", "04001014 t add":
+    for form in "04000008 . mark", "04001000 T _start", "04001014 t add", "04001040 t command":
         assert re.search(rf"(?m)^{form}$", names), names
     files.run_shell(block_with(ASSEMBLY, "python3 -c 'code"))
     return files

@@ -1,12 +1,12 @@
 """The test vectors of conformance/, on the program and on the library.
 
-They fail as conformance/check and conformance/library do, whose checks these are: if a state differs, if a
-file isn't what conformance/generate makes, or if a tool of the suite doesn't find a planted fault. Each
-instruction is a test.
+They fail if a state differs, if a file isn't what conformance/generate makes, if forms of the vectors differ,
+or if a runner doesn't find a planted fault. Each instruction is a test.
 """
 
 import contextlib
 import io
+import itertools
 import json
 import os
 import re
@@ -22,7 +22,7 @@ import pytest
 from lib import TOP, devices
 from lib.pages import page
 from lib.processes import Ended, run, succeeds
-from rsp_conformance import bench, check, coverage, generate, run_programs, steps
+from rsp_conformance import bench, check, coverage, full, generate, run_programs, steps
 from rsp_conformance.command_line import Complaints
 from rsp_conformance.corrupt import spoilt_entries
 from rsp_conformance.library import IMAGE, run_row
@@ -62,11 +62,42 @@ def test_files_and_table() -> None:
 
 @NAMES
 def test_instruction(name: str, program: Path) -> None:
-    """Its programs end as they must, all forms agree, outcomes occur, and spoilt cases are found."""
+    """Its programs end as their files say, and its outcomes occur, as often as coverage.tsv says."""
     outcomes, table = check.outcomes_of(name), page("conformance/coverage.tsv").splitlines(True)
     lines = [line for line in table if line.startswith(f"{name}\t")]
     assert lines == [*coverage.table_lines(ROWS[name.lower()], outcomes)]
     assert_passes(check.check_instruction(str(program), name, outcomes))
+
+
+SIZES = {"dmem": 4096, "imem": 4096, "rdram": 1 << 17}
+BANKS = (("dmem", "ram", 0), ("imem", "ram", 4096), ("rdram", "rdram", 0))  # with their addresses in `full`
+
+
+def assert_same_state(found: Dict[str, Any], texts: Dict[str, Any], *states: Dict[str, Any]) -> None:
+    """A state of `full` has to have these registers, and the bytes of these states, one over the other."""
+    assert texts_of(found).items() <= texts.items()
+    memories, expected = ({"ram": bytearray(8192), "rdram": bytearray(1 << 17)} for _ in range(2))
+    for name, memory in memories.items():
+        for address, byte in found[name]:
+            memory[address] = byte
+    for state, (bank, name, start) in itertools.product(states, BANKS):
+        for address, text in state.get(bank, {}).items():
+            at = start + int(address, 16)
+            expected[name][at : at + len(text) // 2] = bytes.fromhex(text)
+    assert memories == expected
+
+
+@NAMES
+def test_full(name: str) -> None:
+    """The cases of `full` are those of `steps`."""
+    entries = entries_in(VECTORS, name)
+    cases = json.loads(full.full_text(entries))
+    assert len(cases) == len(entries)
+    for entry, case in zip(entries, cases):
+        before = {**bench.DEFAULT, **entry["before"]}
+        code = {"imem": {before["pc"]: entry["word"]}}
+        assert_same_state(case["initial"], before, before, code)
+        assert_same_state(case["final"], {**before, **entry["after"]}, before, code, entry["after"])
 
 
 FLAG_BITS = {"vco": ("carry", "not-equal"), "vcc": ("compare", "clip"), "vce": ("extra",)}
@@ -118,7 +149,7 @@ def runner_class() -> Any:
 
     class Rsp:
         def __init__(self) -> None:
-            self.machine, self.texts = rsp.Machine(bytes(check.SIZES["rdram"])), {**bench.DEFAULT}
+            self.machine, self.texts = rsp.Machine(bytes(SIZES["rdram"])), {**bench.DEFAULT}
 
         def set(self, key: str, text: str) -> None:
             self.texts[key] = text
@@ -130,7 +161,7 @@ def runner_class() -> Any:
             self.machine.load(bench.BANKS.index(bank), 0, data)
 
         def memory(self, bank: str) -> bytes:
-            return bytes(self.machine.memory(bench.BANKS.index(bank), 0, check.SIZES[bank]))
+            return bytes(self.machine.memory(bench.BANKS.index(bank), 0, SIZES[bank]))
 
         def step(self) -> None:
             self.machine.set(library_states.state_of(numbers_of(self.texts)))
@@ -160,32 +191,48 @@ def head_of(entry: Dict[str, Any]) -> str:
     return f"{entry['name']} ({entry['text']}{', choice' * ('choice' in entry)}), "
 
 
-@pytest.mark.parametrize("name", ("VADDC", "SQV", "MTC0", "BEQ", "STV"))
-def test_runner_of_steps(name: str, library: Path, folder: Path) -> None:
-    """The runner on the page passes an instruction's first cases, and names each that is spoilt."""
+RUNNERS = pytest.mark.parametrize("name", ("VADDC", "SQV", "MTC0", "BEQ", "STV"))
+
+
+@RUNNERS
+def test_runners_of_steps(name: str, program: Path, library: Path, folder: Path) -> None:
+    """The runner on the page and conformance/run pass an instruction's first cases, and name spoilt ones."""
     all_entries, random, path = entries_in(VECTORS, name), Random("runner", name), folder / "steps.jsonl"
     entries = [*all_entries[:2], *[entry for entry in all_entries if "choice" in entry][:1]]
     path.write_text("".join(f"{json.dumps(entry)}\n" for entry in entries))
     assert output_of_runner(0, path) == ""
+    assert not any(steps.run_entries(str(program), entries))
     for entry in entries:
-        for spoilt in spoilt_entries(entry, random):
-            path.write_text(json.dumps(spoilt))
-            assert output_of_runner(0, path).startswith(head_of(entry)), spoilt
+        spoilt = [*spoilt_entries(entry, random)]
+        for false, found in zip(spoilt, steps.run_entries(str(program), spoilt)):
+            path.write_text(json.dumps(false))
+            assert output_of_runner(0, path).startswith(head_of(entry)), false
+            assert found and all(complaint.startswith(f"{entry['name']} (") for complaint in found), false
 
 
-@pytest.mark.parametrize("name", ("VADDC", "SQV", "MTC0", "BEQ", "STV"))
-def test_runner_of_programs(name: str, library: Path, folder: Path) -> None:
-    """The runner on the page passes an instruction's programs, and names the case of a wrong byte."""
+@RUNNERS
+def test_runners_of_programs(name: str, library: Path, folder: Path) -> None:
+    """The runner on the page passes an instruction's programs, and names the case and the field of a wrong
+    byte. A missing byte is a difference for conformance/run.
+    """
     for path in (check.PROGRAMS / f"{name}.json", *check.PROGRAMS.glob(f"{name}-*")):
         (folder / path.name).write_bytes(path.read_bytes())
     assert output_of_runner(1, folder / f"{name}.json") == ""
-    spoilt = check.spoilt_program(name)
-    (folder / f"{spoilt.entry['name']}.after").write_bytes(spoilt.wrong)
-    at, difference = spoilt.address, f"expected {spoilt.wrong[spoilt.address]:02x}"
-    expected = (
-        f"{head_of(spoilt.case)}{spoilt.field}, DMEM {at:03x}: {difference}, got {spoilt.right[at]:02x}\n"
+    random = Random("spoilt", name)
+    entry = random.pick(manifest_in(VECTORS, name)["programs"])
+    case = random.pick(entry["cases"])
+    field, offset, length = random.pick(entry["layouts"][case["layout"]])
+    at, path = (int(case["at"], 16) + offset + random.below(length)) % 4096, folder / f"{entry['name']}.after"
+    right = path.read_bytes()
+    path.write_bytes(right[:at] + bytes([right[at] ^ 1]) + right[at + 1 :])
+    difference = f"expected {right[at] ^ 1:02x}, got {right[at]:02x}"
+    assert (
+        output_of_runner(1, folder / f"{name}.json")
+        == f"{head_of(case)}{field}, DMEM {at:03x}: {difference}\n"
     )
-    assert output_of_runner(1, folder / f"{name}.json") == expected
+    assert run_programs.complaints(entry, right, right[:at]) == [
+        f"{entry['name']}: {at} bytes, and 4096 are expected"
+    ]
 
 
 # A case of ADD, which changes no memory; $11 has the default value, 0b0b0b0b.

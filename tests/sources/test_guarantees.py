@@ -9,7 +9,7 @@ isn't there. They run nothing and prove nothing.
   docs/data/allocations.tsv       each public function that takes an allocator or may return AllocError; the
                                   tests are there
   docs/data/streams.tsv           each clause of run_bench
-  docs/data/without_mutants.tsv   each crate without a file must-fail/*.edit
+  docs/data/without_mutations.tsv   each crate without a file must-fail/*.edit
 
 Each part of what GUARANTEES has as proved has a contract or a law in the first two, and they have no other
 part. GUARANTEES names each module of the kit whose definitions the main theorem cites, and each file that is
@@ -184,7 +184,7 @@ def test_unproved_files() -> None:
 def is_a_test(name: str) -> bool:
     """Whether a test in which allocations fail has this name."""
     tests = (TESTS / "program/test_failing_allocations.py").read_text()
-    return f'::{name}"' in tests or (TESTS / "library/c" / name).is_file()
+    return f'"{name}"' in tests or (TESTS / "library/c" / name).is_file()
 
 
 def test_allocations() -> None:
@@ -224,7 +224,7 @@ def test_mutations() -> None:
     """The table names the crates that have none, and GUARANTEES says how many there are, rounded to tens."""
     count = {crate: len([*TOP.glob(f"crates/{crate}/must-fail/*.edit")]) for crate in crates()}
     assert_same_items(
-        [row["Crate"] for row in data("without_mutants")], [it for it in count if not count[it]]
+        [row["Crate"] for row in data("without_mutations")], [it for it in count if not count[it]]
     )
     assert f"refuses some {round(sum(count.values()), -1)} wrong bodies" in page(GUARANTEES)
 

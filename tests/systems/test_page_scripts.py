@@ -10,14 +10,14 @@ from typing import Any, Tuple
 import pytest
 
 import rsp
-from lib.script_cases import Stored, stored
+from lib.script_cases import ScriptCase, all_cases
 from lib.systems.page_driver import ENDLESS, ENTER, FIRST, LINKED, Host, Page, linked, replies_to, way_of
 from rsp_tools.systems import places
 
 pytestmark = pytest.mark.xdist_group("page")
 MOST = 400000  # lines that are shown
 BLOCK = 3  # lines of ENDLESS that have no reply
-ANSWERED = [it for it in stored() if not it.wanted[0]]
+ANSWERED = [it for it in all_cases() if not it.expected[0]]
 GIVEN = sorted(((way_of(n, it.script), it) for n, it in enumerate(ANSWERED)), key=lambda it: it[0])
 
 
@@ -31,9 +31,9 @@ def opened(host: Host, driver: Any, at: Path, request: pytest.FixtureRequest) ->
 
 
 @pytest.mark.parametrize("opened, script", GIVEN, indirect=["opened"], ids=str)
-def test_stored(opened: Tuple[Page, str], script: Stored) -> None:
+def test_stored(opened: Tuple[Page, str], script: ScriptCase) -> None:
     page, way = opened
-    image, expected = script.image(), script.wanted[1]
+    image, expected = script.image(), script.expected[1]
     page.give(script.script, way)
     if image is None:
         page.click("zeros")
@@ -53,7 +53,7 @@ def test_examples(page: Page) -> None:
     names = page.value("all('#example option').slice(1).map((it) => it.textContent)")
     assert {FIRST, "back: a watch and steps back", "scalar: adds up three words"} <= {*names}
     assert len(names) == len({*names})
-    held, found = {it.script for it in stored()}, []
+    held, found = {it.script for it in all_cases()}, []
     for number, name in enumerate(names):
         page.choose(number)
         script = page.saved_script()

@@ -13,7 +13,7 @@ from lib import TESTS, TOP
 from lib.library import LOCKSTEP
 from lib.pages import page
 from lib.processes import compiled, succeeds
-from lib.script_cases import Stored, stored
+from lib.script_cases import ScriptCase, all_cases
 from lib.systems import node
 from lib.systems.target_params import JAVASCRIPT, of, on
 from lib.systems.runners import assert_all_passed
@@ -116,7 +116,7 @@ def test_code_of_page(runner: Any, code: str, output: str) -> None:
     assert runner.says("page.js", code) == f"{output}\n"
 
 
-def as_case(script: Stored) -> Dict[str, Any]:
+def as_case(script: ScriptCase) -> Dict[str, Any]:
     """A script with its image, as scripts.js takes them."""
     image, text = script.image() or bytes(1 << 22), base64.b64encode(script.script).decode()
     about = {"length": len(image), "is_counting": any(image), "is_saved": script.is_saved}
@@ -126,10 +126,10 @@ def as_case(script: Stored) -> Dict[str, Any]:
 @on(*JAVASCRIPT)
 def test_scripts(runner: Any) -> None:
     """The replies to the scripts of the repository, and the images that must be left as they were."""
-    scripts = stored()
+    scripts = all_cases()
     (runner.at / "scripts.json").write_text(json.dumps([*map(as_case, scripts)]))
     found = json.loads(runner.test("scripts.js", "/at/scripts.json"))
-    expected = [["OUT_OF_RANGE" if it.wanted[0] else it.wanted[1].decode(), True] for it in scripts]
+    expected = [["OUT_OF_RANGE" if it.expected[0] else it.expected[1].decode(), True] for it in scripts]
     assert len(found) == len(scripts)
     assert [it for it in zip(map(str, scripts), found, expected) if it[1] != it[2]] == []
 

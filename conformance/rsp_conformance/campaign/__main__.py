@@ -88,8 +88,8 @@ def run(args: argparse.Namespace) -> None:
         progress.update(number, done, differ)
     progress.end()
     report(args, folder)
-    if note := folder.note_on_earlier_results():
-        write_output(f"{note}\n")
+    if folder.earlier_results:
+        write_output(f"{folder.note_on_earlier_results()}\n")
     if tasks_left := folder.tasks_left():
         why = lost or "-".join(map(str, tasks_left[0]))
         are = "isn't" if len(tasks_left) == 1 else "aren't"

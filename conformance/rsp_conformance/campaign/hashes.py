@@ -18,7 +18,8 @@ from . import CampaignFault, words_of
 SOURCES = HERE / "campaigns"
 HEADER = TOP / "library/c/brsp.h"
 # The library of a release archive, else that of the repository.
-LIBRARY = next((it for it in [TOP / "lib/libbrsp.a"] if it.is_file()), TOP / "library/c/libbrsp.a")
+PACKED = TOP / "lib/libbrsp.a"
+LIBRARY = PACKED if PACKED.is_file() else TOP / "library/c/libbrsp.a"
 
 
 def find_module(name: str) -> Optional[ModuleSpec]:

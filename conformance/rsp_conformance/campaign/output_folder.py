@@ -91,15 +91,12 @@ class OutputFolder:
         return f"its {key.replace('_', '-')} {'are' if key.endswith('s') else 'is'} {text[:200]}"
 
     def note_on_earlier_results(self) -> str:
-        """Sentences about the results that an earlier run has left; empty if there are none."""
-        if not self.earlier_results:
-            return ""
+        """Sentences about the results that an earlier run has left."""
         more = [f"{len(self.files) - LISTED} more"] if len(self.files) > LISTED else []
         files = printable(", ".join([*self.files[:LISTED], *more])) or "none"
         tasks = f"{self.earlier_results} of {plural(len(self.tasks), 'task')}"
-        where = f"whose results an earlier run has left in {printable(str(self.out))}"
-        why = f"They count because these files of the emulator haven't changed since: {files}."
-        return f"Not run again: {tasks}, {where}. {why} If it has others, name them by --files."
+        why = f"because these files of the emulator haven't changed since an earlier run: {files}"
+        return f"Not run again: {tasks}, {why}. If it has others, name them by --files."
 
     def path_of(self, task: Task) -> Path:
         return self.out / file_of(task)

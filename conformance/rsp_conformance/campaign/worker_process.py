@@ -43,17 +43,17 @@ class Cases:
         pc = int(case["state"]["pc"])
         return f"{name_of(self.name, self.seed, number)} ({named(int(case['word']), pc)} at {pc:03x}"
 
-    def shown(self, number: int, case: Array, expected: Array, got: Array, whole: bool) -> str:
+    def describe(self, number: int, case: Array, expected: Array, got: Array, in_full: bool) -> str:
         """A case that differs, on one line, or on several with all that it reads."""
         word, state = int(case["word"]), rsp.State.from_buffer_copy(case["state"].tobytes())
         lines = [*differences(expected, got), *self.memories_after(case, expected, got)]
         head = self.head(number, case)
-        if not whole:
+        if not in_full:
             return f"{head}{operands_read.in_brief(self.name, word, state, lines[0])}): {in_brief(lines)}"
         before = operands_read.reads_of(self.name, word, state, self.memories)
         return "\n  ".join([f"{head})", *(f"before: {what} {value}" for what, value in before), *lines])
 
-    def batch(self, at: int, n: int, ends: Array, room: int, whole: bool) -> Result:
+    def batch(self, at: int, n: int, ends: Array, room: int, in_full: bool) -> Result:
         """The result of `n` cases, with at most `room` shown, because showing one takes milliseconds."""
         cases, choices = cases_of(self.name, self.seed, at, n)
         ends["status"] = UNDONE
@@ -66,9 +66,9 @@ class Cases:
         differ &= ~unshown & ~missing
         found = np.nonzero(differ)[0]
         shown = [
-            self.shown(at + i, cases[i], self.expected[i], ends[i], whole) for i in found[:room].tolist()
+            self.describe(at + i, cases[i], self.expected[i], ends[i], in_full) for i in found[:room].tolist()
         ]
-        if whole and missing.any():
+        if in_full and missing.any():
             shown = [f"{self.head(at, cases[0])}): not there, {NOT_THERE}"]
         return {
             "count": n,
@@ -82,13 +82,13 @@ class Cases:
 
 
 def check_cases(
-    spec: str, name: str, seed: str, start: int, count: int, ends: Array, whole: bool = False
+    spec: str, name: str, seed: str, start: int, count: int, ends: Array, in_full: bool = False
 ) -> Iterator[Result]:
     """Yields an empty result when both sides have begun, and then the result of each batch."""
     cases, room = Cases(spec, name, seed), SHOWN
     yield {"count": 0, "unseen": cases.sides.unseen}
     for at in range(start, start + count, BATCH):
-        result = cases.batch(at, min(BATCH, start + count - at), ends, room, whole)
+        result = cases.batch(at, min(BATCH, start + count - at), ends, room, in_full)
         room -= len(result["shown"])
         yield result
 

@@ -11,7 +11,8 @@ use rsp_memory::Rdram;
 use rsp_script_io::{RunFault, Sink, Source, answer_script};
 use std::alloc::Global;
 
-/// How a run of a script ended. What it had written is a clause of [`run_bench`].
+/// How a run of a script ended. What it had written is a clause of [`run_bench`]. Each call that can meet the end of a script has a
+/// type of its own for that end, because with one type for all each caller would have to exclude ends that can't occur.
 #[derive(Drop)]
 pub enum BenchEnd {
     /// The whole script is answered. The session is the one that its lines left.

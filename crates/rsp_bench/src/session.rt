@@ -39,7 +39,8 @@ impl Model for Session {
 
 impl Session {
     /// A session whose machine has this image of the RDRAM, and all else as at the start: no breakpoint, no watch, no history and
-    /// no open block. The memory for its history of 256 steps is taken here. If there is none, the image is handed back.
+    /// no open block. The memory for its history of 256 steps is taken here, so that no step can run out of memory. If there is none,
+    /// the image is handed back.
     #[tactic(auto, unfolding(rsp_machine::specs::State::start_of))]
     pub fn try_new(alloc: Global, image: Rdram) -> Result<Session, (Rdram, AllocError)>
         ensures ok { IfOk result (λ session. session ≡ first_session image) }
@@ -137,7 +138,9 @@ impl Session {
         Ok(())
     }
 
-    /// Carries out a command, and returns its reply. The operands must be in the ranges that `parse_line` promises.
+    /// Carries out a command, and returns its reply. The operands must be in the ranges that `parse_line` promises. Every command is
+    /// taken, because a caller may make commands without `parse_line`: one that makes no sense at this moment, such as a line of a
+    /// block while none is open, gets the reply BadCommand.
     ///
     /// AllocError if there is no memory: then the session stays as it was, and a block stays open. Only a line of an open block
     /// and its `end` may need memory. AllocError hides no fault of the block's text: at an `end` it comes at a line with a label,

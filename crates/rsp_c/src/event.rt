@@ -88,7 +88,9 @@ fn is_status_write(end: MoveEnd) -> bool
     )
 }
 
-/// Makes the step of a write of SP_STATUS, after a run of `steps`, and reports what that comes to.
+/// Makes the step of a write of SP_STATUS, after a run of `steps`, and reports what that comes to. The call makes this step itself,
+/// because the step alone knows whether the interrupt was raised, and a breakpoint after it would be missed if the caller made it. It
+/// ends after each such write, because a loop inside the call would need a definition of its own.
 fn step_status<A: Acc>(debugger: &mut Debugger<A>, steps: u32) -> RspReached
     requires { steps < 1000000 }
     ensures reached { result ≡ c_after_status steps debugger.old }

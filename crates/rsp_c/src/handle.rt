@@ -121,8 +121,9 @@ impl Drop for Handle {
     }
 }
 
-/// Owns a bench, or nothing. In C it is `brsp_session`, a struct of one pointer. An export of a generic struct is refused, so this says again
-/// what [`Handle`] says of a debugger.
+/// Owns a bench, or nothing. In C it is `brsp_session`, a struct of one pointer. A bench isn't a machine with more calls, because each
+/// call on a machine would then have to say what it does to a script that is only partly answered. An export of a generic struct is
+/// refused, so this says again what [`Handle`] says of a debugger.
 #[repr(C)]
 pub struct BenchHandle {
     at: *mut u8,

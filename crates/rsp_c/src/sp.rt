@@ -1,4 +1,5 @@
-// SP registers, as the CPU reads and writes them. Their numbers are taken modulo 16.
+// SP registers, as the CPU reads and writes them. Their numbers are taken modulo 16. Calls on all registers pass sixteen words, each
+// as a read returns it, because emulators and test vectors have the registers in this form.
 
 ghost use Rattle.std.specs.Prelude.{◌≡◌, IsTrue, option_map};
 ghost use Rattle.rsp_machine.specs.Host.{register_written};

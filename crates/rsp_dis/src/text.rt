@@ -137,7 +137,7 @@ fn word_line(word: u32, address: u16, labels: Option<&Targets>) -> Line
 ///
 /// - The word 0 is `nop`.
 /// - `.word 0x` and eight digits is a reserved word, a word with an ignored bit set, or a branch whose target, without wrapping,
-///   is outside IMEM.
+///   is outside IMEM, because targets in a text are addresses from 0 to 4092.
 /// - Every other word is its instruction's name and operands, in lower case.
 pub fn text_of(word: u32, address: u16) -> Line
     requires { address < 4096 }

@@ -2,7 +2,8 @@
 //! in the folder `microcode`, and models for authors of theorems.
 //!
 //! A routine is a module whose `words` returns its words. The contract says which text they are assembled from, and
-//! what steps over them do, from every state that meets the preconditions.
+//! what steps over them do, from every state that meets the preconditions. A routine for any number of bytes stores whole
+//! vectors, because masking the stores would cost instructions in every round.
 #![tactic(auto)]
 
 pub mod add_buffers;

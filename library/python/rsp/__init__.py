@@ -396,13 +396,15 @@ def _move_stop_of(out: _Move) -> Stop:
 
 def _word_array(call: str, words: Iterable[int]) -> Any:
     """An array of C with the words."""
-    numbers = _errors.words_of(call, words)
+    items = _errors.items_of(call, words)
     try:
-        return (c_uint32 * len(numbers)).from_buffer(array("I", numbers))
-    except OverflowError:
-        n, number = next(pair for pair in enumerate(numbers) if not 0 <= pair[1] < 1 << 32)
-        text = f"{call}: words[{n}] is {number}, not {_errors.WORD.text}"
-        raise RspError(Status.OUT_OF_RANGE, text) from None
+        return (c_uint32 * len(items)).from_buffer(array("I", items))
+    except (OverflowError, TypeError):
+        for n, number in enumerate(_errors.integers(call, items, "words[{}]")):
+            if not 0 <= number < 1 << 32:
+                text = f"{call}: words[{n}] is {number}, not {_errors.WORD.text}"
+                raise RspError(Status.OUT_OF_RANGE, text) from None
+        raise
 
 
 class Words(List[int]):
@@ -600,6 +602,14 @@ class Machine(_Owner):
         numbers = _numbers(call, *given)
         self._call(call, *numbers, byref(cast(Any, out)), numbers=numbers)
         return out
+
+    def _word(self, call: str, number: int) -> int:
+        """A word by the number of its register. The test alone costs less than `_numbers`."""
+        if type(number) is not int or not 0 <= number < 1 << 32:
+            (number,) = _numbers(call, number)
+        out = c_uint32()
+        self._call(call, number, byref(out), numbers=(number,))
+        return out.value
 
     def _fill_alone(self, call: str, out: _S, *given: int) -> _S:
         """As `_fill`, of a call that may take long."""
@@ -816,7 +826,7 @@ class Machine(_Owner):
 
     def reg(self, number: int) -> int:
         """Scalar register `number`, 0 to 31."""
-        return self._fill("reg", c_uint32(), number).value
+        return self._word("reg", number)
 
     def regs(self) -> Scalars:
         """pc, npc and the scalar registers."""
@@ -870,11 +880,11 @@ class Machine(_Owner):
     def read(self, number: int) -> int:
         """Reads SP register `number`, modulo 16, as the CPU does. A read of the semaphore, 7, takes it and
         empties the history."""
-        return self._fill("read", c_uint32(), number).value
+        return self._word("read", number)
 
     def peek(self, number: int) -> int:
         """The word that a read of SP register `number`, modulo 16, would give."""
-        return self._fill("peek", c_uint32(), number).value
+        return self._word("peek", number)
 
     def write(self, number: int, value: int) -> None:
         """Writes SP register `number`, modulo 16, as the CPU does, with its DMA, and empties the history."""

@@ -2,7 +2,7 @@
 
 import operator
 from ctypes import Structure, c_int64, c_size_t, c_uint32
-from typing import Any, Dict, NamedTuple, Sequence, Tuple
+from typing import Any, Dict, List, NamedTuple, Optional, Sequence, Tuple
 
 from .fields import alike, list_of
 from .formatting import SP_NAMES
@@ -150,12 +150,12 @@ def script_of(call: str, script: Any) -> bytes:
     return script.encode() if isinstance(script, str) else bytes_of(call, "script", script)
 
 
-def words_of(call: str, words: Any) -> Tuple[int, ...]:
-    """The items of an iterable as integers."""
-    items = list_of(words)
+def items_of(call: str, words: Any) -> List[Any]:
+    """The items of an iterable of words."""
+    items: Optional[List[Any]] = list_of(words)
     if items is None:
         raise TypeError(f"{call}: words is of type {type(words).__name__}, not a list of integers")
-    return integers(call, items, "words[{}]")
+    return items
 
 
 # What `set` takes in a field.

@@ -18,7 +18,7 @@ LOOP_WORDS = "addiu $1, $1, -1\nbne $1, $0, 0x000\nnop\nbreak\n"
 BARE = {"PATH": "/usr/bin:/bin", "LC_ALL": "C"}  # the environment of one who has nothing else
 
 
-def given(config: pytest.Config, system: str) -> list[Path]:
+def archives_for(config: pytest.Config, system: str) -> list[Path]:
     """The archives for a system among the files and folders of the option --archive."""
     roots = [Path(name) for name in config.getoption("--archive")]
     paths = [path for root in roots for path in (sorted(root.glob("rsp-*")) if root.is_dir() else [root])]

@@ -16,7 +16,7 @@ from lib.library.programs import HERE, assert_passes, built
 from lib.processes import compiled, succeeds
 from lib.program import run_program
 from lib.sanitizers import sanitizers
-from lib.script_cases import stored
+from lib.script_cases import all_cases
 from rsp_tools.systems import places
 
 pytestmark = [pytest.mark.needs("cc"), pytest.mark.usefixtures("library")]
@@ -41,9 +41,9 @@ def test_lockstep(words: Tuple[str, ...], folder: Path) -> None:
 def test_scripts(words: Tuple[str, ...], folder: Path) -> None:
     """All stored scripts, seven bytes a call."""
     session, image = built(folder, HERE / "script.c", *words), folder / "image"
-    for script in stored():
+    for script in all_cases():
         image.write_bytes(script.image() or bytes(4194304))
-        assert run_program(session, [7, image, "/dev/null"], script.script) == script.wanted, script
+        assert run_program(session, [7, image, "/dev/null"], script.script) == script.expected, script
 
 
 def test_allocator(words: Tuple[str, ...], folder: Path) -> None:

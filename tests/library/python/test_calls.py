@@ -18,7 +18,7 @@ from lib import TOP
 from lib.library.module import assert_raises, assert_refused, loaded
 from lib.processes import succeeds
 from rsp import Reason, RspError, State, Status
-from rsp.errors import ARGUMENTS
+from rsp.errors import ARGUMENTS, WORD
 
 OUT = Status.OUT_OF_RANGE
 ANY: Any = rsp  # for calls that types forbid
@@ -41,8 +41,8 @@ CALLS: Dict[str, Tuple[Any, ...]] = {
     "copy": (), "get": (), "set": (State(),), "load": (0, 0, b"abcd"), "load_words": (0, 0, [1]),
     "memory": (0, 0, 4), "memory_words": (0, 0, 1), "start_task": (0,), "set_pc": (8,), "step": (),
     "step_changes": (), "run": (1,), "run_until_move": (1, 0, 0), "trace": (1,), "back": (1,),
-    "pass_move": (0,), "add_break": (4,), "drop_break": (4,), "add_watch": (0, 4), "drop_watch": (0,),
-    "reg": (1,), "regs": (), "vreg": (1,), "set_reg": (1, 2), "set_vreg": (1, range(8)), "acc": (),
+    "pass_move": (0,), "add_break": (4,), "drop_break": (4,), "add_watch": (0, 1), "drop_watch": (0,),
+    "reg": (1,), "regs": (), "vreg": (1,), "set_reg": (1, 0), "set_vreg": (1, range(8)), "acc": (),
     "flags": (), "divider": (), "read": (7,), "peek": (7,), "write": (4, 2), "sp": (),
     "set_sp": (rsp.SpWords(),), "listing": (0, 1), "event": (1, 0, 0), "pass_dma": (), "history": (),
     "close": (),
@@ -122,7 +122,8 @@ def call_with(name: str, numbers: Any) -> None:
 
 @pytest.mark.parametrize("name", sorted({*ARGUMENTS} - {"missing"}))
 def test_ranges(name: str) -> None:
-    """A number is refused just outside its range, by a message that names it, and not at the range's ends."""
+    """A number is refused just outside its range, by a message that names it, and not at the range's ends,
+    except that an address or a length below 2**32 may be outside a memory."""
     valid = CALLS.get(name, (0, 0) if name == "text" else (1, 1))[: len(ARGUMENTS[name])]
     for n, (argument, (allowed, text)) in enumerate(ARGUMENTS[name].items()):
 
@@ -139,7 +140,7 @@ def test_ranges(name: str) -> None:
             try:
                 call(value)
             except RspError as refused:
-                assert f": {argument} is " not in str(refused)
+                assert refused.status is not OUT or allowed == WORD.numbers
         for wrong in ("5", 2.0, None, [7]):
             kind = f"{name}: {argument} is of type {type(wrong).__name__}, not an integer"
             assert_raises(TypeError, kind, call, wrong)

@@ -295,6 +295,14 @@ def test_packets() -> None:
     assert [(asked.reply(it) or b"")[:3] for it in (b"Z2,0,4", b"bc", b"c")] == [b"OK", b"T02", b"T02"]
 
 
+def test_semaphore() -> None:
+    """A read by `monitor` takes it, which going back and forth doesn't undo."""
+    asked = stub()
+    asked.line.goto(10)
+    assert asked.reply(b"qRcmd," + b"read 7".hex().encode()) == b"c7 00000000\n".hex().encode()
+    assert (asked.line.goto(5), asked.line.goto(10), asked.line.machine.peek(7)) == (5, 10, 1)
+
+
 def test_wire() -> None:
     """A wrong sum, a packet in parts, one that is sent again, one that is too long, and Ctrl-C."""
     source, to = os.pipe()

@@ -134,7 +134,7 @@ def test_suite(by: str, passes: str, site: Path, folder: Path) -> None:
 
 @pytest.mark.needs("cc", "ar")
 @pytest.mark.parametrize(
-    ("without", "wanted"),
+    ("without", "expected"),
     [
         ("", "libbrsp.so has version 2 of the interface, and this module is for 1"),
         ("brsp_image_length", "libbrsp.so is older than this package: it lacks brsp_image_length"),

@@ -17,7 +17,7 @@ import pytest
 import rsp
 from lib.library.module import assert_raises, assert_refused
 from lib.program import content, run_program
-from lib.script_cases import Stored, stored
+from lib.script_cases import ScriptCase, all_cases
 from rsp import RspError, Status
 
 LONGEST = 1048576
@@ -56,10 +56,10 @@ def assert_equal(name: str, result: Pair, expected: Pair) -> None:
     assert is_equal, f"{name}: the image differs"
 
 
-@pytest.mark.parametrize("script", stored(), ids=str)
-def test_stored(script: Stored, program: Path, folder: Path) -> None:
+@pytest.mark.parametrize("script", all_cases(), ids=str)
+def test_stored(script: ScriptCase, program: Path, folder: Path) -> None:
     """The replies that are stored, and the image that the program leaves."""
-    given, (status, expected, _) = script.image(), script.wanted
+    given, (status, expected, _) = script.image(), script.expected
     if status:
         assert_refused(Status.OUT_OF_RANGE, rsp.run_script, script.script, given)
         return
