@@ -4,8 +4,8 @@ These are host instructions, as valgrind's callgrind counts them, for each step 
 instructions, vector computing instructions, and both mixed with loads and stores. The steps are made by calls
 of the library for C (measure/speed.c), without a history and with one of 100 states, and by the program's
 `run`, which records its steps too: with nothing to stop at, with a breakpoint that is never reached, and with
-a watch of bytes that never change. Then follow lines of a script: what the program takes to read one, to carry
-it out and to write its reply.
+a watch of bytes that never change. Then follow calls without a step, and lines of a script: what the program
+takes to read one, to carry it out and to write its reply.
 
 A figure is the difference between a long and a short run, divided by the difference of their steps or lines.
 With --time, `run` and the plugin z64 take turns, and the least time counts, so that other work disturbs
@@ -57,6 +57,7 @@ CALLS = {
     "`brsp_run` of one step": "run1",
     "`brsp_step_changes`": "changes",
 }
+OTHER_CALLS = {"`brsp_reg`": "reg", "`brsp_get`": "get", "`brsp_set`": "set"}
 STOPS = {"`run`": "", "`run`, one breakpoint": "break 4092", "`run`, one watch": "watch 4000 4"}
 # Lines of a script. They are carried out while IMEM has a loop of two words, `j 0` and `nop`.
 COMMANDS = "step|run 1|pc 0|read 4|write 4 0|regs|vregs|acc|flags|sp|mem dmem 0 256|dis 0 64"
@@ -160,6 +161,8 @@ def print_steps() -> None:
         for depth, more in ((0, ""), (100, ", a history of 100 states")):
             for title, how in CALLS.items():
                 print_row(title + more, [figure(by_calls(caller, how, name, depth)) for name in LOOPS])
+        for title, how in OTHER_CALLS.items():
+            print_row(title, [figure(by_calls(caller, how, "scalar"))])
     for title, before in STOPS.items():
         print_row(title, [figure(by_script(name, before)) for name in LOOPS])
     print()

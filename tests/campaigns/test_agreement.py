@@ -34,7 +34,7 @@ def test_library_agrees_with_itself(kind: str, folder: Path) -> None:
 
 def test_results_after_a_stop(folder: Path) -> None:
     """A campaign that was killed continues, and has the results of one that wasn't."""
-    words = (built("library"), "--instructions", FEW, "--cases", 4000, "--size", 500)
+    words = (built("library"), "--instructions", FEW, "--cases", 1000, "--size", 500)
     output_of(folder / "whole", *words)
     process = subprocess.Popen([CAMPAIGN, *map(str, words), "--here", folder / "killed"], cwd=SOURCES)
     while process.poll() is None and len([*folder.glob("killed/*-*.json")]) < 3:
@@ -42,7 +42,7 @@ def test_results_after_a_stop(folder: Path) -> None:
     process.kill()
     process.wait()
     left = {path.name: path.stat().st_mtime_ns for path in folder.glob("killed/*-*.json")}
-    assert len(left) < 64
+    assert len(left) < 16
     output_of(folder / "killed", *words)
     assert results_of(folder / "killed") == results_of(folder / "whole")
     assert all((folder / "killed" / name).stat().st_mtime_ns == written for name, written in left.items())

@@ -45,9 +45,9 @@ def test_rsp(block: Block, program: Path) -> None:
     blocks = blocks_in(block.page)
     session = ""
     if block.option == "continues":
-        earlier = [it for it in blocks[: blocks.index(block)] if it.kind == "rsp"]
-        first = max(i for i, it in enumerate(earlier) if it.option == "")
-        session = "".join(it.text for it in earlier[first:])
+        before = [other for other in blocks[: blocks.index(block)] if other.kind == "rsp"]
+        first = max(i for i, other in enumerate(before) if other.option == "")
+        session = "".join(other.text for other in before[first:])
     turns = split_replies(block.text)[1]
     lacking = [command for command, reply in turns if not reply]
     assert not lacking, f"these commands have no reply: {lacking}"
@@ -79,7 +79,7 @@ def test_quoted(block: Block) -> None:
         [line.strip() for line in text.strip("\n").splitlines()] for text in (page(name), block.text)
     )
     assert matches(lines, ["..", *quoted, ".."])
-    assert name.startswith("conformance/") or f"`{name.partition('crates/')[2]}`" in page(block.page)
+    assert not name.startswith("crates/") or f"`{name.partition('crates/')[2]}`" in page(block.page)
 
 
 @for_blocks("in the repository", lambda block: block.mark.get("run") == "in the repository")

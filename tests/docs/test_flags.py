@@ -60,8 +60,8 @@ def test_table_of_flags(program: Path) -> None:
     states = [random_state(chance) for _ in range(STATES)]
     turned = [(a, b, flags) for a, b, f in states for flags in (f, *(flipped(f, flag) for flag in FLAGS))]
     cases = {name: [case(name, a, b, flags=flags) for a, b, flags in turned] for name in NAMES}
-    looks = iter(after(str(program), [it for of_name in cases.values() for it in of_name]))
+    looks = iter(after(str(program), [entry for of_name in cases.values() for entry in of_name]))
     for name, of_name in cases.items():
-        ran = [(it, next(looks)) for it in of_name]
+        ran = [(entry, next(looks)) for entry in of_name]
         actual = {flag: uses(flag, ran) for flag in FLAGS}
         assert listed.get(name, dict.fromkeys(FLAGS, ())) == actual, name

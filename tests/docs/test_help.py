@@ -51,9 +51,3 @@ def test_command(words: List[str]) -> None:
     """It answers --help with its usage, and does nothing else."""
     ended = run_program(TOP / words[0], [*words[1:], "--help"], cwd=TOP, stdin=subprocess.DEVNULL)
     assert ended.status == 0 and not ended.errors and " ".join(words) in ended.output.decode()
-
-
-def test_all() -> None:
-    """`tests/all --help` is pytest's, with the tests' own option."""
-    ended = run_program(TOP / "tests/all", ["--help"], cwd=TOP, stdin=subprocess.DEVNULL)
-    assert ended.status == 0 and b"--program" in ended.output

@@ -68,7 +68,7 @@ MORE = {
     "vendor": "docs/EMBEDDING.md examples/c/console.hpp examples/first.rsp",
     "wasm64": "docs/EMBEDDING.md examples/js/lockstep.js microcode/copy.s",
 }
-SYSTEMS = [it.name for it in (*CROSS, PAGE)]
+SYSTEMS = [target.name for target in (*CROSS, PAGE)]
 # What none of them has, since it was never run there, or is in an archive of its own.
 ABSENT = "plugin docs/PLUGIN.md docs/CAMPAIGN.md conformance".split()
 ABOUT = About(install_tree.version()[0], "2000-01-01", "0123", 946684800, "no logic")
@@ -78,9 +78,9 @@ outside = pytest.mark.outside("it tests archives of other systems: `--archive di
 def made_files(system: str) -> List[str]:
     """The files that tools/systems makes for an archive; the first is the library."""
     target = TARGETS[system]
-    names = [target.shared, target.program, *(f"lib/{it}" for it in target.rust.values())]
+    names = [target.shared, target.program, *(f"lib/{name}" for name in target.rust.values())]
     names += ["lib/libbrsp.so.1"] * target.is_linux
-    return [it for it in (*names, *MADE.get(system, "").split()) if it]
+    return [name for name in (*names, *MADE.get(system, "").split()) if name]
 
 
 def more_files(system: str) -> List[str]:
@@ -96,14 +96,14 @@ def check_files(top: Path, system: str) -> None:
     """The files that it has and hasn't, those that its README names, and the links of its pages."""
     check_common(top)
     assert broken_everywhere(top, 0 if system == "page" else 21) == []
-    assert [it for it in made_files(system) + more_files(system) if not (top / it).exists()] == []
-    assert [it for it in ABSENT if (top / it).exists()] == []
+    assert [name for name in made_files(system) + more_files(system) if not (top / name).exists()] == []
+    assert [name for name in ABSENT if (top / name).exists()] == []
     text = (top / "README.md").read_text()
     assert text.startswith(f"# rsp {install_tree.version()[0]} for ")
     folders = "bin|lib|include|share|python|library|examples|conformance"
     named = re.findall(rf"(?<![\w/\\~-])(?:{folders})[/\\][\w./\\*-]+", text.replace(elsewhere(top), ""))
-    paths = [it.replace("\\", "/") for it in named]
-    assert [it for it in paths if not [*top.glob(it), *top.glob(f"{it}.exe")]] == []
+    paths = [path.replace("\\", "/") for path in named]
+    assert [path for path in paths if not [*top.glob(path), *top.glob(f"{path}.exe")]] == []
 
 
 def stand_in(system: str, folder: Path) -> None:
@@ -165,7 +165,7 @@ def top(packed_for: Path, folder: Path) -> Path:
 
 
 def of(*names: str) -> pytest.MarkDecorator:
-    return pytest.mark.parametrize("system", [pytest.param(it, marks=outside) for it in names])
+    return pytest.mark.parametrize("system", [pytest.param(name, marks=outside) for name in names])
 
 
 @of(*SYSTEMS)
@@ -309,7 +309,7 @@ def test_macos(top: Path, folder: Path) -> None:
 def test_package(packed_for: Path, top: Path) -> None:
     described = json.loads((top / "package.json").read_text())
     named = [described["types"], described["exports"]["."]["default"], described["exports"]["./rsp.wasm"]]
-    assert [it for it in named if not (top / it).is_file()] == []
+    assert [name for name in named if not (top / name).is_file()] == []
     assert f"-{described['version']}-" in packed_for.name
     assert (top / "rsp.d.ts").read_text() == page("library/js/rsp.d.ts")
 
@@ -362,8 +362,8 @@ NEAR = ("http://www.w3.org/", "http://127.0.0.1:", "http://localhost:")
 def loaded(path: Path) -> Iterator[Path]:
     """What a file of the page loads."""
     if path.suffix in (".html", ".js"):
-        found = ["".join(it) for it in re.findall(LOADED, path.read_text())]
-        yield from ((path.parent / it).resolve() for it in found if not re.match(r"\w+:", it))
+        names = ["".join(groups) for groups in re.findall(LOADED, path.read_text())]
+        yield from ((path.parent / name).resolve() for name in names if not re.match(r"\w+:", name))
 
 
 @of("page")
@@ -376,14 +376,14 @@ def test_page(top: Path) -> None:
         assert path.is_file()
         seen.add(path)
         waiting += {*loaded(path)} - seen - {*waiting}
-    (folder,) = (it for it in top.iterdir() if it.is_dir())
+    (folder,) = (path for path in top.iterdir() if path.is_dir())
     assert re.fullmatch("[0-9a-f]{16}", folder.name)
     needed = (
         "page.js worker.js rsp/rsp.js rsp/rsp.wasm help/SCRIPT.html help/FAULTS.html help/INSTRUCTIONS.html"
     )
-    assert {folder / it for it in needed.split()} <= seen
-    there = {it for it in top.rglob("*") if it.is_file() and it.name not in BESIDE}
+    assert {folder / name for name in needed.split()} <= seen
+    there = {path for path in top.rglob("*") if path.is_file() and path.name not in BESIDE}
     assert there <= seen
-    texts = [it.read_text() for it in there - {folder / "rsp/rsp.wasm"}]
-    addresses = {it for text in texts for it in re.findall(ADDRESS, text)}
-    assert {it for it in addresses if not it.startswith(NEAR)} == set()
+    texts = [path.read_text() for path in there - {folder / "rsp/rsp.wasm"}]
+    addresses = {address for text in texts for address in re.findall(ADDRESS, text)}
+    assert {address for address in addresses if not address.startswith(NEAR)} == set()

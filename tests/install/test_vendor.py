@@ -130,13 +130,13 @@ def test_refuses(top: Path, folder: Path) -> None:
     assert ended.returncode and "there is no file for Linux-riscv64" in " ".join(ended.stdout.split())
 
 
-# Those whose file is run here: all but macOS.
-RUN = [it for it in TARGETS.values() if it.compiler]
+# The systems whose file is run here: all except macOS.
+RUN = [target for target in TARGETS.values() if target.compiler]
 
 
 @outside
 @pytest.mark.timeout(1800)
-@pytest.mark.parametrize("target", RUN, ids=lambda it: it.name)
+@pytest.mark.parametrize("target", RUN, ids=lambda target: target.name)
 @pytest.mark.parametrize("name", ["calls", "owner", "threads"])
 def test_calls(name: str, target: Target, top: Path, folder: Path) -> None:
     """A program of tests over a file of src/."""
@@ -168,8 +168,8 @@ def test_speed(library: Path, top: Path, folder: Path) -> None:
     """A step takes as many host instructions as with libbrsp.a, within 2 percent."""
     succeeds("cc", "-c", top / "src/Linux-x86_64.s", "-o", folder / "brsp.o")
     programs = [
-        compiled(folder / f"speed-{it.stem}", *STRICT, TOP / "measure/speed.c", it)
-        for it in (LIBRARY, folder / "brsp.o")
+        compiled(folder / f"speed-{library.stem}", *STRICT, TOP / "measure/speed.c", library)
+        for library in (LIBRARY, folder / "brsp.o")
     ]
     for name in LOOPS:
         text = "".join(f".word 0x{word}\n" for word in code(name).hex(" ", 4).split())

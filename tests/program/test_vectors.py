@@ -196,8 +196,7 @@ RUNNERS = pytest.mark.parametrize("name", ("VADDC", "SQV", "MTC0", "BEQ", "STV")
 
 @RUNNERS
 def test_runners_of_steps(name: str, program: Path, library: Path, folder: Path) -> None:
-    """The runner on the page and conformance/run pass an instruction's first cases, and name each spoilt one.
-    """
+    """The runner on the page and conformance/run pass an instruction's first cases, and name spoilt ones."""
     all_entries, random, path = entries_in(VECTORS, name), Random("runner", name), folder / "steps.jsonl"
     entries = [*all_entries[:2], *[entry for entry in all_entries if "choice" in entry][:1]]
     path.write_text("".join(f"{json.dumps(entry)}\n" for entry in entries))

@@ -39,11 +39,9 @@ STATE = ctypes.sizeof(rsp.State)
 RESULT = 8 + STATE + 2 * 4096 + bench.WINDOW_LENGTH
 SEEDS = range(1, 11)
 FEW = 20000  # steps of each seed that have to find the planted constant
-# The lower bound of a clamp: for ARM selected beside the upper one, for x86-64 stored.
-FORMS = {
-    "aarch64": r"splat \(i16 -32768\)(?=, <8 x i16> splat \(i16 32767\))",
-    "x86_64": r"(?<=store <8 x i16> )splat \(i16 -32768\)",
-}
+# The lower bound of a clamp: for ARM selected beside the upper one, for x86-64 put where that one is put.
+PUT = r'VReg::splat"\(ptr (%r\d+), i16 -32768\)(?=(?:.*\n){1,12}?.*VReg::splat"\(ptr \1, i16 32767\))'
+FORMS = {"aarch64": r"splat \(i16 -32768\)(?=, <8 x i16> splat \(i16 32767\))", "x86_64": PUT}
 Entry = Dict[str, Any]
 Lines = Callable[..., List[str]]
 
@@ -154,10 +152,9 @@ def test_all_instructions_are_traced(expected: Lines, count: int) -> None:
 
 def changed(processor: str, at: Path) -> modules.Module:
     """The module of a processor in which a clamp has another bound, and its archive."""
-    made, (text, archive) = modules.module(processor), (
-        at / f"planted-{processor}{it}" for it in (".ll", ".a")
-    )
-    planted, number = re.subn(FORMS[processor], "splat (i16 -32767)", made.text.read_text())
+    made, text, archive = modules.module(processor), at / f"{processor}.ll", at / f"{processor}.a"
+    whole = made.text.read_text()
+    planted, number = re.subn(FORMS[processor], lambda it: str(it[0]).replace("-32768", "-32767"), whole)
     assert number, "the module has the constant"
     text.write_text(planted)
     words = [f"--target={PROCESSORS[processor].triple}", "-x", "ir", "-c", *made.flags, "-fPIC"]

@@ -12,10 +12,6 @@ from lib.systems.page_driver import CONTROL, F1, FIRST, SHIFT, Host, Page, linke
 from rsp_tools.systems import header
 
 pytestmark = pytest.mark.xdist_group("page")
-NUMBERS = "[...the('numbers').children].map((it) => it.textContent)"
-
-
-# What is there at first.
 
 
 def test_first_example(page: Page) -> None:
@@ -45,8 +41,6 @@ def test_text_is_kept(forgetful: Page, host: Host) -> None:
     assert forgetful.text("ran") == ""
 
 
-# Numbers and colours.
-
 # The parts of a line that have a colour, each after its kind.
 COLOURS = {
     "load dmem 0x10 00ff # bytes": "command:load register:dmem number:0x10 number:00ff comment:# bytes",
@@ -68,7 +62,9 @@ def test_colours(page: Page) -> None:
     assert ["".join(text for _, text in it) for it in drawn] == [*COLOURS]
     kinds = [" ".join(f"{kind}:{text}" for kind, text in it if kind) for it in drawn]
     assert kinds == [*COLOURS.values()]
-    assert page.value(NUMBERS) == [str(n + 1) for n in range(len(COLOURS))]
+    assert page.value("[...the('numbers').children].map((it) => it.textContent)") == [
+        str(n + 1) for n in range(len(COLOURS))
+    ]
     assert page.value("new Set(all('#colours span').map((it) => probes.style(it).color)).size") == 5
 
 
@@ -136,9 +132,6 @@ def test_typing_in_a_long_script(page: Page) -> None:
     assert ours < bare + 500
 
 
-# Undo.
-
-
 def test_undo(page: Page) -> None:
     """Undo brings back what an example has replaced, with its bytes, by key and by button; Ctrl+Y goes on."""
     script = b"step\r\n\xff\n"
@@ -171,9 +164,6 @@ def test_undo_of_typing(page: Page) -> None:
     for script in "x" + before, before, text_of("examples/first.rsp"):
         assert page.script == script
         page.press("z", CONTROL)
-
-
-# Help.
 
 
 def opened(page: Page) -> str:

@@ -17,9 +17,6 @@ MENU = "open-script save-script explain strict whole save-replies open-image sav
 MENU += ["Tutorial", "Commands", "Instructions", "Faults"]
 
 
-# By keys alone.
-
-
 def focus(page: Page) -> str:
     return str(page.value("document.activeElement.id || document.activeElement.textContent"))
 
@@ -99,9 +96,6 @@ def test_files_by_keys(name: str, page: Page) -> None:
     page.settle()
     assert len(page.events("Page.fileChooserOpened")) == 1
     page.call("Page.setInterceptFileChooserDialog", enabled=False)
-
-
-# Screens, and programs that read the screen aloud.
 
 
 # Each command with replies, a fault, and source text; the widest replies and lines.

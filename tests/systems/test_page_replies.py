@@ -10,8 +10,7 @@ import re
 
 import pytest
 
-import rsp
-from lib.systems.page_driver import CONTROL, ENDLESS, SELECTED, Page
+from lib.systems.page_driver import CONTROL, ENDLESS, SELECTED, Page, replies_to
 
 pytestmark = pytest.mark.xdist_group("page")
 MARKED = "[...the('numbers').querySelectorAll('.fault')].map((it) => Number(it.textContent))"
@@ -26,14 +25,6 @@ LINES = {"vregs": 32, "regs": 9, "step": 1}  # how many lines a reply has
 
 def is_in_view(page: Page, selector: str) -> bool:
     return bool(page.value(f"probes.is_in_view('{selector}')"))
-
-
-def replies_to(script: str) -> str:
-    """The replies of the library for Linux."""
-    return bytes(rsp.run_script(script)[0]).decode()
-
-
-# Where replies are.
 
 
 def test_replies_are_beside_their_lines(page: Page) -> None:
@@ -140,9 +131,6 @@ def test_fold_by_a_finger(button: int, off: int, line: int, page: Page) -> None:
     assert row >= 24 and found == [f"Line {line}: fold its reply"]
 
 
-# Whole replies, for who hears, copies or prints them.
-
-
 def test_folded_replies_are_heard(page: Page) -> None:
     """A folded reply is whole for a program that reads the page aloud, and isn't seen."""
     page.answered("vregs\nstep\n")
@@ -206,9 +194,6 @@ def test_printing(changed: str, page: Page) -> None:
     assert is_as_expected and position == "static"
     assert page.value(FOLDS)[0] == "+31"
     assert page.value("the('replies').childElementCount") < 300
-
-
-# Faults.
 
 
 def test_faults(page: Page) -> None:

@@ -11,7 +11,7 @@ import pytest
 
 import rsp
 from lib.script_cases import ScriptCase, all_cases
-from lib.systems.page_driver import ENDLESS, ENTER, FIRST, LINKED, Host, Page, linked, way_of
+from lib.systems.page_driver import ENDLESS, ENTER, FIRST, LINKED, Host, Page, linked, replies_to, way_of
 from rsp_tools.systems import places
 
 pytestmark = pytest.mark.xdist_group("page")
@@ -19,11 +19,6 @@ MOST = 400000  # lines that are shown
 BLOCK = 3  # lines of ENDLESS that have no reply
 ANSWERED = [it for it in all_cases() if not it.expected[0]]
 GIVEN = sorted(((way_of(n, it.script), it) for n, it in enumerate(ANSWERED)), key=lambda it: it[0])
-
-
-def replies_to(script: bytes) -> str:
-    """The replies of the library for Linux."""
-    return bytes(rsp.run_script(script)[0]).decode()
 
 
 @pytest.fixture(scope="module")

@@ -34,7 +34,7 @@ def test_build_script(made: Path, folder: Path) -> None:
         assert status != 0 and f"{name} for {target} isn't found" in text
         (crate / "lib" / target).mkdir(parents=True)
         shutil.copy(made / "lib" / name, crate / "lib" / target / name)
-        linked = "brsp_static" if target.endswith("-msvc") else "rsp"
+        linked = "brsp_static" if target.endswith("-msvc") else "brsp"
         expected = f"native={crate}/lib/{target}\ncargo:rustc-link-lib=static={linked}\n"
         status, text = build_script(script, target)
         assert status == 0 and text.endswith(f"cargo:rustc-link-search={expected}")

@@ -139,12 +139,12 @@ def plugin() -> bytes:
         return Path(folder, "plugin.so").read_bytes()
 
 
-def all_archives(object_file: Path, names: List[str], release: About) -> Iterator[Archive]:
-    """The archives, of an object file of the program, and of these other systems."""
+def all_archives(names: List[str], release: About) -> Iterator[Archive]:
+    """The archives, with those of these other systems."""
     libraries = libraries_of(names)
     if libraries:  # each is made anew, so no archive has the library of another commit
         run("tools/systems", *libraries, reason="tools/systems failed, so nothing is made")
-    yield archives.of_native(linked_program(object_file), plugin(), release)
+    yield archives.of_native(linked_program(OBJECT), plugin(), release)
     yield archives.of_conformance(release)
     yield archives.of_source(release)
     for name in names:
@@ -154,7 +154,6 @@ def all_archives(object_file: Path, names: List[str], release: About) -> Iterato
 def arguments() -> argparse.Namespace:
     form, text = argparse.RawDescriptionHelpFormatter, str(__doc__).format(systems=listed(*CROSS, PAGE))
     parser = argparse.ArgumentParser(prog="./release", description=text, formatter_class=form)
-    parser.add_argument("--object", type=Path, default=OBJECT, help="another object file of the program")
     parser.add_argument("--untested", action="store_true", help=f"leave out tests/all {NEWCOMER}")
     more = "also the archives of these systems, or of all if none is named"
     parser.add_argument("--systems", nargs="*", metavar="NAME", help=more)
@@ -171,14 +170,13 @@ def main() -> None:
     version, day = install_tree.version()
     check_versions()
     check_day(day, output_of("git", "tag", "--points-at", "HEAD").split())
-    if options.object == OBJECT:
-        run("./rsp", "run", reason="./rsp has built nothing")
+    run("./rsp", "run", reason="./rsp has built nothing")
     run("library/c/build", reason="library/c/build has built nothing")
-    if not options.object.is_file():
-        fail(f"{options.object} isn't there: run `rt run -- run` in crates/rsp_main")
+    if not OBJECT.is_file():
+        fail(f"{OBJECT} isn't there: run `rt run -- run` in crates/rsp_main")
     reasons = [f"{NEWCOMER}: --untested"] if options.untested else run_newcomer()
     release = release_info.of_head()
-    packed = {archive.name: archive.packed() for archive in all_archives(options.object, names, release)}
+    packed = {archive.name: archive.packed() for archive in all_archives(names, release)}
     files = {**packed, "SHA256SUMS": HOW + archive_formats.sums(packed)}
     put_all(TOP / "dist", [File(name, data) for name, data in files.items()], fail)
     for name, data in packed.items():

@@ -8,7 +8,9 @@ import sys
 import time
 from contextlib import contextmanager
 from pathlib import Path
-from typing import Any, Callable, Iterator, List, Tuple
+from typing import Any, Callable, Iterator, List, Tuple, Union
+
+import rsp
 
 LINKED = 24000  # bytes of a script that a link carries
 TYPED = 4000  # bytes that are typed: Chromium takes long for more
@@ -32,6 +34,11 @@ def way_of(number: int, script: bytes) -> str:
     if number % 3 == 0 and is_typed:
         return "typed"
     return "link" if number % 3 == 1 and len(script) <= LINKED else "file"
+
+
+def replies_to(script: Union[str, bytes]) -> str:
+    """The replies of the library for Linux."""
+    return bytes(rsp.run_script(script)[0]).decode()
 
 
 class Host:

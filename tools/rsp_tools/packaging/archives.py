@@ -3,7 +3,7 @@
 from pathlib import Path
 from typing import Iterable, List, NamedTuple
 
-from rsp_tools.packaging import archive_formats, cross_archives, linux_x86_64, readme, repository
+from rsp_tools.packaging import archive_formats, readme, repository, system_archives
 from rsp_tools.packaging.release_info import About
 from rsp_tools.packaging.install_tree import File
 from rsp_tools.targets import NATIVE, TARGETS
@@ -47,14 +47,14 @@ def finished(system: str, files: Iterable[File], about: About) -> Archive:
 
 def of_native(program: bytes, plugin: bytes, about: About) -> Archive:
     """That for Linux on x86-64, of the linked program and the plugin."""
-    return finished(NATIVE.name, linux_x86_64.contents(program, plugin, about), about)
+    return finished(NATIVE.name, system_archives.native_contents(program, plugin, about), about)
 
 
 def of_system(
-    system: str, made: Path, about: About, thin: cross_archives.Thin = cross_archives.thinned
+    system: str, made: Path, about: About, thin: system_archives.Thin = system_archives.thinned
 ) -> Archive:
     """That for another system, of the folder that tools/systems has made for it."""
-    return finished(system, cross_archives.contents(system, made, about, thin), about)
+    return finished(system, system_archives.cross_contents(system, made, about, thin), about)
 
 
 def of_conformance(about: About) -> Archive:

@@ -1,14 +1,20 @@
-"""What the archives for other systems than Linux on x86-64 hold: the folders that tools/systems makes, with
-the parts of the repository that serve there."""
+"""What the archives of systems hold: for Linux on x86-64 what is installed, the Python wheel, the Rust crate
+and the plugin of mupen64plus; for others the folders that tools/systems makes; and parts of the repository.
+
+They are laid out like /usr/local, so that their folders can be copied into any prefix: brsp.pc finds the
+prefix by its own place. libbrsp.a is also in the Rust crate, which so works for who copies only the crate.
+"""
 
 import tempfile
 from pathlib import Path
 from typing import Callable, Iterator, Mapping, Sequence
 
+import wheels
+from rsp_tools import TOP
 from rsp_tools.packaging import install_tree, repository
 from rsp_tools.packaging.release_info import About
 from rsp_tools.packaging.install_tree import File
-from rsp_tools.targets import PROCESSORS, TARGETS
+from rsp_tools.targets import NATIVE, PROCESSORS, TARGETS
 from rsp_tools.systems.toolchain import llvm
 
 # What those for C, Python and Rust hold of the repository; and what was run on Linux on x86-64 alone.
@@ -51,7 +57,7 @@ def of_rust(system: str, folder: Path, thin: Thin) -> Iterator[File]:
         yield File(f"library/rust/lib/{triple}/{name}", data)
 
 
-def contents(system: str, folder: Path, about: About, thin: Thin = thinned) -> Iterator[File]:
+def cross_contents(system: str, folder: Path, about: About, thin: Thin = thinned) -> Iterator[File]:
     """Each file of a system's archive but its README."""
     yield from of_folder(folder)
     yield from (it for it in repository.of_systems(PARTS_OF.get(system, PARTS)) if it.name != NOT_THERE)
@@ -61,3 +67,22 @@ def contents(system: str, folder: Path, about: About, thin: Thin = thinned) -> I
         yield from install_tree.shared()
     if target.program and target.is_linux:
         yield install_tree.starter(about.lines(), target.processor)
+
+
+def wheel(program: bytes, date: int) -> File:
+    """The Python package as a wheel, with the program as its command."""
+    files = {**wheels.with_library(wheels.made(), wheels.MADE.name), **wheels.with_command("rsp", program)}
+    with tempfile.TemporaryDirectory() as folder:
+        name = wheels.write(folder, files, date=date)
+        return File(f"python/{name}", Path(folder, name).read_bytes())
+
+
+def native_contents(program: bytes, plugin: bytes, about: About) -> Iterator[File]:
+    """Each of its files."""
+    yield install_tree.starter(about.lines(), NATIVE.processor)
+    yield from install_tree.contents("${pcfiledir}/../..", program)
+    yield wheel(program, about.time)
+    yield File("plugin/mupen64plus-rsp-proved.so", plugin, True)
+    yield from repository.of_systems(PARTS)
+    for target, name in NATIVE.rust.items():
+        yield File(f"library/rust/lib/{target}/{name}", (TOP / "library/c" / name).read_bytes())
