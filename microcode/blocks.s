@@ -1,4 +1,4 @@
-# blocks: copies blocks of RDRAM to another place there, through two buffers of DMEM in turn.
+# blocks: copies blocks of RDRAM to another address there, through two buffers of DMEM in turn.
 #
 # In       $1 the address of the first block in RDRAM, $2 where it goes there, $3 the number of bytes of a block less 1, $6 that
 #          number, $5 the address of a buffer in DMEM, $7 the sum of the addresses of both buffers, $8 the number of blocks
@@ -9,7 +9,7 @@
 # Changes  $1, $2, $4, $5, $8, the buffers, SP registers 0 to 3
 # Cost     15 instructions for each block, and 3
 # Theorem  Byte i there is byte i of the blocks as they were, no other byte of RDRAM changes, and none of DMEM outside of the
-#          buffers. The machine goes on after the last instruction. A transfer is done at once.
+#          buffers. The machine continues after the last instruction. A transfer is done at once.
 #          crates/rsp_routines/specs/Blocks.antt
 next:   mtc0  $5, $c0               # a block comes to a buffer,
         mtc0  $1, $c1

@@ -1,4 +1,4 @@
-# clip: on which side of -w to w eight numbers of 32 bits are.
+# clip: computes on which side of -w to w eight numbers of 32 bits are.
 #
 # In       the high halves of the numbers in $v1, the low halves in $v2; those of w in $v3 and $v4
 # Out      $1: bit i says of lane i that x <= -w, and not both are 0; bit 8 + i that x >= w; bit 15 is repeated above

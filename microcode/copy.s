@@ -1,4 +1,4 @@
-# copy: bytes of DMEM to another place in DMEM.
+# copy: copies bytes of DMEM to another address there.
 #
 # In       $1 the address of the bytes, $3 that of the copy, $4 their number
 # Needs    both addresses multiples of 16 below 4096; the number below 4096, and each address plus the number at most 4096;
@@ -9,7 +9,7 @@
 # Theorem  Byte i of the copy is byte i of the source as it was, for each i below the number, and no other byte of
 #          DMEM changes. crates/rsp_routines/specs/Copy.antt
         addu  $5, $3, $4            # the end of the copy
-        lqv   $v30[0], 0($5)        # what follows it in its last 16 bytes is put back at the end
+        lqv   $v30[0], 0($5)        # the bytes after the end, which the last SQV restores
 copy:   lqv   $v1[0], 0($1)
         addiu $4, $4, -16
         addiu $1, $1, 16

@@ -1,4 +1,4 @@
-# filter: a sound by four coefficients.
+# filter: filters a sound by four coefficients.
 #
 # In       $1 the address of the samples, $3 of the result, $4 the number of bytes of the result, two for a sample;
 #          $v6 lanes 0 to 3 the coefficients c0 to c3, fractions of 32768
@@ -12,7 +12,7 @@
 #          (halves up) and clamped to 16 bits, and no byte outside of the result changes.
 #          crates/rsp_routines/specs/Filter.antt
         addu  $5, $3, $4            # the end of the result
-        lqv   $v30[0], 0($5)        # what follows it in its last 16 bytes is put back at the end
+        lqv   $v30[0], 0($5)        # the bytes after the end, which the last SQV restores
 filter: lqv   $v1[0], 0($1)         # eight samples
         addiu $6, $1, 2
         addiu $7, $1, 4

@@ -1,4 +1,4 @@
-# mix: a sound, at a volume, into another.
+# mix: mixes a sound, at a volume, into another.
 #
 # In       $1 the address of the first sound, $2 of the second, $3 of the mix, $4 the number of bytes, two for a sample;
 #          $v3 lane 0 the volume of the first as a fraction of 32768, lane 1 that of the second as a whole number;
@@ -12,7 +12,7 @@
 #          for samples a and b and the volumes v and w, and no byte outside of the mix changes.
 #          crates/rsp_routines/specs/Mix.antt
         addu  $5, $3, $4            # the end of the mix
-        lqv   $v30[0], 0($5)        # what follows it in its last 16 bytes is put back at the end
+        lqv   $v30[0], 0($5)        # the bytes after the end, which the last SQV restores
 mix:    lqv   $v1[0], 0($1)
         lqv   $v2[0], 0($2)
         addiu $4, $4, -16

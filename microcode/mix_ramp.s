@@ -1,4 +1,4 @@
-# mix_ramp: a sound, at volumes that grow, into another.
+# mix_ramp: mixes a sound, at volumes that grow, into another.
 #
 # In       $1 the address of the first sound, $2 of the second, $3 of the mix, $4 the number of bytes, two for a sample;
 #          $v3 and $v4 the high and the low halves of the first sound's volumes, one for each lane, $v5 and $v6 those of the
@@ -12,7 +12,7 @@
 #          outside of the mix changes. After each 8 samples the volumes grow by the steps, as numbers of 32 bits; a high half
 #          that leaves 16 bits is clamped. crates/rsp_routines/specs/MixRamp.antt
         addu  $5, $3, $4            # the end of the mix
-        lqv   $v30[0], 0($5)        # what follows it in its last 16 bytes is put back at the end
+        lqv   $v30[0], 0($5)        # the bytes after the end, which the last SQV restores
 ramp:   lqv   $v1[0], 0($1)
         lqv   $v2[0], 0($2)
         addiu $4, $4, -16

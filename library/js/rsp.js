@@ -206,7 +206,8 @@ export class Machine {
   }
 
   copy() {
-    return new Machine(filled("copy", [], this.image_length, (to) => wasm.brsp_copy(to, this.#at)));
+    this.#fill("copy", [], "image_length");
+    return new Machine(filled("copy", [], length_at(HERE), (to) => wasm.brsp_copy(to, this.#at)));
   }
 
   free() {

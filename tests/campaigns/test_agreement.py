@@ -1,6 +1,6 @@
 """The library agrees with itself as each kind of emulator; and folders with results of an earlier run."""
 
-import os
+import glob
 import time
 from pathlib import Path
 
@@ -35,7 +35,7 @@ def test_library_agrees_with_itself(kind: str, folder: Path) -> None:
 # A module of an emulator that knows how often it was started, and the processes of its task and its campaign.
 STARTED = """import os, time
 from campaigns.emulator import WrongShift as Mine
-with open("starts", "ab", 0) as file:
+with open(f"{os.path.basename(os.getcwd())}.starts", "ab", 0) as file:
     file.write(b"x")
     start = file.tell()
 task = os.getppid()
@@ -56,20 +56,19 @@ STOPS = {
 def test_results_after_a_stop(stop: str, folder: Path) -> None:
     """A campaign that was stopped leaves no process. It continues, and has the results of one process."""
     then, *expected = STOPS[stop]
+    starts = folder / f"{folder.name}.starts"
     (folder / "mine.py").write_text(STARTED + then)
     words = ("python:mine:Mine", "--instructions", "add,beq,sqv,sra,vadd", "--cases", 40, "--workers", 2)
     ended = campaign(*words, "out", cwd=folder, timeout=90)
-    assert [ended.returncode, ended.stderr, (folder / "starts").stat().st_size] == expected
-    for left in range(50, -1, -1):
-        if str(folder.resolve()) not in map(os.path.realpath, Path("/proc").glob("[0-9]*/cwd")):
-            break
-        assert left, "a process whose current folder is that of the campaign"
+    assert [ended.returncode, ended.stderr, starts.stat().st_size] == expected
+    until = time.time() + 5
+    while left := glob.glob(f"/proc/[0-9]*/cwd/{starts.name}"):
+        assert time.time() < until, left
         time.sleep(0.1)
     for out in (["out"], ["--here", "whole"]):
         assert campaign(*words, *out, cwd=folder).returncode == 0
-    assert counts_of(folder / "whole")["sra"][1] and results_of(folder / "out") == results_of(
-        folder / "whole"
-    )
+    results, whole = results_of(folder / "out"), results_of(folder / "whole")
+    assert results == whole and results["sra-0-40.json"]["differ"]
 
 
 OTHER = {

@@ -44,6 +44,6 @@ def test_scripts_in_ci(script: str, expected: str, printed: str, program: Path, 
 @pytest.mark.parametrize("name", "lqv sll vmulf vrcp vand lw sqv vadd mtc0".split())
 def test_grep(name: str) -> None:
     """The command finds an instruction's rule, and of MTC0 its row."""
-    command = re.findall(r"`(grep [^`]*)`", page("docs/READING.md"))[0]
+    command = block_with("docs/READING.md", "grep -rwi")
     printed = run("sh", "-c", command.replace("lqv", name)).stdout
     assert re.search(RULE if name != "mtc0" else r"\bmove_sp_selector To\b", printed, re.M)

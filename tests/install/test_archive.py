@@ -226,7 +226,6 @@ def test_vectors_alone(archive: Path, suite: Path) -> None:
 # Rust, by each rustc of this machine: the crate in a copy of its folder, and from another crate beside the
 # archive, with the lines and the code that EMBEDDING.md has. This is the head of that crate.
 CRATE = '[package]\nname = "mine"\nversion = "1.0.0"\nedition = "2021"\n\n'
-SHOW = 'println!("{:?} {:x}", stop.reason, machine.reg(2)?);\n    Ok(())'
 
 
 def cargos() -> list[str]:
@@ -245,7 +244,7 @@ def write_crate(archive: Path, mine: Path) -> None:
     lines, code = re.findall(r"(?ms)^```toml\n(\[dependencies\]\n.*?)^```\n+```rust\n(.*?)\n```$", text)[0]
     (mine / "src").mkdir(parents=True)
     (mine / "Cargo.toml").write_text(CRATE + lines.replace("../rsp/", f"../{archive.name}/"))
-    (mine / "src/main.rs").write_text(f"fn main() -> Result<(), rsp::RspError> {{\n{code}\n    {SHOW}\n}}\n")
+    (mine / "src/main.rs").write_text(code)
 
 
 @pytest.mark.needs("cargo")

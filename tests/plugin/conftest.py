@@ -12,8 +12,8 @@ from lib.plugin import Bench
 @pytest.fixture(scope="session")
 def bench(request: pytest.FixtureRequest, program: Path) -> Iterator[Bench]:
     """The plugin of the sources as they are, or that of --plugin, with its driver."""
-    given = request.config.getoption("--plugin")
-    if not given:
+    plugin = request.config.getoption("--plugin")
+    if not plugin:
         request.getfixturevalue("library")
     with tempfile.TemporaryDirectory() as folder:
-        yield Bench(Path(folder), program, Path(given) if given else None)
+        yield Bench(Path(folder), program, Path(plugin) if plugin else None)

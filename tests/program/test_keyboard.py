@@ -57,7 +57,7 @@ def test_greeting_that_fails(program: Path) -> None:
         assert type_step(program, "run", stdout=subprocess.PIPE, stderr=full)[:2] == (0, STEPPED)
 
 
-# Lines that are refused, with what is said after the text of the line.
+# Lines that are refused, with the advice after the text of the line.
 REFUSED = {
     "mem dmem 0x200": "may be: mem BANK ADDR LEN, and BANK is dmem, imem or rdram",
     "mem rom 0 4": "may be: mem BANK ADDR LEN, and BANK is dmem, imem or rdram",
@@ -139,7 +139,7 @@ script:13: fault 10 BadLine line 4
 
 
 def test_blocks(rsp: Any, folder: Path) -> None:
-    """A fault of a block names the line of the script; all faults of a block's first pass are said."""
+    """A fault of a block names the line of the script; all faults of a block's first pass are explained."""
     (folder / "script").write_bytes(BLOCKS)
     assert rsp("run", "script", "--explain").errors.decode() == IN_BLOCKS
 

@@ -32,8 +32,6 @@ NEEDED = {
     # The first gives the stack protector its number.
     "rsp.exe": ["ADVAPI32.dll", "KERNEL32.dll", "msvcrt.dll"],
 }
-# These call nothing, and take no room on the stack.
-FRAMELESS = {"brsp_state_fault", "brsp_version"}
 
 MINGW = Path("/usr/x86_64-w64-mingw32/lib")
 HEADERS = "/usr/share/mingw-w64/include"
@@ -43,6 +41,13 @@ START = "int main(void);\n__declspec(noreturn) void exit(int);\nvoid start(void)
 
 def uses_library(program: Path) -> bool:
     return "brsp.dll" in llvm("llvm-readobj", "--needed-libs", program)
+
+
+def using_stack(library: Path) -> Set[str]:
+    """The functions that call others, or take room on the stack."""
+    listed = llvm("llvm-objdump", "-d", "--no-show-raw-insn", library)
+    bodies = re.findall(r"(?m)^\w+ <(\w+)>:\n((?:.+\n)+)", listed)
+    return {name for name, body in bodies if re.search(r"\t(?:call|push)|%rsp", body)}
 
 
 def framed(library: Path) -> Set[str]:
@@ -115,7 +120,7 @@ def test_shared(made: Path) -> None:
     assert sorted(re.findall(r"(?m)^ *Name:? (.*)$", read[read.index("Export {") :])) == sorted(CALLS)
     for name in ("libbrsp.dll.a", "brsp.lib"):
         found = llvm("llvm-nm", "--defined-only", made / "lib" / name)
-        assert {*re.findall(r"(?m)^rsp\.dll:\n\d+ T __imp_(\w+)\n\d+ T \1$", found)} == CALLS, name
+        assert {*re.findall(r"(?m)^brsp\.dll:\n\d+ T __imp_(\w+)\n\d+ T \1$", found)} == CALLS, name
 
 
 @of("windows-x86_64")
@@ -129,7 +134,7 @@ def test_static(made: Path, name: str) -> None:
     } == CALLS
     needed = symbol_names("-u", library)
     assert {"free", "malloc"} <= needed <= STATIC[name]
-    assert CALLS - framed(library) <= FRAMELESS
+    assert CALLS & using_stack(library) <= framed(library)
 
 
 def compile_for_msvc(source: Path, to: Path, *words: Word) -> Path:

@@ -162,9 +162,8 @@ class Build:
             self.say(f"{proved}; proving the others takes {self.proof.to_go()}")
         self.log.write_text("")
         if failed := self.proof.run():
-            output = (
-                self.log.read_text(errors="replace").rpartition(f"== {failed}\n")[2].partition("\n== ")[0]
-            )
+            log = self.log.read_text(errors="replace")
+            output = log.rpartition(f"== {failed}\n")[2].partition("\n== ")[0]
             print(*output.splitlines()[-25:], sep="\n", file=sys.stderr)
             self.fail(f"{failed} isn't proved, for the reason above; all that `rt` said is in {self.log}")
 

@@ -26,9 +26,7 @@ from rsp_tools.crates import CRATES, jobs_of, path_to, proved_with, seconds, wit
 PROCESSORS, MEMORY = len(os.sched_getaffinity(0)), Path("/proc/meminfo")
 EACH = 2_000_000_000  # bytes that the proof of a crate was seen to take
 SILENCE = 30  # seconds without a line, after which the progress is printed
-TURN = (
-    0.5  # seconds of a wait: a signal that comes just as Python begins to wait is handled when the wait ends
-)
+TURN = 0.5  # seconds of a wait, at whose end Python handles a signal that came just as it began to wait
 
 
 def time_of(path: Path) -> float:

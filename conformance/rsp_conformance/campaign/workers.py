@@ -8,7 +8,7 @@ import os
 import subprocess
 import threading
 from concurrent.futures import ThreadPoolExecutor, as_completed
-from typing import Any, Iterator, List, Set, Tuple, Union
+from typing import Any, Generator, List, Set, Tuple, Union
 
 from .protocol import Options, Result, Task
 from .supervise import PYTHON, check
@@ -64,10 +64,10 @@ class Processes:
                 process.kill()
 
 
-def results(args: argparse.Namespace, todo: List[Task]) -> Iterator[Union[Result, OSError]]:
+def results(args: argparse.Namespace, todo: List[Task]) -> Generator[Union[Result, OSError], None, None]:
     """The results of tasks in the order in which they end, with an exception for each lost result.
 
-    Closing this iterator ends all processes.
+    Closing this generator ends all processes.
     """
     options = options_of(args)
     calls = ((args.emulator, name, args.seed, start, count, options) for name, start, count in todo)

@@ -582,8 +582,7 @@ class Machine(_Owner):
         self._check_done(_quick.brsp_copy(made._at, self._at), "copy")
         return made
 
-    def __copy__(self) -> "Machine":
-        return self.copy()
+    __copy__ = copy
 
     def __deepcopy__(self, memo: Any) -> "Machine":
         return self.copy()

@@ -238,7 +238,7 @@ class Stub:
             words = bytes.fromhex(name[5:]).decode("latin-1").split()
             return _hex(self._monitor(*words or ["help"]))
         if name == "rsp.goto":
-            return _hex(f"{self._goto()}\n") if self._goal >= 0 else b""
+            return _hex(f"{self._goto(self._goal)}\n") if self._goal >= 0 else b""
         if name == "rsp.text":
             word, address = _pair(more)
             return _hex(_text(word, address & 0xFFC))
@@ -345,20 +345,14 @@ class Stub:
         pc = _IMEM + self.line.machine.regs().pc
         return f"T{_SIGNALS.get(why, 5):02x}{reason}25:{pc:08x};thread:1;".encode()
 
-    def _goto(self) -> str:
-        """Goes towards the goal. GDB sends no Ctrl-C while it waits for the reply to `monitor`, so this takes
+    def _goto(self, goal: int) -> str:
+        """Goes towards a step. GDB sends no Ctrl-C while it waits for the reply to `monitor`, so this takes
         at most half a second, and what GDB has sourced asks for more."""
         self._was_interrupted, self._end = False, time.monotonic() + _SLICE
-        at, goal = self.line.goto(self._goal), self._goal
+        at = self.line.goto(goal)
         self._end = math.inf
-        if self._was_interrupted and at != goal:
-            return f"step {at}, on the way to {goal}"
-        self._goal = -1
-        return f"step {at}"
-
-    def _begin_goto(self, step: str) -> str:
-        self._goal = _number(step)
-        return self._goto()
+        self._goal = goal if self._was_interrupted and at != goal else -1
+        return f"step {at}" + (f", on the way to {goal}" if self._goal >= 0 else "")
 
     def _counts(self, first: str = "0") -> str:
         step = self.line.step
@@ -385,7 +379,7 @@ class Stub:
         machine, state = self.line.machine, self.line.machine.get()
         return {
             "when": lambda: f"step {self.line.step}",
-            "goto": self._begin_goto,
+            "goto": lambda step: self._goto(_number(step)),
             "counts": self._counts,
             "waits": lambda: "\n".join(map(str, rsp.waits.causes(machine.copy()))) or "none is missing",
             "why": lambda: self._why,

@@ -66,7 +66,10 @@ exec {rt} "$@"
     "broken": "exit 2",
 }
 # In place of the kit's `rattle`: it holds one crate until it may go on.
-HOLDS = """case "$* " in *"--crate-name $HELD "*) until [ -e "$GO" ]; do sleep 0.1; done ;; esac
+HOLDS = """case "$* " in *"--crate-name $HELD "*)
+    touch "$GO.waits"
+    until [ -e "$GO" ]; do sleep 0.1; done ;;
+esac
 exec {rattle} "$@"
 """
 RSP, C = "./rsp run", "library/c/build"
@@ -161,9 +164,12 @@ class ToyRepository:
     ) -> Result:
         """A run during which `act` is called, once it has printed a line of this form.
 
-        The kit holds the crate `held` until the file `go` is there.
+        The kit holds the crate `held` until the file `go` is there. `act` waits until the kit does, because a
+        process that has only just begun isn't yet in the group that ends with the run.
         """
-        self.go.unlink(missing_ok=True)
+        waits = self.go.with_name("go.waits")
+        for path in self.go, waits:
+            path.unlink(missing_ok=True)
         with self.started(command.split(), kit, held) as process:
             assert process.stdout
             output = ""
@@ -171,6 +177,9 @@ class ToyRepository:
                 output += line
                 if re.search(form, line):
                     break
+            until = time.monotonic() + LONGEST
+            while held and not waits.exists() and time.monotonic() < until:
+                time.sleep(0.05)
             act(process.pid)
             output += process.stdout.read()
         return Result(process.returncode, output, self.remaining_processes())

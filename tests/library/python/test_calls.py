@@ -22,7 +22,6 @@ from rsp.errors import ARGUMENTS, WORD
 
 OUT = Status.OUT_OF_RANGE
 ANY: Any = rsp  # for calls that types forbid
-COUNTING = "addiu $1, $1, 1\n"
 LOOP = "addiu $1, $0, 3\nloop: addiu $1, $1, -1\nsw $1, 64($0)\nbne $1, $0, loop\nnop\nbreak\n"
 TRACED = "ori $1, $0, 0x8001\nsw $1, 0x1044($0)\nmtc2 $1, $v1[2]\nvaddc $v2, $v1, $v1\nbreak\n"
 EVENTS = """start: ori $1, $0, 0x1f80
@@ -220,7 +219,7 @@ def test_refusal(case: Refusal) -> None:
 
 
 def test_copy() -> None:
-    machine = loaded(3 * COUNTING + "break\n", 2)
+    machine = loaded(3 * "addiu $1, $1, 1\n" + "break\n", 2)
     machine.load(rsp.RDRAM, 4088, b"RDRAMend")
     machine.step()
     machine.add_break(8)
@@ -394,8 +393,7 @@ def test_an_interrupt() -> None:
     machine.add_break(8)
     stop = machine.event(100, *asked)
     assert (stop.reason, stop.steps, stop.interrupt) == (rsp.Reason.STATUS, 1, False)
-    stop = machine.event(100, *asked)
-    assert (stop.reason, stop.steps, stop.interrupt) == (rsp.Reason.BREAK, 3, True)
+    assert machine.event(100, *asked)[:2] == (rsp.Reason.BREAK, 3)
     assert machine.event(100, 0, 1 << 4).move == rsp.Move(0x40802000, 4, True, 0)
     assert machine.event(100).reason is rsp.Reason.BREAK
 

@@ -22,8 +22,7 @@ from rsp_conformance.states import numbers_of
 NOTHING = {"beq", "bne", "blez", "bgtz", "bltz", "bgez", "j", "jr", "break", "ctc2", "mtc0", "vnop", "vnull"}
 LINKS = {"jal", "bltzal", "bgezal"}
 STORES = r"s[bhw]|s[bsldqrpuhfwt]v"
-CASES = data("instructions")
-ALL = pytest.mark.parametrize("case", CASES, ids=lambda it: it["Worked"].split()[0])
+ALL = pytest.mark.parametrize("case", data("instructions"), ids=lambda it: it["Worked"].split()[0])
 
 
 def named(text: str, scalars: Sequence[int]) -> Tuple[int, int, int, int]:
@@ -79,10 +78,6 @@ def machine_of(case: Dict[str, str]) -> rsp.Rsp:
         machine.load(rsp.DMEM, int(address, 16), bytes.fromhex(digits))
     machine.load_words(rsp.IMEM, 0, rsp.assemble(f"{case['Worked']}\nnop\nnop\nover: nop\n"))
     return machine
-
-
-def test_each_instruction_has_a_case() -> None:
-    assert len(CASES) == 120
 
 
 @ALL

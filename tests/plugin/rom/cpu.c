@@ -33,7 +33,7 @@ enum { CLEAR_HALT_AND_BROKE = 5, CLEAR_INTERRUPT = 8, CLEAR_INTBREAK = 0x80, SET
 
 static u32 results, kept, wrong, seed = 12345;
 
-static void see(u32 number, u32 found, u32 expected)
+static void check(u32 number, u32 found, u32 expected)
 {
     RDRAM(0x100000 + results) = number;
     RDRAM(0x100004 + results) = found == expected;
@@ -83,23 +83,23 @@ static u32 halted(void)
     return status | LOST;
 }
 
-static void see_halted(u32 number) { see(number, halted() & (LOST | HALTED | BROKE), HALTED | BROKE); }
+static void check_halted(u32 number) { check(number, halted() & (LOST | HALTED | BROKE), HALTED | BROKE); }
 
 static void test_scalar(void)
 {
     LOAD(scalar);
     start();
-    see_halted(0x100);
-    see(0x101, DMEM(0), 100 * 101 / 2);
-    see(0x102, DMEM(4), (u32)((s32)0x81234567 >> 5));
-    see(0x103, DMEM(8), 0x00674567);
-    see(0x104, DMEM(12), 0x3c);
-    see(0x105, SP_PC & 0xfff, 0x44);
+    check_halted(0x100);
+    check(0x101, DMEM(0), 100 * 101 / 2);
+    check(0x102, DMEM(4), (u32)((s32)0x81234567 >> 5));
+    check(0x103, DMEM(8), 0x00674567);
+    check(0x104, DMEM(12), 0x3c);
+    check(0x105, SP_PC & 0xfff, 0x44);
     keep_dmem(64);
 }
 
 /* A row has x and y, eight lanes each: the fraction x * y, rounded, and the clamped sum x + y come back, and what is between rows stays. */
-static void see_row(u32 row, u32 from, u32 to)
+static void check_row(u32 row, u32 from, u32 to)
 {
     u32 i, wrong_products = 0, wrong_sums = 0;
     for (i = 0; i < 8; i++) {
@@ -108,9 +108,9 @@ static void see_row(u32 row, u32 from, u32 to)
         wrong_products += (s16)HALF(0xa0000000u + to + 48 * row + 2 * i) != (s16)product;
         wrong_sums += (s16)HALF(0xa0000000u + to + 48 * row + 16 + 2 * i) != (s16)clamped(x + y);
     }
-    see(0x210 + row, wrong_products, 0);
-    see(0x220 + row, wrong_sums, 0);
-    see(0x230 + row, RDRAM(to + 48 * row + 32), 0xaaaaaaaa);
+    check(0x210 + row, wrong_products, 0);
+    check(0x220 + row, wrong_sums, 0);
+    check(0x230 + row, RDRAM(to + 48 * row + 32), 0xaaaaaaaa);
 }
 
 static void test_vector(void)
@@ -122,8 +122,8 @@ static void test_vector(void)
     DMEM(0xff0) = from;
     DMEM(0xff4) = to;
     start();
-    see_halted(0x200);
-    for (i = 0; i < 8; i++) see_row(i, from, to);
+    check_halted(0x200);
+    for (i = 0; i < 8; i++) check_row(i, from, to);
     keep_dmem(0x600);
 }
 
@@ -135,11 +135,11 @@ static void test_overlay(void)
     DMEM(0xff0) = physical(overlay_one);
     DMEM(0xff4) = physical(overlay_two);
     start();
-    see_halted(0x300);
+    check_halted(0x300);
     for (i = 0; i < 10; i++) expected = (expected + 3) * 2 + 1000;
-    see(0x301, DMEM(0), expected);
-    see(0x302, IMEM(0x400), *(const u32 *)overlay_two);
-    see(0x303, IMEM(0x40c), ((const u32 *)overlay_two)[3]);
+    check(0x301, DMEM(0), expected);
+    check(0x302, IMEM(0x400), *(const u32 *)overlay_two);
+    check(0x303, IMEM(0x40c), ((const u32 *)overlay_two)[3]);
 }
 
 /* The RSP shows itself by signal 1 and waits for signal 0; in between the CPU stores to DMEM. */
@@ -151,11 +151,11 @@ static void test_signals(void)
     SP(SP_STATUS) = CLEAR_SIGNAL_0;
     start();
     for (i = 0; i < 100000 && !(status & SIGNAL_1); i++) status = SP(SP_STATUS);
-    see(0x400, status & (HALTED | SIGNAL_0 | SIGNAL_1), SIGNAL_1);
+    check(0x400, status & (HALTED | SIGNAL_0 | SIGNAL_1), SIGNAL_1);
     DMEM(0) = 4200;
     SP(SP_STATUS) = SET_SIGNAL_0;
-    see(0x401, halted() & (LOST | HALTED | BROKE | SIGNAL_0 | SIGNAL_1 | SIGNAL_2), HALTED | BROKE | SIGNAL_1 | SIGNAL_2);
-    see(0x402, DMEM(4), 4201);
+    check(0x401, halted() & (LOST | HALTED | BROKE | SIGNAL_0 | SIGNAL_1 | SIGNAL_2), HALTED | BROKE | SIGNAL_1 | SIGNAL_2);
+    check(0x402, DMEM(4), 4201);
     SP(SP_STATUS) = CLEAR_SIGNAL_1 | CLEAR_SIGNAL_2;
 }
 
@@ -165,28 +165,28 @@ static void test_semaphore(void)
     u32 i;
     LOAD(semaphore);
     SP(SEMAPHORE) = 0;
-    see(0x410, SP(SEMAPHORE), 0);
+    check(0x410, SP(SEMAPHORE), 0);
     DMEM(0) = 1;
     start();
-    see(0x411, SP(SP_STATUS) & HALTED, 0);
-    see(0x412, DMEM(4), 0);
+    check(0x411, SP(SP_STATUS) & HALTED, 0);
+    check(0x412, DMEM(4), 0);
     DMEM(0) = 37;
     SP(SEMAPHORE) = 0;
     SP(SP_STATUS) = 0;
-    see_halted(0x413);
+    check_halted(0x413);
     for (i = 0; i < 100000 && SP(SEMAPHORE); i++) continue;
-    see(0x414, i < 100000, 1);
-    see(0x415, DMEM(4), 42);
+    check(0x414, i < 100000, 1);
+    check(0x415, DMEM(4), 42);
     SP(SEMAPHORE) = 0;
 }
 
-static void see_interrupt(u32 number)
+static void check_interrupt(u32 number)
 {
     u32 i;
     for (i = 0; i < 100000 && !(MI_INTR & 1); i++) continue;
-    see(number, MI_INTR & 1, 1);
+    check(number, MI_INTR & 1, 1);
     SP(SP_STATUS) = CLEAR_INTERRUPT;
-    see(number + 1, MI_INTR & 1, 0);
+    check(number + 1, MI_INTR & 1, 0);
     SP(SP_STATUS) = CLEAR_INTBREAK;
     SP(SP_STATUS) = CLEAR_SIGNAL_2;
 }
@@ -202,10 +202,10 @@ static void test_list(void)
     DMEM(0xfc0) = 1;
     DMEM(0xff0) = 0x123000;
     start();
-    see(0x500, halted() & (LOST | HALTED | BROKE | SIGNAL_2), HALTED | BROKE | SIGNAL_2);
-    see_interrupt(0x501);
-    see(0x504, DMEM(4), 0x123040);
-    see(0x505, DMEM(8) & 1, 0);
+    check(0x500, halted() & (LOST | HALTED | BROKE | SIGNAL_2), HALTED | BROKE | SIGNAL_2);
+    check_interrupt(0x501);
+    check(0x504, DMEM(4), 0x123040);
+    check(0x505, DMEM(8) & 1, 0);
 }
 
 /* The semaphore from one side, DMA out of IMEM and round the end of DMEM, and what the DMA registers hold after them. */
@@ -220,12 +220,12 @@ static void test_registers(void)
     DMEM(0xff4) = 0x124100;
     SP(SEMAPHORE) = 0;
     start();
-    see_halted(0x600);
-    for (i = 0; i < sizeof expected / sizeof *expected; i++) see(0x601 + i, DMEM(expected[i][0]), expected[i][1]);
-    see(0x610, SP(0), 0x20);
-    see(0x611, SP(1), 0x124140);
+    check_halted(0x600);
+    for (i = 0; i < sizeof expected / sizeof *expected; i++) check(0x601 + i, DMEM(expected[i][0]), expected[i][1]);
+    check(0x610, SP(0), 0x20);
+    check(0x611, SP(1), 0x124140);
     for (i = 0; i < 64 && RDRAM(0x124000 + i) == *(const u32 *)(registers + i); i += 4) continue;
-    see(0x612, i, 64);
+    check(0x612, i, 64);
     keep_dmem(0x140);
 }
 
@@ -243,10 +243,10 @@ static void test_task(void)
     DMEM(0xfdc) = 32;
     DMEM(0xfe8) = 0x126000;
     start();
-    see(0x700, halted() & (LOST | HALTED | BROKE | SIGNAL_2), HALTED | BROKE | SIGNAL_2);
-    see_interrupt(0x701);
-    for (i = 0; i < 8; i++) see(0x710 + i, HALF(0xa0126000u + 2 * i), (u16)clamped((s16)HALF(0xa0125000u + 2 * i) + (s16)HALF(0xa0125010u + 2 * i)));
-    see(0x720, SP_PC & 0xfff, 0xc4);
+    check(0x700, halted() & (LOST | HALTED | BROKE | SIGNAL_2), HALTED | BROKE | SIGNAL_2);
+    check_interrupt(0x701);
+    for (i = 0; i < 8; i++) check(0x710 + i, HALF(0xa0126000u + 2 * i), (u16)clamped((s16)HALF(0xa0125000u + 2 * i) + (s16)HALF(0xa0125010u + 2 * i)));
+    check(0x720, SP_PC & 0xfff, 0xc4);
     keep_dmem(64);
 }
 
@@ -259,7 +259,7 @@ static void test_many(void)
     DMEM(0xff0) = 100;
     DMEM(0xff4) = 0x127000;
     start();
-    see_halted(0x800);
+    check_halted(0x800);
     keep_dmem(0x400);
 }
 
@@ -274,7 +274,7 @@ static void test_speed(void)
     DMEM(0xff0) = BLOCKS;
     DMEM(0xff4) = 0x128000;
     start();
-    see_halted(0xa00);
+    check_halted(0xa00);
     keep_dmem(0x200);
 }
 

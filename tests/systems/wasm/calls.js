@@ -431,7 +431,7 @@ function texts() {
   refused(OUT, () => rsp.text(0, 4096));
   refused(OUT, () => rsp.text(2 ** 32, 0));
   const machine = loaded("nop\nbreak\n");
-  same("a listing", machine.listing(0, 2), [{ place: 0, word: 0, text: "nop" }, { place: 4, word: 13, text: "break" }]);
+  same("a listing", machine.listing(0, 2), [{ address: 0, word: 0, text: "nop" }, { address: 4, word: 13, text: "break" }]);
   same("a whole one", machine.listing(0, 1024).length, 1024);
   refused(OUT, () => machine.listing(4092, 2), "2 words from 4092 on pass the end of IMEM");
   refused(OUT, () => machine.listing(0, 2 ** 31));

@@ -11,7 +11,7 @@ from rsp_tools.targets import NATIVE, TARGETS
 # What vectors and campaigns need of the repository, and the pages that theirs lead to, with their pictures.
 CONFORMANCE = """
 conformance tools/python library/c/brsp.h library/c/brsp_compare.h library/c/brsp_savestate.h
-docs/CAMPAIGN.md docs/INSTRUCTIONS.md docs/MACHINE.md docs/pictures CHANGELOG.md
+docs/CAMPAIGN.md docs/INSTRUCTIONS.md docs/MACHINE.md docs/pictures examples/hdl CHANGELOG.md
 """.split()
 
 

@@ -2,7 +2,7 @@
 and the plugin of mupen64plus; for others the folders that tools/systems makes; and parts of the repository.
 
 They are laid out like /usr/local, so that their folders can be copied into any prefix: brsp.pc finds the
-prefix by its own place. libbrsp.a is also in the Rust crate, which so works if somebody copies only the crate.
+prefix by its own place. libbrsp.a is also in the Rust crate, which so works for who copies only the crate.
 """
 
 import tempfile

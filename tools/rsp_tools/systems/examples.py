@@ -37,11 +37,8 @@ def first(page: str) -> Example:
 
 
 def descriptions(page: str) -> Dict[str, str]:
-    """The cookbook's descriptions of the scripts of examples/: in its table, and in a sentence on those that
-    show `rsp run` itself."""
-    table = re.findall(r"(?m)^\| \[(\w+)\.rsp\]\(\S*\) \| ([^|]*) \|", page)
-    sentence = re.findall(r"(?s)Smaller ones show `rsp run` itself:.*?\n\n", page)[0]
-    return dict(table + re.findall(r"\[(\w+)\.rsp\]\([^)]*\)\s+([^,.]*)", sentence))
+    """The cookbook's descriptions of the scripts of examples/, in its tables."""
+    return dict(re.findall(r"(?m)^\| \[(\w+)\.rsp\]\(\S*\) \| ([^|]*) \|", page))
 
 
 def scripts(page: str) -> Iterator[Example]:
