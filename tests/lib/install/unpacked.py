@@ -11,10 +11,6 @@ from pathlib import Path
 
 import pytest
 
-# A text, its words in hexadecimal, and what `dis` prints of them.
-LOOP_TEXT = "loop: addiu $1, $1, -1\nbne $1, $0, loop\nnop\nbreak\n"
-LOOP_CODE = "2421ffff1420fffe000000000000000d"
-LOOP_WORDS = "addiu $1, $1, -1\nbne $1, $0, 0x000\nnop\nbreak\n"
 BARE = {"PATH": "/usr/bin:/bin", "LC_ALL": "C"}  # the environment of one who has nothing else
 
 
