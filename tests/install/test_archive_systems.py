@@ -16,7 +16,7 @@ import pytest
 
 from lib.install.unpacked import (
     BARE,
-    archives_for,
+    archive_for,
     check_common,
     check_date_of_wheel,
     check_pack,
@@ -127,7 +127,6 @@ def test_stand_in(folder: Path, library: Path, system: str, monkeypatch: pytest.
     check_pack(packed)
     commit_time = int(succeeds("git", "log", "-1", "--format=%ct"))
     assert 0 <= commit_time - date(packed) < 2
-    (folder / "into").mkdir()
     top = unpacked(packed, folder / "into")
     check_files(top, system)
     for path in (path for path in made.rglob("*") if path.is_file()):
@@ -151,16 +150,12 @@ def test_wheel_where_there_is_no_git(folder: Path, monkeypatch: pytest.MonkeyPat
 @pytest.fixture
 def packed_for(request: pytest.FixtureRequest, system: str) -> Path:
     """The archive for a system."""
-    found = archives_for(request.config, system)
-    if not found:
-        pytest.skip(f"--archive names none for {system}: `./release --systems {system}` makes one")
-    return found[0]
+    return archive_for(request, system)
 
 
 @pytest.fixture
 def top(packed_for: Path, folder: Path) -> Path:
     """The unpacked archive, to which a test may add files."""
-    (folder / "into").mkdir()
     return unpacked(packed_for, folder / "into")
 
 
