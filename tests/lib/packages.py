@@ -78,7 +78,7 @@ def package_of(tool: str) -> str:
     if tool.startswith("python:"):
         return PACKAGES.get(tool, f"python3-{tool[7:]}")
     name = os.path.basename(tool)
-    return PACKAGES.get(tool) or PACKAGES.get(name, name)
+    return PACKAGES.get(tool, PACKAGES.get(name, name))
 
 
 def packages(*tools: str) -> list[str]:

@@ -53,9 +53,9 @@ def of_system(system: str, made: Path, about: About) -> Archive:
 def of_conformance(about: About) -> Archive:
     """The test vectors with their tools: the same for all systems. Its folders can be copied into that of a
     system's archive, where the tools find the program, the library and the plugin."""
-    return finished("conformance", repository.tracked(CONFORMANCE), about)
+    return finished("conformance", repository.tracked(*CONFORMANCE), about)
 
 
 def of_source(about: About) -> Archive:
     """All files of the repository as they are, but its README says more."""
-    return finished("source", [readme.in_source(it, about) for it in repository.every()], about)
+    return finished("source", [readme.in_source(file, about) for file in repository.tracked()], about)

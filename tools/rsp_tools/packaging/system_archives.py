@@ -59,7 +59,7 @@ def of_rust(system: str, folder: Path) -> Iterator[File]:
 def cross_contents(system: str, folder: Path, about: About) -> Iterator[File]:
     """Each file of a system's archive but its README."""
     yield from of_folder(folder)
-    yield from (it for it in repository.of_systems(PARTS_OF.get(system, PARTS)) if it.name != NOT_THERE)
+    yield from (it for it in repository.of_systems(*PARTS_OF.get(system, PARTS)) if it.name != NOT_THERE)
     target = TARGETS[system]
     yield from of_rust(system, folder)
     if target.program:
@@ -82,6 +82,6 @@ def native_contents(program: bytes, plugin: bytes, about: About) -> Iterator[Fil
     yield from install_tree.contents("${pcfiledir}/../..", program)
     yield wheel(program, about.time)
     yield File("plugin/mupen64plus-rsp-proved.so", plugin, True)
-    yield from repository.of_systems(PARTS)
+    yield from repository.of_systems(*PARTS)
     for target, name in NATIVE.rust.items():
         yield File(f"library/rust/lib/{target}/{name}", (TOP / "library/c" / name).read_bytes())
