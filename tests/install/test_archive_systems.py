@@ -39,16 +39,9 @@ from rsp_tools.targets import CROSS, PAGE, PROCESSORS, TARGETS
 
 # What an archive for C, Python and Rust has on each system.
 COMMON = """
-include/brsp.h include/brsp.hpp include/brsp_compare.h include/brsp_savestate.h
-lib/cmake/brsp/brspConfig.cmake lib/cmake/brsp/brspConfigVersion.cmake lib/pkgconfig/brsp.pc
 library/python/rsp/__init__.py
 library/rust/Cargo.toml library/rust/build.rs library/rust/src/lib.rs library/c/brsp.h docs/README.md
 docs/SYSTEMS.md examples/first.rsp examples/c/lockstep.c microcode/README.md microcode/copy.s
-"""
-# What one with the program has for shells and for `man`.
-SHELLS = """
-share/man/man1/rsp.1 share/bash-completion/completions/rsp share/zsh/site-functions/_rsp
-share/fish/vendor_completions.d/rsp.fish
 """
 # What tools/systems makes for an archive beside what the record names, and what more an archive has.
 MADE = {
@@ -82,7 +75,7 @@ def more_files(system: str) -> List[str]:
     """The other files of an archive."""
     target = TARGETS[system]
     names = "README.md CHANGELOG.md SHA256SUMS".split() + MORE.get(system, "").split()
-    names += COMMON.split() * bool(target.wheel) + SHELLS.split() * bool(target.program)
+    names += COMMON.split() * bool(target.wheel) + ["share/man/man1/rsp.1"] * bool(target.program)
     names += ["rsp"] * target.is_linux
     return [*names, *(f"library/rust/lib/{triple}/{name}" for triple, name in target.rust.items())]
 

@@ -79,6 +79,8 @@ def test_static_library_shows_the_calls_alone(library: Path) -> None:
 def test_shared_library(library: Path) -> None:
     shared = library / "libbrsp.so"
     assert re.findall(r"SONAME +(\S+)", succeeds("objdump", "-p", shared)) == [SONAME]
+    shown = re.findall(r"(?m)^\S+ T (\w+)", succeeds("nm", "-D", "--defined-only", shared))
+    assert {*shown} == {*header.calls()}
     check_needs(shared)
 
 
@@ -179,10 +181,6 @@ def test_pkg_config(prefix: Path, folder: Path, command: str, flags: str) -> Non
 @PREFIXES
 def test_cmake(prefix: Path, folder: Path) -> None:
     check_cmake(prefix, folder / "mine")
-
-
-def test_dlopen(prefix: Path, folder: Path) -> None:
-    succeeds(compiled(folder / "dlopen", HERE / "dlopen.c", "-ldl"), prefix / "lib/libbrsp.so")
 
 
 @pytest.mark.needs("rt")
