@@ -13,7 +13,7 @@ import pytest
 
 from lib import TOP
 from lib.install.clone import cloned
-from lib.install.unpacked import archives_for, unpacked
+from lib.install.unpacked import archive_for, unpacked
 from lib.packages import need
 from lib.processes import succeeds
 
@@ -53,20 +53,10 @@ def released(request: pytest.FixtureRequest, tmp_path_factory: pytest.TempPathFa
     return folder
 
 
-def found(request: pytest.FixtureRequest, system: str) -> Path:
-    """An archive, by what it is for."""
-    paths = archives_for(request.config, system)
-    if request.config.getoption("--archive") and not paths:
-        pytest.skip(f"--archive names none for {system}")
-    if not paths:
-        paths = [*(request.getfixturevalue("released") / "first").glob(f"*-{system}.tar.gz")]
-    return paths[0]
-
-
 @pytest.fixture(scope="session")
 def packed(request: pytest.FixtureRequest) -> Path:
     """The archive for Linux on x86-64."""
-    return found(request, "linux-x86_64")
+    return archive_for(request, "linux-x86_64")
 
 
 @pytest.fixture(scope="session")
@@ -81,7 +71,7 @@ def archive(packed: Path) -> Iterator[Path]:
 @pytest.fixture(scope="session")
 def vectors(request: pytest.FixtureRequest) -> Path:
     """The archive of the test vectors."""
-    return found(request, "conformance")
+    return archive_for(request, "conformance")
 
 
 @pytest.fixture(scope="session")

@@ -8,7 +8,6 @@ import os
 import re
 import shutil
 import sys
-import tarfile
 import tempfile
 import zipfile
 from pathlib import Path
@@ -18,45 +17,36 @@ import pytest
 from lib import TESTS, TOP
 from lib.install.unpacked import (
     BARE,
+    RELEASED,
+    archive_for,
     check_common,
     check_date_of_wheel,
     check_pack,
+    date,
     unpacked,
 )
 from lib.library import LOCKSTEP
 from lib.links import broken_everywhere, broken_in
 from lib.pages import page
 from lib.processes import run, succeeds
-from lib.symbols import check_needs
+from lib.symbols import PLUGIN_CALLS, check_needs
 
 pytestmark = pytest.mark.timeout(900)  # conformance/check takes all processors, of which others have few
 PLUGIN = "plugin/mupen64plus-rsp-proved.so"
-PLUGIN_CALLS = "DoRspCycles InitiateRSP PluginGetVersion PluginShutdown PluginStartup RomClosed".split()
 PASSED = r"[1-9]\d* passed, 0 failed"
-VERSION = r"rsp [\d.]+ \([\w-]+\), commit [0-9a-f]{40}\nproved and built by \S+"
+COMMIT = r"rsp [\d.]+ \([\w-]+\), commit [0-9a-f]{40}\n"
 
 
-KINDS = ("linux-x86_64", "conformance", "source")
-IDENTITY = ("-c", "user.name=a", "-c", "user.email=a@example.org")
-
-
-def test_sums_of_dist(released: Path) -> None:
-    names = sorted(path.name for path in (released / "first").iterdir() if path.name != "SHA256SUMS")
+def test_sums_of_dist(released: Path, folder: Path) -> None:
+    """The line in SHA256SUMS checks all archives, and one where the others aren't."""
+    dist = released / "first"
+    names = sorted(path.name for path in dist.iterdir() if path.name != "SHA256SUMS")
     assert len(names) == 3
-    output = succeeds("sha256sum", "--strict", "-c", "SHA256SUMS", cwd=released / "first")
-    assert output == "".join(f"{name}: OK\n" for name in names)
-
-
-def test_sum_of_one_archive(released: Path, folder: Path) -> None:
-    """The line in SHA256SUMS checks one archive where the others aren't, and finds a byte that differs."""
-    (path,) = (released / "first").glob("*-source.tar.gz")
-    for source in path, path.with_name("SHA256SUMS"):
-        shutil.copy(source, folder)
-    (line,) = re.findall("(?m)^# (sha256sum .*? SHA256SUMS) ", (folder / "SHA256SUMS").read_text())
-    assert succeeds(*line.split(), cwd=folder) == f"{path.name}: OK\n"
-    with (folder / path.name).open("r+b") as file:
-        file.write(b"x")
-    assert run(*line.split(), cwd=folder).returncode == 1
+    (line,) = re.findall("(?m)^# (sha256sum .*? SHA256SUMS) ", (dist / "SHA256SUMS").read_text())
+    assert succeeds(*line.split(), cwd=dist) == "".join(f"{name}: OK\n" for name in names)
+    for name in names[0], "SHA256SUMS":
+        shutil.copy(dist / name, folder)
+    assert succeeds(*line.split(), cwd=folder) == f"{names[0]}: OK\n"
 
 
 def test_two_runs_give_the_same_bytes(released: Path) -> None:
@@ -67,20 +57,14 @@ def test_two_runs_give_the_same_bytes(released: Path) -> None:
     assert [name for name in first if first[name] != second[name]] == []
 
 
-@pytest.mark.parametrize("kind", KINDS)
-def test_each_archive(released: Path, folder: Path, kind: str) -> None:
+@pytest.mark.parametrize("kind", RELEASED)
+def test_each_archive(request: pytest.FixtureRequest, folder: Path, kind: str) -> None:
     """Members have sorted names, safe modes and the commit's time, and SHA256SUMS is correct."""
-    (path,) = (released / "first").glob(f"*-{kind}.tar.gz")
+    path = archive_for(request, kind)
     check_pack(path)
-    with tarfile.open(path) as archive:
-        mtime = archive.getmembers()[0].mtime
-    assert mtime == int(succeeds("git", "log", "-1", "--format=%ct"))
+    if not request.config.getoption("--archive"):  # one that is given may be of another commit
+        assert date(path) == int(succeeds("git", "log", "-1", "--format=%ct"))
     check_common(unpacked(path, folder))
-
-
-def test_archive(packed: Path, folder: Path) -> None:
-    check_pack(packed)
-    check_common(unpacked(packed, folder))
 
 
 def test_source(released: Path, folder: Path) -> None:
@@ -100,9 +84,10 @@ def test_source(released: Path, folder: Path) -> None:
     modes = [(os.access(TOP / name, os.X_OK), os.access(top / name, os.X_OK)) for name in listed]
     assert all(here == unpacked for here, unpacked in modes)
     version = succeeds("./rsp", "--version", cwd=top, env=BARE)
-    assert re.fullmatch(r"rsp [\d.]+ \([\w-]+\), commit [0-9a-f]{40}\nnot built yet\n", version)
+    assert re.fullmatch(rf"{COMMIT}not built yet\n", version)
     succeeds("git", "init", "-q", folder)
-    succeeds("git", *IDENTITY, "commit", "-q", "--allow-empty", "-m", "another", cwd=folder)
+    identity = ("-c", "user.name=a", "-c", "user.email=a@example.org")
+    succeeds("git", *identity, "commit", "-q", "--allow-empty", "-m", "another", cwd=folder)
     assert succeeds("./rsp", "--version", cwd=top) == version, "it is the commit of the repository around it"
     assert succeeds("tools/build", "--sources", "rsp_main", cwd=top) == succeeds(
         "tools/build", "--sources", "rsp_main"
@@ -117,7 +102,7 @@ def test_version(archive: Path) -> None:
     """./rsp --version begins with what bin/rsp --version prints, and adds the commit and the kit."""
     script_output = succeeds("./rsp", "--version", cwd=archive, env=BARE)
     program_output = succeeds("bin/rsp", "--version", cwd=archive, env=BARE).strip()
-    assert re.match(VERSION, script_output)
+    assert re.match(rf"{COMMIT}proved and built by \S+", script_output)
     assert program_output and script_output.startswith(program_output)
 
 
@@ -188,7 +173,7 @@ def test_plugin(archive: Path, folder: Path, is_own: bool) -> None:
     if is_own:
         succeeds("plugin/build", file, cwd=archive, env=BARE)
     calls = re.findall(r" g +DF \.text\s.* (\w+)$", succeeds("objdump", "-T", file), re.M)
-    assert sorted(calls) == PLUGIN_CALLS
+    assert {*calls} == PLUGIN_CALLS
     check_pytest_passes(f"--plugin={file}", f"--program={archive}/bin/rsp", "tests/plugin/test_interface.py")
 
 

@@ -8,7 +8,6 @@ import calendar
 import json
 import os
 import re
-import shutil
 import sys
 from pathlib import Path
 from typing import Iterator, List
@@ -17,26 +16,22 @@ import pytest
 
 from lib.install.unpacked import (
     BARE,
-    LOOP_CODE,
-    LOOP_TEXT,
-    LOOP_WORDS,
+    archive_for,
     check_common,
     check_date_of_wheel,
     check_pack,
     date,
-    archives_for,
     unpacked,
 )
-from lib.library import LOCKSTEP
 from lib.library.typescript import OPTIONS, USE
 from lib.links import broken_everywhere, elsewhere
 from lib.packages import need
 from lib.pages import page
-from lib.processes import Ended, run, run_bytes, succeeds
-from lib.systems import browser, built_files, macos, node, rust
+from lib.processes import run_bytes, succeeds
+from lib.systems import node, rust
 from lib.systems.target_params import COMPILED, LINUX, RUNNERS
 from lib.systems.runners import Runner
-from rsp_tools.packaging import archives, install_tree, repository
+from rsp_tools.packaging import archives, install_tree, repository, system_archives
 from rsp_tools.packaging.release_info import About
 from rsp_tools.systems import packages
 from rsp_tools.systems.toolchain import llvm
@@ -44,16 +39,9 @@ from rsp_tools.targets import CROSS, PAGE, PROCESSORS, TARGETS
 
 # What an archive for C, Python and Rust has on each system.
 COMMON = """
-include/brsp.h include/brsp.hpp include/brsp_compare.h include/brsp_savestate.h
-lib/cmake/brsp/brspConfig.cmake lib/cmake/brsp/brspConfigVersion.cmake lib/pkgconfig/brsp.pc
 library/python/rsp/__init__.py
 library/rust/Cargo.toml library/rust/build.rs library/rust/src/lib.rs library/c/brsp.h docs/README.md
 docs/SYSTEMS.md examples/first.rsp examples/c/lockstep.c microcode/README.md microcode/copy.s
-"""
-# What one with the program has for shells and for `man`.
-SHELLS = """
-share/man/man1/rsp.1 share/bash-completion/completions/rsp share/zsh/site-functions/_rsp
-share/fish/vendor_completions.d/rsp.fish
 """
 # What tools/systems makes for an archive beside what the record names, and what more an archive has.
 MADE = {
@@ -87,7 +75,7 @@ def more_files(system: str) -> List[str]:
     """The other files of an archive."""
     target = TARGETS[system]
     names = "README.md CHANGELOG.md SHA256SUMS".split() + MORE.get(system, "").split()
-    names += COMMON.split() * bool(target.wheel) + SHELLS.split() * bool(target.program)
+    names += COMMON.split() * bool(target.wheel) + ["share/man/man1/rsp.1"] * bool(target.program)
     names += ["rsp"] * target.is_linux
     return [*names, *(f"library/rust/lib/{triple}/{name}" for triple, name in target.rust.items())]
 
@@ -107,33 +95,37 @@ def check_files(top: Path, system: str) -> None:
 
 
 def stand_in(system: str, folder: Path) -> None:
-    """A folder as tools/systems makes it: each file has its name in it."""
+    """A folder as tools/systems makes it: each file has its name in it, and those in bin/ can be run."""
     for name in made_files(system):
         path = folder / name
         path.parent.mkdir(parents=True, exist_ok=True)
         path.write_text(name)
+        path.chmod(0o755 if name.startswith("bin/") else 0o644)
     if system in rust.TARGETS:
         packages.describe(folder, TARGETS[system])
         packages.wheel(folder, folder / made_files(system)[0], "library", TARGETS[system].wheel)
 
 
 @pytest.mark.parametrize("system", SYSTEMS)
-def test_stand_in(folder: Path, library: Path, system: str) -> None:
-    """Its files, links and sums, the time of the commit, and that two archives are alike."""
-    stand_in(system, folder / "made")
-    archive = archives.of_system(
-        system, folder / "made", ABOUT, lambda library, processor: processor.encode()
-    )
-    is_alike = archive.packed() == archive.packed()
-    assert is_alike
+def test_stand_in(folder: Path, library: Path, system: str, monkeypatch: pytest.MonkeyPatch) -> None:
+    """Its files, links and sums, the time of the commit, and that two archives are alike. It has what
+    tools/systems made as it was made, so what tests/systems finds there holds for the archive too."""
+    stand_in(system, made := folder / "made")
+    monkeypatch.setattr(system_archives, "thinned", lambda library, processor: processor.encode())
+    archive = archives.of_system(system, made, ABOUT)
     packed = folder / archive.name
     packed.write_bytes(archive.packed())
+    is_alike = archive.packed() == packed.read_bytes()
+    assert is_alike
     check_pack(packed)
     commit_time = int(succeeds("git", "log", "-1", "--format=%ct"))
     assert 0 <= commit_time - date(packed) < 2
-    (folder / "into").mkdir()
     top = unpacked(packed, folder / "into")
     check_files(top, system)
+    for path in (path for path in made.rglob("*") if path.is_file()):
+        found = top / path.relative_to(made)
+        assert found.is_symlink() or found.read_bytes() == path.read_bytes()
+        assert packed.suffix == ".zip" or os.access(found, os.X_OK) == os.access(path, os.X_OK)
     if system in rust.TARGETS:
         check_date_of_wheel(packed, top)
 
@@ -151,16 +143,12 @@ def test_wheel_where_there_is_no_git(folder: Path, monkeypatch: pytest.MonkeyPat
 @pytest.fixture
 def packed_for(request: pytest.FixtureRequest, system: str) -> Path:
     """The archive for a system."""
-    found = archives_for(request.config, system)
-    if not found:
-        pytest.skip(f"--archive names none for {system}: `./release --systems {system}` makes one")
-    return found[0]
+    return archive_for(request, system)
 
 
 @pytest.fixture
 def top(packed_for: Path, folder: Path) -> Path:
     """The unpacked archive, to which a test may add files."""
-    (folder / "into").mkdir()
     return unpacked(packed_for, folder / "into")
 
 
@@ -174,12 +162,6 @@ def test_files(packed_for: Path, top: Path, system: str) -> None:
     assert top.name == "package" if system == "wasm64" else top.name.endswith(f"-{system}")
     check_pack(packed_for)
     check_files(top, system)
-
-
-@of(*rust.TARGETS)
-def test_wheel(packed_for: Path, top: Path, system: str) -> None:
-    built_files.check_wheel(system, top)
-    check_date_of_wheel(packed_for, top)
 
 
 @pytest.mark.needs("rustc", "cargo")
@@ -199,7 +181,7 @@ def test_crate(top: Path, folder: Path, system: str) -> None:
 
 # Programs are compiled by Debian's compilers, and run under qemu and wine.
 EXAMPLE = "examples/c/lockstep.c"
-FIRST = page("examples/first.rsp").encode()
+FIRST, REPLIES = (page(f"examples/first.{ending}").encode() for ending in ("rsp", "out"))
 
 
 @pytest.fixture
@@ -209,12 +191,10 @@ def runner(top: Path, folder: Path, system: str) -> Iterator[Runner]:
     runner.stop()
 
 
-@of(*COMPILED)
-def test_c(top: Path, runner: Runner, system: str) -> None:
-    """The example by the files, static and shared."""
-    for how, library in runner.libraries().items():
-        program = runner.compile(top / EXAMPLE, name=f"lockstep {how}", library=library)
-        runner.check_lockstep(program, how != "static")
+def first_output(runner: Runner, *words: object) -> bytes:
+    """What a command prints in the archive's folder for the first script."""
+    command = [*runner.start, *words]
+    return bytes(run_bytes(command[0], command[1:], FIRST, cwd=runner.folder, env=runner.env).stdout)
 
 
 @pytest.mark.needs("python:pip")
@@ -226,9 +206,7 @@ def test_wheel_installed(top: Path, runner: Runner, system: str) -> None:
     words = ("--no-index", "--disable-pip-version-check", "--only-binary=:all:", "--platform", tag)
     succeeds(sys.executable, "-m", "pip", "install", "-q", *words, "--target", to, wheel)
     assert (to / "rsp/__init__.py").is_file()
-    command = [*runner.start, to / TARGETS[system].program, "run"]
-    ended = run_bytes(command[0], command[1:], FIRST, env=runner.env)
-    assert ended.stdout == page("examples/first.out").encode()
+    assert first_output(runner, to / TARGETS[system].program, "run") == REPLIES
 
 
 @pytest.mark.needs("pkg-config")
@@ -246,45 +224,9 @@ def test_cmake(top: Path, runner: Runner, system: str) -> None:
     runner.check_cmake()
 
 
-@of(*rust.TESTED)
-def test_example_of_the_crate(top: Path, runner: Runner, system: str) -> None:
-    """Where Debian has Rust's own library for the system."""
-    crate = shutil.copytree(top / "library/rust", runner.at / "rust")
-    assert rust.cargo(runner, "run", "--example", "lockstep", at=crate) == LOCKSTEP
-
-
-def run_of_archive(runner: Runner, *words: str, script: bytes = b"") -> "Ended[bytes]":
-    """A run of a program of the archive, in its folder."""
-    command = [*runner.start, *words]
-    return run_bytes(command[0], command[1:], script, cwd=runner.folder, env=runner.env)
-
-
 @of(*COMPILED)
-def test_program(top: Path, runner: Runner, system: str) -> None:
-    """The first script, an assembly and a disassembly, and a file that isn't there."""
-    program = f"bin/rsp{runner.ending}"
-    first = run_of_archive(runner, program, "run", script=FIRST)
-    assert first.stdout == page("examples/first.out").encode()
-    (top / "loop.s").write_text(LOOP_TEXT)
-    assert run_of_archive(runner, program, "asm", "loop.s", "loop.bin").stdout == b"ok 4 words\n"
-    assert (top / "loop.bin").read_bytes().hex() == LOOP_CODE
-    assert run_of_archive(runner, program, "dis", "loop.bin").stdout == LOOP_WORDS.encode()
-    lost = run_of_archive(runner, program, "run", "--rdram", "no-such-file")
-    assert lost.returncode == 1 and not lost.stdout
-
-
-@of(*COMPILED)
-@pytest.mark.parametrize("name", ["VADD", "MTC0"])
-def test_vectors(top: Path, runner: Runner, suite: Path, system: str, name: str) -> None:
-    """By the tools of the vectors' archive and this machine's Python, which starts the program by a script of
-    the shell."""
-    script = top / "program"
-    script.write_text(f'#!/bin/sh\nexec {" ".join(runner.start)} {top}/bin/rsp{runner.ending} "$@"\n')
-    script.chmod(0o755)
-    where = {**BARE, **runner.env, "PYTHONPATH": "conformance"}
-    words = ("-B", "-m", "rsp_conformance.run", "--program", script, "conformance/vectors", name)
-    output = succeeds("python3", *words, cwd=suite, env=where)
-    assert re.fullmatch(r"[1-9]\d* passed, 0 failed", output.splitlines()[-1])
+def test_program(runner: Runner, system: str) -> None:
+    assert first_output(runner, f"bin/rsp{runner.ending}", "run") == REPLIES
 
 
 @of("windows-x86_64")
@@ -292,26 +234,24 @@ def test_first_line_of_windows(top: Path, runner: Runner) -> None:
     """The README's, by the command interpreter."""
     line = r"bin\rsp run examples\first.rsp"
     assert f"`{line}`" in (top / "README.md").read_text()
-    assert run_of_archive(runner, "cmd", "/c", line).stdout == page("examples/first.out").encode()
+    assert first_output(runner, "cmd", "/c", line) == REPLIES
 
 
 @pytest.mark.needs("rt")
 @of("macos")
-def test_macos(top: Path, folder: Path) -> None:
-    """The files are only read."""
-    macos.check(top, folder)
+def test_macos(top: Path) -> None:
+    """The crate has a library for each processor, because Rust 1.63 takes none that is for two."""
     for triple in TARGETS["macos"].rust:
         processors = llvm("llvm-lipo", "-archs", top / "library/rust/lib" / triple / "libbrsp.a").split()
         assert processors == [PROCESSORS[triple.partition("-")[0]].apple], triple
 
 
 @of("wasm64")
-def test_package(packed_for: Path, top: Path) -> None:
+def test_package(top: Path) -> None:
+    """Each file that package.json names is there."""
     described = json.loads((top / "package.json").read_text())
     named = [described["types"], described["exports"]["."]["default"], described["exports"]["./rsp.wasm"]]
     assert [name for name in named if not (top / name).is_file()] == []
-    assert f"-{described['version']}-" in packed_for.name
-    assert (top / "rsp.d.ts").read_text() == page("library/js/rsp.d.ts")
 
 
 @pytest.fixture
@@ -333,57 +273,8 @@ def test_npm(top: Path, project: Path) -> None:
 @pytest.mark.needs("tsc")
 @of("wasm64")
 def test_declarations(project: Path) -> None:
-    """tsc takes a program that uses them, and refuses what isn't declared."""
+    """tsc finds them in what npm installs."""
     options = {name: it for name, it in OPTIONS.items() if name != "paths"}
     (project / "tsconfig.json").write_text(json.dumps({"compilerOptions": options, "files": ["use.ts"]}))
     (project / "use.ts").write_text(USE)
     assert succeeds("tsc", "-p", ".", cwd=project, env=BARE) == ""
-    (project / "use.ts").write_text(f'{USE}machine.run("3");\n')
-    assert run("tsc", "-p", ".", cwd=project, env=BARE).stdout.count("error TS") == 1
-
-
-@of("wasm64")
-def test_example_in_chromium(runner: browser.Chromium, system: str) -> None:
-    assert runner.says("lockstep.js", page("examples/js/lockstep.js")) == LOCKSTEP
-
-
-# What a page loads, in HTML, in modules and in what they start; and the addresses that it names.
-LOADED = (
-    r'(?:src|href)="([^"#]+)"|(?:\bfrom |\bimport |\bimport\()"([^"]+)"'
-    r'|\bURL\("([^"]+)", import\.meta\.url\)'
-)
-ADDRESS = r"\b(?:https?|wss?)://[^\s\"'<>)]+"
-# What the archive has beside the page.
-BESIDE = "README.md CHANGELOG.md SHA256SUMS COMMIT".split()
-# The name of SVG, which is no file, and this machine.
-NEAR = ("http://www.w3.org/", "http://127.0.0.1:", "http://localhost:")
-
-
-def loaded(path: Path) -> Iterator[Path]:
-    """What a file of the page loads."""
-    if path.suffix in (".html", ".js"):
-        names = ["".join(groups) for groups in re.findall(LOADED, path.read_text())]
-        yield from ((path.parent / name).resolve() for name in names if not re.match(r"\w+:", name))
-
-
-@of("page")
-def test_page(top: Path) -> None:
-    """It loads files that are there, from index.html on, and all of them; no address leads elsewhere."""
-    top, seen = top.resolve(), set[Path]()
-    waiting = [top / "index.html"]
-    while waiting:
-        path = waiting.pop()
-        assert path.is_file()
-        seen.add(path)
-        waiting += {*loaded(path)} - seen - {*waiting}
-    (folder,) = (path for path in top.iterdir() if path.is_dir())
-    assert re.fullmatch("[0-9a-f]{16}", folder.name)
-    needed = (
-        "page.js worker.js rsp/rsp.js rsp/rsp.wasm help/SCRIPT.html help/FAULTS.html help/INSTRUCTIONS.html"
-    )
-    assert {folder / name for name in needed.split()} <= seen
-    there = {path for path in top.rglob("*") if path.is_file() and path.name not in BESIDE}
-    assert there <= seen
-    texts = [path.read_text() for path in there - {folder / "rsp/rsp.wasm"}]
-    addresses = {address for text in texts for address in re.findall(ADDRESS, text)}
-    assert {address for address in addresses if not address.startswith(NEAR)} == set()

@@ -16,7 +16,7 @@ from typing import Iterator, NamedTuple
 
 import pytest
 
-from lib.install.toy_repository import C, RSP, Data, Result, ToyRepository
+from lib.install.toy_repository import C, HEADER, RSP, Data, Result, ToyRepository
 from lib.user import AS_NOBODY
 from rsp_tools.proof import PROCESSORS
 
@@ -298,16 +298,11 @@ def test_two_at_once(program_repository: ToyRepository, folder: Path) -> None:
 
 
 @of_library
-@pytest.mark.parametrize("name", ["brsp.h", "libbrsp.a"])
-def test_links_again(library_repository: ToyRepository, name: str) -> None:
+@pytest.mark.parametrize("name, data", [("brsp.h", f"{HEADER}/* more */\n"), ("libbrsp.a", "")])
+def test_links_again(library_repository: ToyRepository, name: str, data: str) -> None:
     """What the library is linked from is changed, or what is made of it."""
     static, shared = (library_repository.root / f"library/c/libbrsp.{end}" for end in ("a", "so"))
     before = shared.stat().st_mtime_ns
-    library_repository.put(
-        f"library/c/{name}",
-        b""
-        if name == "libbrsp.a"
-        else (library_repository.root / "library/c/brsp.h").read_bytes() + b"/* more */\n",
-    )
+    library_repository.put(f"library/c/{name}", data.encode())
     assert library_repository.run(C) == NOTHING
     assert static.stat().st_size > 0 and shared.stat().st_mtime_ns > before

@@ -69,29 +69,19 @@ in_shells = pytest.mark.parametrize(
 )
 
 
-def options_of(program: Path, *command: str) -> set[str]:
-    """The long options that --help of the program names."""
-    text = run_program(program, [*command, "--help"]).errors.decode()
-    return {*re.findall(r"(?m)^ +(?:-\w, )?(--\w+)", text)}
-
-
-def long_options(offered: set[str]) -> set[str]:
-    return {word for word in offered if word.startswith("--") and word != "--"}
+@in_shells
+@pytest.mark.parametrize("words", ["rsp", *(f"rsp {command}" for command in COMMANDS)])
+def test_options(prefix: Path, program: Path, shell: str, words: str) -> None:
+    """After a command and `--`, or after `--` alone: the options that its help names, and no others."""
+    text = run_program(program, [*words.split()[1:], "--help"]).errors.decode()
+    expected = {*re.findall(r"(?m)^ +(?:-\w, )?(--\w+)", text)}
+    offered = {word for word in SHELLS[shell](prefix, f"{words} --") if word.startswith("--")}
+    assert expected and offered - {"--"} == expected
 
 
 @in_shells
-@pytest.mark.parametrize("command", COMMANDS)
-def test_options(prefix: Path, program: Path, shell: str, command: str) -> None:
-    """After a command and `--`: the options of that command, and no others."""
-    expected = options_of(program, command)
-    assert len(expected) > 2 and long_options(SHELLS[shell](prefix, f"rsp {command} --")) == expected
-
-
-@in_shells
-def test_first_word(prefix: Path, program: Path, shell: str) -> None:
-    """The commands, and the options without a command."""
+def test_first_word(prefix: Path, shell: str) -> None:
     assert {*COMMANDS, "help"} <= SHELLS[shell](prefix, "rsp ")
-    assert long_options(SHELLS[shell](prefix, "rsp --")) == options_of(program)
 
 
 @pytest.mark.needs("fish")

@@ -10,9 +10,8 @@ from pathlib import Path
 
 import pytest
 
-from lib import TESTS, TOP
-from lib.cmake import EXAMPLE
-from lib.install.unpacked import archives_for, check_common, unpacked
+from lib import TESTS, TOP, cmake
+from lib.install.unpacked import archive_for, check_common, unpacked
 from lib.library import LOCKSTEP
 from lib.pages import page
 from lib.processes import STRICT, compiled, run, run_bytes, succeeds
@@ -39,7 +38,7 @@ FETCHED = "include(FetchContent)\nFetchContent_Declare(brsp URL {0})\nFetchConte
 def project(folder: Path, how: str = SUBDIRECTORY) -> Path:
     """A folder with a project that takes the library in this way."""
     folder.mkdir(parents=True, exist_ok=True)
-    shutil.copy(EXAMPLE, folder)
+    shutil.copy(cmake.EXAMPLE, folder)
     (folder / "CMakeLists.txt").write_text(PROJECT.format(how=how))
     return folder
 
@@ -60,15 +59,7 @@ def test_clone(library: Path, folder: Path) -> None:
     shutil.copy(library / "brsp.h", mine / "rsp/library/c")
     refused = run("cmake", "-S", mine, "-B", mine / "unbuilt")
     assert refused.returncode and "type library/c/build in" in " ".join(refused.stdout.split())
-    other = run(
-        "cmake",
-        "-S",
-        mine,
-        "-B",
-        mine / "other",
-        "-DCMAKE_SYSTEM_NAME=Linux",
-        "-DCMAKE_SYSTEM_PROCESSOR=mips",
-    )
+    other = run("cmake", "-S", mine, "-B", mine / "other", *cmake.system("Linux", "mips"))
     assert other.returncode and "x86-64 only" in other.stdout
     shutil.copy(library / "libbrsp.a", mine / "rsp/library/c")
     assert succeeds(built(mine) / "lockstep") == LOCKSTEP
@@ -76,16 +67,12 @@ def test_clone(library: Path, folder: Path) -> None:
 
 @pytest.fixture
 def packed(request: pytest.FixtureRequest) -> Path:
-    paths = archives_for(request.config, "vendor")
-    if not paths:
-        pytest.skip("--archive names none for vendor: `./release --systems vendor` makes one")
-    return paths[0]
+    return archive_for(request, "vendor")
 
 
 @pytest.fixture
 def top(packed: Path, folder: Path) -> Path:
     """The unpacked archive, in a folder with a blank in its name."""
-    (folder / "a folder").mkdir()
     return unpacked(packed, folder / "a folder")
 
 
@@ -125,8 +112,7 @@ def test_builds_anew(top: Path, folder: Path) -> None:
 @pytest.mark.needs("cmake")
 def test_refuses(top: Path, folder: Path) -> None:
     """Another processor gets one sentence that lists those that are there."""
-    words = ("-DCMAKE_SYSTEM_NAME=Linux", "-DCMAKE_SYSTEM_PROCESSOR=riscv64")
-    ended = run("cmake", "-S", top, "-B", folder / "out", *words)
+    ended = run("cmake", "-S", top, "-B", folder / "out", *cmake.system("Linux", "riscv64"))
     assert ended.returncode and "there is no file for Linux-riscv64" in " ".join(ended.stdout.split())
 
 

@@ -4,7 +4,6 @@ import functools
 import glob
 import importlib.util
 import os
-import re
 import shutil
 import subprocess
 import sys
@@ -27,11 +26,6 @@ PACKAGES = {
     "readelf": "binutils",
     "Xvfb": "xvfb",
     "tsc": "node-typescript",
-    "/usr/bin/c++": "g++",
-    "/usr/bin/cc": "gcc",
-    "/usr/bin/node": "nodejs",
-    "/usr/bin/man": "man-db",
-    "/usr/bin/mips-linux-gnu-gcc": "gcc-mips-linux-gnu",
     "/usr/include/stdio.h": "libc6-dev",
     "/usr/lib/llvm-*/lib/clang/*/lib/linux/libclang_rt.fuzzer-x86_64.a": "libclang-rt-14-dev",
     "/usr/lib/python3*/ensurepip": "python3-venv",
@@ -79,21 +73,25 @@ def broken(tool: str) -> str:
     return f"{tool} --version: {first or ended.returncode}" if ended.returncode else ""
 
 
+def package_of(tool: str) -> str:
+    """Debian's package of a tool."""
+    if tool.startswith("python:"):
+        return PACKAGES.get(tool, f"python3-{tool[7:]}")
+    name = os.path.basename(tool)
+    return PACKAGES.get(tool, PACKAGES.get(name, name))
+
+
 def packages(*tools: str) -> list[str]:
     """Debian's packages of those of these tools that aren't here, each once."""
     missing = (tool for tool in tools if tool not in OTHERS and not is_here(tool))
-    names = " ".join(PACKAGES.get(tool, os.path.basename(tool)) for tool in missing)
-    return [*dict.fromkeys(names.split())]
+    return [*dict.fromkeys(" ".join(map(package_of, missing)).split())]
 
 
 def without(tool: str) -> str:
     """That a tool isn't here, and which package has it."""
-    module = re.sub("^python:", "", tool)
-    if module != tool:
-        package = PACKAGES.get(tool, f"python3-{module}")
-        return f"{sys.executable} has no {module} (Debian's package {package})"
-    package = PACKAGES.get(tool, os.path.basename(tool))
-    return OTHERS.get(tool, f"there is no {tool} (Debian's package {package})")
+    module = tool.removeprefix("python:")
+    lack = f"there is no {tool}" if module == tool else f"{sys.executable} has no {module}"
+    return OTHERS.get(tool, f"{lack} (Debian's package {package_of(tool)})")
 
 
 def need(*tools: str) -> None:

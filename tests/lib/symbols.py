@@ -5,6 +5,8 @@ from pathlib import Path
 
 from lib.processes import succeeds
 
+# The calls of mupen64plus's interface, which a plugin shows alone.
+PLUGIN_CALLS = {*"DoRspCycles InitiateRSP PluginGetVersion PluginShutdown PluginStartup RomClosed".split()}
 OLDEST = (2, 17)  # glibc's version of 2012, and that of the wheel's tag, manylinux2014
 
 

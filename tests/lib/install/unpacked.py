@@ -11,18 +11,23 @@ from pathlib import Path
 
 import pytest
 
-# A text, its words in hexadecimal, and what `dis` prints of them.
-LOOP_TEXT = "loop: addiu $1, $1, -1\nbne $1, $0, loop\nnop\nbreak\n"
-LOOP_CODE = "2421ffff1420fffe000000000000000d"
-LOOP_WORDS = "addiu $1, $1, -1\nbne $1, $0, 0x000\nnop\nbreak\n"
 BARE = {"PATH": "/usr/bin:/bin", "LC_ALL": "C"}  # the environment of one who has nothing else
 
 
-def archives_for(config: pytest.Config, system: str) -> list[Path]:
-    """The archives for a system among the files and folders of the option --archive."""
-    roots = [Path(name) for name in config.getoption("--archive")]
+RELEASED = ("linux-x86_64", "conformance", "source")  # what ./release makes without --systems
+
+
+def archive_for(request: pytest.FixtureRequest, system: str) -> Path:
+    """The archive for a system, among the files and folders of --archive, or else one that ./release makes
+    of HEAD. Skips the test if there is none."""
+    roots = [Path(name) for name in request.config.getoption("--archive")]
+    if not roots and system in RELEASED:
+        roots = [request.getfixturevalue("released") / "first"]
     paths = [path for root in roots for path in (sorted(root.glob("rsp-*")) if root.is_dir() else [root])]
-    return [path for path in paths if f"-{system}." in path.name]
+    found = [path for path in paths if f"-{system}." in path.name]
+    if not found:
+        pytest.skip(f"--archive names none for {system}: `./release --systems {system}` makes one")
+    return found[0]
 
 
 def check_members(members: list[tarfile.TarInfo]) -> None:
@@ -74,7 +79,7 @@ def check_date_of_wheel(archive: Path, top: Path) -> None:
 
 
 def unpacked(archive: Path, into: Path) -> Path:
-    """Unpacks an archive into an empty folder, and returns the only folder that it has."""
+    """Unpacks an archive into an empty or new folder, and returns the only folder that it has."""
     shutil.unpack_archive(archive, into, "zip" if archive.suffix == ".zip" else "gztar")
     (top,) = into.iterdir()
     return top

@@ -28,21 +28,16 @@ class Archive(NamedTuple):
         return pack(self.folder, self.files)
 
 
-def name_of(system: str, version: str) -> str:
-    """The name of an archive's file."""
-    ending = TARGETS[system].ending if system in TARGETS else "tar.gz"
-    return f"rsp-{version}-{system}.{ending}"
-
-
 def finished(system: str, files: Iterable[File], about: About) -> Archive:
     """An archive of these files, with the files README.md and COMMIT, and sums. npm packs into a folder
     `package`."""
-    name = name_of(system, about.version)
-    folder = "package" if system == "wasm64" else f"rsp-{about.version}-{system}"
+    name = f"rsp-{about.version}-{system}"
+    ending = TARGETS[system].ending if system in TARGETS else "tar.gz"
     listed = [*files, File("COMMIT", f"{about.commit}\n".encode())]
     if system != "source":
         listed.append(readme.page(system, about, listed))
-    return Archive(name, folder, archive_formats.with_sums(listed))
+    folder = "package" if system == "wasm64" else name
+    return Archive(f"{name}.{ending}", folder, archive_formats.with_sums(listed))
 
 
 def of_native(program: bytes, plugin: bytes, about: About) -> Archive:
@@ -50,19 +45,17 @@ def of_native(program: bytes, plugin: bytes, about: About) -> Archive:
     return finished(NATIVE.name, system_archives.native_contents(program, plugin, about), about)
 
 
-def of_system(
-    system: str, made: Path, about: About, thin: system_archives.Thin = system_archives.thinned
-) -> Archive:
+def of_system(system: str, made: Path, about: About) -> Archive:
     """That for another system, of the folder that tools/systems has made for it."""
-    return finished(system, system_archives.cross_contents(system, made, about, thin), about)
+    return finished(system, system_archives.cross_contents(system, made, about), about)
 
 
 def of_conformance(about: About) -> Archive:
     """The test vectors with their tools: the same for all systems. Its folders can be copied into that of a
     system's archive, where the tools find the program, the library and the plugin."""
-    return finished("conformance", repository.tracked(CONFORMANCE), about)
+    return finished("conformance", repository.tracked(*CONFORMANCE), about)
 
 
 def of_source(about: About) -> Archive:
     """All files of the repository as they are, but its README says more."""
-    return finished("source", [readme.in_source(it, about) for it in repository.every()], about)
+    return finished("source", [readme.in_source(file, about) for file in repository.tracked()], about)

@@ -7,9 +7,7 @@ another library of the kit may be in the same program.
 The program needs no newer glibc than tools/packaging/start.c says.
 """
 
-import shutil
 import signal
-import subprocess
 import sys
 import tempfile
 from pathlib import Path
@@ -18,7 +16,7 @@ from typing import List, NoReturn
 from rsp_tools import TOOLS, TOP, hardening
 from rsp_tools.packaging import install_tree
 from rsp_tools.packaging.install_tree import File
-from rsp_tools.systems import header
+from rsp_tools.systems import header, toolchain
 
 NAME = "tools/python rsp_tools.packaging.link"
 C = TOP / "library/c"
@@ -30,14 +28,12 @@ def fail(text: str) -> NoReturn:
     sys.exit(f"{NAME}: {text}")
 
 
-def call(*words: object) -> str:
+def call(program: str, *words: object) -> str:
     """The output of a command. Ends with its output if the command fails."""
-    if not shutil.which(str(words[0])):
-        fail(f"there is no {words[0]}")
-    ended = subprocess.run(list(map(str, words)), capture_output=True, text=True)
-    if ended.returncode:
-        fail(f"{words[0]} failed:\n{ended.stdout}{ended.stderr}".rstrip())
-    return ended.stdout.strip()
+    try:
+        return toolchain.call(program, *map(str, words)).strip()
+    except toolchain.Refused as reason:
+        fail(str(reason))
 
 
 def link_library(archives: List[str]) -> None:

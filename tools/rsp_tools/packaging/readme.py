@@ -13,10 +13,6 @@ from rsp_tools.packaging.install_tree import File
 MARK = re.compile(r"(?ms)^<!-- .*?-->\n")  # above a block: how a test types it
 
 
-def template(system: str) -> str:
-    return (TOOLS / f"packaging/readme/{system}.md").read_text()
-
-
 def elsewhere(pages: Dict[str, str], names: List[str]) -> List[str]:
     """What pages link to, and no file is: files, or the folders of which an archive has nothing."""
     here = {*names, *(str(folder) for name in names for folder in PurePosixPath(name).parents)}
@@ -33,7 +29,7 @@ def elsewhere(pages: Dict[str, str], names: List[str]) -> List[str]:
 def page(system: str, release: About, files: List[File]) -> File:
     """The README of a system's archive with these files, which names all that their links lack."""
     built, proved = release.lines()
-    text = MARK.sub("", template(system))
+    text = MARK.sub("", (TOOLS / f"packaging/readme/{system}.md").read_text())
     pages = {
         it.name: it.data.decode() for it in files if it.name.endswith(".md") and isinstance(it.data, bytes)
     }

@@ -2,7 +2,7 @@
 
 import functools
 import subprocess
-from typing import Iterator, Sequence
+from typing import Iterator
 
 from rsp_tools import TOP
 from rsp_tools.packaging.install_tree import File, file
@@ -25,22 +25,13 @@ def commit_time() -> int:
     return int(output_of("git", "log", "-1", "--format=%ct"))
 
 
-def names(*parts: str) -> Iterator[str]:
-    """The names of the files of these parts, or of all files, except links."""
-    listed = output_of("git", "ls-files", "-z", "--", *parts).split("\0")
-    yield from (name for name in listed if name and not (TOP / name).is_symlink())
+def tracked(*parts: str) -> Iterator[File]:
+    """The files of these parts, or all files, with the names that they have in the repository. No links."""
+    for name in output_of("git", "ls-files", "-z", "--", *parts).split("\0"):
+        if name and not (TOP / name).is_symlink():
+            yield file(name, TOP / name)
 
 
-def tracked(parts: Sequence[str]) -> Iterator[File]:
-    """The files of these parts, with the names that they have in the repository."""
-    yield from (file(name, TOP / name) for name in names(*parts) if not name.endswith(".gitignore"))
-
-
-def of_systems(parts: Sequence[str]) -> Iterator[File]:
+def of_systems(*parts: str) -> Iterator[File]:
     """The files of these parts for the archive of a system, without those of the test vectors' archive."""
-    yield from (file for file in tracked(parts) if not file.name.startswith(OF_CONFORMANCE))
-
-
-def every() -> Iterator[File]:
-    """All files."""
-    yield from (file(name, TOP / name) for name in names())
+    yield from (file for file in tracked(*parts) if not file.name.startswith(OF_CONFORMANCE))

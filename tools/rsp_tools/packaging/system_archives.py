@@ -7,7 +7,7 @@ prefix by its own place. libbrsp.a is also in the Rust crate, which so works for
 
 import tempfile
 from pathlib import Path
-from typing import Callable, Iterator, Mapping, Sequence
+from typing import Iterator, Mapping, Sequence
 
 import wheels
 from rsp_tools import TOP
@@ -28,7 +28,6 @@ PARTS_OF: Mapping[str, Sequence[str]] = {
     "vendor": "docs examples/c examples/first.rsp CHANGELOG.md".split(),
     "page": ["CHANGELOG.md"],
 }
-Thin = Callable[[Path, str], bytes]
 
 
 def of_folder(folder: Path) -> Iterator[File]:
@@ -45,24 +44,24 @@ def thinned(library: Path, processor: str) -> bytes:
         return Path(at, "thin").read_bytes()
 
 
-def of_rust(system: str, folder: Path, thin: Thin) -> Iterator[File]:
+def of_rust(system: str, folder: Path) -> Iterator[File]:
     """The static libraries, where the Rust crate looks for them."""
     target = TARGETS[system]
     for triple, name in target.rust.items():
         library = folder / "lib" / name
         if len(target.triples) > 1:  # Rust 1.63 takes no library that is for two processors
-            data = thin(library, PROCESSORS[triple.partition("-")[0]].apple)
+            data = thinned(library, PROCESSORS[triple.partition("-")[0]].apple)
         else:
             data = library.read_bytes()
         yield File(f"library/rust/lib/{triple}/{name}", data)
 
 
-def cross_contents(system: str, folder: Path, about: About, thin: Thin = thinned) -> Iterator[File]:
+def cross_contents(system: str, folder: Path, about: About) -> Iterator[File]:
     """Each file of a system's archive but its README."""
     yield from of_folder(folder)
-    yield from (it for it in repository.of_systems(PARTS_OF.get(system, PARTS)) if it.name != NOT_THERE)
+    yield from (it for it in repository.of_systems(*PARTS_OF.get(system, PARTS)) if it.name != NOT_THERE)
     target = TARGETS[system]
-    yield from of_rust(system, folder, thin)
+    yield from of_rust(system, folder)
     if target.program:
         yield from install_tree.shared()
     if target.program and target.is_linux:
@@ -83,6 +82,6 @@ def native_contents(program: bytes, plugin: bytes, about: About) -> Iterator[Fil
     yield from install_tree.contents("${pcfiledir}/../..", program)
     yield wheel(program, about.time)
     yield File("plugin/mupen64plus-rsp-proved.so", plugin, True)
-    yield from repository.of_systems([*PARTS, "plugin", "tools/hardening"])  # plugin/build needs both
+    yield from repository.of_systems(*PARTS, "plugin", "tools/hardening")  # plugin/build needs both
     for target, name in NATIVE.rust.items():
         yield File(f"library/rust/lib/{target}/{name}", (TOP / "library/c" / name).read_bytes())
