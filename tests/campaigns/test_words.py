@@ -38,10 +38,10 @@ def files(folder: Path) -> Path:
 
 @pytest.mark.parametrize("words, sentence", OTHERS, ids=[pair[0] for pair in OTHERS])
 def test_vectors(words: str, sentence: str, files: Path, program: Path, library: Path) -> None:
-    replaced = {"FOLDER": files, "PROG": program, "VECTORS": TOP / "conformance/vectors"}
-    for name, path in replaced.items():
-        words = words.replace(name, str(path))
+    paths = {"FOLDER": files, "PROG": program, "VECTORS": TOP / "conformance/vectors"}
     tool, *arguments = words.split()
+    for name, path in paths.items():
+        arguments = [argument.replace(name, str(path)) for argument in arguments]
     ended = run(TOP / "conformance" / tool, *arguments, cwd=files)
     assert (ended.returncode, ended.stdout.count("\n")) == (1, 1), ended.stdout
     assert sentence in ended.stdout
