@@ -202,10 +202,10 @@ def test_vectors(joined: Path, words: tuple[str, ...]) -> None:
 
 def test_vectors_alone(archive: Path, suite: Path) -> None:
     """Where their archive was unpacked, on the program of the other one, which has to be named."""
-    unnamed = run("conformance/run", "conformance/vectors", "MTC0", cwd=suite, env=BARE)
-    assert unnamed.returncode == 1 and "bin/rsp of the archive for Linux" in unnamed.stdout
-    words = ("conformance/run", "--program", archive / "bin/rsp", "conformance/vectors", "MTC0")
-    assert re.fullmatch(PASSED, succeeds(*words, cwd=suite, env=BARE).splitlines()[-1])
+    words = ("conformance/run", "conformance/vectors", "MTC0")
+    assert run(*words, cwd=suite, env=BARE).returncode == 1
+    output = succeeds(*words, "--program", archive / "bin/rsp", cwd=suite, env=BARE)
+    assert re.fullmatch(PASSED, output.splitlines()[-1])
 
 
 # Rust, by each rustc of this machine: the crate in a copy of its folder, and from another crate beside the
@@ -224,14 +224,6 @@ def rust_environment(cargo: str) -> dict[str, str]:
     return {**BARE, "PATH": path, "HOME": os.environ.get("HOME", "/"), "PKG_CONFIG": "false"}
 
 
-def write_crate(archive: Path, mine: Path) -> None:
-    text = (archive / "docs/EMBEDDING.md").read_text()
-    lines, code = re.findall(r"(?ms)^```toml\n(\[dependencies\]\n.*?)^```\n+```rust\n(.*?)\n```$", text)[0]
-    (mine / "src").mkdir(parents=True)
-    (mine / "Cargo.toml").write_text(CRATE + lines.replace("../rsp/", f"../{archive.name}/"))
-    (mine / "src/main.rs").write_text(code)
-
-
 @pytest.mark.needs("cargo")
 @pytest.mark.parametrize("cargo", cargos())
 def test_crate(archive: Path, folder: Path, cargo: str) -> None:
@@ -246,10 +238,12 @@ def test_crate(archive: Path, folder: Path, cargo: str) -> None:
 @pytest.mark.needs("cargo")
 @pytest.mark.parametrize("cargo", cargos())
 def test_crate_beside_the_archive(archive: Path, cargo: str) -> None:
+    text = (archive / "docs/EMBEDDING.md").read_text()
+    lines, code = re.findall(r"(?ms)^```toml\n(\[dependencies\]\n.*?)^```\n+```rust\n(.*?)\n```$", text)[0]
     with tempfile.TemporaryDirectory(dir=archive.parent) as folder:
         mine = Path(folder)
-        write_crate(archive, mine)
-        assert (
-            succeeds(cargo, "run", "--quiet", "--offline", cwd=mine, env=rust_environment(cargo))
-            == "Halt 1234\n"
-        )
+        (mine / "src").mkdir()
+        (mine / "Cargo.toml").write_text(CRATE + lines.replace("../rsp/", f"../{archive.name}/"))
+        (mine / "src/main.rs").write_text(code)
+        output = succeeds(cargo, "run", "--quiet", "--offline", cwd=mine, env=rust_environment(cargo))
+        assert output == "Halt 1234\n"

@@ -59,7 +59,7 @@ MORE = {
 SYSTEMS = [target.name for target in (*CROSS, PAGE)]
 # What none of them has, since it was never run there, or is in an archive of its own.
 ABSENT = "plugin docs/PLUGIN.md docs/CAMPAIGN.md conformance".split()
-ABOUT = About(install_tree.version()[0], "2000-01-01", "0123", 946684800, "no logic")
+ABOUT = About(install_tree.version()[0], "2000-01-01", "0123", "no logic")
 outside = pytest.mark.outside("it tests archives of other systems: `--archive dist`")
 
 

@@ -265,9 +265,10 @@ def test_another_kit(library_repository: ToyRepository, folder: Path) -> None:
     """Without the functions that tools/build calls, `rt` alone proves all, by a job for each processor."""
     repository = library_repository.copied(folder)
     repository.edit("crates/rsp_decode/src/lib.rt", "0", "1")
-    assert f"asked for lib --jobs {PROCESSORS}\n" in repository.run(C, "words").output
     result = repository.run(C, "alone")
     assert result.status == 0 and result.begun == result.proved == {"rsp_c"}
+    log = (repository.root / "crates/rsp_c/out/built.log").read_text()
+    assert f"asked for lib --jobs {PROCESSORS}\n" in log
     assert repository.run(C, "broken") == NOTHING
 
 

@@ -48,7 +48,6 @@ def refused(*words: str, path: str) -> str:
 
 def path_with(folder: Path, *names: str) -> str:
     """A folder for PATH with only these programs, and a kit that fails."""
-    folder.mkdir(exist_ok=True)
     for name in names:
         (folder / name).symlink_to(str(shutil.which(name, path="/usr/bin:/bin")))
     (folder / "rt").write_text("#!/bin/sh\nexit 9\n")
@@ -66,21 +65,22 @@ def test_no_kit() -> None:
     assert output.startswith("release: there is no `rt`, the command of the Rattle kit")
 
 
-def test_missing_packages(folder: Path) -> None:
-    """All of them are in one line: those that link, and those of each system."""
-    output = refused("--untested", "--systems", path=path_with(folder, *FEW))
-    compilers = " ".join(target.packages[target.compiler] for target in CROSS if target.compiler)
-    names = f"git gcc binutils {compilers} cmark-gfm"
-    assert output == f"release: packages of Debian are missing: apt-get install {names}\n"
+COMPILERS = " ".join(target.packages[target.compiler] for target in CROSS if target.compiler)
 
 
 @pytest.mark.needs(*LINKERS)
-def test_missing_package_of_one_system(folder: Path) -> None:
-    """The page is made with the library for WebAssembly, and needs the same packages."""
-    for system, package in ("windows-x86_64", "gcc-mingw-w64-x86-64"), ("page", "cmark-gfm"):
-        path = path_with(folder / system, *FEW, *LINKERS)
-        output = refused("--untested", "--systems", system, path=path)
-        assert output == f"release: packages of Debian are missing: apt-get install {package}\n"
+@pytest.mark.parametrize(
+    "here, systems, packages",
+    [
+        ([], [], f"git gcc binutils {COMPILERS} cmark-gfm"),
+        (LINKERS, ["windows-x86_64"], "gcc-mingw-w64-x86-64"),
+        (LINKERS, ["page"], "cmark-gfm"),
+    ],
+)
+def test_missing_packages(folder: Path, here: list[str], systems: list[str], packages: str) -> None:
+    """All are in one line: those that link, and those of each system. The page needs those of wasm64."""
+    output = refused("--untested", "--systems", *systems, path=path_with(folder, *FEW, *here))
+    assert output == f"release: packages of Debian are missing: apt-get install {packages}\n"
 
 
 def test_packages_of_the_newcomer(monkeypatch: pytest.MonkeyPatch) -> None:

@@ -50,11 +50,11 @@ pub extern "C" fn rsp_answer() -> u32 {
 HEADER = "#define BRSP_VERSION 1\nuint32_t rsp_answer(void);\n"
 COPIED = "VERSION rsp library/c/build library/c/brsp.map library/python/pyproject.toml"
 TOOLS = "sh env cat dirname readlink find sha256sum"
-# Programs in place of `rt`, without the rest of its kit: of another logic; of this one; silent; failing.
+# Programs in place of `rt`, without the rest of its kit: of another logic; of this one, which prints what it
+# is asked for; silent; failing.
 RT = {
     "other": '[ "$1" != version ] || exec echo "rattle-kit-0 logic 0"\nexec "{rt}" "$@"',
-    "alone": 'exec "{rt}" "$@"',
-    "words": '[ "$1" = version ] || {{ echo asked for "$@"; exit 2; }}\nexec "{rt}" "$@"',
+    "alone": '[ "$1" = version ] || echo asked for "$@"\nexec "{rt}" "$@"',
     # It keeps what it has checked of two functions, and says nothing until it may go on.
     "silent": """[ "$1" = lib ] && mkdir out/incremental/new && cd out/incremental/new && {{
     for name in one two; do touch Rattle-rsp_c-proofs.$name.Lts.oantt; done

@@ -68,11 +68,11 @@ def cross_contents(system: str, folder: Path, about: About) -> Iterator[File]:
         yield install_tree.starter(about.lines(), target.processor)
 
 
-def wheel(program: bytes, date: int) -> File:
+def wheel(program: bytes) -> File:
     """The Python package as a wheel, with the program as its command."""
     files = {**wheels.with_library(wheels.made(), wheels.MADE.name), **wheels.with_command("rsp", program)}
     with tempfile.TemporaryDirectory() as folder:
-        name = wheels.write(folder, files, date=date)
+        name = wheels.write(folder, files, date=repository.commit_time())
         return File(f"python/{name}", Path(folder, name).read_bytes())
 
 
@@ -80,7 +80,7 @@ def native_contents(program: bytes, plugin: bytes, about: About) -> Iterator[Fil
     """Each of its files."""
     yield install_tree.starter(about.lines(), NATIVE.processor)
     yield from install_tree.contents("${pcfiledir}/../..", program)
-    yield wheel(program, about.time)
+    yield wheel(program)
     yield File("plugin/mupen64plus-rsp-proved.so", plugin, True)
     yield from repository.of_systems(*PARTS, "plugin", "tools/hardening")
     for target, name in NATIVE.rust.items():
