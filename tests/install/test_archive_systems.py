@@ -46,9 +46,7 @@ docs/SYSTEMS.md examples/first.rsp examples/c/lockstep.c microcode/README.md mic
 # What tools/systems makes for an archive beside what the record names, and what more an archive has.
 MADE = {
     "windows-x86_64": "lib/libbrsp.dll.a lib/brsp.lib",
-    "vendor": "CMakeLists.txt include/brsp.h include/brsp.hpp include/brsp_compare.h program/main.c "
-    "program/texts.h src/Linux-x86_64.s src/Linux-aarch64.s src/Windows-x86_64.s src/Darwin-x86_64.s "
-    "src/Darwin-arm64.s",
+    "vendor": "CMakeLists.txt program/main.c src/Linux-x86_64.s",
     "wasm64": "package.json rsp.js rsp.d.ts rsp.wasm",
     "page": "index.html",
 }

@@ -26,7 +26,7 @@ of_program, of_library = pytest.mark.xdist_group("toy-program"), pytest.mark.xdi
 BOTH = [pytest.param("program", RSP, marks=of_program), pytest.param("library", C, marks=of_library)]
 MARK = "crates/rsp_main/out/built"
 MIDDLE, MAIN = "crates/rsp_middle/src/lib.rt", "crates/rsp_main/src/main.rt"
-SIDE, LIBRARY = "crates/rsp_side/src/lib.rt", "crates/rsp_c/src/lib.rt"
+SIDE = "crates/rsp_side/src/lib.rt"
 NOTHING = Result(0, "", [])
 
 
@@ -101,9 +101,8 @@ def assert_builds_again(repository: ToyRepository, command: str) -> None:
 
 @pytest.mark.parametrize("command", [RSP, C])
 def test_without_a_kit(folder: Path, command: str) -> None:
-    speaker = command.split()[0].replace("./", "")
     result = ToyRepository(folder).run(command, "none")
-    assert result.status == 1 and re.match(rf"{speaker}: [^\0]*`rt`", result.output)
+    assert result.status == 1 and "`rt`" in result.output
 
 
 @pytest.mark.parametrize("command", [RSP, C])
@@ -167,22 +166,18 @@ def test_edit_in_a_crate_that_it_does_not_use(repository: ToyRepository, command
             assert repository.run(command, "broken") == NOTHING
 
 
-def with_another_line(text: bytes) -> bytes:
-    return text.replace(b"rsp_middle: rsp_above", b"rsp_middle: rsp_above rsp_side")
-
-
-def with_same_length(text: bytes) -> bytes:
-    return text.replace(b"0", b"1").replace(b"answer", b"answes")
-
-
 CHANGES: dict[str, tuple[str, str, Data]] = {
     "an edit": ("program", MIDDLE, edited),
-    "an edit that leaves the length": ("program", MIDDLE, with_same_length),
+    "an edit that leaves the length": ("program", MIDDLE, lambda text: text.replace(b"answer", b"answes")),
     "a new file": ("program", "crates/rsp_middle/src/new.rt", b""),
     "a new definition": ("program", "crates/rsp_middle/specs/New.antt", b""),
     "a new proof": ("program", "crates/rsp_middle/proofs/main/New.antt", b""),
     "a file less": ("program", SIDE, None),
-    "another line of crates.txt": ("program", "crates.txt", with_another_line),
+    "another line of crates.txt": (
+        "program",
+        "crates.txt",
+        lambda text: text.replace(b" rsp_above", b" rsp_above rsp_side"),
+    ),
     "another program": ("program", "crates/rsp_main/out/rsp_main", b"#!/bin/sh\n"),
     "an empty mark": ("program", MARK, b""),
     "an edit for the library": ("library", "crates/rsp_decode/src/lib.rt", edited),
@@ -248,16 +243,6 @@ def test_edits_while_it_proves(program_repository: ToyRepository, folder: Path) 
     assert_builds_again(repository, RSP)
     assert repository.run(RSP).status == 0
     assert repository.run(RSP, "broken") == NOTHING
-
-
-@of_library
-def test_says_how_far_it_is(library_repository: ToyRepository) -> None:
-    often = ("tools/rsp_tools/proof.py", lambda text: text.replace(b"SILENCE = 30 ", b"SILENCE = 1 "))
-    line = rf"^{C}: proving rsp_c, \d+ s, 2 functions; about \d+ minutes to go$"
-    with library_repository.changed(*often), library_repository.changed(LIBRARY, edited):
-        result = library_repository.run_and_act(line, lambda _: library_repository.go.touch(), C, "silent")
-    assert result.status == 1 and re.search(line, result.output, re.M)
-    assert library_repository.run(C, "broken") == NOTHING
 
 
 @of_library
