@@ -83,7 +83,9 @@ def program_repository() -> Iterator[ToyRepository]:
 def library_repository() -> Iterator[ToyRepository]:
     with tempfile.TemporaryDirectory() as folder:
         repository = ToyRepository(Path(folder))
-        repository.results["first"] = repository.run(C)
+        result = repository.run(C)
+        assert result.status == 0 and result.proved == {"rsp_decode", "rsp_c"}
+        assert (repository.root / "library/c/libbrsp.so").is_file()
         yield repository
 
 
@@ -134,13 +136,6 @@ def test_ended_in_a_phase(program_repository: ToyRepository, name: str) -> None:
 def test_proves_nothing_twice(program_repository: ToyRepository) -> None:
     proved = [crate for name in PHASES for crate in program_repository.results[name].proved]
     assert len(proved) == len({*proved})
-
-
-@of_library
-def test_builds_the_library(library_repository: ToyRepository) -> None:
-    result = library_repository.results["first"]
-    assert result.status == 0 and result.proved == {"rsp_decode", "rsp_c"}
-    assert (library_repository.root / "library/c/libbrsp.so").is_file()
 
 
 @pytest.mark.parametrize("what, command", BOTH)

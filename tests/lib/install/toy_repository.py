@@ -54,7 +54,7 @@ TOOLS = "sh env cat dirname readlink find sha256sum"
 # is asked for; failing.
 RT = {
     "other": '[ "$1" != version ] || exec echo "rattle-kit-0 logic 0"\nexec "{rt}" "$@"',
-    "alone": '[ "$1" = version ] || echo asked for "$@"\nexec "{rt}" "$@"',
+    "alone": '[ "$1" != lib ] || echo asked for "$@"\nexec "{rt}" "$@"',
     "broken": "exit 2",
 }
 # In place of the kit's `rattle`: it holds one crate until it may go on.

@@ -44,8 +44,10 @@ def thinned(library: Path, processor: str) -> bytes:
         return Path(at, "thin").read_bytes()
 
 
-def of_rust(system: str, folder: Path) -> Iterator[File]:
-    """The static libraries, where the Rust crate looks for them."""
+def cross_contents(system: str, folder: Path, about: About) -> Iterator[File]:
+    """Each file of a system's archive but its README."""
+    yield from of_folder(folder)
+    yield from (it for it in repository.of_systems(*PARTS_OF.get(system, PARTS)) if it.name != NOT_THERE)
     target = TARGETS[system]
     for triple, name in target.rust.items():
         library = folder / "lib" / name
@@ -54,14 +56,6 @@ def of_rust(system: str, folder: Path) -> Iterator[File]:
         else:
             data = library.read_bytes()
         yield File(f"library/rust/lib/{triple}/{name}", data)
-
-
-def cross_contents(system: str, folder: Path, about: About) -> Iterator[File]:
-    """Each file of a system's archive but its README."""
-    yield from of_folder(folder)
-    yield from (it for it in repository.of_systems(*PARTS_OF.get(system, PARTS)) if it.name != NOT_THERE)
-    target = TARGETS[system]
-    yield from of_rust(system, folder)
     if target.program:
         yield from install_tree.shared()
     if target.program and target.is_linux:
