@@ -9,7 +9,6 @@ from rsp_tools import TOOLS
 from rsp_tools.packaging.release_info import About
 from rsp_tools.packaging.install_tree import File
 
-
 MARK = re.compile(r"(?ms)^<!-- .*?-->\n")  # above a block: how a test types it
 
 
