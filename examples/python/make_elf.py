@@ -33,7 +33,12 @@ def run(*words: str, given: str) -> None:
     subprocess.run(words, input=given, text=True, check=True)
 
 
+if len(sys.argv) != 3:
+    sys.exit(__doc__)
 source, elf = sys.argv[1:]
-words = listing(Path(source).read_text(), source)
+try:
+    words = listing(Path(source).read_text(), source)
+except rsp.AssemblyError as error:
+    sys.exit(f"{source}:{error.line}: {error}")
 run("mips-linux-gnu-as", "-EB", "--gdwarf-4", "-o", f"{elf}.o", given=words)
 run("mips-linux-gnu-ld", "-EB", "-T", "/dev/stdin", "-o", elf, f"{elf}.o", given=SECTIONS)

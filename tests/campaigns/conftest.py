@@ -3,14 +3,11 @@
 import os
 import sys
 from pathlib import Path
-from typing import Iterator
 
 import pytest
 
 
-@pytest.fixture(scope="module", autouse=True)
-def path() -> Iterator[None]:
+@pytest.fixture(autouse=True)
+def path(monkeypatch: pytest.MonkeyPatch) -> None:
     """tools/python takes the `python3` of PATH."""
-    with pytest.MonkeyPatch.context() as changed:
-        changed.setenv("PATH", f"{Path(sys.executable).parent}:{os.environ['PATH']}")
-        yield
+    monkeypatch.setenv("PATH", f"{Path(sys.executable).parent}:{os.environ['PATH']}")

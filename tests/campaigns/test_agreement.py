@@ -1,12 +1,12 @@
 """The library agrees with itself as each kind of emulator; and folders with results of an earlier run."""
 
-import subprocess
+import glob
 import time
 from pathlib import Path
 
 import pytest
 
-from lib.campaigns import CAMPAIGN, EMULATOR, FEW, SOURCES, agreed, campaign, counts_of, output_of, results_of
+from lib.campaigns import EMULATOR, FEW, agreed, campaign, counts_of, output_of, results_of
 from rsp_conformance.campaign.build import built
 
 pytestmark = [pytest.mark.needs("cc", "python:numpy"), pytest.mark.usefixtures("library")]
@@ -32,20 +32,43 @@ def test_library_agrees_with_itself(kind: str, folder: Path) -> None:
     assert {path: path.stat().st_mtime_ns for path in folder.glob("out/*-*.json")} == before
 
 
-def test_results_after_a_stop(folder: Path) -> None:
-    """A campaign that was killed continues, and has the results of one that wasn't."""
-    words = (built("library"), "--instructions", FEW, "--cases", 1000, "--size", 500)
-    output_of(folder / "whole", *words)
-    process = subprocess.Popen([CAMPAIGN, *map(str, words), "--here", folder / "killed"], cwd=SOURCES)
-    while process.poll() is None and len([*folder.glob("killed/*-*.json")]) < 3:
-        time.sleep(0.01)
-    process.kill()
-    process.wait()
-    left = {path.name: path.stat().st_mtime_ns for path in folder.glob("killed/*-*.json")}
-    assert len(left) < 16
-    output_of(folder / "killed", *words)
-    assert results_of(folder / "killed") == results_of(folder / "whole")
-    assert all((folder / "killed" / name).stat().st_mtime_ns == written for name, written in left.items())
+# A module of an emulator that knows how often it was started, and the processes of its task and its campaign.
+STARTED = """import os, time
+from campaigns.emulator import WrongShift as Mine
+with open(f"{os.path.basename(os.getcwd())}.starts", "ab", 0) as file:
+    file.write(b"x")
+    start = file.tell()
+task = os.getppid()
+campaign = int(open(f"/proc/{task}/stat").read().split()[3])
+"""
+STOP_IN_TASKS = "if start == 4: os.kill(campaign, {})\nif start in (3, 4): time.sleep(99)\n"
+KILLED = "campaign: 3 tasks aren't done (a task ended with status -9); start it again\n"
+# What the module does then; the status and the errors of the campaign, and the starts.
+STOPS = {
+    "killed": (STOP_IN_TASKS.format(9), -9, "", 4),
+    "Ctrl-C": (STOP_IN_TASKS.format(2), 1, "campaign: stopped; started again, it goes on\n", 4),
+    "tasks killed": ("if start in (3, 4): os.kill(task, 9)\n", 0, "", 7),
+    "tasks killed three times": ("if 3 <= start <= 11: os.kill(task, 9)\n", 1, KILLED, 11),
+}
+
+
+@pytest.mark.parametrize("stop", STOPS)
+def test_results_after_a_stop(stop: str, folder: Path) -> None:
+    """A campaign that was stopped leaves no process. It continues, and has the results of one process."""
+    then, *expected = STOPS[stop]
+    starts = folder / f"{folder.name}.starts"
+    (folder / "mine.py").write_text(STARTED + then)
+    words = ("python:mine:Mine", "--instructions", "add,beq,sqv,sra,vadd", "--cases", 40, "--workers", 2)
+    ended = campaign(*words, "out", cwd=folder, timeout=90)
+    assert [ended.returncode, ended.stderr, starts.stat().st_size] == expected
+    until = time.time() + 5
+    while left := glob.glob(f"/proc/[0-9]*/cwd/{starts.name}"):
+        assert time.time() < until, left
+        time.sleep(0.1)
+    for out in (["out"], ["--here", "whole"]):
+        assert campaign(*words, *out, cwd=folder).returncode == 0
+    results, whole = results_of(folder / "out"), results_of(folder / "whole")
+    assert results == whole and results["sra-0-40.json"]["differ"]
 
 
 OTHER = {

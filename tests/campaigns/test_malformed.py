@@ -98,8 +98,8 @@ def test_result_of_another_task(name: str, more: Dict[str, Any], why: str, folde
     assert str(refused.value) == f"{folder / name} {why}: delete it, and start the campaign again"
 
 
-def test_result_of_a_worker_with_other_files(folder: Path) -> None:
-    with pytest.raises(CampaignFault, match="a worker has other files of the library than this machine"):
+def test_result_with_other_files(folder: Path) -> None:
+    with pytest.raises(CampaignFault, match="files of the library have changed since this campaign began"):
         campaign_in(folder).save({**RESULT, "hashes": {**HASHES, "library": "c"}})
     assert not [*folder.iterdir()]
 

@@ -2,14 +2,12 @@
 
 import json
 import re
-import shlex
 from pathlib import Path
 
 import pytest
 
 from lib import TOP
 from lib.campaigns import SOURCES, agreed, campaign, counts_of, results_of, output_of
-from lib.page_blocks import Block, blocks_in
 from lib.z64 import PLUGIN as Z64
 from rsp_conformance.campaign.build import built
 from rsp_conformance.campaign.protocol import name_of
@@ -69,13 +67,3 @@ def test_table_of_z64(folder: Path) -> None:
     agree = ",".join(name for name, result in known.items() if not result["differ"])
     output = output_of(folder, f"plugin:{Z64}", "--instructions", agree, "--cases", 500)
     assert counts_of(folder) == agreed(agree, 500), output
-
-
-@pytest.mark.needs(Z64)
-@pytest.mark.parametrize(
-    "block", [block for block in blocks_in("docs/CAMPAIGN.md") if "campaign plugin:" in block.text], ids=str
-)
-def test_example_of_page(block: Block, folder: Path) -> None:
-    """The commands for z64 print what the page shows."""
-    command = block.text.replace("\\\n", "").replace("/tmp/first", f"{folder}/first")
-    block.check_printed(campaign(*shlex.split(command)[1:]).stdout)

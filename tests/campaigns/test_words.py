@@ -1,7 +1,6 @@
 """Wrong arguments of the commands of conformance/ (wrong_words.tsv), each of which one sentence answers."""
 
 import json
-import os
 import shutil
 from pathlib import Path
 
@@ -9,7 +8,6 @@ import pytest
 
 from lib import TOP
 from lib.campaigns import SOURCES, campaign
-from lib.packages import is_here
 from lib.processes import run
 
 ADD = '{"name":"ADD-0","word":"00000020","text":"","before":{},"after":{"pc":"004","npc":"008"}}\n'
@@ -28,7 +26,6 @@ FILES = {
 WRONG = [line.split("\t") for line in (SOURCES / "wrong_words.tsv").read_text().splitlines()[1:]]
 OF_CAMPAIGNS = [pair for pair in WRONG if pair[0].startswith("campaign")]
 OTHERS = [pair for pair in WRONG if pair not in OF_CAMPAIGNS]
-NO_DASK = {} if is_here("python:distributed") else {"no scheduler answers": "has no Dask"}
 
 
 @pytest.fixture
@@ -41,10 +38,10 @@ def files(folder: Path) -> Path:
 
 @pytest.mark.parametrize("words, sentence", OTHERS, ids=[pair[0] for pair in OTHERS])
 def test_vectors(words: str, sentence: str, files: Path, program: Path, library: Path) -> None:
-    replaced = {"FOLDER": files, "PROG": program, "VECTORS": TOP / "conformance/vectors"}
-    for name, path in replaced.items():
-        words = words.replace(name, str(path))
+    paths = {"FOLDER": files, "PROG": program, "VECTORS": TOP / "conformance/vectors"}
     tool, *arguments = words.split()
+    for name, path in paths.items():
+        arguments = [argument.replace(name, str(path)) for argument in arguments]
     ended = run(TOP / "conformance" / tool, *arguments, cwd=files)
     assert (ended.returncode, ended.stdout.count("\n")) == (1, 1), ended.stdout
     assert sentence in ended.stdout
@@ -68,13 +65,11 @@ def test_no_program(tool: str, folder: Path) -> None:
 @pytest.mark.needs("cc", "python:numpy")
 @pytest.mark.parametrize("words, sentence", OF_CAMPAIGNS, ids=[pair[0] for pair in OF_CAMPAIGNS])
 def test_campaign(words: str, sentence: str, files: Path, library: Path) -> None:
-    """The last line says it. Dask would try for 30 seconds."""
     more = [] if "--instructions" in words else ["--instructions", "vadd"]
     replaced = {"ITSELF": "python:emulator:Machine", "OUT": f"{files}/new", "FOLDER": str(files)}
     for name, text in replaced.items():
         words = words.replace(name, text)
     arguments = ["" if word == "NOTHING" else word for word in words.split()[1:]]
-    timeout = {**os.environ, "DASK_DISTRIBUTED__COMM__TIMEOUTS__CONNECT": "1s"}
-    ended = campaign(*arguments, *more, env=timeout)
+    ended = campaign(*arguments, *more)
     assert ended.returncode in (1, 2) and "Traceback" not in ended.stderr, ended.stderr
-    assert NO_DASK.get(sentence, sentence) in ended.stderr.strip().split("\n")[-1]
+    assert sentence in ended.stderr.strip().split("\n")[-1]

@@ -24,7 +24,7 @@ def campaign(*words: object, **how: Any) -> "Ended[str]":
 
 
 def output_of(out: Path, *words: object) -> str:
-    """The output of a campaign without Dask, which has to end with status 0. Its results are in `out`."""
+    """The output of a campaign in one process, which has to end with status 0. Its results are in `out`."""
     ended = campaign(*words, "--here", out)
     assert ended.returncode == 0, ended.stdout + ended.stderr
     return str(ended.stdout)

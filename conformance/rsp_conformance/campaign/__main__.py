@@ -9,6 +9,7 @@ emulator writes are shown with its fault. It fails if a task isn't done, or with
 """
 
 import argparse
+import contextlib
 import os
 import re
 import sys
@@ -79,13 +80,14 @@ def run(args: argparse.Namespace) -> None:
     todo = folder.tasks_left()
     progress = Progress(len(folder.tasks) - len(todo), len(folder.tasks))
     done, differ, lost = 0, 0, None
-    for number, result in enumerate(results(args, todo), 1):
-        if isinstance(result, Exception):
-            lost = result
-            continue
-        folder.save(result)
-        done, differ = done + result["count"], differ + result["differ"]
-        progress.update(number, done, differ)
+    with contextlib.closing(results(args, todo)) as found:
+        for number, result in enumerate(found, 1):
+            if isinstance(result, OSError):
+                lost = result
+                continue
+            folder.save(result)
+            done, differ = done + result["count"], differ + result["differ"]
+            progress.update(number, done, differ)
     progress.end()
     report(args, folder)
     if folder.earlier_results:
@@ -191,8 +193,7 @@ def arguments() -> argparse.Namespace:
     files = "more files and folders of the emulator, whose contents count (only those that EMULATOR names)"
     add("--files", type=paths_of, default=[], metavar="PATH,..", help=files)
     add("--seed", type=seed_of, default="1", help="letters a to z and digits (1)")
-    add("--scheduler", metavar="ADDRESS", help="a cluster that is there")
-    add("--here", action="store_true", help="works in this process, without Dask")
+    add("--here", action="store_true", help="works in this process, on one processor")
     names = f"VADD-g{VERSION}-7-000123, VADD-g{VERSION}-7-000123..000130, or PROGRAM-g{VERSION}-7-000005"
     add("--case", type=case_of, metavar="NAME", help=f"shows {names}")
     add("emulator", metavar="EMULATOR")

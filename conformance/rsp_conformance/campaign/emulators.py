@@ -267,7 +267,7 @@ class Command(Single):
             words_of(command),
             stdin=subprocess.PIPE,
             stdout=subprocess.PIPE,
-            preexec_fn=end_with_parent,
+            preexec_fn=functools.partial(end_with_parent, os.getpid()),
             env=environment(),
         )
         self.memories = bytes(memories)

@@ -118,11 +118,11 @@ class OutputFolder:
         return [task for task in self.tasks if not self.path_of(task).exists()]
 
     def save(self, result: Result) -> None:
-        """Writes a result. It is refused if its worker has other files, or if no case could be run."""
+        """Writes a result. It is refused if files have changed meanwhile, or if no case could be run."""
         if not result["count"] and "given up" in result:
             raise CampaignFault(f"{self.settings['emulator']}: {result['given up']}")
         if other := other_hashes(self.settings["hashes"], result["hashes"]):
-            raise CampaignFault(f"a worker has other files of the {other[0]} than this machine")
+            raise CampaignFault(f"the files of the {other[0]} have changed since this campaign began")
         for program in result["programs"]:
             folder = self.out / "programs"
             make_folder(folder)

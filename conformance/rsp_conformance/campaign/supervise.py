@@ -6,8 +6,8 @@ is still UNDONE. If the case alone doesn't repeat the fault, an earlier case has
 shortest run of cases that repeats the fault is searched, and the first case of this run is the faulty one.
 New child processes run the cases before and after the faulty one.
 
-As a program it reads [FOLDER, the arguments of `check`..] as JSON from its standard input, and writes the
-result to its standard output.
+As a program, whose argument is its parent's process, it reads the arguments of `check` as JSON from its
+standard input, and writes the result to its standard output.
 """
 
 import contextlib
@@ -36,8 +36,7 @@ from .protocol import BATCH, END_BYTES, SHOWN, STATUS_AT, UNDONE, Options, Resul
 # The emulator, the instruction, the seed, the first number, and how many.
 Task = Tuple[str, str, str, int, int]
 
-# These keep arrays in the heap from batch to batch. A worker of Dask sets the first of them to 65536, which
-# would give memory back and take it again for each batch.
+# These keep arrays in the heap from batch to batch.
 KEEP = {
     "MALLOC_TRIM_THRESHOLD_": str(1 << 28),
     "MALLOC_MMAP_THRESHOLD_": str(1 << 25),
@@ -64,9 +63,11 @@ def add(total: Result, result: Result) -> None:
     total["parts"] = dict(Counter(total["parts"]) + Counter(result.get("parts", {})))
 
 
-def end_with_parent() -> None:
-    """Has the system kill this process when its parent ends."""
+def end_with_parent(parent: int) -> None:
+    """Has the system kill this process when its parent ends, also if it has ended already."""
     ctypes.CDLL(None).prctl(1, signal.SIGKILL)
+    if os.getppid() != parent:
+        sys.exit("the parent is gone")
 
 
 class OutputReader(threading.Thread):
@@ -219,16 +220,13 @@ def check(spec: str, name: str, seed: str, start: int, count: int, options: Opti
     return {**task, **result, "hashes": hashes(spec, options["files"]), "seconds": time.time() - began}
 
 
-def main() -> None:
-    end_with_parent()
-    folder, *arguments = json.load(sys.stdin)
-    if os.path.isdir(folder):  # the emulator's relative paths begin where the campaign was started
-        os.chdir(folder)
+def main(parent: int) -> None:
+    end_with_parent(parent)
     try:
-        json.dump(check(*arguments), sys.stdout)
+        json.dump(check(*json.load(sys.stdin)), sys.stdout)
     except (CampaignFault, OSError) as fault:
         sys.exit(str(fault))
 
 
 if __name__ == "__main__":
-    main()
+    main(int(sys.argv[1]))

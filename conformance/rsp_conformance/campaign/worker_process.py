@@ -5,7 +5,6 @@ from supervise.py.
 """
 
 import mmap
-import os
 import sys
 import time
 from multiprocessing.connection import Connection
@@ -95,9 +94,7 @@ def check_cases(
 
 def main(parent: int, shared: int, pipe: int) -> None:
     """The ends of the present batch are in shared memory, so the parent knows which cases are done."""
-    end_with_parent()
-    if os.getppid() != parent:
-        sys.exit("the parent is gone")
+    end_with_parent(parent)
     connection, used = Connection(pipe), 0.0
     (spec, name, seed, start, count), options = connection.recv()
     if name == PROGRAM:

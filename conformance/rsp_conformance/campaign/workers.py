@@ -1,24 +1,20 @@
-"""Runs the tasks of a campaign: in this process, or by Dask on this computer's processors or a cluster's.
-
-A worker runs each task by the command `tools/python rsp_conformance.campaign.supervise`, at the same path as
-here. So a worker only needs Dask, and the repository or the archive.
-"""
+"""Runs the tasks of a campaign: in this process, or each in a process for which a thread waits."""
 
 import argparse
-import concurrent.futures
 import contextlib
 import itertools
 import json
 import os
 import subprocess
-import sys
-from typing import Any, Iterator, List, Set, Union
+import threading
+from concurrent.futures import ThreadPoolExecutor, as_completed
+from typing import Any, Generator, List, Set, Tuple, Union
 
-from . import CampaignFault
 from .protocol import Options, Result, Task
 from .supervise import PYTHON, check
 
-COMMAND = [str(PYTHON), "rsp_conformance.campaign.supervise"]
+COMMAND = [str(PYTHON), "rsp_conformance.campaign.supervise", str(os.getpid())]
+TRIES = 3  # of a task whose process fails, such as one that the system kills when memory is out
 
 
 def options_of(args: argparse.Namespace) -> Options:
@@ -27,54 +23,57 @@ def options_of(args: argparse.Namespace) -> Options:
     return {**{name: getattr(args, name) for name in names}, "whole": False}
 
 
-def client_of(args: argparse.Namespace) -> Any:
-    """Dask's client of a cluster, or of threads here, each of which waits for the process of a task."""
-    try:
-        import dask
-        from distributed import Client
-    except ImportError:
-        how = "apt-get install python3-distributed (or pip install distributed), or --here"
-        raise CampaignFault(f"{sys.executable} has no Dask: {how}") from None
-    # The profile would sample the waiting threads a hundred times a second.
-    dask.config.set({"distributed.worker.profile.enabled": False})
-    if not args.scheduler:
-        return Client(processes=False, n_workers=1, threads_per_worker=args.workers, dashboard_address=None)
-    try:
-        return Client(args.scheduler)
-    except (OSError, ValueError) as fault:
-        raise CampaignFault(f"no scheduler answers at {args.scheduler}: {fault}") from None
+class Processes:
+    """The processes of the tasks that run. `close` kills them."""
+
+    def __init__(self) -> None:
+        self.lock, self.is_closed = threading.Lock(), False
+        self.running: Set["subprocess.Popen[str]"] = set()
+
+    def run(self, call: Tuple[Any, ...]) -> Result:
+        """The result of a task. An OSError says why there is none."""
+        with self.lock:
+            if self.is_closed:
+                raise OSError("the campaign is stopped")
+            pipe = subprocess.PIPE
+            process = subprocess.Popen(COMMAND, stdin=pipe, stdout=pipe, stderr=pipe, text=True)
+            self.running.add(process)
+        output, errors = process.communicate(json.dumps(call))
+        with self.lock:
+            self.running.remove(process)
+        if process.returncode:
+            last_line = errors.strip().split("\n")[-1]
+            raise OSError(last_line or f"a task ended with status {process.returncode}")
+        result: Result = json.loads(output)
+        return result
+
+    def try_to_run(self, call: Tuple[Any, ...]) -> Union[Result, OSError]:
+        """The result of a task, or why the last try has none."""
+        for _ in range(TRIES):
+            try:
+                return self.run(call)
+            except OSError as fault:
+                lost = fault
+        return lost
+
+    def close(self) -> None:
+        """Kills the processes. No other can begin."""
+        with self.lock:
+            self.is_closed = True
+            for process in self.running:
+                process.kill()
 
 
-def result_of(
-    ended: "concurrent.futures.Future[subprocess.CompletedProcess[str]]",
-) -> Union[Result, Exception]:
-    """The result of a task that ended on a worker, or why there is none."""
-    if fault := ended.exception():
-        return fault if isinstance(fault, Exception) else OSError(str(fault))
-    process = ended.result()
-    if process.returncode:
-        last_line = process.stderr.strip().split("\n")[-1]
-        return OSError(last_line or f"a task ended with status {process.returncode}")
-    result: Result = json.loads(process.stdout)
-    return result
+def results(args: argparse.Namespace, todo: List[Task]) -> Generator[Union[Result, OSError], None, None]:
+    """The results of tasks in the order in which they end, with an exception for each lost result.
 
-
-def results(args: argparse.Namespace, todo: List[Task]) -> Iterator[Union[Result, Exception]]:
-    """The results of tasks in the order in which they end, with an exception for each lost result."""
+    Closing this generator ends all processes.
+    """
     options = options_of(args)
     calls = ((args.emulator, name, args.seed, start, count, options) for name, start, count in todo)
     if args.here:
         yield from itertools.starmap(check, calls)
         return
-    with client_of(args) as client, contextlib.suppress(OSError):
-        executor, waiting = client.get_executor(retries=2), set()  # type: Any, Set[Any]
-        while client.status == "running":  # if the scheduler is gone, a future may never end
-            room = max(1, 3 * sum(client.nthreads().values())) - len(waiting)
-            for call in itertools.islice(calls, max(0, room)):
-                how = {"input": json.dumps([os.getcwd(), *call]), "capture_output": True, "text": True}
-                waiting.add(executor.submit(subprocess.run, COMMAND, **how))
-            if not waiting:
-                return
-            ended, waiting = concurrent.futures.wait(waiting, 5, concurrent.futures.FIRST_COMPLETED)
-            yield from (result_of(future) for future in ended if not future.cancelled())
-    yield OSError("the scheduler is gone")
+    with ThreadPoolExecutor(args.workers) as threads, contextlib.closing(Processes()) as processes:
+        for ended in as_completed([threads.submit(processes.try_to_run, call) for call in calls]):
+            yield ended.result()

@@ -76,6 +76,6 @@ def native_contents(program: bytes, plugin: bytes, about: About) -> Iterator[Fil
     yield from install_tree.contents("${pcfiledir}/../..", program)
     yield wheel(program)
     yield File("plugin/mupen64plus-rsp-proved.so", plugin, True)
-    yield from repository.of_systems(*PARTS, "plugin", "tools/hardening")
+    yield from repository.of_systems(*PARTS, "plugin", "tools/hardening")  # plugin/build needs both
     for target, name in NATIVE.rust.items():
         yield File(f"library/rust/lib/{target}/{name}", (TOP / "library/c" / name).read_bytes())
