@@ -17,19 +17,17 @@ from lib.install.unpacked import archive_for, unpacked
 from lib.packages import need
 from lib.processes import succeeds
 
-# Two runs of ./release, with their umask and their time zone.
-RELEASES = {"first": (0o022, "UTC"), "second": (0o077, "Pacific/Chatham")}
-
 
 def release(into: Path) -> None:
-    """The folder dist of two runs of ./release, in a folder with a blank in its name."""
+    """Copies the folder dist of two runs of ./release, in a folder with a blank in its name. The runs differ
+    in their umask and their time zone."""
     if not (TOP / "crates/rsp_main/out/rsp_main.o").is_file():  # `rt ci` keeps none
         succeeds("rt", "run", "--", "--version", cwd=TOP / "crates/rsp_main")
     with tempfile.TemporaryDirectory() as folder:
         clone = cloned(Path(folder, "a clone"))
-        for name, (mask, zone) in RELEASES.items():
-            command = f"umask {mask:o}; exec ./release --untested"
-            succeeds("sh", "-c", command, cwd=clone, env={**os.environ, "TZ": zone})
+        for name, mask, zone in ("first", 0o022, "UTC"), ("second", 0o077, "Pacific/Chatham"):
+            environment = {**os.environ, "TZ": zone}
+            succeeds("./release", "--untested", cwd=clone, env=environment, umask=mask)
             shutil.copytree(clone / "dist", into / name)
 
 

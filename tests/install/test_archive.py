@@ -25,7 +25,6 @@ from lib.install.unpacked import (
     date,
     unpacked,
 )
-from lib.library import LOCKSTEP
 from lib.links import broken_everywhere, broken_in
 from lib.pages import page
 from lib.processes import run, succeeds
@@ -128,16 +127,12 @@ def check_pytest_passes(*pytest_args: object) -> None:
     assert re.search(r"(?m)^[1-9]\d* passed", output), output[-600:]
 
 
-@pytest.mark.parametrize("name", ["scripts", "cookbook", "failing_allocations", "bad_input"])
+@pytest.mark.parametrize("name", ["scripts", "cookbook", "failing_allocations", "bad_input", "saves"])
 def test_passes_the_tests_of_the_program(archive: Path, name: str) -> None:
-    """As the program that rt links does."""
+    """As the program that rt links does. It also ignores the signal of a file's limit."""
     (path,) = TESTS.glob(f"*/test_{name}.py")
-    check_pytest_passes(f"--program={archive}/bin/rsp", path)
-
-
-def test_passes_the_tests_of_saves(archive: Path) -> None:
-    """It also ignores the signal of a file's limit."""
-    check_pytest_passes(f"--program={archive}/bin/rsp", "--left-out=archive", "tests/program/test_saves.py")
+    left_out = ["--left-out=archive"] * (name == "saves")
+    check_pytest_passes(f"--program={archive}/bin/rsp", *left_out, path)
 
 
 def test_passes_the_check_of_vectors(archive: Path) -> None:
@@ -192,20 +187,14 @@ def test_library_of_the_wheel(archive: Path, packed: Path) -> None:
     check_date_of_wheel(packed, archive)
 
 
-@pytest.mark.parametrize(
-    "words", [("conformance/run", "--program", "./rsp"), ("conformance/library",)], ids=str
-)
-def test_vectors(joined: Path, words: tuple[str, ...]) -> None:
-    output = succeeds(*words, "conformance/vectors", "VADD", cwd=joined, env=BARE)
-    assert re.fullmatch(PASSED, output.splitlines()[-1])
-
-
-def test_vectors_alone(archive: Path, suite: Path) -> None:
-    """Where their archive was unpacked, on the program of the other one, which has to be named."""
-    unnamed = run("conformance/run", "conformance/vectors", "MTC0", cwd=suite, env=BARE)
-    assert unnamed.returncode == 1 and "bin/rsp of the archive for Linux" in unnamed.stdout
-    words = ("conformance/run", "--program", archive / "bin/rsp", "conformance/vectors", "MTC0")
-    assert re.fullmatch(PASSED, succeeds(*words, cwd=suite, env=BARE).splitlines()[-1])
+def test_vectors(joined: Path, suite: Path) -> None:
+    """On the library beside them, and on the program, which has to be named where it isn't beside them."""
+    words = ("conformance/run", "conformance/vectors", "MTC0")
+    assert run(*words, cwd=suite, env=BARE).returncode == 1
+    program = succeeds(*words, "--program", joined / "rsp", cwd=suite, env=BARE)
+    library = succeeds("conformance/library", "conformance/vectors", "VADD", cwd=joined, env=BARE)
+    for output in program, library:
+        assert re.fullmatch(PASSED, output.splitlines()[-1])
 
 
 # Rust, by each rustc of this machine: the crate in a copy of its folder, and from another crate beside the
@@ -224,21 +213,13 @@ def rust_environment(cargo: str) -> dict[str, str]:
     return {**BARE, "PATH": path, "HOME": os.environ.get("HOME", "/"), "PKG_CONFIG": "false"}
 
 
-def write_crate(archive: Path, mine: Path) -> None:
-    text = (archive / "docs/EMBEDDING.md").read_text()
-    lines, code = re.findall(r"(?ms)^```toml\n(\[dependencies\]\n.*?)^```\n+```rust\n(.*?)\n```$", text)[0]
-    (mine / "src").mkdir(parents=True)
-    (mine / "Cargo.toml").write_text(CRATE + lines.replace("../rsp/", f"../{archive.name}/"))
-    (mine / "src/main.rs").write_text(code)
-
-
 @pytest.mark.needs("cargo")
 @pytest.mark.parametrize("cargo", cargos())
 def test_crate(archive: Path, folder: Path, cargo: str) -> None:
+    """cargo packs it, and builds it as packed."""
     words = ("--quiet", "--offline")
     crate = shutil.copytree(archive / "library/rust", folder / "copy", symlinks=True)
     where = {"cwd": crate, "env": rust_environment(cargo)}
-    assert succeeds(cargo, "run", "--example", "lockstep", *words, **where) == LOCKSTEP
     assert succeeds(cargo, "package", "--allow-dirty", *words, **where) == ""
     assert [*crate.glob("target/package/*.crate")]
 
@@ -246,10 +227,12 @@ def test_crate(archive: Path, folder: Path, cargo: str) -> None:
 @pytest.mark.needs("cargo")
 @pytest.mark.parametrize("cargo", cargos())
 def test_crate_beside_the_archive(archive: Path, cargo: str) -> None:
+    text = (archive / "docs/EMBEDDING.md").read_text()
+    lines, code = re.findall(r"(?ms)^```toml\n(\[dependencies\]\n.*?)^```\n+```rust\n(.*?)\n```$", text)[0]
     with tempfile.TemporaryDirectory(dir=archive.parent) as folder:
         mine = Path(folder)
-        write_crate(archive, mine)
-        assert (
-            succeeds(cargo, "run", "--quiet", "--offline", cwd=mine, env=rust_environment(cargo))
-            == "Halt 1234\n"
-        )
+        (mine / "src").mkdir()
+        (mine / "Cargo.toml").write_text(CRATE + lines.replace("../rsp/", f"../{archive.name}/"))
+        (mine / "src/main.rs").write_text(code)
+        output = succeeds(cargo, "run", "--quiet", "--offline", cwd=mine, env=rust_environment(cargo))
+        assert output == "Halt 1234\n"

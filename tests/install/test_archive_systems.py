@@ -46,9 +46,7 @@ docs/SYSTEMS.md examples/first.rsp examples/c/lockstep.c microcode/README.md mic
 # What tools/systems makes for an archive beside what the record names, and what more an archive has.
 MADE = {
     "windows-x86_64": "lib/libbrsp.dll.a lib/brsp.lib",
-    "vendor": "CMakeLists.txt include/brsp.h include/brsp.hpp include/brsp_compare.h program/main.c "
-    "program/texts.h src/Linux-x86_64.s src/Linux-aarch64.s src/Windows-x86_64.s src/Darwin-x86_64.s "
-    "src/Darwin-arm64.s",
+    "vendor": "CMakeLists.txt include/brsp.h program/main.c src/Linux-x86_64.s",
     "wasm64": "package.json rsp.js rsp.d.ts rsp.wasm",
     "page": "index.html",
 }
@@ -59,7 +57,7 @@ MORE = {
 SYSTEMS = [target.name for target in (*CROSS, PAGE)]
 # What none of them has, since it was never run there, or is in an archive of its own.
 ABSENT = "plugin docs/PLUGIN.md docs/CAMPAIGN.md conformance".split()
-ABOUT = About(install_tree.version()[0], "2000-01-01", "0123", 946684800, "no logic")
+ABOUT = About(install_tree.version()[0], "2000-01-01", "0123", "no logic")
 outside = pytest.mark.outside("it tests archives of other systems: `--archive dist`")
 
 
@@ -71,20 +69,15 @@ def made_files(system: str) -> List[str]:
     return [name for name in (*names, *MADE.get(system, "").split()) if name]
 
 
-def more_files(system: str) -> List[str]:
-    """The other files of an archive."""
-    target = TARGETS[system]
-    names = "README.md CHANGELOG.md SHA256SUMS".split() + MORE.get(system, "").split()
-    names += COMMON.split() * bool(target.wheel) + ["share/man/man1/rsp.1"] * bool(target.program)
-    names += ["rsp"] * target.is_linux
-    return [*names, *(f"library/rust/lib/{triple}/{name}" for triple, name in target.rust.items())]
-
-
 def check_files(top: Path, system: str) -> None:
     """The files that it has and hasn't, those that its README names, and the links of its pages."""
     check_common(top)
     assert broken_everywhere(top, 0 if system == "page" else 21) == []
-    assert [name for name in made_files(system) + more_files(system) if not (top / name).exists()] == []
+    target = TARGETS[system]
+    names = [*made_files(system), *MORE.get(system, "").split(), *COMMON.split() * bool(target.wheel)]
+    names += ["rsp"] * target.is_linux + ["share/man/man1/rsp.1"] * bool(target.program)
+    names += [f"library/rust/lib/{triple}/{name}" for triple, name in target.rust.items()]
+    assert [name for name in names if not (top / name).exists()] == []
     assert [name for name in ABSENT if (top / name).exists()] == []
     text = (top / "README.md").read_text()
     assert text.startswith(f"# rsp {install_tree.version()[0]} for ")

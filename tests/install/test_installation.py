@@ -213,22 +213,8 @@ def test_man_shows_the_page(prefix: Path) -> None:
     assert "warning" not in text and "rsp run [OPTIONS] [SCRIPT]" in text
 
 
-# A program in Rust that depends on the crate.
-DEPENDS = """
-[package]
-name = "uses"
-version = "0.1.0"
-edition = "2021"
-
-[dependencies]
-rsp = { %s }
-"""
-USES = """
-fn main() {
-    assert_eq!(rsp::version(), 1);
-    println!("{}", rsp::text(0, 0).unwrap());
-}
-"""
+# A package in Rust that depends on the crate.
+DEPENDS = '[package]\nname = "uses"\nversion = "0.1.0"\nedition = "2021"\n\n[dependencies]\nrsp = {{ {} }}\n'
 COMMIT = "git init -q && git add -A && git -c user.name=a -c user.email=a@example.org commit -qm a"
 
 
@@ -245,9 +231,9 @@ def test_crate(prefix: Path, folder: Path, source: str) -> None:
     else:
         dependency, where["PKG_CONFIG"] = f'path = "{CRATE}"', "false"
     (folder / "uses/src").mkdir(parents=True)
-    (folder / "uses/Cargo.toml").write_text(DEPENDS % dependency)
-    (folder / "uses/src/main.rs").write_text(USES)
-    assert succeeds("cargo", "run", "-q", cwd=folder / "uses", env=where) == "nop\n"
+    (folder / "uses/Cargo.toml").write_text(DEPENDS.format(dependency))
+    shutil.copy(CRATE / "examples/lockstep.rs", folder / "uses/src/main.rs")
+    assert succeeds("cargo", "run", "-q", cwd=folder / "uses", env=where) == LOCKSTEP
 
 
 def test_install_under_a_strict_umask(library: Path, folder: Path) -> None:

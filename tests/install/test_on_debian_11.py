@@ -26,18 +26,13 @@ exec chroot "$0" /srv/rsp/tests/all --archive=/srv/rsp "$1/test_archive.py" "$1/
 """
 
 
-def with_debian(root: Path) -> Path:
-    """The folder of a Debian 11 with the packages that the tests use."""
-    if not (root / "usr/bin/cmake").exists():
-        words = ("--variant=minbase", f"--include={PACKAGES}", "bullseye", root, MIRROR)
-        succeeds("debootstrap", *words, timeout=1800)
-    return root
-
-
 def test_archive_on_debian_11(packed: Path, vectors: Path, folder: Path) -> None:
     if os.getuid():
         pytest.skip("only root can do it")
-    root = with_debian(Path(os.environ.get("DEBIAN_11") or folder / "root").resolve())
+    root = Path(os.environ.get("DEBIAN_11") or folder / "root").resolve()
+    if not (root / "usr/bin/cmake").exists():
+        words = ("--variant=minbase", f"--include={PACKAGES}", "bullseye", root, MIRROR)
+        succeeds("debootstrap", *words, timeout=1800)
     inside = root / "srv/rsp"
     shutil.rmtree(inside, ignore_errors=True)
     inside.mkdir(parents=True)
@@ -45,6 +40,6 @@ def test_archive_on_debian_11(packed: Path, vectors: Path, folder: Path) -> None
     for archive in packed, vectors:
         shutil.copy(archive, inside)
     where = {"PATH": "/usr/sbin:/usr/bin:/sbin:/bin", "HOME": "/root"}
-    words = ("unshare", "--mount", "sh", "-c", ENTER, root, "tests/install")
-    ended = run(*words, env=where, timeout=1800)
+    enter = ("unshare", "--mount", "sh", "-c", ENTER, root, "tests/install")
+    ended = run(*enter, env=where, timeout=1800)
     assert ended.returncode == 0, ended.stdout[-5000:]

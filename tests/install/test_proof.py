@@ -79,6 +79,27 @@ def test_time_to_go() -> None:
         assert proof.to_go() == f"about {-(-sum(map(seconds, longest)) // 60)} minutes"
 
 
+def test_progress(monkeypatch: pytest.MonkeyPatch, tmp_path: Path) -> None:
+    """After a silence: what is being proved, with the number of functions whose paths the kit has stored."""
+    lines, form = list[str](), r"proving rsp_main, \d+ s, 2 functions; about \d+ minutes to go"
+    modules = tmp_path / "rsp_main/out/incremental/new"
+    modules.mkdir(parents=True)
+
+    def task(_: int) -> int:
+        until = time.monotonic() + 60
+        while not any(re.fullmatch(form, line) for line in lines):
+            assert time.monotonic() < until, lines
+            for name in "one", "two":
+                (modules / f"Rattle-rsp_main-proofs.{name}.Lts.oantt").touch()
+        return 0
+
+    monkeypatch.setattr(proof, "SILENCE", 0.1)
+    monkeypatch.setattr(proof, "CRATES", tmp_path)
+    proving = Proof("rsp_main", [], Path(), lines.append)
+    proving.left = {"rsp_main": task}
+    assert proving.run() == ""
+
+
 @pytest.mark.parametrize("kilobytes, most", [(1, 1), (3_900_000, 1), (4_000_000, 2), (10**9, 1000)])
 def test_memory(monkeypatch: pytest.MonkeyPatch, tmp_path: Path, kilobytes: int, most: int) -> None:
     """There is a job for each two gigabytes, and at least one."""

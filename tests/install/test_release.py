@@ -48,7 +48,6 @@ def refused(*words: str, path: str) -> str:
 
 def path_with(folder: Path, *names: str) -> str:
     """A folder for PATH with only these programs, and a kit that fails."""
-    folder.mkdir(exist_ok=True)
     for name in names:
         (folder / name).symlink_to(str(shutil.which(name, path="/usr/bin:/bin")))
     (folder / "rt").write_text("#!/bin/sh\nexit 9\n")
@@ -66,21 +65,22 @@ def test_no_kit() -> None:
     assert output.startswith("release: there is no `rt`, the command of the Rattle kit")
 
 
-def test_missing_packages(folder: Path) -> None:
-    """All of them are in one line: those that link, and those of each system."""
-    output = refused("--untested", "--systems", path=path_with(folder, *FEW))
-    compilers = " ".join(target.packages[target.compiler] for target in CROSS if target.compiler)
-    names = f"git gcc binutils {compilers} cmark-gfm"
-    assert output == f"release: packages of Debian are missing: apt-get install {names}\n"
+COMPILERS = " ".join(target.packages[target.compiler] for target in CROSS if target.compiler)
 
 
 @pytest.mark.needs(*LINKERS)
-def test_missing_package_of_one_system(folder: Path) -> None:
-    """The page is made with the library for WebAssembly, and needs the same packages."""
-    for system, package in ("windows-x86_64", "gcc-mingw-w64-x86-64"), ("page", "cmark-gfm"):
-        path = path_with(folder / system, *FEW, *LINKERS)
-        output = refused("--untested", "--systems", system, path=path)
-        assert output == f"release: packages of Debian are missing: apt-get install {package}\n"
+@pytest.mark.parametrize(
+    "here, systems, packages",
+    [
+        ([], [], f"git gcc binutils {COMPILERS} cmark-gfm"),
+        (LINKERS, ["windows-x86_64"], "gcc-mingw-w64-x86-64"),
+        (LINKERS, ["page"], "cmark-gfm"),
+    ],
+)
+def test_missing_packages(folder: Path, here: list[str], systems: list[str], packages: str) -> None:
+    """All are in one line: those that link, and those of each system. The page needs those of wasm64."""
+    output = refused("--untested", "--systems", *systems, path=path_with(folder, *FEW, *here))
+    assert output == f"release: packages of Debian are missing: apt-get install {packages}\n"
 
 
 def test_packages_of_the_newcomer(monkeypatch: pytest.MonkeyPatch) -> None:
@@ -116,20 +116,12 @@ def test_copy_of_the_version(name: str, monkeypatch: pytest.MonkeyPatch) -> None
         release.check_versions()
 
 
-@pytest.mark.parametrize(
-    "day, tags, is_right",
-    [
-        ("unreleased", [], True),
-        ("unreleased", ["v0.9.0"], False),
-        ("2030-01-01", [], False),
-        ("2030-01-01", ["v0.9.1"], False),
-        ("2030-01-01", ["other", "v0.9.0"], True),
-    ],
-)
-def test_day_of_a_version(day: str, tags: list[str], is_right: bool, monkeypatch: pytest.MonkeyPatch) -> None:
+@pytest.mark.parametrize("day", ["unreleased", "2030-01-01"])
+@pytest.mark.parametrize("tags", [[], ["v0.9.1"], ["other", "v0.9.0"]], ids=str)
+def test_day_of_a_version(day: str, tags: list[str], monkeypatch: pytest.MonkeyPatch) -> None:
     """A version has a day if, and only if, it has a tag."""
     monkeypatch.setattr(release.header, "version", lambda: "0.9.0")
-    if is_right:
+    if (day != "unreleased") == ("v0.9.0" in tags):
         release.check_day(day, tags)
     else:
         with pytest.raises(SystemExit, match="tag v0.9.0"):

@@ -15,13 +15,13 @@ from lib.install.unpacked import archive_for, check_common, unpacked
 from lib.library import LOCKSTEP
 from lib.pages import page
 from lib.processes import STRICT, compiled, run, run_bytes, succeeds
-from lib.systems.target_params import RUNNERS
+from lib.systems.target_params import COMPILED, RUNNERS
 from lib.systems.runners import Runner
 from measure import LIBRARY
 from measure.speed import LOOPS, code, figure
 from rsp_tools.systems import header
 from rsp_tools.systems.toolchain import llvm
-from rsp_tools.targets import TARGETS, Target
+from rsp_tools.targets import NATIVE, TARGETS
 
 outside = pytest.mark.outside("it tests the archive for other projects: `--archive dist`")
 # A project that has the folder as `rsp` beside it.
@@ -116,17 +116,13 @@ def test_refuses(top: Path, folder: Path) -> None:
     assert ended.returncode and "there is no file for Linux-riscv64" in " ".join(ended.stdout.split())
 
 
-# The systems whose file is run here: all except macOS.
-RUN = [target for target in TARGETS.values() if target.compiler]
-
-
 @outside
 @pytest.mark.timeout(1800)
-@pytest.mark.parametrize("target", RUN, ids=lambda target: target.name)
+@pytest.mark.parametrize("system", (NATIVE.name, *COMPILED))
 @pytest.mark.parametrize("name", ["calls", "owner", "threads"])
-def test_calls(name: str, target: Target, top: Path, folder: Path) -> None:
-    """A program of tests over a file of src/."""
-    runner = RUNNERS.get(target.name, Runner)(target.name, top, folder)
+def test_calls(name: str, system: str, top: Path, folder: Path) -> None:
+    """A program of tests over a file of src/, on each system except macOS."""
+    runner, target = RUNNERS.get(system, Runner)(system, top, folder), TARGETS[system]
     library = str(folder / "brsp.o")
     try:
         source = top / f"src/{target.cmake[0]}-{target.processor}.s"

@@ -142,4 +142,5 @@ if __name__ == "__main__":
     parser.formatter_class = argparse.RawDescriptionHelpFormatter
     parser.parse_args()
     for name, text in made().items():
-        (TOP / name).write_text(text)
+        if text != page(name):  # a source of a crate that is written again would be proved again
+            (TOP / name).write_text(text)

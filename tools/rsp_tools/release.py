@@ -87,13 +87,6 @@ def check_day(day: str, tags: List[str]) -> None:
         fail(f"VERSION says {day}, and the commit has {'the' if tag in tags else 'no'} tag {tag}")
 
 
-def check_names(names: List[str]) -> None:
-    """Ends if there is no such system."""
-    for name in names:
-        if name not in OTHERS:
-            fail(f"there is no system {name}: the systems are {', '.join(OTHERS)}")
-
-
 def libraries_of(names: List[str]) -> List[str]:
     """The systems whose libraries these archives have. The page has that for WebAssembly."""
     return [name for name in SYSTEMS if name in names or (name == "wasm64" and "page" in names)]
@@ -163,7 +156,8 @@ def arguments() -> argparse.Namespace:
 def main() -> None:
     options = arguments()
     names = [] if options.systems is None else [*dict.fromkeys(options.systems)] or OTHERS
-    check_names(names)
+    for name in {*names} - {*OTHERS}:
+        fail(f"there is no system {name}: the systems are {', '.join(OTHERS)}")
     check_packages(names, not options.untested)
     if output_of("git", "status", "--porcelain"):
         fail("the work tree differs from its commit")

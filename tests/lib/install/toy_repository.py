@@ -50,19 +50,11 @@ pub extern "C" fn rsp_answer() -> u32 {
 HEADER = "#define BRSP_VERSION 1\nuint32_t rsp_answer(void);\n"
 COPIED = "VERSION rsp library/c/build library/c/brsp.map library/python/pyproject.toml"
 TOOLS = "sh env cat dirname readlink find sha256sum"
-# Programs in place of `rt`, without the rest of its kit: of another logic; of this one; silent; failing.
+# Programs in place of `rt`, without the rest of its kit: of another logic; of this one, which prints what it
+# is asked for; failing.
 RT = {
     "other": '[ "$1" != version ] || exec echo "rattle-kit-0 logic 0"\nexec "{rt}" "$@"',
-    "alone": 'exec "{rt}" "$@"',
-    "words": '[ "$1" = version ] || {{ echo asked for "$@"; exit 2; }}\nexec "{rt}" "$@"',
-    # It keeps what it has checked of two functions, and says nothing until it may go on.
-    "silent": """[ "$1" = lib ] && mkdir out/incremental/new && cd out/incremental/new && {{
-    for name in one two; do touch Rattle-rsp_c-proofs.$name.Lts.oantt; done
-    until [ -e "$GO" ]; do sleep 0.1; touch *; done
-    rm -r "$PWD"; exit 2
-}}
-exec {rt} "$@"
-""",
+    "alone": '[ "$1" != lib ] || echo asked for "$@"\nexec "{rt}" "$@"',
     "broken": "exit 2",
 }
 # In place of the kit's `rattle`: it holds one crate until it may go on.
@@ -187,9 +179,9 @@ class ToyRepository:
     def remaining_processes(self) -> list[int]:
         """The processes that are still at work in the repository, if they don't end."""
         until = time.monotonic() + LONGEST
-        while processes_in(self.root) and time.monotonic() < until:
+        while (found := processes_in(self.root)) and time.monotonic() < until:
             time.sleep(0.2)
-        return processes_in(self.root)
+        return found
 
     def edit(self, name: str, old: str, new: str) -> None:
         path = self.root / name

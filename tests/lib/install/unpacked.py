@@ -1,7 +1,6 @@
 """Archives of ./release, unpacked into empty folders, and what is true of each: names, times, sums."""
 
 import calendar
-import hashlib
 import re
 import shutil
 import stat
@@ -10,6 +9,8 @@ import zipfile
 from pathlib import Path
 
 import pytest
+
+from lib.processes import succeeds
 
 BARE = {"PATH": "/usr/bin:/bin", "LC_ALL": "C"}  # the environment of one who has nothing else
 
@@ -85,18 +86,11 @@ def unpacked(archive: Path, into: Path) -> Path:
     return top
 
 
-def check_sums(top: Path) -> None:
-    """SHA256SUMS lists every regular file except itself, with its SHA-256."""
-    lines = (top / "SHA256SUMS").read_text().splitlines()
-    listed = {name: digest for digest, name in map(str.split, lines)}
-    files = [path for path in top.rglob("*") if path.is_file() and not path.is_symlink()]
-    actual = {str(path.relative_to(top)): hashlib.sha256(path.read_bytes()).hexdigest() for path in files}
-    del actual["SHA256SUMS"]
-    assert listed == actual
-
-
 def check_common(top: Path) -> None:
-    """What each archive has."""
-    check_sums(top)
+    """What each archive has. SHA256SUMS lists every file except itself, and no link."""
+    output = succeeds("sha256sum", "--strict", "-c", "SHA256SUMS", cwd=top)
+    files = [path for path in top.rglob("*") if path.is_file() and not path.is_symlink()]
+    names = {str(path.relative_to(top)) for path in files} - {"SHA256SUMS"}
+    assert sorted(output.splitlines()) == sorted(f"{name}: OK" for name in names)
     assert re.fullmatch(r"[0-9a-f]{4,40}\n", (top / "COMMIT").read_text())
     assert (top / "README.md").is_file() and (top / "CHANGELOG.md").read_text().startswith("# Changes\n")

@@ -35,7 +35,7 @@ def finished(system: str, files: Iterable[File], about: About) -> Archive:
     ending = TARGETS[system].ending if system in TARGETS else "tar.gz"
     listed = [*files, File("COMMIT", f"{about.commit}\n".encode())]
     if system != "source":
-        listed.append(readme.page(system, about, listed))
+        listed.append(File("README.md", readme.page(system, about, listed)))
     folder = "package" if system == "wasm64" else name
     return Archive(f"{name}.{ending}", folder, archive_formats.with_sums(listed))
 

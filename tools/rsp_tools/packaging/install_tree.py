@@ -21,8 +21,6 @@ ended=$?
 [ $ended -lt 126 ] || echo "rsp: this program is for {processor}, and this machine is $(uname -m)" >&2
 exit $ended
 """
-
-
 SHARE = TOOLS / "packaging/share"
 HEADERS = ("brsp.h", "brsp.hpp", "brsp_compare.h", "brsp_savestate.h")
 RPATH = " -Wl,-rpath,${libdir}"

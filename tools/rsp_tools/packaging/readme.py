@@ -9,7 +9,6 @@ from rsp_tools import TOOLS
 from rsp_tools.packaging.release_info import About
 from rsp_tools.packaging.install_tree import File
 
-
 MARK = re.compile(r"(?ms)^<!-- .*?-->\n")  # above a block: how a test types it
 
 
@@ -26,7 +25,7 @@ def elsewhere(pages: Dict[str, str], names: List[str]) -> List[str]:
     return sorted(found)
 
 
-def page(system: str, release: About, files: List[File]) -> File:
+def page(system: str, release: About, files: List[File]) -> bytes:
     """The README of a system's archive with these files, which names all that their links lack."""
     built, proved = release.lines()
     text = MARK.sub("", (TOOLS / f"packaging/readme/{system}.md").read_text())
@@ -37,13 +36,11 @@ def page(system: str, release: About, files: List[File]) -> File:
     named = {"@ELSEWHERE@": ", ".join(f"`{it}`" for it in lacking)}
     for name, value in {**named, "VERSION": release.version, "@BUILT@": built, "@PROVED@": proved}.items():
         text = text.replace(name, value)
-    return File("README.md", text.encode())
+    return text.encode()
 
 
 def in_source(file: File, release: About) -> File:
     """A file of the repository; the README gets a section on the archive."""
     if file.name != "README.md" or isinstance(file.data, str):
         return file
-    more = page("source", release, []).data
-    assert isinstance(more, bytes)
-    return file._replace(data=file.data + more)
+    return file._replace(data=file.data + page("source", release, []))

@@ -3,16 +3,15 @@
 from typing import NamedTuple, Tuple
 
 from rsp_tools.packaging import install_tree
-from rsp_tools.packaging.repository import commit_time, output_of
+from rsp_tools.packaging.repository import output_of
 
 
 class About(NamedTuple):
-    """A release. `time` is that of its commit, in seconds since 1970."""
+    """A release."""
 
     version: str
     day: str
     commit: str
-    time: int
     kit: str
 
     def lines(self) -> Tuple[str, str]:
@@ -24,4 +23,4 @@ class About(NamedTuple):
 def of_head() -> About:
     """The release of the newest commit."""
     commit = output_of("git", "rev-parse", "HEAD")
-    return About(*install_tree.version(), commit, commit_time(), output_of("rt", "version"))
+    return About(*install_tree.version(), commit, output_of("rt", "version"))

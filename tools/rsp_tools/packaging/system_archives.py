@@ -44,8 +44,10 @@ def thinned(library: Path, processor: str) -> bytes:
         return Path(at, "thin").read_bytes()
 
 
-def of_rust(system: str, folder: Path) -> Iterator[File]:
-    """The static libraries, where the Rust crate looks for them."""
+def cross_contents(system: str, folder: Path, about: About) -> Iterator[File]:
+    """Each file of a system's archive but its README."""
+    yield from of_folder(folder)
+    yield from (it for it in repository.of_systems(*PARTS_OF.get(system, PARTS)) if it.name != NOT_THERE)
     target = TARGETS[system]
     for triple, name in target.rust.items():
         library = folder / "lib" / name
@@ -54,25 +56,17 @@ def of_rust(system: str, folder: Path) -> Iterator[File]:
         else:
             data = library.read_bytes()
         yield File(f"library/rust/lib/{triple}/{name}", data)
-
-
-def cross_contents(system: str, folder: Path, about: About) -> Iterator[File]:
-    """Each file of a system's archive but its README."""
-    yield from of_folder(folder)
-    yield from (it for it in repository.of_systems(*PARTS_OF.get(system, PARTS)) if it.name != NOT_THERE)
-    target = TARGETS[system]
-    yield from of_rust(system, folder)
     if target.program:
         yield from install_tree.shared()
     if target.program and target.is_linux:
         yield install_tree.starter(about.lines(), target.processor)
 
 
-def wheel(program: bytes, date: int) -> File:
+def wheel(program: bytes) -> File:
     """The Python package as a wheel, with the program as its command."""
     files = {**wheels.with_library(wheels.made(), wheels.MADE.name), **wheels.with_command("rsp", program)}
     with tempfile.TemporaryDirectory() as folder:
-        name = wheels.write(folder, files, date=date)
+        name = wheels.write(folder, files, date=repository.commit_time())
         return File(f"python/{name}", Path(folder, name).read_bytes())
 
 
@@ -80,7 +74,7 @@ def native_contents(program: bytes, plugin: bytes, about: About) -> Iterator[Fil
     """Each of its files."""
     yield install_tree.starter(about.lines(), NATIVE.processor)
     yield from install_tree.contents("${pcfiledir}/../..", program)
-    yield wheel(program, about.time)
+    yield wheel(program)
     yield File("plugin/mupen64plus-rsp-proved.so", plugin, True)
     yield from repository.of_systems(*PARTS, "plugin", "tools/hardening")  # plugin/build needs both
     for target, name in NATIVE.rust.items():
