@@ -99,9 +99,9 @@ enum brsp_bank { BRSP_DMEM = 0, BRSP_IMEM = 1, BRSP_RDRAM = 2 };
  * the limit. (In brsp_event the limit comes before a move, and after the last two reasons.) */
 enum brsp_reason {
     BRSP_AT_RESERVED = 0, /* the machine isn't halted, and the word at pc is reserved */
-    BRSP_AT_HALT = 1,     /* it is halted, whatever the word is */
+    BRSP_AT_HALT = 1,     /* it is halted, as after the instruction BREAK, whatever the word is */
     BRSP_AT_WATCH = 2,    /* the last step changed a byte of a watch */
-    BRSP_AT_BREAK = 3,    /* the last step came to a breakpoint */
+    BRSP_AT_BREAK = 3,    /* the last step came to a breakpoint (brsp_add_break) */
     BRSP_AT_LIMIT = 4,    /* all steps are made */
     BRSP_AT_MOVE = 5,     /* brsp_run_until_move, brsp_event: such a move is next */
     BRSP_AT_DMA = 6,      /* brsp_event: a DMA is next */
@@ -380,9 +380,9 @@ uint32_t brsp_pass_dma(brsp_machine *m);
 
 /* ---- Breakpoints at addresses of IMEM, at most sixteen, and watches of DMEM, at most eight ---- */
 
-/* Adds a breakpoint. Returns BRSP_OUT_OF_RANGE unless the address is a multiple of 4 below 4096, otherwise
- * BRSP_BREAK_TWICE if the address has a breakpoint, and otherwise BRSP_BREAK_FULL if sixteen addresses have
- * one. */
+/* Adds a breakpoint. A run stops when a step comes to it, so not at once if the run begins there. Returns
+ * BRSP_OUT_OF_RANGE unless the address is a multiple of 4 below 4096, otherwise BRSP_BREAK_TWICE if the
+ * address has a breakpoint, and otherwise BRSP_BREAK_FULL if sixteen addresses have one. */
 uint32_t brsp_add_break(brsp_machine *m, uint32_t address);
 
 /* Removes a breakpoint. Returns BRSP_OUT_OF_RANGE as above, and otherwise BRSP_NO_BREAK if the address has

@@ -181,8 +181,9 @@ def output_of_runner(number: int, path: Path) -> str:
     output, mine = io.StringIO(), ModuleType("mine")  # type: io.StringIO, Any
     mine.Rsp = runner_class()
     with patch.dict(sys.modules, mine=mine), patch.object(sys, "argv", ["runner.py", str(path)]):
-        with contextlib.redirect_stdout(output):
+        with contextlib.redirect_stdout(output), pytest.raises(SystemExit) as ended:
             exec(text, {})
+    assert bool(ended.value.code) == (not output.getvalue().endswith(" passed, 0 failed\n"))
     return output.getvalue()
 
 
@@ -200,13 +201,14 @@ def test_runners_of_steps(name: str, program: Path, library: Path, folder: Path)
     all_entries, random, path = entries_in(VECTORS, name), Random("runner", name), folder / "steps.jsonl"
     entries = [*all_entries[:2], *[entry for entry in all_entries if "choice" in entry][:1]]
     path.write_text("".join(f"{json.dumps(entry)}\n" for entry in entries))
-    assert output_of_runner(0, path) == ""
+    assert output_of_runner(0, path) == f"{len(entries)} passed, 0 failed\n"
     assert not any(steps.run_entries(str(program), entries))
     for entry in entries:
         spoilt = [*spoilt_entries(entry, random)]
         for false, found in zip(spoilt, steps.run_entries(str(program), spoilt)):
             path.write_text(json.dumps(false))
-            assert output_of_runner(0, path).startswith(head_of(entry)), false
+            output = output_of_runner(0, path)
+            assert output.startswith(head_of(entry)) and output.endswith("\n0 passed, 1 failed\n"), false
             assert found and all(complaint.startswith(f"{entry['name']} (") for complaint in found), false
 
 
@@ -217,7 +219,8 @@ def test_runners_of_programs(name: str, library: Path, folder: Path) -> None:
     """
     for path in (check.PROGRAMS / f"{name}.json", *check.PROGRAMS.glob(f"{name}-*")):
         (folder / path.name).write_bytes(path.read_bytes())
-    assert output_of_runner(1, folder / f"{name}.json") == ""
+    count = len(manifest_in(VECTORS, name)["programs"])
+    assert output_of_runner(1, folder / f"{name}.json") == f"{count} passed, 0 failed\n"
     random = Random("spoilt", name)
     entry = random.pick(manifest_in(VECTORS, name)["programs"])
     case = random.pick(entry["cases"])
@@ -226,10 +229,10 @@ def test_runners_of_programs(name: str, library: Path, folder: Path) -> None:
     right = path.read_bytes()
     path.write_bytes(right[:at] + bytes([right[at] ^ 1]) + right[at + 1 :])
     difference = f"expected {right[at] ^ 1:02x}, got {right[at]:02x}"
-    assert (
-        output_of_runner(1, folder / f"{name}.json")
-        == f"{head_of(case)}{field}, DMEM {at:03x}: {difference}\n"
-    )
+    assert output_of_runner(1, folder / f"{name}.json").splitlines() == [
+        f"{head_of(case)}{field}, DMEM {at:03x}: {difference}",
+        f"{count - 1} passed, 1 failed",
+    ]
     assert run_programs.complaints(entry, right, right[:at]) == [
         f"{entry['name']}: {at} bytes, and 4096 are expected"
     ]
