@@ -374,15 +374,15 @@ MAKERS: Dict[str, Callable[[Row, Random, int, int], Made]] = {
     "shift": make_shift,
     "three": make_three,
     "immediate": make_immediate,
-    "upper": lambda row, random, *_: ({"t": random.below(32), "imm": random.mixed(HALVES, 16)}, {}),
+    "upper": lambda row, random, number, _: ({"t": random.below(32), "imm": random.mixed(HALVES, 16)}, {}),
     **dict.fromkeys(("load", "store"), make_scalar_memory),
     **dict.fromkeys(("branch one", "branch two"), make_branch),
-    "jump": lambda row, random, *_: (
+    "jump": lambda row, random, number, window: (
         {"target": random.pick((0, 1, 0x3FF, random.below(1024)))},
         program_counters(random),
     ),
     **dict.fromkeys(("jump register", "link register"), make_jump_register),
-    "break": lambda row, random, *_: ({}, {**program_counters(random), **status(random)}),
+    "break": lambda row, random, number, window: ({}, {**program_counters(random), **status(random)}),
     "from sp": lambda row, random, number, _: ({"c": number % 16, "t": random.below(32)}, sp_state(random)),
     "to sp": make_to_sp,
     **dict.fromkeys(("from vector", "to vector"), make_move),
