@@ -148,7 +148,7 @@ def answer(machine: Machine, question: Dict[str, Any]) -> Dict[str, Any]:
     return {**numbers_of(machine.get()), "status": status, "ram": ram, "rdram": rdram}
 
 
-FINAL = {**numbers_of(rsp.State()), "ram": [], "rdram": []}
+FINAL: Dict[str, Any] = {**numbers_of(rsp.State()), "ram": [], "rdram": []}
 WRONG_ANSWERS = {
     "garbage": "no JSON",
     "range": json.dumps({"final": {**FINAL, "pc": 65536}}),
