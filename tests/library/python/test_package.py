@@ -74,16 +74,6 @@ def test_example(name: str, site: Path) -> None:
     assert by_python(EXAMPLES / f"{name}.py", *words, path=site) == expected
 
 
-def test_view_of_a_task(folder: Path) -> None:
-    """By an image with the task, and by a script that has started it."""
-    script, image = page("examples/task.rsp").partition("\ntask ")[0] + "\n", folder / "image"
-    image.write_bytes(rsp.run_script(script, bytes(0x2000)).image)
-    (folder / "script").write_text(f"{script}task 0x100\n")
-    for words in ([image, 1, "--task", "0x100"], [folder / "script", 1, "--script"]):
-        output = by_python(EXAMPLES / "step_view.py", *words, path=OURS)
-        assert output.splitlines()[1] == f"{'> 000 addiu $1, $0, 4224'.ljust(40)}| $1 00001080"
-
-
 WITH_OURS = {**os.environ, "PYTHONPATH": str(OURS)}
 
 
