@@ -19,7 +19,7 @@ import pytest
 import rsp
 from lib import TOP
 from lib.library import LOCKSTEP, shapes
-from lib.library.module import assert_raises
+from lib.library.module import assert_raises, loaded
 from rsp import RspError, State
 from rsp.script import ASKED, machine_of
 
@@ -194,11 +194,12 @@ def test_lines_of_words() -> None:
 
 
 def test_copied_and_closed_machine() -> None:
-    machine = rsp.Rsp()
+    machine = loaded("nop\nbreak")
+    machine.step()
     for made in (copy.copy(machine), copy.deepcopy(machine)):
-        made.set_pc(8)
-        assert (made.regs().pc, machine.regs().pc) == (8, 0)
+        assert made.get() == machine.get() and made.run(9) == (rsp.Reason.HALT, 1, 8, None)
         made.close()
+    assert machine.regs().pc == 4
     assert_raises(TypeError, "a machine can't be pickled", pickle.dumps, machine)
     machine.close()
     assert_raises(RspError, "copy: the machine is closed", copy.copy, machine)
