@@ -23,21 +23,9 @@ import threading
 from array import array
 from ctypes import POINTER, Structure, addressof, byref, c_char_p, c_size_t, c_uint16, c_uint32, c_void_p
 from typing import (
-    Any,
-    Callable,
-    Container,
-    Dict,
-    Iterable,
-    Iterator,
-    List,
-    NamedTuple,
-    Optional,
-    Sequence,
-    Tuple,
-    TypeVar,
-    Union,
-    cast,
-)
+    Any, Callable, Container, Dict, Iterable, Iterator, List, NamedTuple, Optional, Sequence, Tuple, TypeVar,
+    Union, cast,
+)  # fmt: skip
 
 from . import errors as _errors
 from . import fields as _fields
@@ -634,11 +622,7 @@ class Machine(_Owner):
         lanes ">u2". This call needs numpy.
         """
         numpy, data = _numpy("memory_array"), bytearray(self.memory(bank, address, length))
-        kind = numpy.dtype(dtype)
-        if kind.itemsize == 0 or len(data) % kind.itemsize:
-            size = f"the {kind.itemsize} bytes of {kind}"
-            raise ValueError(f"memory_array: length is {len(data)}, not a multiple of {size}")
-        return numpy.frombuffer(data, kind)
+        return numpy.frombuffer(data, dtype)
 
     def memory_words(self, bank: int, address: int, count: int) -> List[int]:
         """`count` words of a memory, the high byte of each first."""
