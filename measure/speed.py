@@ -123,9 +123,9 @@ def on_z64(name: str) -> CommandOf:
     return lambda steps: (words, code(name, steps // length, BREAK).ljust(4096, b"\0") + DATA)
 
 
-def compile_caller(folder: Path) -> Path:
-    """The program that makes steps by calls of the library."""
-    return compiled(folder / "speed", *STRICT, Path(__file__).with_suffix(".c"), LIBRARY)
+def compile_caller(folder: Path, library: Path = LIBRARY) -> Path:
+    """The program that makes steps by calls of a library."""
+    return compiled(folder / "speed", *STRICT, Path(__file__).with_suffix(".c"), library)
 
 
 def seconds(command: Command) -> float:
@@ -196,30 +196,22 @@ def print_times() -> None:
     print_row("z64 / `run`", [b / a for a, b in zip(ours, others)])
 
 
-# The tables: what prints one, what it needs, and what --help says.
-TABLES: Dict[str, Tuple[Callable[[], None], Sequence[str], str]] = {
-    "steps": (print_steps, ("cc", "valgrind"), "steps, and lines of scripts (unless another is named)"),
-    "lines": (print_lines, ("valgrind",), "lines of scripts alone"),
-    "z64": (print_z64, ("valgrind", z64.PLUGIN), "steps of the same loops on z64"),
-    "time": (print_times, (z64.PLUGIN,), "the nanoseconds of a processor that a step takes, ours and z64's"),
-}
-
-
 def main() -> None:
     parser = parser_of(__doc__)
     group = parser.add_mutually_exclusive_group()
-    for name, (_, _, text) in TABLES.items():
-        group.add_argument(
-            f"--{name}", dest="table", action="store_const", const=name, default="steps", help=text
-        )
+    group.add_argument("--z64", action="store_true", help="steps of the same loops on z64")
+    text = "the nanoseconds of a processor that a step takes, ours and z64's"
+    group.add_argument("--time", action="store_true", help=text)
     group.add_argument("--line", metavar="LINE", help="this line of a script alone")
     arguments = parser.parse_args()
-    print_table, needed, _ = TABLES["lines" if arguments.line else arguments.table]
-    need(*needed)
+    need(*["valgrind"] * (not arguments.time), *[z64.PLUGIN] * (arguments.z64 or arguments.time))
     if arguments.line:
         print_lines({f"`{arguments.line}`": arguments.line})
+    elif arguments.z64 or arguments.time:
+        (print_z64 if arguments.z64 else print_times)()
     else:
-        print_table()
+        need("cc")
+        print_steps()
 
 
 if __name__ == "__main__":
