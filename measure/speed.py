@@ -82,12 +82,10 @@ def host_instructions(command: Command, options: Sequence[str] = ()) -> int:
     valgrind = ["valgrind", "--tool=callgrind", "--callgrind-out-file=/dev/null", *options]
     env = {**os.environ, "PYTHONHASHSEED": "0"}  # because Python's start is the same with the same hashes
     words = [*valgrind, *map(str, command[0])]
-    messages = subprocess.run(words, input=command[1], capture_output=True, env=env).stderr.decode(
-        errors="replace"
-    )
-    counted = re.search(r"Collected : (\d+)", messages)
+    messages = subprocess.run(words, input=command[1], capture_output=True, env=env).stderr
+    counted = re.search(rb"Collected : (\d+)", messages)
     if not counted:
-        sys.exit(f"valgrind counted nothing: {messages[-600:]}")
+        sys.exit(f"valgrind counted nothing: {messages[-600:].decode(errors='replace')}")
     return int(counted[1])
 
 
@@ -113,8 +111,13 @@ def by_calls(caller: Path, how: str, name: str, depth: int = 0) -> CommandOf:
 
 
 def by_script(name: str, before: str = "") -> CommandOf:
-    """The steps of a loop, made by `run`."""
-    return lambda steps: ([PROGRAM, "run"], script(code(name), before, f"run {steps}"))
+    """The steps of a loop, made by lines `run`: one, or as many of MOST_STEPS as they take."""
+
+    def command(steps: int) -> Command:
+        runs = [f"run {min(steps, MOST_STEPS)}"] * -(-steps // MOST_STEPS)
+        return [PROGRAM, "run"], script(code(name), before, *runs)
+
+    return command
 
 
 def on_z64(name: str) -> CommandOf:
@@ -185,12 +188,8 @@ def print_z64() -> None:
 
 
 def print_times() -> None:
-    def runs(name: str) -> CommandOf:
-        lines = [f"run {MOST_STEPS}"]
-        return lambda steps: ([PROGRAM, "run"], script(code(name), *lines * (steps // MOST_STEPS)))
-
     print_heading("Nanoseconds a step")
-    ours, others = zip(*(nanoseconds(runs(name), on_z64(name)) for name in LOOPS))
+    ours, others = zip(*(nanoseconds(by_script(name), on_z64(name)) for name in LOOPS))
     print_row("`run`", ours)
     print_row("z64", others)
     print_row("z64 / `run`", [b / a for a, b in zip(ours, others)])

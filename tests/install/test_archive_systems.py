@@ -217,11 +217,6 @@ def test_cmake(top: Path, runner: Runner, system: str) -> None:
     runner.check_cmake()
 
 
-@of(*COMPILED)
-def test_program(runner: Runner, system: str) -> None:
-    assert first_output(runner, f"bin/rsp{runner.ending}", "run") == REPLIES
-
-
 @of("windows-x86_64")
 def test_first_line_of_windows(top: Path, runner: Runner) -> None:
     """The README's, by the command interpreter."""

@@ -167,8 +167,7 @@ def main() -> None:
     folder = Path(os.path.abspath(sys.argv[1]))
     folder.mkdir(parents=True, exist_ok=True)
     bench = Bench(folder, Path(os.path.abspath(sys.argv[2])) if sys.argv[2:] else TOP / "rsp")
-    for fault in 0, 1:
-        bench.faulty(fault)
+    bench.faulty(1)
     bench.rom("short", "-DWAITS=0")  # z64 doesn't come back from the tasks that wait for the CPU
     bench.rom("all")
 

@@ -58,14 +58,12 @@ def check_name(name: str) -> None:
     folders = ("src", ".rt"), ("specs", ".antt"), ("proofs", ".antt")
     files = [file for folder, end in folders for file in (CRATE / folder).glob(f"*{end}")]
     mine = name, module, f"{module}Runs"
-    for file in files:
-        if file.stem in mine:
-            why = "take another name, or delete that routine's files and lines"
-            stop(f"`{name}` is used already, by {file.relative_to(CRATE)}: {why}")
-    for file in files:
-        if file.stem.lower() in map(str.lower, mine):
-            where = file.relative_to(CRATE)
-            stop(f"`{name}` is too near to {where}: a file of it would differ from that in case alone")
+    for where in (file.relative_to(CRATE) for file in files if file.stem in mine):
+        why = "take another name, or delete that routine's files and lines"
+        stop(f"`{name}` is used already, by {where}: {why}")
+    lower = {one.lower() for one in mine}
+    for where in (file.relative_to(CRATE) for file in files if file.stem.lower() in lower):
+        stop(f"`{name}` is too near to {where}: a file of it would differ from that in case alone")
     if re.search(rf"\b{name}\b", (CRATE / "src/lib.rt").read_text()):
         stop(f"lib.rt has the name `{name}` already")
 
