@@ -79,7 +79,8 @@ def print_seconds(bench: Bench) -> None:
     def seconds(plugin: Path) -> float:
         return float(re.findall(r"front done ([\d.]+)", bench.play(rom, plugin, 2)[0])[0])
 
-    ours, others = map(min, zip(*((seconds(bench.plugin), seconds(Z64)) for _ in range(3))))
+    turns = [(seconds(bench.plugin), seconds(Z64)) for _ in range(3)]
+    ours, others = (min(times) for times in zip(*turns))
     print(f"the plugin {ours:.2f} s, z64 {others:.2f} s: z64 takes {others / ours:.2f} times as long")
 
 

@@ -249,12 +249,8 @@ def project(packed_for: Path, folder: Path) -> Path:
 
 
 @of("wasm64")
-def test_npm(top: Path, project: Path) -> None:
-    """What it installs, and that Node runs it."""
-    installed, packed = (
-        {str(path.relative_to(at)) for path in at.rglob("*")} for at in (project / "node_modules/rsp", top)
-    )
-    assert installed == packed
+def test_npm(project: Path) -> None:
+    """Node runs what npm installs."""
     node.check_use(project)
 
 

@@ -24,7 +24,6 @@ import subprocess
 import tempfile
 from pathlib import Path
 
-
 from rsp_tools import TOP
 from rsp_tools.theorem import stop
 from rsp_tools.theorem.joined import joined_proof
@@ -100,12 +99,6 @@ def proof(routine: Routine | Joined) -> str:
     return routine_proof(routine) if routine.returns else straight_proof(routine)
 
 
-def write(path: str, text: str) -> None:
-    (CRATE / path).parent.mkdir(parents=True, exist_ok=True)
-    (CRATE / path).write_text(text)
-    print("wrote", (CRATE / path).relative_to(TOP))
-
-
 def declare(routine: Routine | Joined) -> None:
     """Adds the routine's lines to lib.rt and to both Lib.antt."""
     lib = CRATE / "src/lib.rt"
@@ -133,7 +126,9 @@ def main(name: str, text: str) -> None:
         f"proofs/{name}/words/Answers.antt": text_answer(routine),
     }
     for path, contents in files.items():
-        write(path, contents)
+        (CRATE / path).parent.mkdir(parents=True, exist_ok=True)
+        (CRATE / path).write_text(contents)
+        print("wrote", (CRATE / path).relative_to(TOP))
     declare(routine)
     print(f"now: cd crates/rsp_routines && rt check --only {name}")
 

@@ -63,10 +63,8 @@ def counted(routine: Routine) -> str:
 
     count = routine.rounds.register
     counts = moved(count, routine.rounds.step % 2**32)
-    sides = [
-        ("q", count, counts),
-        *(("q", base, moved(base, wide(routine.far[base]))) for base in routine.bases),
-    ]
+    sides = [("q", count, counts)]
+    sides += [("q", base, moved(base, wide(routine.far[base]))) for base in routine.bases]
     sides.append(("p", count, f"register r {count}" if routine.rounds.is_late else counts))
     if routine.rounds.branch == "bne":
         sides.append(("p", routine.rounds.other, f"register r {routine.rounds.other}"))
@@ -151,15 +149,10 @@ def small_fact(routine: Routine) -> str:
 
 def facts_of(routine: Routine) -> str:
     """The facts of one round about the base registers."""
-    lines = []
-    for base in routine.bases:
-        lines.append(f"let b{base} = holds.base_{base} in")
-        if routine.target:
-            lines.append(f"let f{base} = entered.buffer_{base} in")
-            lines.append(f"let s{base} = f{base}.aligned in")
-            lines.append(f"let i{base} = f{base}.inside in")
-        else:
-            lines.append(f"let s{base} = entered.aligned_{base} in")
+    aligned = ["let s{0} = entered.aligned_{0} in"]
+    buffer = ["let f{0} = entered.buffer_{0} in", "let s{0} = f{0}.aligned in", "let i{0} = f{0}.inside in"]
+    forms = ["let b{0} = holds.base_{0} in", *(buffer if routine.target else aligned)]
+    lines = [form.format(base) for base in routine.bases for form in forms]
     lines += [
         f"let a{base} : register t.registers {base} % 16 ≡ 0 = omega arith in" for base in routine.bases
     ]
