@@ -22,10 +22,8 @@ import sys
 import threading
 from array import array
 from ctypes import POINTER, Structure, addressof, byref, c_char_p, c_size_t, c_uint16, c_uint32, c_void_p
-from typing import (
-    Any, Callable, Container, Dict, Iterable, Iterator, List, NamedTuple, Optional, Sequence, Tuple, TypeVar,
-    Union, cast,
-)  # fmt: skip
+from typing import Any, Callable, Container, Dict, Iterable, Iterator, List, NamedTuple, Optional, Sequence
+from typing import Tuple, TypeVar, Union, cast
 
 from . import errors as _errors
 from . import fields as _fields
