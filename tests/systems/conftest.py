@@ -1,7 +1,7 @@
 """What the tests of other systems share. They test what `tools/systems NAME` has made in library/systems."""
 
 import tempfile
-from contextlib import suppress
+from contextlib import closing, suppress
 from pathlib import Path
 from typing import Any, Iterator
 
@@ -17,10 +17,6 @@ from rsp_tools.systems import manual, places, web_page
 from rsp_tools.targets import NATIVE
 
 WHY = "what tools/systems makes takes minutes, and wants cross compilers and emulators"
-
-
-def pytest_addoption(parser: pytest.Parser) -> None:
-    parser.addoption("--steps", type=int, default=1000000, help="steps of each seed of random programs")
 
 
 def pytest_collection_modifyitems(items: Any) -> None:
@@ -80,7 +76,7 @@ def host(at: Path) -> Iterator[Host]:
     need(manual.CONVERTER)
     folder_of("wasm64")
     web_page.make(at / "page")
-    with Host(at / "page") as host:
+    with closing(Host(at / "page")) as host:
         yield host
 
 

@@ -1,8 +1,7 @@
 """What the library computes on each system: all test vectors, and ten million steps of random programs of all
 instructions, DMA, undo, traces and watches among them, in lock step with Linux on x86-64.
 
-A library with one constant of the module changed has to be found by both. `--steps` makes another number of
-steps for each of the ten seeds.
+A library with one constant of the module changed has to be found by both.
 """
 
 import ctypes
@@ -38,6 +37,7 @@ LENGTH = bench.WINDOW + bench.WINDOW_LENGTH
 STATE = ctypes.sizeof(rsp.State)
 RESULT = 8 + STATE + 2 * 4096 + bench.WINDOW_LENGTH
 SEEDS = range(1, 11)
+STEPS = 1000000  # of each seed
 FEW = 20000  # steps of each seed that have to find the planted constant
 # The lower bound of a clamp: for ARM selected beside the upper one, for x86-64 put where that one is put.
 PUT = r'VReg::splat"\(ptr (%r\d+), i16 -32768\)(?=(?:.*\n){1,12}?.*VReg::splat"\(ptr \1, i16 32767\))'
@@ -127,23 +127,18 @@ def result(runner: Runner) -> Lines:
     return program_of(runner)
 
 
-@pytest.fixture
-def count(request: pytest.FixtureRequest) -> Any:
-    return request.config.getoption("--steps", 1000000)
-
-
 @on()
 @pytest.mark.parametrize("seed", SEEDS)
-def test_random_programs(seed: int, result: Lines, expected: Lines, count: int) -> None:
-    differ = [it for it in zip_longest(result(seed, count), expected(seed, count)) if it[0] != it[1]]
+def test_random_programs(seed: int, result: Lines, expected: Lines) -> None:
+    differ = [it for it in zip_longest(result(seed, STEPS), expected(seed, STEPS)) if it[0] != it[1]]
     assert differ[:1] == []
-    assert len(expected(seed, count)) == count // 1000 + 1
+    assert len(expected(seed, STEPS)) == STEPS // 1000 + 1
 
 
 @pytest.mark.xdist_group("linux-aarch64")
-def test_all_instructions_are_traced(expected: Lines, count: int) -> None:
+def test_all_instructions_are_traced(expected: Lines) -> None:
     table = (TOP / "docs/data/instructions.tsv").read_text().splitlines()[1:]
-    traced = {name for seed in SEEDS for name in expected(seed, count)[-1].split()}
+    traced = {name for seed in SEEDS for name in expected(seed, STEPS)[-1].split()}
     assert {it.split("\t")[0].lower() for it in table} - traced == set()
 
 

@@ -1,4 +1,5 @@
-"""What tools/systems has made for each system: which symbols the files show, what they need, and the wheel.
+"""What tools/systems has made for each system: which symbols the files show, what they need, what a dylib's
+load commands contain, and the wheel.
 
 They fail as well if another make of the same sources gives other bytes.
 """
@@ -11,16 +12,18 @@ import pytest
 
 from lib.hardening import check_elf
 from lib.processes import succeeds
-from lib.systems import macos
 from lib.systems.built_files import check_wheel, symbol_names
 from lib.systems.target_params import LINUX, of
 from rsp_tools.systems import header
 from rsp_tools.systems.__main__ import SYSTEMS
-from rsp_tools.targets import CROSS
 from rsp_tools.systems.modules import module
 from rsp_tools.systems.toolchain import llvm
+from rsp_tools.targets import CROSS, PROCESSORS
 
 OLDEST = (2, 17)  # the glibc of manylinux2014
+# What the library needs of macOS, and for each processor what sets bytes to zero.
+MACOS = {"_free", "_malloc", "_memcpy", "_memmove", "_memset", "_realloc"}
+ZEROS = {"x86_64": "___bzero", "arm64": "_bzero"}
 
 
 @of(*SYSTEMS)
@@ -40,8 +43,32 @@ def test_wheel(made: Path) -> None:
 
 
 @of("macos")
-def test_macos(made: Path, folder: Path) -> None:
-    macos.check(made, folder)
+@pytest.mark.parametrize("name", ("libbrsp.dylib", "libbrsp.a"))
+def test_macos_symbols(made: Path, name: str, folder: Path) -> None:
+    """Both processors are in each file, and nothing else."""
+    processors = {it.apple for it in PROCESSORS.values()}
+    assert {*llvm("llvm-lipo", "-archs", made / "lib" / name).split()} == processors
+    for processor in processors:
+        part = folder / processor
+        llvm("llvm-lipo", made / "lib" / name, "-thin", processor, "-output", part)
+        assert symbol_names("-g", "--defined-only", part) == {f"_{it}" for it in header.calls()}
+        needed = symbol_names("-u", part) - {"dyld_stub_binder"}
+        assert needed and needed <= {*MACOS, ZEROS[processor]}, processor
+
+
+@of("macos")
+@pytest.mark.parametrize("processor", ZEROS)
+def test_macos_load_commands(made: Path, processor: str) -> None:
+    dylib = made / "lib/libbrsp.dylib"
+    commands = llvm("llvm-objdump", "--macho", "--private-headers", f"--arch={processor}", dylib)
+    names = re.findall(r"cmd LC_(?:ID|LOAD)_DYLIB\n.*\n +name (\S+) ", commands)
+    assert names == ["@rpath/libbrsp.dylib", "/usr/lib/libSystem.B.dylib"]
+    versions = re.findall(r"\n +current version (\S+)\ncompatibility version (\S+)", commands)[:1]
+    assert versions == [(header.version(), f"{header.interface()}.0.0")]
+    oldest = re.findall(r"cmd LC_BUILD_VERSION\n.*\n +platform (\S+)\n.*\n +minos (\S+)", commands)
+    assert oldest == [("macos", "11.0")]
+    # macOS loads no code for ARM that isn't signed.
+    assert ("cmd LC_CODE_SIGNATURE" in commands) == (processor == "arm64")
 
 
 @of(*LINUX)

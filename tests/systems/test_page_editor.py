@@ -8,7 +8,7 @@ where the text area has it.
 import pytest
 
 from lib.pages import page as text_of
-from lib.systems.page_driver import CONTROL, F1, FIRST, SHIFT, Host, Page, linked
+from lib.systems.page_driver import CONTROL, F1, FIRST, SHIFT, Host, Page
 from rsp_tools.systems import header
 
 pytestmark = pytest.mark.xdist_group("page")
@@ -41,14 +41,15 @@ def test_text_is_kept(forgetful: Page, host: Host) -> None:
     assert forgetful.text("ran") == ""
 
 
-# The parts of a line that have a colour, each after its kind.
+# The parts of a line that have a colour, each after its kind. U+2028 ends a line for a browser, and not for a
+# session.
 COLOURS = {
     "load dmem 0x10 00ff # bytes": "command:load register:dmem number:0x10 number:00ff comment:# bytes",
     "lode rom 1x": "",
     "": "",
     "asm 0": "command:asm number:0",
     "a: LQV $v1[0], -16($t0) ; x": "mnemonic:LQV register:$v1 number:[0] number:-16 register:$t0 comment:; x",
-    "constructor $1": "register:$1",
+    "constructor\u2028 $1": "register:$1",
     "regs": "",
     " end ": "command:end",
     "regs<b>": "",
@@ -114,14 +115,6 @@ def test_own_letters(fault: int, line: str, page: Page) -> None:
     assert page.value("probes.drawn()") == []
     script, body = (f"probes.style({it}).color" for it in ("the('script')", "document.body"))
     assert page.value(f"{script} === {body}")
-
-
-def test_line_that_a_browser_would_end(page: Page) -> None:
-    """What ends a line for a browser, and not for a session, doesn't end what is drawn of it."""
-    script = "asm 0\n  add\u2028 $1\nend\n"
-    page.open_link(linked(script.encode()))
-    page.painted()
-    assert ["".join(text for _, text in it) for it in page.value("probes.drawn()")] == script.split("\n")
 
 
 def test_typing_in_a_long_script(page: Page) -> None:

@@ -4,6 +4,7 @@ it is upgraded: files of two versions are never used together."""
 import json
 import os
 import shutil
+from contextlib import closing
 from pathlib import Path
 from typing import Any, Dict, List, Tuple
 
@@ -12,7 +13,6 @@ import pytest
 from lib.systems.browser import Server
 from lib.systems.page_driver import Host, Page, linked
 from rsp_tools.systems import web_page
-from rsp_tools.systems.toolchain import Refused
 
 pytestmark = pytest.mark.xdist_group("page")
 LONGEST = 1048576
@@ -136,7 +136,7 @@ def test_without(changes: Dict[str, Any], message: str, page: Page, lacking: Pat
     for name, change in changes.items():
         (path,) = lacking.glob(f"*/{name}")
         path.write_bytes(change(path.read_bytes())) if change else path.unlink()
-    with Host(lacking) as host:
+    with closing(Host(lacking)) as host:
         page.open(host.url)
         page.until(f"the('ran').textContent === {json.dumps(message)}")
         page.click("run")
@@ -159,12 +159,6 @@ def test_wrong_type(name: str, page: Page, lacking: Path) -> None:
         server.server_close()
 
 
-def test_without_a_library(folder: Path) -> None:
-    with pytest.raises(Refused) as refused:
-        web_page.make(folder / "none", folder)
-    assert str(refused.value) == f"there is no {folder}/rsp.wasm: tools/systems wasm64 makes it"
-
-
 # Upgrades: index.html names the files of its version, in a folder whose name is a hash of their contents.
 
 # The version of the style, of the page's script, and of the worker, which adds it to the replies.
@@ -172,20 +166,16 @@ VERSIONS = """[probes.style(document.documentElement).getPropertyValue("--versio
   document.documentElement.dataset.version, all("#replies li:last-child samp:last-child")[0]?.textContent]"""
 
 
-def version(number: int) -> web_page.Files:
-    """The page's files, changed so that three of them show a version number."""
+def write_version(site: Path, number: int) -> None:
+    """Writes the page, changed so that three of its files show a version number, into a folder. The times of
+    the files are of 1973 and 1976, so that browsers cache them for years."""
     files = web_page.parts(web_page.LIBRARY)
     files["style.css"] += f":root {{ --version: {number}; }}\n".encode()
     files["page.js"] += f'document.documentElement.dataset.version = "{number}";\n'.encode()
     end, more = b"replies.push(session.end());", f'replies.push(new TextEncoder().encode("{number}\\n"));'
     assert end in files["worker.js"]
     files["worker.js"] = files["worker.js"].replace(end, more.encode())
-    return files
-
-
-def write_version(site: Path, number: int) -> None:
-    """Writes a version into a folder, with times of 1973 and 1976, so that browsers cache it for years."""
-    web_page.write(site, version(number))
+    web_page.write(site, files)
     for path in site.rglob("*"):
         os.utime(path, (number * 1e8, number * 1e8))
 
@@ -195,7 +185,7 @@ def test_reload_after_an_upgrade(page: Page, folder: Path, keeps_old_files: bool
     """A reload shows the new style, script and worker, although the browser has cached the old ones."""
     (folder / "site").mkdir()
     write_version(folder / "site", 1)
-    with Host(folder / "site") as host:
+    with closing(Host(folder / "site")) as host:
         page.open(host.url)
         for number in (1, 2):
             page.until(f"document.documentElement.dataset.version === '{number}'")

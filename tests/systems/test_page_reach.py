@@ -180,20 +180,17 @@ def test_size_for_a_finger(page: Page) -> None:
     assert is_coarse and small == []
 
 
-def test_names(filled: Page) -> None:
-    """Each control has a name, and there are live regions."""
+def test_read_aloud(filled: Page) -> None:
+    """Each control has a name, and there are live regions. The script is a text area with its text, and what
+    is drawn below it isn't read."""
+    nodes = filled.read_aloud()
     roles = {"button", "combobox", "textbox", "checkbox", "link", "region", "navigation", "status", "heading"}
-    named = [(role, name) for role, name, _ in filled.read_aloud() if role in roles]
+    named = [(role, name) for role, name, _ in nodes if role in roles]
     assert [role for role, name in named if not name and role != "status"] == []
     controls = [it for it in named if it[0] in ("button", "combobox", "textbox", "checkbox")]
     assert len(controls) == len(["run", "example", "link", "more", "script", "faults", "again"])
     assert [role for role, _ in named].count("status") == 2
     assert ("button", "2 faults") in named
-
-
-def test_script_is_read_aloud(filled: Page) -> None:
-    """The script is a text area with its text; what is drawn below it isn't read."""
-    nodes = filled.read_aloud()
     assert [value for role, _, value in nodes if role == "textbox"] == [filled.script]
     assert "lqv" in filled.text("colours") and ("StaticText", "lqv", "") not in nodes
 

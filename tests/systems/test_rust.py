@@ -8,10 +8,13 @@ from typing import Any
 
 import pytest
 
-from lib.processes import succeeds
+from lib.processes import run, succeeds
+from lib.systems.rust import TARGETS, build_script
 from lib.systems.target_params import of, on
-from lib.systems.rust import TARGETS, TESTED, build_script, cargo
 from rsp_tools.systems import header, places
+
+# The target for which the crate's tests are run, and Debian's package with Rust's own library for it.
+TESTED, PACKAGE = "x86_64-pc-windows-gnu", "libstd-rust-dev-windows"
 
 
 @pytest.mark.needs("rustc")
@@ -40,10 +43,26 @@ def test_build_script(made: Path, folder: Path) -> None:
         assert status == 0 and text.endswith(f"cargo:rustc-link-search={expected}")
 
 
-@on(*TESTED)
+def rust_for_target() -> str:
+    """The first folder of PATH whose rustc has Rust's own library for the target. Empty if there is none."""
+    for folder in os.environ["PATH"].split(os.pathsep):
+        if shutil.which("rustc", path=folder) and shutil.which("cargo", path=folder):
+            ended = run(f"{folder}/rustc", "--print", "target-libdir", "--target", TESTED)
+            if ended.returncode == 0 and Path(ended.stdout.strip()).is_dir():
+                return folder
+    return ""
+
+
+@on("windows-x86_64")
 def test_crate(runner: Any) -> None:
     """The crate's tests over the static library, linked and run as the runner does it."""
+    folder, prefix = rust_for_target(), f"CARGO_TARGET_{TESTED.upper().replace('-', '_')}"
+    if not folder:
+        pytest.skip(f"there is no Rust for {TESTED} (Debian's packages cargo and {PACKAGE})")
     ignored = shutil.ignore_patterns("target", "Cargo.lock")
     crate = shutil.copytree(places.RUST, runner.at / "rust", ignore=ignored)
-    text = cargo(runner, "test", "--tests", at=crate, RSP_LIB_DIR=str(runner.folder / "lib"))
+    env = {**runner.env, "PATH": f"{folder}{os.pathsep}{os.environ['PATH']}"}
+    env.update({f"{prefix}_LINKER": runner.compiler, f"{prefix}_RUNNER": " ".join(runner.start)})
+    words = ("cargo", "test", "--tests", "--offline", "-q", "--target", TESTED)
+    text = succeeds(*words, cwd=crate, env={**env, "RSP_LIB_DIR": f"{runner.folder}/lib"}, timeout=1700)
     assert "test result: ok. " in text.replace("test result: ok. 0 passed", "")

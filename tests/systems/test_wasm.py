@@ -147,16 +147,11 @@ def test_little_memory(runner: Any) -> None:
     assert_all_passed(runner.test("tight.js", library="/at/tight").decode())
 
 
-@pytest.mark.needs("cc")
-@pytest.mark.parametrize(
-    "prefix",
-    [(), pytest.param(("valgrind", "-q", "--error-exitcode=9"), marks=pytest.mark.needs("valgrind"))],
-    ids=("alone", "valgrind"),
-)
-def test_allocator(prefix: Tuple[str, ...], folder: Path) -> None:
+@pytest.mark.needs("cc", "valgrind")
+def test_allocator(folder: Path) -> None:
     """The allocator natively, beside a list."""
     names = ("-Dmalloc=heap_malloc", "-Drealloc=heap_realloc", "-Dfree=heap_free", "-ffreestanding")
     words = ("-std=c11", "-O2", "-g", "-Wall", "-Wextra", "-Werror")
     part = compiled(folder / "part.o", *words, *names, "-c", places.PARTS / "allocator.c")
     made = compiled(folder / "allocator", *words, TESTS / "systems/allocator.c", part)
-    assert_all_passed(succeeds(*prefix, made))
+    assert_all_passed(succeeds("valgrind", "-q", "--error-exitcode=9", made))

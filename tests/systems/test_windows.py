@@ -1,11 +1,11 @@
-"""What the library for Windows shows and needs, and how programs are linked with it: by CMake, and by
-lld-link for MSVC."""
+"""What the library for Windows shows and needs, and how programs are linked with it: by the words of
+pkg-config, and by lld-link for MSVC. tests/install links them by CMake."""
 
 import os
 import re
 import shutil
 from pathlib import Path
-from typing import Any, List, Set
+from typing import Any, Set
 from xml.etree import ElementTree
 
 import pytest
@@ -18,7 +18,7 @@ from lib.systems.built_files import symbol_names
 from lib.systems.target_params import of, on
 from rsp_tools import hardening
 from rsp_tools.systems import header, places
-from rsp_tools.systems.toolchain import Word, llvm
+from rsp_tools.systems.toolchain import llvm
 from rsp_tools.systems.windows import MSVC
 from rsp_tools.targets import TARGETS
 
@@ -39,10 +39,6 @@ HEADERS = "/usr/share/mingw-w64/include"
 START = "int main(void);\n__declspec(noreturn) void exit(int);\nvoid start(void) { exit(main()); }\n"
 
 
-def uses_library(program: Path) -> bool:
-    return "brsp.dll" in llvm("llvm-readobj", "--needed-libs", program)
-
-
 def using_stack(library: Path) -> Set[str]:
     """The functions that call others, or take room on the stack."""
     listed = llvm("llvm-objdump", "-d", "--no-show-raw-insn", library)
@@ -58,16 +54,13 @@ def framed(library: Path) -> Set[str]:
 @of("windows-x86_64")
 @pytest.mark.parametrize("name", NEEDED)
 def test_needs(made: Path, name: str) -> None:
-    """A library or a program needs what each Windows has, and may be loaded anywhere."""
+    """A library or a program needs what each Windows has, and may be loaded anywhere. The program checks its
+    stack."""
     read = llvm("llvm-readobj", "--needed-libs", made / "bin" / name)
     assert re.findall(r"(?m)^  (\S+\.dll)$", read) == NEEDED[name]
     check_pe(made / "bin" / name)
-
-
-@of("windows-x86_64")
-def test_program_checks_its_stack(made: Path) -> None:
-    is_checked = SMASHED in (made / "bin/rsp.exe").read_bytes()
-    assert is_checked
+    is_checked = SMASHED in (made / "bin" / name).read_bytes()
+    assert is_checked or name != "rsp.exe"
 
 
 @pytest.mark.needs(TARGET.compiler)
@@ -137,29 +130,20 @@ def test_static(made: Path, name: str) -> None:
     assert CALLS & using_stack(library) <= framed(library)
 
 
-def compile_for_msvc(source: Path, to: Path, *words: Word) -> Path:
-    """An object of a program in C, for MSVC, by the kit's clang and the headers of mingw."""
-    options = ["-nostdinc", "-isystem", HEADERS, "-D__USE_MINGW_ANSI_STDIO=0", *words]
-    llvm("clang", f"--target={MSVC}", "-std=gnu99", "-O2", *options, "-c", "-o", to, source)
-    return to
-
-
-def link_for_msvc(to: Path, source: Path, folder: Path, library: str, compiler: str) -> Path:
-    """A program in C over a library of a folder, linked by lld-link with msvcrt.dll in place of MSVC's C
-    library."""
+def link_for_msvc(to: Path, source: Path, folder: Path, library: str, compiler: str) -> None:
+    """Compiles a program in C by the kit's clang and the headers of mingw, and links it by lld-link with a
+    library of a folder, and with msvcrt.dll in place of MSVC's C library."""
     start = to.with_suffix(".start.c")
     start.write_text(START)
-    parts: List[Word] = [
-        compile_for_msvc(start, to.with_suffix(".start.obj")),
-        compile_for_msvc(source, to.with_suffix(".obj"), f"-I{folder}/include"),
-        folder / "lib" / library,
-        MINGW / "libmsvcrt.a",
-        MINGW / "libkernel32.a",
-        succeeds(compiler, "-print-libgcc-file-name").strip(),
-    ]
+    options = [f"--target={MSVC}", "-std=gnu99", "-O2", "-nostdinc", "-isystem", HEADERS]
+    options += ["-D__USE_MINGW_ANSI_STDIO=0", f"-I{folder}/include"]
+    for part in start, source:
+        llvm("clang", *options, "-c", "-o", to.with_name(f"{part.stem}.obj"), part)
+    objects = [to.with_name(f"{part.stem}.obj") for part in (start, source)]
+    libraries = [folder / "lib" / library, MINGW / "libmsvcrt.a", MINGW / "libkernel32.a"]
+    libgcc = succeeds(compiler, "-print-libgcc-file-name").strip()
     words = ["/nologo", "/entry:start", "/subsystem:console", "/alternatename:__chkstk=___chkstk_ms"]
-    llvm("lld-link", *words, f"/out:{to}", *parts)
-    return to
+    llvm("lld-link", *words, f"/out:{to}", *objects, *libraries, libgcc)
 
 
 @on("windows-x86_64")
@@ -167,12 +151,6 @@ def link_for_msvc(to: Path, source: Path, folder: Path, library: str, compiler: 
 def test_msvc(runner: Any, library: str) -> None:
     program = runner.at / f"{Path(library).stem}.exe"
     link_for_msvc(program, TESTS / "library/c/calls.c", runner.folder, library, runner.compiler)
-    assert uses_library(program) == (library == "brsp.lib")
+    assert ("brsp.dll" in llvm("llvm-readobj", "--needed-libs", program)) == (library == "brsp.lib")
     shutil.copy(runner.folder / "bin/brsp.dll", runner.at)
     runner.passes(program)
-
-
-@pytest.mark.needs("cmake", "make")
-@on("windows-x86_64")
-def test_cmake(runner: Any) -> None:
-    runner.check_cmake()

@@ -40,13 +40,9 @@ def start_chromium(saved: Path, *words: str) -> Any:
     several = "profile.default_content_setting_values.automatic_downloads"
     options.add_experimental_option("prefs", {"download.default_directory": str(saved), several: 1})
     # That a page is left without a question is the rule of chromedriver, except with a socket.
-    capabilities: Dict[str, Any] = {
-        "webSocketUrl": True,
-        "unhandledPromptBehavior": {"default": "ignore", "beforeUnload": "ignore"},
-        "goog:loggingPrefs": {"performance": "ALL"},
-    }
-    for name, value in capabilities.items():
-        options.set_capability(name, value)
+    options.set_capability("webSocketUrl", True)
+    options.set_capability("unhandledPromptBehavior", {"default": "ignore", "beforeUnload": "ignore"})
+    options.set_capability("goog:loggingPrefs", {"performance": "ALL"})
     driver = webdriver.Chrome(service=Service(str(shutil.which("chromedriver"))), options=options)
     driver.set_script_timeout(LONGEST)
     driver.execute_cdp_cmd("Page.addScriptToEvaluateOnNewDocument", {"source": PROBES.read_text()})

@@ -59,10 +59,7 @@ class Host:
         (path,) = (*self.folder.glob(name), *self.folder.glob(f"*/{name}"))
         return f"{self.url}{path.relative_to(self.folder)}"
 
-    def __enter__(self) -> "Host":
-        return self
-
-    def __exit__(self, *_: object) -> None:
+    def close(self) -> None:
         self.process.terminate()
         self.process.wait(LONGEST)
 

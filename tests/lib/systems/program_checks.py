@@ -31,12 +31,11 @@ GIVEN = {"a": b"x: j x\nnop\n", "b": bytes(64)}
 
 def started(runner: Runner, folder: Path) -> Path:
     """A script of the shell that runs a system's program as if it were one of this system."""
-    lines = ["#!/bin/sh", *(f"unset {it}" for it in os.environ if it not in runner.env)]
-    changed = {it: value for it, value in runner.env.items() if os.environ.get(it) != value}
-    lines += [f"export {name}={shlex.quote(value)}" for name, value in changed.items()]
-    command = [*runner.start, f"{runner.folder}/bin/rsp{runner.ending}"]
+    unset = [f"-u{name}" for name in os.environ if name not in runner.env]
+    changed = [f"{name}={value}" for name, value in runner.env.items() if os.environ.get(name) != value]
+    command = ["env", *unset, *changed, *runner.start, f"{runner.folder}/bin/rsp{runner.ending}"]
     to = folder / "rsp"
-    to.write_text("\n".join([*lines, f'exec {shlex.join(command)} "$@"', ""]))
+    to.write_text(f'#!/bin/sh\nexec {shlex.join(command)} "$@"\n')
     to.chmod(0o755)
     return to
 

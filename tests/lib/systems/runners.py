@@ -136,16 +136,12 @@ class MacOS(Runner):
 
     def __init__(self, name: str, folder: Path, at: Path) -> None:
         super().__init__(name, folder, at)
-        self.code = macho.taken_out(folder / self.target.shared, PROCESSORS[self.processor].apple, at)
-
-    @property
-    def processor(self) -> str:
-        apple = self.name.partition("-")[2]
-        return next(name for name, processor in PROCESSORS.items() if processor.apple == apple)
+        self.code = macho.taken_out(folder / self.target.shared, name.partition("-")[2], at)
 
     @property
     def host(self) -> Target:
-        return next(it for it in (NATIVE, *CROSS) if it.is_linux and it.processor == self.processor)
+        linux = (it for it in (NATIVE, *CROSS) if it.is_linux)
+        return next(it for it in linux if self.name.endswith(f"-{PROCESSORS[it.processor].apple}"))
 
     @property
     def programs(self) -> Tuple[str, ...]:

@@ -15,13 +15,9 @@ OPERANDS = "$0 $31 $v0 $v31[7] $v1[e1] $v2[0q] $c15 $vco $vcc $vce ($2) .word"
 NUMBERS = "0x -1 4092 65535 4294967295 dmem imem rdram"
 OPTIONS = "in out --rdram --save --at --listing --explain --places --labels --help --version --"
 COMMAND_LINES = (
-    """
-run|run --rdram in --save out|asm in out|asm in out --listing --explain|asm in out --at 8
-dis in|dis in --labels --places --at 16|--help|run -h|asm in|dis in --at 4095
-""".strip()
-    .replace("\n", "|")
-    .split("|")
-)
+    "run|run --rdram in --save out|asm in out|asm in out --listing --explain|asm in out --at 8|"
+    "dis in|dis in --labels --places --at 16|--help|run -h|asm in|dis in --at 4095"
+).split("|")
 
 
 def dictionary() -> str:

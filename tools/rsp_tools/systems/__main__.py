@@ -13,8 +13,6 @@ hands to clang is kept until a source changes. The status is 0 if all are made, 
 are wrong. If a system isn't made, its folder stays as it was."""
 
 import argparse
-import os
-import shutil
 import signal
 import sys
 import tempfile
@@ -53,16 +51,6 @@ def system_of(target: Target) -> System:
 SYSTEMS: Dict[str, System] = {it.name: system_of(it) for it in CROSS}
 
 
-def put(made: Path, to: Path) -> None:
-    """Replaces a folder by another."""
-    old = to.with_name(f".{to.name}.old")
-    shutil.rmtree(old, ignore_errors=True)
-    if to.exists():
-        os.rename(to, old)
-    os.rename(made, to)
-    shutil.rmtree(old, ignore_errors=True)
-
-
 def make(name: str) -> None:
     """Makes a system's folder, and those that are made of it, beside their places, and then moves them."""
     system = SYSTEMS[name]
@@ -77,7 +65,10 @@ def make(name: str) -> None:
         for other, make_of in system.more.items():
             make_of(Path(beside, other), Path(beside, name))
         for made in sorted(Path(beside).iterdir()):
-            put(made, places.MADE / made.name)
+            to = places.MADE / made.name
+            if to.exists():
+                to.rename(made.with_name(f".{made.name}.old"))  # which goes with the folder `beside`
+            made.rename(to)
 
 
 def report(name: str) -> None:

@@ -36,14 +36,9 @@ def first(page: str) -> Example:
     return example("First steps", title[1], FIRST.read_text())
 
 
-def descriptions(page: str) -> Dict[str, str]:
-    """The cookbook's descriptions of the scripts of examples/, in its tables."""
-    return dict(re.findall(r"(?m)^\| \[(\w+)\.rsp\]\(\S*\) \| ([^|]*) \|", page))
-
-
 def scripts(page: str) -> Iterator[Example]:
-    """The scripts of examples/ except the README's."""
-    described = descriptions(page)
+    """The scripts of examples/ except the README's, with their descriptions from the cookbook's tables."""
+    described = dict(re.findall(r"(?m)^\| \[(\w+)\.rsp\]\(\S*\) \| ([^|]*) \|", page))
     texts = {it.stem: it.read_text() for it in sorted(places.TOP.glob("examples/*.rsp")) if it != FIRST}
     if missing := texts.keys() - described.keys():
         raise Refused(f"docs/COOKBOOK.md says nothing of examples/{min(missing)}.rsp")

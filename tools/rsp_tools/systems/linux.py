@@ -33,12 +33,8 @@ def make(target: Target, out: Path, at: Path, source: Source = module) -> None:
     shutil.copy(out / "lib" / soname, out / target.shared)  # a link would do, but `rt ci` refuses links
     packages.describe(out, target, soname, soname)
     program = out / target.program
-    link_program(target, program, at / "heap.o", modules.program(target.processor))
-    packages.wheel(out, out / "lib" / soname, "libbrsp.so", target.wheel, program)
-
-
-def link_program(target: Target, to: Path, *objects: Path) -> None:
-    """Links the proved program."""
-    to.parent.mkdir()
+    program.parent.mkdir()
     words = ["-O2", *target.linked.split(), "-s", *hardening.words(target.name), LINKED]
-    call(target.compiler, *words, "-o", to, places.PARTS / target.start, *objects)
+    objects = (places.PARTS / target.start, at / "heap.o", modules.program(target.processor))
+    call(target.compiler, *words, "-o", program, *objects)
+    packages.wheel(out, out / "lib" / soname, "libbrsp.so", target.wheel, program)

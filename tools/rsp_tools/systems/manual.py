@@ -4,7 +4,7 @@ Debian's cmark-gfm, which reads Markdown as the usual viewers do."""
 import html
 import posixpath
 import re
-from typing import Dict, Iterator, Match
+from typing import Dict, Match
 
 from rsp_tools.page_tables import anchor, data
 
@@ -26,17 +26,12 @@ def with_anchor(heading: Match[str]) -> str:
     return f'<h{level} id="{name}">{text}</h{level}>'
 
 
-def rows() -> Iterator[str]:
-    """The first cells of the tables of commands and faults, each with a name for its row."""
-    yield from (f"command-{it['Command'].split()[0]}\t{it['Command']}" for it in data("commands"))
-    yield from (f"fault-{it['Fault'].split()[0]}\t{it['Fault']}" for it in data("faults"))
-
-
 def with_rows(text: str) -> str:
     """HTML in which the rows of commands and of faults have names."""
-    for name, cell in (it.split("\t") for it in rows()):
-        start = f"<td><code>{html.escape(cell)}</code></td>"
-        text = text.replace(f"<tr>\n{start}", f'<tr id="{name}">\n{start}', 1)
+    for kind in "Command", "Fault":
+        for cell in (it[kind] for it in data(f"{kind.lower()}s")):
+            name, start = f"{kind.lower()}-{cell.split()[0]}", f"<td><code>{html.escape(cell)}</code></td>"
+            text = text.replace(f"<tr>\n{start}", f'<tr id="{name}">\n{start}', 1)
     return text
 
 

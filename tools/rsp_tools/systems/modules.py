@@ -57,13 +57,6 @@ def mark(crate: Crate) -> str:
     return f"{build.marked()}\n{build.made_of()}"
 
 
-def words_of(crate: Crate, processor: str, toolchain: Path, out: Path) -> List[str]:
-    """The words of `rattle build`, as `rt` has them, with a processor and a toolchain."""
-    words = [*over_libraries("build", crate.name), *f"{crate.words} --backend llvm --jobs 2".split()]
-    words += ["--incremental", str(incremental(crate)), "--target", PROCESSORS[processor].triple]
-    return [*words, "--toolchain", str(toolchain), "-o", str(out)]
-
-
 def link_toolchain(folder: Path) -> None:
     """A folder of links to the kit's toolchain, with our program as its clang."""
     (folder / "bin").mkdir(parents=True)
@@ -75,21 +68,19 @@ def link_toolchain(folder: Path) -> None:
     shutil.copy(places.PARTS / "clang", folder / "bin" / "clang")
 
 
-def incremental(crate: Crate) -> Path:
-    """Where what a crate's checks found is kept."""
-    return places.KEPT / f"{crate.name}-incremental"
-
-
 def take(crate: Crate, processor: str, folder: Path) -> None:
     """Has the kit build a crate for a processor, and leaves what it makes and its module in a folder."""
-    kept, found = incremental(crate), crate.out / "incremental"
+    kept, found = places.KEPT / f"{crate.name}-incremental", crate.out / "incremental"
     if not kept.is_dir() and found.is_dir():
         # A check over what the crate's own check found takes a minute, and leaves that as it was. After
         # `rt ci` there is none.
         shutil.copytree(found, kept, symlinks=True)
     link_toolchain(folder / "toolchain")
+    # The words are those of `rt`, with a processor and a toolchain.
+    words = [*over_libraries("build", crate.name), *f"{crate.words} --backend llvm --jobs 2".split()]
+    words += ["--incremental", str(kept), "--target", PROCESSORS[processor].triple]
     ended = subprocess.run(
-        words_of(crate, processor, folder / "toolchain", folder / "made"),
+        [*words, "--toolchain", str(folder / "toolchain"), "-o", str(folder / "made")],
         cwd=crate.out.parent,
         stdin=subprocess.DEVNULL,
         capture_output=True,

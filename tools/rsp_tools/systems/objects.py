@@ -12,13 +12,6 @@ from .rewriting import Change, rewritten
 from .toolchain import llvm
 
 
-def heap(processor: str, to: Path) -> None:
-    """Writes heap.c in LLVM's language, as the modules are: for Linux. Compiled for Windows, C would return
-    its two numbers in another way than the modules expect."""
-    words = [f"--target={PROCESSORS[processor].triple}", "-O2", "-fPIC", "-ffreestanding", "-c", "-emit-llvm"]
-    llvm("clang", *words, "-o", to, places.PARTS / "heap.c")
-
-
 def compiled(
     module: Module, processor: str, triple: str, at: Path, changes: Iterable[Change] = (), kind: str = "-c"
 ) -> Path:
@@ -26,7 +19,10 @@ def compiled(
     is for files on the way."""
     text, made = at / f"{triple}.ll", at / f"{triple}{'.o' if kind == '-c' else '.s'}"
     text.write_text(rewritten(module.text.read_text(), PROCESSORS[processor].intrinsics, changes))
-    heap(processor, at / f"{triple}-heap.bc")
+    # The heap is for Linux, as the modules are: compiled for Windows, C would return its two numbers in
+    # another way than they expect.
+    words = [f"--target={PROCESSORS[processor].triple}", "-O2", "-fPIC", "-ffreestanding", "-c", "-emit-llvm"]
+    llvm("clang", *words, "-o", at / f"{triple}-heap.bc", places.PARTS / "heap.c")
     # What clang takes in by the first word isn't to be seen from outside. By the second it writes no time
     # into an object for Windows.
     inside = ["-Xclang", "-mlink-builtin-bitcode", "-Xclang", str(at / f"{triple}-heap.bc")]

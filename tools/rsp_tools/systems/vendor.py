@@ -14,7 +14,6 @@ from rsp_tools.targets import TARGETS
 from . import packages, places, program
 from .header import filled
 from .modules import Source
-from .modules import module as module_of
 from .objects import compiled
 from .rewriting import with_unwind_tables, without_stack_probes
 from .windows import GNU
@@ -56,7 +55,7 @@ def copy_program(out: Path) -> None:
     (out / "texts.h").write_text("".join(lines))
 
 
-def make(out: Path, at: Path, source: Source = module_of) -> None:
+def make(out: Path, at: Path, source: Source) -> None:
     """Writes the folder: src/, include/, program/ and CMakeLists.txt. `at` is for files on the way."""
     for folder in ("src", "program"):
         (out / folder).mkdir(parents=True)

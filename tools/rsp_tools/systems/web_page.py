@@ -67,10 +67,7 @@ def names() -> bytes:
 
 
 def parts(library: Path) -> Files:
-    """All files but index.html, by their names in the folder. Refused if the library, which
-    `tools/systems wasm64` makes, isn't there."""
-    if not (library / "rsp.wasm").is_file():
-        raise Refused(f"there is no {library / 'rsp.wasm'}: tools/systems wasm64 makes it")
+    """All files but index.html, by their names in the folder."""
     found: Files = {it.name: it.read_bytes() for it in [*SOURCES.glob("*.js"), SOURCES / "style.css"]}
     for path in [*library.glob("*.js"), library / "rsp.wasm"]:
         found[f"rsp/{path.name}"] = path.read_bytes()
