@@ -75,14 +75,12 @@ def print_tasks(bench: Bench) -> None:
 def print_seconds(bench: Bench) -> None:
     """The least of three times each, in turns of both plugins."""
     rom = bench.rom("speed", "-DWAITS=0", "-DBLOCKS=300", "-DTASKS=1000")
-    times = [
-        [
-            float(re.findall(r"front done ([\d.]+)", bench.play(rom, it, 2)[0])[0])
-            for it in (bench.plugin, Z64)
-        ]
-        for _ in range(3)
-    ]
-    ours, others = (min(column) for column in zip(*times))
+
+    def seconds(plugin: Path) -> float:
+        return float(re.findall(r"front done ([\d.]+)", bench.play(rom, plugin, 2)[0])[0])
+
+    turns = [(seconds(bench.plugin), seconds(Z64)) for _ in range(3)]
+    ours, others = (min(times) for times in zip(*turns))
     print(f"the plugin {ours:.2f} s, z64 {others:.2f} s: z64 takes {others / ours:.2f} times as long")
 
 

@@ -82,12 +82,10 @@ def host_instructions(command: Command, options: Sequence[str] = ()) -> int:
     valgrind = ["valgrind", "--tool=callgrind", "--callgrind-out-file=/dev/null", *options]
     env = {**os.environ, "PYTHONHASHSEED": "0"}  # because Python's start is the same with the same hashes
     words = [*valgrind, *map(str, command[0])]
-    messages = subprocess.run(words, input=command[1], capture_output=True, env=env).stderr.decode(
-        errors="replace"
-    )
-    counted = re.search(r"Collected : (\d+)", messages)
+    messages = subprocess.run(words, input=command[1], capture_output=True, env=env).stderr
+    counted = re.search(rb"Collected : (\d+)", messages)
     if not counted:
-        sys.exit(f"valgrind counted nothing: {messages[-600:]}")
+        sys.exit(f"valgrind counted nothing: {messages[-600:].decode(errors='replace')}")
     return int(counted[1])
 
 
@@ -113,8 +111,13 @@ def by_calls(caller: Path, how: str, name: str, depth: int = 0) -> CommandOf:
 
 
 def by_script(name: str, before: str = "") -> CommandOf:
-    """The steps of a loop, made by `run`."""
-    return lambda steps: ([PROGRAM, "run"], script(code(name), before, f"run {steps}"))
+    """The steps of a loop, made by lines `run`: one, or as many of MOST_STEPS as they take."""
+
+    def command(steps: int) -> Command:
+        runs = [f"run {min(steps, MOST_STEPS)}"] * -(-steps // MOST_STEPS)
+        return [PROGRAM, "run"], script(code(name), before, *runs)
+
+    return command
 
 
 def on_z64(name: str) -> CommandOf:
@@ -123,9 +126,9 @@ def on_z64(name: str) -> CommandOf:
     return lambda steps: (words, code(name, steps // length, BREAK).ljust(4096, b"\0") + DATA)
 
 
-def compile_caller(folder: Path) -> Path:
-    """The program that makes steps by calls of the library."""
-    return compiled(folder / "speed", *STRICT, Path(__file__).with_suffix(".c"), LIBRARY)
+def compile_caller(folder: Path, library: Path = LIBRARY) -> Path:
+    """The program that makes steps by calls of a library."""
+    return compiled(folder / "speed", *STRICT, Path(__file__).with_suffix(".c"), library)
 
 
 def seconds(command: Command) -> float:
@@ -185,41 +188,29 @@ def print_z64() -> None:
 
 
 def print_times() -> None:
-    def runs(name: str) -> CommandOf:
-        lines = [f"run {MOST_STEPS}"]
-        return lambda steps: ([PROGRAM, "run"], script(code(name), *lines * (steps // MOST_STEPS)))
-
     print_heading("Nanoseconds a step")
-    ours, others = zip(*(nanoseconds(runs(name), on_z64(name)) for name in LOOPS))
+    ours, others = zip(*(nanoseconds(by_script(name), on_z64(name)) for name in LOOPS))
     print_row("`run`", ours)
     print_row("z64", others)
     print_row("z64 / `run`", [b / a for a, b in zip(ours, others)])
 
 
-# The tables: what prints one, what it needs, and what --help says.
-TABLES: Dict[str, Tuple[Callable[[], None], Sequence[str], str]] = {
-    "steps": (print_steps, ("cc", "valgrind"), "steps, and lines of scripts (unless another is named)"),
-    "lines": (print_lines, ("valgrind",), "lines of scripts alone"),
-    "z64": (print_z64, ("valgrind", z64.PLUGIN), "steps of the same loops on z64"),
-    "time": (print_times, (z64.PLUGIN,), "the nanoseconds of a processor that a step takes, ours and z64's"),
-}
-
-
 def main() -> None:
     parser = parser_of(__doc__)
     group = parser.add_mutually_exclusive_group()
-    for name, (_, _, text) in TABLES.items():
-        group.add_argument(
-            f"--{name}", dest="table", action="store_const", const=name, default="steps", help=text
-        )
+    group.add_argument("--z64", action="store_true", help="steps of the same loops on z64")
+    text = "the nanoseconds of a processor that a step takes, ours and z64's"
+    group.add_argument("--time", action="store_true", help=text)
     group.add_argument("--line", metavar="LINE", help="this line of a script alone")
     arguments = parser.parse_args()
-    print_table, needed, _ = TABLES["lines" if arguments.line else arguments.table]
-    need(*needed)
+    need(*["valgrind"] * (not arguments.time), *[z64.PLUGIN] * (arguments.z64 or arguments.time))
     if arguments.line:
         print_lines({f"`{arguments.line}`": arguments.line})
+    elif arguments.z64 or arguments.time:
+        (print_z64 if arguments.z64 else print_times)()
     else:
-        print_table()
+        need("cc")
+        print_steps()
 
 
 if __name__ == "__main__":

@@ -9,7 +9,7 @@ from collections import namedtuple
 from typing import Any, Callable, Dict, Iterable, Iterator, List, Sequence, Tuple
 
 from rsp_conformance.outcomes import Kind, selected, signed
-from rsp_conformance.states import lanes_of
+from rsp_conformance.states import bytes_of, lanes_of
 from rsp_conformance.table import FORMS, SCALE, Row, destination, reads_other_lanes, uses_memory
 
 # A case: its instruction, its fields, the whole state before it as texts, and what it changes.
@@ -27,9 +27,7 @@ def immediate(case: WholeCase) -> int:
 
 def memory(case: WholeCase, address: int, count: int) -> int:
     """Bytes of DMEM before a case, as one number."""
-    known: Dict[int, int] = {}
-    for at, text in case.before.get("dmem", {}).items():
-        known.update({int(at, 16) + i: byte for i, byte in enumerate(bytes.fromhex(text))})
+    known = bytes_of(case.before.get("dmem", {}))
     return int.from_bytes(bytes(known.get((address + i) % 4096, 0) for i in range(count)), "big")
 
 
@@ -259,23 +257,24 @@ def zeros(x: int) -> int:
     return 32 - (x if x > 0 else -x if x > -32768 else -x - 1).bit_length()
 
 
+# The parity of the leading zeros, on which a square root depends.
+LEADING_ZEROS = [
+    Kind("leading zeros even", lambda x: x not in (0, -32768) and zeros(x) % 2 == 0),
+    Kind("leading zeros odd", lambda x: x not in (0, -32768) and zeros(x) % 2 == 1),
+]
+
+
 def divide_kinds(name: str) -> List[Kind]:
     """The outcomes of a divide instruction in the lane that it writes."""
     kinds = [
         Kind("nothing loaded", lambda case: case.before["loaded"] == "0"),
         Kind("a half loaded", lambda case: case.before["loaded"] == "1"),
     ]
-    if name[-1] not in "vh":
-        kinds += [Kind(kind.text, lambda case, when=kind.when: when(source_of(case))) for kind in DIVIDENDS]
+    dividends = [] if name[-1] in "vh" else [*DIVIDENDS]
     if name in ("vrsq", "vrsql"):
-        for n, text in enumerate(("leading zeros even", "leading zeros odd")):
-            kinds.append(
-                Kind(
-                    text,
-                    lambda case, n=n: source_of(case) not in (0, -32768) and zeros(source_of(case)) % 2 == n,
-                )
-            )
-    return kinds
+        dividends += LEADING_ZEROS
+    of_source = (Kind(kind.text, lambda case, when=kind.when: when(source_of(case))) for kind in dividends)
+    return [*kinds, *of_source]
 
 
 IMPOSSIBLE.update({(name, "of a number below -32768"): "the number has 16 bits" for name in ("vrcp", "vrsq")})

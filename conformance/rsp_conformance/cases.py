@@ -374,10 +374,7 @@ MAKERS: Dict[str, Callable[[Row, Random, int, int], Made]] = {
     "shift": make_shift,
     "three": make_three,
     "immediate": make_immediate,
-    "upper": lambda row, random, number, window: (
-        {"t": random.below(32), "imm": random.mixed(HALVES, 16)},
-        {},
-    ),
+    "upper": lambda row, random, number, _: ({"t": random.below(32), "imm": random.mixed(HALVES, 16)}, {}),
     **dict.fromkeys(("load", "store"), make_scalar_memory),
     **dict.fromkeys(("branch one", "branch two"), make_branch),
     "jump": lambda row, random, number, window: (
@@ -386,10 +383,7 @@ MAKERS: Dict[str, Callable[[Row, Random, int, int], Made]] = {
     ),
     **dict.fromkeys(("jump register", "link register"), make_jump_register),
     "break": lambda row, random, number, window: ({}, {**program_counters(random), **status(random)}),
-    "from sp": lambda row, random, number, window: (
-        {"c": number % 16, "t": random.below(32)},
-        sp_state(random),
-    ),
+    "from sp": lambda row, random, number, _: ({"c": number % 16, "t": random.below(32)}, sp_state(random)),
     "to sp": make_to_sp,
     **dict.fromkeys(("from vector", "to vector"), make_move),
     **dict.fromkeys(("from control", "to control"), make_control),

@@ -6,18 +6,11 @@ import json
 from typing import Any, Dict, List, Tuple
 
 from rsp_conformance import bench
-from rsp_conformance.states import numbers_of
+from rsp_conformance.states import bytes_of, numbers_of
 from rsp_conformance.steps import Entry
 
 IMEM = 4096  # the address of the bytes of IMEM in `ram`; those of DMEM are before them
 Memories = Dict[str, List[List[int]]]
-
-
-def bytes_of(pieces: Dict[str, str]) -> Dict[int, int]:
-    """The bytes of {address: bytes}, each by its own address."""
-    return {
-        int(at, 16) + i: byte for at, text in pieces.items() for i, byte in enumerate(bytes.fromhex(text))
-    }
 
 
 def memories(entry: Entry) -> Tuple[Memories, Memories]:

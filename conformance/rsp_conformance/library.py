@@ -16,10 +16,9 @@ from rsp_conformance.bench import Observation, Observed
 from rsp_conformance.command_line import Complaints, parser_of, print_checks, printable
 from rsp_conformance.safe_files import FileFault
 from rsp_conformance.states import numbers_of, texts_of
-from rsp_conformance.vectors import VECTORS, VectorsFault, entries_in, names_in
+from rsp_conformance.vectors import MEMORIES, VECTORS, VectorsFault, entries_in, names_in
 
 IMAGE = bytes(bench.WINDOW + bench.WINDOW_LENGTH)
-COMPARED = {"dmem": (0, 4096), "imem": (0, 4096), "rdram": (bench.WINDOW, bench.WINDOW_LENGTH)}
 
 
 def observe(machine: Any, case: Observed) -> Observation:
@@ -28,8 +27,8 @@ def observe(machine: Any, case: Observed) -> Observation:
     from rsp_conformance import library_states
 
     _, word, before = case
-    for bank, (name, (start, length)) in enumerate(COMPARED.items()):
-        machine.load(bank, start, bytes(length))
+    for bank, (name, compared) in enumerate(MEMORIES.items()):
+        machine.load(bank, compared.start, bytes(len(compared)))
         for address, text in before.get(name, {}).items():
             machine.load(bank, int(address, 16), bytes.fromhex(text))
     machine.load_words(rsp.IMEM, int(before["pc"], 16), [word])
@@ -40,8 +39,8 @@ def observe(machine: Any, case: Observed) -> Observation:
     if (status := machine.step()) != rsp.Status.OK:
         return {"step": status.name}
     after = texts_of(library_states.numbers_of(machine.get()))
-    for bank, (name, (start, length)) in enumerate(COMPARED.items()):
-        after[name] = [machine.memory(bank, start, length).hex()]
+    for bank, (name, compared) in enumerate(MEMORIES.items()):
+        after[name] = [machine.memory(bank, compared.start, len(compared)).hex()]
     return {"step": "step Done", "after": after}
 
 

@@ -63,21 +63,12 @@ LOW: Clamp = (-32768, 0, 0xFFFF, lambda acc: acc)
 
 def clamps(total: Number, clamp: Clamp) -> List[Kind]:
     least, below, above, kept = clamp
-    return [
-        Kind(
-            f"clamped up to {below:04x}", lambda lane: wrapped(total(lane)) >> 16 < least, lambda lane: below
-        ),
-        Kind(
-            f"clamped down to {above:04x}",
-            lambda lane: wrapped(total(lane)) >> 16 > 32767,
-            lambda lane: above,
-        ),
-        Kind(
-            "not clamped",
-            lambda lane: least <= wrapped(total(lane)) >> 16 <= 32767,
-            lambda lane: kept(wrapped(total(lane))),
-        ),
-    ]
+    kinds = (
+        (f"clamped up to {below:04x}", lambda acc: acc >> 16 < least, lambda lane: below),
+        (f"clamped down to {above:04x}", lambda acc: acc >> 16 > 32767, lambda lane: above),
+        ("not clamped", lambda acc: least <= acc >> 16 <= 32767, lambda lane: kept(wrapped(total(lane)))),
+    )
+    return by_number(lambda lane: wrapped(total(lane)), kinds)
 
 
 def signs(product: Number) -> List[Kind]:
@@ -138,15 +129,12 @@ def rounding(negative: bool) -> List[Kind]:
 
 def halves(number: Number) -> List[Kind]:
     """The results of VMULQ and VMACQ: half of a number, clamped, and its low four bits cleared."""
-    return [
-        Kind("half clamped up to 8000", lambda lane: number(lane) >> 1 < -32768, lambda lane: 0x8000),
-        Kind("half clamped down to 7fff", lambda lane: number(lane) >> 1 > 32767, lambda lane: 0x7FF0),
-        Kind(
-            "half not clamped",
-            lambda lane: -32768 <= number(lane) >> 1 <= 32767,
-            lambda lane: number(lane) >> 1 & 0xFFF0,
-        ),
-    ]
+    kinds = (
+        ("half clamped up to 8000", lambda n: n >> 1 < -32768, lambda lane: 0x8000),
+        ("half clamped down to 7fff", lambda n: n >> 1 > 32767, lambda lane: 0x7FF0),
+        ("half not clamped", lambda n: -32768 <= n >> 1 <= 32767, lambda lane: number(lane) >> 1 & 0xFFF0),
+    )
+    return by_number(number, kinds)
 
 
 def quantised(lane: Lane) -> Any:
@@ -168,15 +156,14 @@ ODDIFYING = [
 
 def sums(number: Number) -> List[Kind]:
     """The outcomes of VADD and VSUB."""
+    by_carry = (
+        Kind("carry clear", lambda lane: not lane.carry, number),
+        Kind("carry set", lambda lane: lane.carry, number),
+    )
     return [
         Kind("clamped up to 8000", lambda lane: number(lane) < -32768, lambda lane: 0x8000),
         Kind("clamped down to 7fff", lambda lane: number(lane) > 32767, lambda lane: 0x7FFF),
-        Kind(
-            "not clamped, carry clear",
-            lambda lane: -32768 <= number(lane) <= 32767 and not lane.carry,
-            number,
-        ),
-        Kind("not clamped, carry set", lambda lane: -32768 <= number(lane) <= 32767 and lane.carry, number),
+        *kinds_if(lambda lane: -32768 <= number(lane) <= 32767, "not clamped, ", by_carry),
     ]
 
 
@@ -206,16 +193,15 @@ def minus_b(lane: Lane) -> Any:
 
 def ordered(less: Number, equal_and_both: Number, equal: Number, greater: Number) -> List[Kind]:
     """The outcomes of VLT and VGE, each with the operand that is its result."""
+    by_flags = (
+        Kind("both flags", with_flags(1, 1), equal_and_both),
+        Kind("carry alone", with_flags(1, 0), equal),
+        Kind("not-equal alone", with_flags(0, 1), equal),
+        Kind("no flag", with_flags(0, 0), equal),
+    )
     return [
         Kind("a below b", lambda lane: lane.sa < lane.sb, less),
-        Kind(
-            "equal, both flags", lambda lane: lane.a == lane.b and lane.carry and lane.unequal, equal_and_both
-        ),
-        Kind("equal, carry alone", lambda lane: lane.a == lane.b and lane.carry and not lane.unequal, equal),
-        Kind(
-            "equal, not-equal alone", lambda lane: lane.a == lane.b and not lane.carry and lane.unequal, equal
-        ),
-        Kind("equal, no flag", lambda lane: lane.a == lane.b and not lane.carry and not lane.unequal, equal),
+        *kinds_if(lambda lane: lane.a == lane.b, "equal, ", by_flags),
         Kind("a above b", lambda lane: lane.sa > lane.sb, greater),
     ]
 
@@ -276,16 +262,13 @@ BY_ORDER = [
     Kind("equal", lambda lane: lane.a == lane.b, b_of),
     Kind("a below b", lambda lane: lane.a < lane.b, a_of),
 ]
+BY_EXTRA = [
+    *kinds_if(lambda lane: lane.extra, "extra: ", by_number(sum_of, WITH_EXTRA)),
+    *kinds_if(lambda lane: not lane.extra, "no extra: ", by_number(sum_of, WITHOUT_EXTRA)),
+]
 CLIP_LOW = [
     *kinds_if(with_flags(1, 1), "carry, not-equal: ", BY_COMPARE),
-    *kinds_if(
-        lambda lane: with_flags(1, 0)(lane) and lane.extra, "carry, extra: ", by_number(sum_of, WITH_EXTRA)
-    ),
-    *kinds_if(
-        lambda lane: with_flags(1, 0)(lane) and not lane.extra,
-        "carry, no extra: ",
-        by_number(sum_of, WITHOUT_EXTRA),
-    ),
+    *kinds_if(with_flags(1, 0), "carry, ", BY_EXTRA),
     *kinds_if(with_flags(0, 1), "not-equal: ", BY_CLIP),
     *kinds_if(with_flags(0, 0), "no flag: ", BY_ORDER),
 ]

@@ -18,6 +18,12 @@ def lanes_of(text: str) -> "list[int]":
     return [int(text[at : at + 4], 16) for at in range(0, len(text), 4)]
 
 
+def bytes_of(pieces: Dict[str, str]) -> Dict[int, int]:
+    """The bytes of {address: bytes}, each by its own address."""
+    runs = ((int(address, 16), bytes.fromhex(text)) for address, text in pieces.items())
+    return {at + i: byte for at, run in runs for i, byte in enumerate(run)}
+
+
 def numbers_of(texts: Texts) -> Numbers:
     """The registers as numbers."""
     state: Numbers = {name: int(texts[key], 16) for name, (key, _) in NUMBERS.items()}

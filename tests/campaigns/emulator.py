@@ -57,7 +57,14 @@ class Machine(rsp.Rsp):
         return int(status)
 
 
-class WrongShift(Machine):
+class Stepping(Machine):
+    """A machine whose `run` makes single steps."""
+
+    def run(self, steps: int) -> Any:
+        self.go(steps)
+
+
+class WrongShift(Stepping):
     """SRA changes the lowest bit of its result if its word has bits that are ignored."""
 
     def single_step(self) -> rsp.Status:
@@ -68,9 +75,6 @@ class WrongShift(Machine):
             state.words[number] ^= 1
             self.set(state)
         return status
-
-    def run(self, steps: int) -> Any:
-        self.go(steps)
 
 
 class Without(Machine):
@@ -92,7 +96,7 @@ class Forgets(Machine):
         return state
 
 
-class WrongStore(Machine):
+class WrongStore(Stepping):
     """SB changes the first byte of DMEM, too, if its register has an odd number."""
 
     def single_step(self) -> rsp.Status:
@@ -102,11 +106,8 @@ class WrongStore(Machine):
             self.load(rsp.DMEM, 0, bytes([self.memory(rsp.DMEM, 0, 1)[0] ^ 1]))
         return status
 
-    def run(self, steps: int) -> Any:
-        self.go(steps)
 
-
-class Remembers(Machine):
+class Remembers(Stepping):
     """Its 99th step also changes VCE. `set` doesn't reset the count of steps."""
 
     made = 0
@@ -118,9 +119,6 @@ class Remembers(Machine):
             state.flags.extra ^= 1
             self.set(state)
         return status
-
-    def run(self, steps: int) -> Any:
-        self.go(steps)
 
 
 class Few:
@@ -150,31 +148,28 @@ def answer(machine: Machine, question: Dict[str, Any]) -> Dict[str, Any]:
     return {**numbers_of(machine.get()), "status": status, "ram": ram, "rdram": rdram}
 
 
-def say(final: Dict[str, Any], **beside: int) -> None:
-    print(json.dumps({"final": final, **beside}), flush=True)
+FINAL: Dict[str, Any] = {**numbers_of(rsp.State()), "ram": [], "rdram": []}
+WRONG_ANSWERS = {
+    "garbage": "no JSON",
+    "range": json.dumps({"final": {**FINAL, "pc": 65536}}),
+    "byte": json.dumps({"final": {**FINAL, "ram": [[99999, 1]]}}),
+    "beside": json.dumps({"final": FINAL, "status": 5}),
+    "unknown": json.dumps({"final": {**FINAL, "stat": 5}}),
+}
+LAST_WORDS = {
+    "die": "panicked:\n  \x1b]0;title\x07boom\n",
+    "panic": "panicked: boom\n" + "  at a function\n" * 200 + "  at main\n",
+}
 
 
 def misbehave(how: str) -> None:
     if how == "hang":
         time.sleep(3600)
-    if how == "die":
-        sys.stderr.write("panicked:\n  \x1b]0;title\x07boom\n")
-        sys.stderr.flush()
+    if how in LAST_WORDS:
+        print(LAST_WORDS[how], end="", file=sys.stderr, flush=True)
         os._exit(3)
-    if how == "panic":
-        sys.stderr.write("panicked: boom\n" + "  at a function\n" * 200 + "  at main\n")
-        sys.stderr.flush()
-        os._exit(3)
-    if how == "garbage":
-        print("no JSON", flush=True)
-    if how == "range":
-        say({**numbers_of(rsp.State()), "pc": 65536, "ram": [], "rdram": []})
-    if how == "byte":
-        say({**numbers_of(rsp.State()), "ram": [[99999, 1]], "rdram": []})
-    if how == "beside":
-        say({**numbers_of(rsp.State()), "ram": [], "rdram": []}, status=5)
-    if how == "unknown":
-        say({**numbers_of(rsp.State()), "ram": [], "rdram": [], "stat": 5})
+    if how in WRONG_ANSWERS:
+        print(WRONG_ANSWERS[how], flush=True)
 
 
 def answer_hex() -> None:
@@ -204,7 +199,7 @@ def main(how: str = "", word: str = "0") -> None:
         if case_word == int(word, 16):
             misbehave(how)
         last = case_word
-        say(answer(machine, question))
+        print(json.dumps({"final": answer(machine, question)}), flush=True)
 
 
 if __name__ == "__main__":

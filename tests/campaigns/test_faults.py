@@ -42,9 +42,7 @@ def forty(emulator: str, out: Path, *more: object) -> str:
 def test_command(how: str, folder: Path) -> None:
     output = forty(f"{EMULATOR} {how} {word_17()}", folder, "--limit", 10)
     assert f"{CASE_17}: " in output and WRONG[how] in output
-    assert how != "panic" or re.search(
-        r" / \.\. / .*at a function / at main\n", output
-    ), "the last lines, too"
+    assert how != "panic" or re.search(r" / \.\. / .*at a function / at main\n", output), output
 
 
 @pytest.mark.parametrize(
@@ -77,39 +75,32 @@ def test_fault_that_a_case_does_not_show(is_late: bool, folder: Path) -> None:
 
 def test_difference_that_depends_on_what_ran_before(folder: Path) -> None:
     """It is shown as a difference. The program isn't cut down, because it agrees the next time."""
-    output = output_of(
-        folder, "python:emulator:Remembers", "--cases", 0, "--programs", 2, "--instructions", "xor"
-    )
-    why = "not cut down, because it depends on what the emulator ran before"
-    assert re.search(
-        rf"PROGRAM-g2-1-000000: steps 1 to 100, from xor .* on: vce: expected .*; {why}", output
-    ), output
+    words = ("python:emulator:Remembers", "--instructions", "xor", "--cases", 0, "--programs", 2)
+    output, why = output_of(folder, *words), "because it depends on what the emulator ran before"
+    form = rf"PROGRAM-g2-1-000000: steps 1 to 100, from xor .* on: vce: expected .*; not cut down, {why}"
+    assert re.search(form, output), output
     assert counts_of(folder) == {"program": (2, 1, 0)}
 
 
 def test_lost_register(folder: Path) -> None:
     output = campaign("python:emulator:Forgets", "--cases", 0, "--programs", 1, "--here", folder).stdout
-    assert re.search(
-        r"(?m)PROGRAM-g2-1-000000: step 0, .*: \$5: expected [0-9a-f]{8}, got 0{8}$", output
-    ), output
+    form = r"(?m)PROGRAM-g2-1-000000: step 0, .*: \$5: expected [0-9a-f]{8}, got 0{8}$"
+    assert re.search(form, output), output
 
 
 def test_array_of_another_shape(folder: Path) -> None:
     """One sentence, after the first task."""
     words = ("python:emulator:Few", "--instructions", "vadd,vsub", "--cases", 3)
     ended = campaign(*words, "--here", folder)
-    assert (ended.returncode, ended.stdout, ended.stderr.count("\n")) == (1, "", 1)
-    assert re.match(
-        r"campaign: python:emulator:Few: `ends` returned an array .* and \(2,\), not END ", ended.stderr
-    )
+    form = r"campaign: python:emulator:Few: `ends` returned an array .* and \(2,\), not END .*\n"
+    assert (ended.returncode, ended.stdout) == (1, "") and re.fullmatch(form, ended.stderr), ended.stderr
 
 
 def test_command_of_hexadecimal_lines(folder: Path) -> None:
     """It agrees, and isn't given cases of memories. If a command ends early, its first case is named."""
-    output = output_of(
-        folder / "all", f"hex:{EMULATOR} hex", "--instructions", "vrcpl,beq,sqv", "--cases", 1100
-    )
-    assert counts_of(folder / "all") == agreed("vrcpl,beq,sqv", 1100), output
+    names = "vrcpl,beq,sqv"
+    output = output_of(folder / "all", f"hex:{EMULATOR} hex", "--instructions", names, "--cases", 1100)
+    assert counts_of(folder / "all") == agreed(names, 1100), output
     assert re.search(r"(?m)^SQV +0 +1100 +0 ", output), output
     output = output_of(folder / "few", "hex:true", "--instructions", "vadd", "--cases", 1)
     assert f"{name_of('vadd', '1', 0)}: the command ended with status 0, without this answer" in output

@@ -7,7 +7,7 @@ from typing import Any, List
 
 import pytest
 
-from lib import TOP
+from lib import TOP, processes
 from lib.campaigns import SOURCES, agreed, counts_of, faulty, output_of
 from lib.packages import is_here, need
 from lib.processes import compiled, run, run_bytes, succeeds
@@ -20,15 +20,7 @@ if is_here("python:numpy"):
 pytestmark = [pytest.mark.needs("cc"), pytest.mark.usefixtures("library")]
 
 LIBRARY = TOP / "library/c/libbrsp.a"
-STRICT = (
-    "-O2",
-    "-Wall",
-    "-Wextra",
-    "-Wconversion",
-    "-Werror",
-    f"-I{TOP}/library/c",
-    f"-I{TOP}/conformance/campaigns",
-)
+STRICT = (*processes.STRICT, "-Wconversion", f"-I{TOP}/conformance/campaigns")
 COMPILERS = {"cc": "-std=c11", "clang": "-std=c11", "c++": "-std=c++17", "clang++": "-std=c++17"}
 
 

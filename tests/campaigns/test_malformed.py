@@ -46,13 +46,8 @@ HASHES = {"emulator": "a", "library": "b"}
 TASK = {"instruction": "vadd", "seed": "1", "start": 0, "size": 20}
 RESULT: Dict[str, Any] = {**nothing(), **TASK, "count": 20, "hashes": HASHES}
 WRONG_PARTS: Dict[str, List[Any]] = {
-    **{
-        "instruction": [5, [], "../vadd"],
-        "seed": [None],
-        "hashes": [[]],
-        "start": ["0", -1],
-        "size": ["20", 19],
-    },
+    **{"instruction": [5, [], "../vadd"], "seed": [None], "hashes": [[]]},
+    **{"start": ["0", -1], "size": ["20", 19]},
     **{"count": ["x", 19, 21, math.nan], "differ": [21, -1, True], "processor": ["1", math.nan, math.inf]},
     **{"parts": [[], {"$v1": "x"}, {"$v1": 21}], "shown": [5, [5]], "unseen": ["x", [[]]], "faults": [{}]},
 }
@@ -210,9 +205,8 @@ def test_escaped_result(folder: Path) -> None:
     assert all(line.isprintable() for line in (*table.split("\n"), *html.split("\n")))
 
 
-CASE: Dict[str, Any] = {
-    **{"name": "ADD-000", "word": "000b1820", "text": "add $3, $0, $11", "before": {}, "after": {}}
-}
+CASE: Dict[str, Any] = {"name": "ADD-000", "word": "000b1820", "text": "add $3, $0, $11"}
+CASE.update(before={}, after={})
 # Values of a register of eight digits: numbers in Python that aren't eight digits, and ways into a script.
 NO_REGISTERS: List[Any] = [
     5, None, [], math.nan, "", "0", "0" * 9, "0x000001", "+0000001", "0000_001", "\u0660" * 8, "\ud800" * 8,

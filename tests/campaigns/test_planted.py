@@ -18,8 +18,8 @@ from typing import Any, Dict, Iterator, List, Tuple
 import pytest
 
 import rsp
-from lib import TESTS, TOP
-from lib.processes import compiled
+from lib import TESTS
+from lib.processes import STRICT, compiled
 from rsp_conformance import HERE as CONFORMANCE, bench, generate, library_states, states
 from rsp_conformance.campaign.supervise import check
 from rsp_conformance.cases import ENTRIES
@@ -131,9 +131,8 @@ def test_tables_have_the_bugs_of_the_core() -> None:
 
 def core_with(bug: int, folder: Path) -> Path:
     """The core with a bug."""
-    words = ["-std=c11", "-Wall", "-Wextra", "-Werror", "-O2", "-march=x86-64-v2", "-shared", "-fPIC"]
-    folders = [f"-I{TOP}/library/c", f"-I{CONFORMANCE}/campaigns"]
-    return compiled(folder / "second.so", *words, *folders, f"-DPLANTED={bug}", CORE)
+    words = ("-std=c11", *STRICT, "-march=x86-64-v2", "-shared", "-fPIC", f"-I{CONFORMANCE}/campaigns")
+    return compiled(folder / "second.so", *words, f"-DPLANTED={bug}", CORE)
 
 
 @pytest.mark.parametrize("bug", (95, 96))
@@ -162,10 +161,7 @@ LONG = pytest.mark.outside("all of them take twenty minutes of processor")
 def test_bug(bug: int, folder: Path) -> None:
     """In the gate is 36, VADD that keeps the not-equal flags."""
     core, names = core_with(bug, folder), BUGS[bug]
-    found = {
-        "cases": in_cases(core, names),
-        "programs": in_programs(core),
-        "vectors": in_vectors(core, names),
-    }
+    found = {"cases": in_cases(core, names), "programs": in_programs(core)}
+    found["vectors"] = in_vectors(core, names)
     expected = {way: bug != 0 and bug not in missed for way, missed in MISSED.items()}
     assert {way: first != "no" for way, first in found.items()} == expected, found

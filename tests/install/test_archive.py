@@ -15,6 +15,7 @@ from pathlib import Path
 import pytest
 
 from lib import TESTS, TOP
+from lib.hardening import PLUGIN_CALLS, check_needs
 from lib.install.unpacked import (
     BARE,
     RELEASED,
@@ -28,7 +29,6 @@ from lib.install.unpacked import (
 from lib.links import broken_everywhere, broken_in
 from lib.pages import page
 from lib.processes import run, succeeds
-from lib.symbols import PLUGIN_CALLS, check_needs
 
 pytestmark = pytest.mark.timeout(900)  # conformance/check takes all processors, of which others have few
 PLUGIN = "plugin/mupen64plus-rsp-proved.so"

@@ -217,11 +217,6 @@ def test_cmake(top: Path, runner: Runner, system: str) -> None:
     runner.check_cmake()
 
 
-@of(*COMPILED)
-def test_program(runner: Runner, system: str) -> None:
-    assert first_output(runner, f"bin/rsp{runner.ending}", "run") == REPLIES
-
-
 @of("windows-x86_64")
 def test_first_line_of_windows(top: Path, runner: Runner) -> None:
     """The README's, by the command interpreter."""
@@ -254,12 +249,8 @@ def project(packed_for: Path, folder: Path) -> Path:
 
 
 @of("wasm64")
-def test_npm(top: Path, project: Path) -> None:
-    """What it installs, and that Node runs it."""
-    installed, packed = (
-        {str(path.relative_to(at)) for path in at.rglob("*")} for at in (project / "node_modules/rsp", top)
-    )
-    assert installed == packed
+def test_npm(project: Path) -> None:
+    """Node runs what npm installs."""
     node.check_use(project)
 
 

@@ -161,34 +161,24 @@ def test_edit_in_a_crate_that_it_does_not_use(repository: ToyRepository, command
             assert repository.run(command, "broken") == NOTHING
 
 
-CHANGES: dict[str, tuple[str, str, Data]] = {
-    "an edit": ("program", MIDDLE, edited),
-    "an edit that leaves the length": ("program", MIDDLE, lambda text: text.replace(b"answer", b"answes")),
-    "a new file": ("program", "crates/rsp_middle/src/new.rt", b""),
-    "a new definition": ("program", "crates/rsp_middle/specs/New.antt", b""),
-    "a new proof": ("program", "crates/rsp_middle/proofs/main/New.antt", b""),
-    "a file less": ("program", SIDE, None),
-    "another line of crates.txt": (
-        "program",
-        "crates.txt",
-        lambda text: text.replace(b" rsp_above", b" rsp_above rsp_side"),
-    ),
-    "another program": ("program", "crates/rsp_main/out/rsp_main", b"#!/bin/sh\n"),
-    "an empty mark": ("program", MARK, b""),
-    "an edit for the library": ("library", "crates/rsp_decode/src/lib.rt", edited),
+CHANGES: dict[str, tuple[str, Data]] = {
+    "an edit": (MIDDLE, edited),
+    "an edit that leaves the length": (MIDDLE, lambda text: text.replace(b"answer", b"answes")),
+    "a new file": ("crates/rsp_middle/src/new.rt", b""),
+    "a new definition": ("crates/rsp_middle/specs/New.antt", b""),
+    "a new proof": ("crates/rsp_middle/proofs/main/New.antt", b""),
+    "a file less": (SIDE, None),
+    "a line of crates.txt": ("crates.txt", lambda text: text.replace(b" rsp_above", b" rsp_above rsp_side")),
+    "another program": ("crates/rsp_main/out/rsp_main", b"#!/bin/sh\n"),
+    "an empty mark": (MARK, b""),
 }
+EDIT_FOR_LIBRARY = pytest.param("library", C, "crates/rsp_decode/src/lib.rt", edited, marks=of_library)
+CHANGED = [pytest.param("program", RSP, *it, id=name, marks=of_program) for name, it in CHANGES.items()]
 
 
-@pytest.mark.parametrize(
-    "what, name, data",
-    [
-        pytest.param(*row, id=text, marks=of_program if row[0] == "program" else of_library)
-        for text, row in CHANGES.items()
-    ],
-)
-def test_change(repository: ToyRepository, what: str, name: str, data: Data) -> None:
+@pytest.mark.parametrize("what, command, name, data", [*CHANGED, EDIT_FOR_LIBRARY])
+def test_change(repository: ToyRepository, what: str, command: str, name: str, data: Data) -> None:
     """Each thing that a mark holds is changed: the next run proves again, but not once it is as it was."""
-    command = RSP if what == "program" else C
     assert repository.run(command, "broken") == NOTHING
     with repository.changed(name, data):
         assert_builds_again(repository, command)

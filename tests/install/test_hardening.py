@@ -8,9 +8,8 @@ from pathlib import Path
 import pytest
 
 from lib import TOP
-from lib.hardening import check_elf, checks, first_instructions
+from lib.hardening import PLUGIN_CALLS, check_elf, checks, first_instructions
 from lib.processes import succeeds
-from lib.symbols import PLUGIN_CALLS
 from rsp_tools.packaging.link import linked_program
 
 pytestmark = pytest.mark.needs("cc", "readelf", "objdump")

@@ -14,11 +14,11 @@ import pytest
 
 from lib import TESTS, TOP
 from lib.cmake import EXAMPLE, check_cmake
+from lib.hardening import check_needs
 from lib.library import LOCKSTEP
 from lib.packages import need
 from lib.pages import page
 from lib.processes import compiled, run, succeeds
-from lib.symbols import check_needs
 from rsp_tools.systems import header
 
 pytestmark = [pytest.mark.needs("cc", "nm", "objdump", "objcopy"), pytest.mark.xdist_group("installed")]

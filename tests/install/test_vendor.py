@@ -14,11 +14,10 @@ from lib import TESTS, TOP, cmake
 from lib.install.unpacked import archive_for, check_common, unpacked
 from lib.library import LOCKSTEP
 from lib.pages import page
-from lib.processes import STRICT, compiled, run, run_bytes, succeeds
+from lib.processes import run, run_bytes, succeeds
 from lib.systems.target_params import COMPILED, RUNNERS
 from lib.systems.runners import Runner
-from measure import LIBRARY
-from measure.speed import LOOPS, code, figure
+from measure.speed import LOOPS, by_calls, compile_caller, figure
 from rsp_tools.systems import header
 from rsp_tools.systems.toolchain import llvm
 from rsp_tools.targets import NATIVE, TARGETS
@@ -149,15 +148,8 @@ def test_macos_is_assembled(top: Path, folder: Path, triple: str) -> None:
 def test_speed(library: Path, top: Path, folder: Path) -> None:
     """A step takes as many host instructions as with libbrsp.a, within 2 percent."""
     succeeds("cc", "-c", top / "src/Linux-x86_64.s", "-o", folder / "brsp.o")
-    programs = [
-        compiled(folder / f"speed-{library.stem}", *STRICT, TOP / "measure/speed.c", library)
-        for library in (LIBRARY, folder / "brsp.o")
-    ]
+    (folder / "other").mkdir()
+    programs = [compile_caller(folder), compile_caller(folder / "other", folder / "brsp.o")]
     for name in LOOPS:
-        text = "".join(f".word 0x{word}\n" for word in code(name).hex(" ", 4).split())
-
-        def counted(program: Path) -> float:
-            return figure(lambda steps: ([program, "run", 0, steps, text], b""), 20_000, 60_000)
-
-        ours, others = map(counted, programs)
+        ours, others = (figure(by_calls(it, "run", name), 20_000, 60_000) for it in programs)
         assert others == pytest.approx(ours, rel=0.02), name

@@ -1,6 +1,6 @@
 """Cases of computing instructions by their lanes, accumulators and flags, run on the program."""
 
-from typing import Any, Dict, List, Sequence, Tuple
+from typing import Any, Dict, Iterable, List, Sequence, Tuple
 
 from rsp_conformance import bench, coverage, outcomes
 from rsp_conformance.table import ROWS, word_of
@@ -26,6 +26,14 @@ def case(
     }
     values = {f"a{lane}": f"{acc % 2**48:012x}" for lane, acc in enumerate(accs)}
     return ROWS[name], word, {**bench.DEFAULT, **flags, **vectors, **values}
+
+
+def flag_registers(names: Iterable[str]) -> Flags:
+    """The registers with these flags set in all lanes, and the others clear."""
+    values = dict.fromkeys(CLEAR, 0)
+    for register, shift in (FLAGS[name] for name in names):
+        values[register] |= 255 << shift
+    return {register: f"{value:0{len(CLEAR[register])}x}" for register, value in values.items()}
 
 
 def after(program: str, cases: Sequence[Case]) -> List[Look]:

@@ -24,22 +24,14 @@ def links_of(page: Path) -> Iterator[Tuple[str, str]]:
 
 
 def broken_in(page: Path) -> List[str]:
-    """The links of a page whose file is missing, or whose file has no such heading."""
+    """The links of a page, as FILE#HEADING, whose file is missing, or whose file has no such heading."""
     broken_links = []
     for file, heading in links_of(page):
         target = page.parent / file if file else page
         has_heading = not heading or (target.is_file() and heading in headings(target))
         if not (target.exists() and has_heading):
-            broken_links.append(f"{page}: {file}#{heading}")
+            broken_links.append(f"{file}#{heading}")
     return broken_links
-
-
-def broken(root: Path, least: int = 1) -> List[str]:
-    """The links below a folder that lead nowhere. All its pages must have at least so many links."""
-    pages = pages_below(root)
-    count = sum(len([*links_of(page)]) for page in pages)
-    assert count >= least, f"{root} has only {count} links in {len(pages)} pages"
-    return [link for page in pages for link in broken_in(page)]
 
 
 def elsewhere(archive: Path) -> str:
@@ -50,13 +42,14 @@ def elsewhere(archive: Path) -> str:
 
 def broken_everywhere(archive: Path, least: int) -> List[str]:
     """The links of an archive's pages that lead nowhere, except to files that the README names and that the
-    repository has at that place."""
+    repository has at that place. All pages must have at least so many links."""
     named = tuple(re.findall("`(.*?)`", elsewhere(archive)))
     assert not [name for name in named if (archive / name).exists()]
-    lost = []
-    for page, _, link in (text.partition(": ") for text in broken(archive, least)):
-        at = Path(page).relative_to(archive)
+    pages, lost = pages_below(archive), []
+    assert sum(len([*links_of(page)]) for page in pages) >= least, f"{archive} has fewer than {least} links"
+    for page, link in ((page, link) for page in pages for link in broken_in(page)):
+        at = page.relative_to(archive)
         target = os.path.normpath(at.parent / link.partition("#")[0])
-        if f"{TOP / at}: {link}" in broken_in(TOP / at) or not f"{target}/".startswith(named):
+        if link in broken_in(TOP / at) or not f"{target}/".startswith(named):
             lost.append(f"{page}: {link}")
     return lost

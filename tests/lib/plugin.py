@@ -8,6 +8,7 @@ import os
 import re
 import struct
 import sys
+from itertools import takewhile
 from pathlib import Path
 from typing import Iterator, List, Optional, Sequence, Tuple
 
@@ -111,11 +112,7 @@ class Bench:
 
 def results(rdram: bytes) -> Iterator[Tuple[int, ...]]:
     """The ROM's results: (number, whether it is right, found, expected), up to one whose number is 0."""
-    for at in range(0x100000, 0x110000, 16):
-        found = struct.unpack_from(">IIII", rdram, at)
-        if found[0] == 0:
-            return
-        yield found
+    return takewhile(lambda found: found[0] != 0, struct.iter_unpack(">IIII", rdram[0x100000:0x110000]))
 
 
 def tasks_of_rom(bench: Bench) -> List[List[str]]:
@@ -167,8 +164,7 @@ def main() -> None:
     folder = Path(os.path.abspath(sys.argv[1]))
     folder.mkdir(parents=True, exist_ok=True)
     bench = Bench(folder, Path(os.path.abspath(sys.argv[2])) if sys.argv[2:] else TOP / "rsp")
-    for fault in 0, 1:
-        bench.faulty(fault)
+    bench.faulty(1)
     bench.rom("short", "-DWAITS=0")  # z64 doesn't come back from the tasks that wait for the CPU
     bench.rom("all")
 

@@ -2,7 +2,7 @@
 
 import subprocess
 from pathlib import Path
-from typing import Any, Dict, Sequence
+from typing import Any, Sequence
 
 from lib import TOP
 
@@ -13,13 +13,8 @@ STRICT = ("-O2", "-Wall", "-Wextra", "-Werror", f"-I{TOP}/library/c")
 
 def run(*words: object, **how: Any) -> "Ended[str]":
     """Runs a command at the top of the repository, to its end: text, errors among the output, no input."""
-    defaults: Dict[str, Any] = {
-        "cwd": TOP,
-        "stdout": subprocess.PIPE,
-        "stderr": subprocess.STDOUT,
-        "timeout": 280,
-    }
-    how = {**defaults, "text": True, "errors": "replace", **how}
+    streams = {"stdout": subprocess.PIPE, "stderr": subprocess.STDOUT}
+    how = {"cwd": TOP, "timeout": 280, "text": True, "errors": "replace", **streams, **how}
     if "input" not in how:
         how["stdin"] = subprocess.DEVNULL
     return subprocess.run([str(word) for word in words], **how)
@@ -28,9 +23,8 @@ def run(*words: object, **how: Any) -> "Ended[str]":
 def succeeds(*words: object, **how: Any) -> str:
     """Runs a command, asserts that its status is 0, and returns its output."""
     ended = run(*words, **how)
-    assert (
-        ended.returncode == 0
-    ), f"{' '.join(map(str, words))} ended with {ended.returncode}:\n{ended.stdout}"
+    command = " ".join(map(str, words))
+    assert ended.returncode == 0, f"{command} ended with {ended.returncode}:\n{ended.stdout}"
     return str(ended.stdout)
 
 

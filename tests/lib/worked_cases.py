@@ -8,7 +8,7 @@ with an address, `pc`, `npc`, `VCC`, `SP_STATUS`, `DIV_IN`, `DIV_OUT`, `mark`; o
 import re
 from typing import Any, Dict, Iterator, Tuple, Union
 
-from lib.lanes import FLAGS
+from lib.lanes import flag_registers
 from rsp_conformance import bench
 
 KEYS = {
@@ -27,10 +27,7 @@ def parts(text: str) -> Iterator[Tuple[Key, str]]:
     """A cell's state as pairs: a key of a state of `bench`, or an address of DMEM, with its value."""
     for key, *values in (item.split() for item in filter(None, text.split("; "))):
         if key == "flags":
-            bits = dict.fromkeys(("vco", "vcc", "vce"), 0)
-            for register, shift in (FLAGS[flag] for flag in values if flag != "none"):
-                bits[register] |= 255 << shift
-            yield from ((name, f"{value:0{2 if name == 'vce' else 4}x}") for name, value in bits.items())
+            yield from flag_registers(flag for flag in values if flag != "none").items()
         elif key == "acc":
             yield from ((f"a{lane}", values[0]) for lane in range(8))
         elif key == "DMEM":

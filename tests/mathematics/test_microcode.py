@@ -103,9 +103,8 @@ def changes(name: str) -> Tuple[Set[int], Set[int]]:
 def expected_state(name: str, before: State, expected: Expected, after: State) -> State:
     """The state at the end. What may change, and of which nothing is promised, is as it is."""
     scalars, vectors = changes(name)
-    assert {*expected.scalars} <= scalars and {
-        *expected.lanes
-    } <= vectors, "its head must list what it computes"
+    is_listed = {*expected.scalars} <= scalars and {*expected.lanes} <= vectors
+    assert is_listed, "its head must list what it computes"
     rdram = before.rdram if expected.rdram is None else expected.rdram
     state = State(bytearray(before.dmem), rdram, [*before.scalars], [*before.vectors])
     for number in scalars:

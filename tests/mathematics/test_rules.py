@@ -12,7 +12,7 @@ from typing import Any, Dict, Iterator, List
 import pytest
 
 from lib.fixed_point import pack_halves, random_half, to_signed
-from lib.lanes import CLEAR, FLAGS, Case, Flags, accumulators_of, after, case
+from lib.lanes import CLEAR, FLAGS, Case, accumulators_of, after, case, flag_registers
 from lib.pages import blocks, page, tables
 from rsp_conformance import bench
 from rsp_conformance.table import ROWS, word_of
@@ -132,21 +132,14 @@ def test_multiplies_of_page(heading: str, program: Path) -> None:
     assert seen > 6
 
 
-def flag_registers(cell: str) -> Flags:
-    """The registers with these flags set in all lanes, and the others clear."""
-    values = dict.fromkeys(CLEAR, 0)
-    for register, shift in (FLAGS[it] for it in filter(None, cell.split(", "))):
-        values[register] |= 255 << shift
-    return {it: f"{value:0{len(CLEAR[it])}x}" for it, value in values.items()}
-
-
 def test_clips_of_page(program: Path) -> None:
     rows = [*tables(PAGE, "### VCH, VCL, VCR")]
-    for name, a, b, flags, result, left in rows:
-        one = case(name.lower(), [int(a)] * 8, [int(b)] * 8, flags=flag_registers(flags))
+    for name, a, b, before, result, left in rows:
+        flags, expected = (flag_registers(filter(None, cell.split(", "))) for cell in (before, left))
+        one = case(name.lower(), [int(a)] * 8, [int(b)] * 8, flags=flags)
         (look,) = after(str(program), [one])
         assert look["v3"] == f"{int(result) % 65536:04x}" * 8, name
-        assert {it: look[it] for it in CLEAR} == flag_registers(left), name
+        assert {it: look[it] for it in CLEAR} == expected, name
     assert {"VADDC", "VCH", "VCL", "VCR"} == {it[0] for it in rows}
 
 

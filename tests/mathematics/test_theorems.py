@@ -202,12 +202,6 @@ def test_proved(label: str, proofs: Proofs) -> None:
         assert f"fn rsp_routines::{name}::{function}: proved" in lines, "\n".join(about)
 
 
-@NEEDS_RT
-def test_all_are_counted(proofs: Proofs) -> None:
-    count = 2 * len(LABELS)
-    assert f"only={count} proved={count}" in proofs.output
-
-
 def test_instructions() -> None:
     """Each instruction of the table is a term, or refused with a sentence."""
     for row in ROWS.values():

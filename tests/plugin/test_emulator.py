@@ -90,12 +90,6 @@ def test_hunt_of_page(hunt: Bench) -> None:
     assert [line for line in replies if line in expected] == expected
 
 
-@pytest.mark.needs(str(HEADERS), str(CORE))
-def test_hunt_without_fault(hunt: Bench) -> None:
-    output, _ = hunt.play(hunt.folder / "all.z64", hunt.plugin, 2, "CheckAgainst=./faulty-0.so")
-    assert "check: 12 tasks, 0 differ" in output
-
-
 def type_command(hunt: Bench, home: Path, command: str, last: str, **environment: str) -> List[str]:
     """Types a command, and returns the front end's lines up to one that ends so: the ROM never ends."""
     remove_reports(hunt)

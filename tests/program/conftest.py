@@ -20,8 +20,7 @@ LEFT_OUT: Dict[str, Dict[str, str]] = {
         "saves.py::test_link_no_room": THROUGH_LINKS,
         "saves.py::test_calls_of_the_system_fail": THROUGH_LINKS,
     },
-    "archive": {"saves.py::test_killed_by_the_limit": NOT_KILLED},
-    **{it: {"saves.py::test_killed_by_the_limit": NOT_KILLED} for it in LINUX},
+    **{it: {"saves.py::test_killed_by_the_limit": NOT_KILLED} for it in ("archive", *LINUX)},
     "windows-x86_64": {
         "scripts.py::test_refused[run --save \\": NO_TEXT,
         "saves.py::test_no_room[": LIMITED,

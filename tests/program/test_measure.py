@@ -1,4 +1,4 @@
-"""What measures (measure/) answers --help and prints figures: small runs, and long ones outside the gate."""
+"""What measures (measure/) prints figures: small runs, and long ones outside the gate."""
 
 import os
 import re
@@ -10,10 +10,9 @@ import pytest
 from lib import TOP
 from lib.packages import need
 from lib.plugin import CORE, HEADERS
-from lib.processes import Ended, run
+from lib.processes import succeeds
 from lib.z64 import PLUGIN as Z64
 
-NAMES = sorted(path.stem for path in (TOP / "measure").glob("*.py") if path.stem != "__init__")
 FIGURES = r"\| .*\d\.\d \|\n"
 LONG = pytest.mark.outside("it measures for minutes")
 ROM = ("mips-linux-gnu-gcc", str(HEADERS), str(CORE))
@@ -34,27 +33,12 @@ LONG_RUNS = {
 }
 
 
-def run_measure(words: str) -> "Ended[str]":
-    """Runs a command of measure/ by this Python."""
-    env = {**os.environ, "PATH": f"{Path(sys.executable).parent}:{os.environ['PATH']}"}
-    return run(TOP / "tools/python", *f"measure.{words}".split(), env=env, timeout=3000)
-
-
-@pytest.mark.parametrize("name", NAMES)
-def test_help(name: str) -> None:
-    """--help shows the module's text, and needs nothing; an unknown option is refused."""
-    ended = run_measure(f"{name} --help")
-    assert ended.returncode == 0 and ended.stdout.startswith(f"usage: tools/python measure.{name} [-h]")
-    assert len(ended.stdout.partition("\n\n")[2].split("\n")[0]) > 30
-    ended = run_measure(f"{name} --nothing")
-    assert ended.returncode == 2 and "Traceback" not in ended.stdout
-
-
 @pytest.mark.timeout(3600)
 @pytest.mark.usefixtures("program", "library")
 @pytest.mark.parametrize("words", [*RUNS, *(pytest.param(words, marks=LONG) for words in LONG_RUNS)])
 def test_run(words: str) -> None:
     tools, expected = {**RUNS, **LONG_RUNS}[words]
     need(*tools)
-    ended = run_measure(words)
-    assert ended.returncode == 0 and re.fullmatch(expected, ended.stdout), ended.stdout
+    env = {**os.environ, "PATH": f"{Path(sys.executable).parent}:{os.environ['PATH']}"}  # with this Python
+    output = succeeds(TOP / "tools/python", *f"measure.{words}".split(), env=env, timeout=3000)
+    assert re.fullmatch(expected, output), output

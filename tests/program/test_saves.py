@@ -157,11 +157,8 @@ def test_limit_of_a_file_with_two_names(ignoring: Trial) -> None:
 
 def test_limit_of_standard_output(ignoring: Trial) -> None:
     """Of the replies there are as many bytes as the limit allows."""
-    replies, script = ignoring.folder / "replies", b"vregs\n"
-    program, how = ignoring.writer.arguments[0], {
-        "preexec_fn": lambda: limited(False),
-        "restore_signals": False,
-    }
+    replies, script, program = ignoring.folder / "replies", b"vregs\n", ignoring.writer.arguments[0]
+    how = {"preexec_fn": lambda: limited(False), "restore_signals": False}
     with open(replies, "wb") as output:
         result = run_program(program, ["run"], script, stdout=output, **how)
     assert result == (1, b"", b"rsp: fault 41 WriteFault\n")

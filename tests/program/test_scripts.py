@@ -252,8 +252,6 @@ SOURCES = {
     "empty text": (b"", b""),
     "text at fault": (b"nop\nfoo\n", "11 UnknownName line 2"),
     "label in a later line": (b"j a\nfoo\n", "11 UnknownName line 2"),
-    "text isn't UTF-8": (b"nop # \xff\n", "33 NotText"),
-    "text isn't ASCII": (b"nop # \xc3\xbc\n", "10 BadLine line 1"),
     "text too long": (b"\xff" + b"\n" * LONGEST_SCRIPT, "42 ScriptTooLong"),
     "longest text": (b"\n" * LONGEST_SCRIPT, b""),
     "many labels": (LABELS + b".word a00000, affff", "15 LabelMissing line 130001"),

@@ -87,12 +87,8 @@ def parts_of(path: Path, names: Optional[Set[str]], types: Set[str]) -> Iterator
     is_met = False
     for match in found:
         if match["kind"] or match["end"]:
-            kind, owner, call, is_met = (
-                match["kind"] or "",
-                match["owner"] or "",
-                "",
-                match["met"] is not None,
-            )
+            kind, owner, call = match["kind"] or "", match["owner"] or "", ""
+            is_met = match["met"] is not None
         elif match["name"]:
             name = match["name"]
             by_owner = owner in (names or set()) | types

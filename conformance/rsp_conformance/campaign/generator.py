@@ -37,16 +37,10 @@ ROWS, LANE_CHOICES, NEAR_CHOICES, ACCUMULATOR_CHOICES, CHOICES = 0, 1, 3, 4, 6
 WORDS = CHOICES + 21
 POOL, REGISTERS = 1024, CASE.itemsize // 8
 
-EDGES, LANES, HALVES, PLACES, FLAGS, SP_NUMBERS = (
+LANES = np.array(seeded_random.LANES, np.int64)
+EDGES, HALVES, PLACES, FLAGS, SP_NUMBERS = (
     np.array(values, np.int64)
-    for values in (
-        vectors.WORDS,
-        seeded_random.LANES,
-        vectors.HALVES,
-        vectors.PLACES,
-        vectors.FLAGS,
-        vectors.SP_NUMBERS,
-    )
+    for values in (vectors.WORDS, vectors.HALVES, vectors.PLACES, vectors.FLAGS, vectors.SP_NUMBERS)
 )
 EXTREMES, DIVISORS = np.array(vectors.EXTREMES, np.uint16), np.array(vectors.DIVISORS, np.int64)
 OFFSETS, HIGH = np.array([0, 1, 63, 64, 127]), np.array([0, 0, 1, 0xFFFFF])
@@ -59,13 +53,8 @@ EDGE = LANES[np.arange(256) % len(LANES)].astype(np.uint16)
 # 2, b ^ 0x8000.
 NEAR = ((1, 0, 0), (-1, 0, 0), (-1, -1, 0), (1, 1, 0), (1, -1, 0), (-1, 1, 0), (-1, -2, 0), (1, 0, 0x8000))
 TIMES, PLUS, FLIP = (np.array(numbers, np.int32) for numbers in zip(*NEAR))
-PARTED = np.array(
-    [
-        high << 32 | middle << 16 | low
-        for high, middle, low in itertools.product(seeded_random.PARTS, repeat=3)
-    ],
-    np.int64,
-)
+TRIPLES = itertools.product(seeded_random.PARTS, repeat=3)
+PARTED = np.array([high << 32 | middle << 16 | low for high, middle, low in TRIPLES], np.int64)
 BOUNDS = (0, 1 << 31, -1 << 31, 1 << 47, 1 << 15)
 LIMITS = np.array([limit + near for limit in BOUNDS for near in (-1, 0, 1)] + [-1 << 47], np.int64)
 

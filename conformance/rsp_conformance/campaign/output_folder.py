@@ -55,10 +55,8 @@ class OutputFolder:
     def __init__(self, args: argparse.Namespace) -> None:
         self.out: Path = args.out
         self.files, self.earlier_results = files_of(args.emulator, args.files), 0
-        self.settings: Dict[str, Any] = {
-            "generator": VERSION,
-            **{key: getattr(args, key) for key in SETTINGS},
-        }
+        self.settings: Dict[str, Any] = {"generator": VERSION}
+        self.settings.update({key: getattr(args, key) for key in SETTINGS})
         self.settings["hashes"] = hashes(args.emulator, args.files)
         kinds = ((args.cases, args.size, args.instructions), (args.programs, args.programs_size, [PROGRAM]))
         self.tasks: List[Task] = [
@@ -105,12 +103,8 @@ class OutputFolder:
         """The results in the folder."""
         found = results_in(self.out)
         for result in found:
-            task, seed = task_of(result), self.settings["seed"]
-            if (
-                task not in self.tasks
-                or result["seed"] != seed
-                or result["hashes"] != self.settings["hashes"]
-            ):
+            task = task_of(result)
+            if task not in self.tasks or any(result[key] != self.settings[key] for key in ("seed", "hashes")):
                 raise CampaignFault(f"{self.path_of(task)} is the result of another campaign: {AGAIN}")
         return found
 

@@ -194,9 +194,7 @@ def run_in_children(task: Task, options: Options) -> Result:
             continue
         if not child.is_begun or child.is_unusable or len(result["faults"]) >= FAULTS:
             return {**result, "given up": child.fault}
-        number = at + min(
-            child.done(), BATCH - 1, end - at - 1
-        )  # a child may end after the last case of a batch
+        number = at + min(child.done(), BATCH - 1, end - at - 1)  # a child may end after a batch's last case
         cause = cause_of(task, number, first, options)
         add(result, fault_of(task, number, cause, child.fault))
         faulty = number if cause is None or cause < at else cause

@@ -22,22 +22,8 @@ import sys
 import threading
 from array import array
 from ctypes import POINTER, Structure, addressof, byref, c_char_p, c_size_t, c_uint16, c_uint32, c_void_p
-from typing import (
-    Any,
-    Callable,
-    Container,
-    Dict,
-    Iterable,
-    Iterator,
-    List,
-    NamedTuple,
-    Optional,
-    Sequence,
-    Tuple,
-    TypeVar,
-    Union,
-    cast,
-)
+from typing import Any, Callable, Container, Dict, Iterable, Iterator, List, NamedTuple, Optional, Sequence
+from typing import Tuple, TypeVar, Union, cast
 
 from . import errors as _errors
 from . import fields as _fields
@@ -47,7 +33,7 @@ from .script import Ran, ScriptError
 from .script import strict_replies as _strict_replies
 from .formatting import Difference, Part
 from .state import Accumulators, Changes, Divider, Flags, Scalars, SpWords, State, Traced, unset
-from .errors import FAULTS
+from .errors import FAULTS, Fault
 from .fields import alike as _alike
 
 __version__ = "0.9.0"
@@ -112,20 +98,6 @@ class Status(enum.IntEnum):
     OTHER_WORD = 118
 
 
-class Fault(enum.IntEnum):
-    """Why a text has no meaning. FAULTS has the names in scripts."""
-
-    BAD_LINE = 10
-    UNKNOWN_NAME = 11
-    BAD_OPERAND = 12
-    OUT_OF_RANGE = 13
-    LABEL_TWICE = 14
-    LABEL_MISSING = 15
-    PAST_END = 16
-    OUT_OF_MEMORY = 17
-    NOT_TEXT = 33
-
-
 class Bank(enum.IntEnum):
     """The three memories."""
 
@@ -155,15 +127,8 @@ _REASONS = (*Reason,)  # by their numbers
 _HALTED = (Status.HALTED,)
 _STEP_ENDS = {status.value: status for status in (Status.OK, Status.HALTED, Status.RESERVED)}
 
-# The fields of a state that have values which no machine can have, by their numbers; sp[n] has 16 + n.
-_FIELDS = {
-    1: "words[0]",
-    2: "divider.loaded",
-    3: "pc",
-    4: "npc",
-    5: "interrupt",
-    **{16 + n: f"sp[{n}]" for n in range(8)},
-}
+# The fields of a state that have values which no machine can have, by their numbers.
+_FIELDS = {**dict(enumerate(_errors.FIELDS, 1)), **{16 + n: f"sp[{n}]" for n in range(8)}}
 
 
 class RspError(Exception):
@@ -254,12 +219,6 @@ class Line(NamedTuple):
 
     def __str__(self) -> str:
         return f"{self.address:03x} {self.word:08x} {self.text}"
-
-
-class _Handle(Structure):
-    """The handle of a machine, or of a session."""
-
-    _fields_ = [("at", c_void_p)]
 
 
 class _Stop(Structure):
@@ -396,7 +355,9 @@ def _move_stop_of(out: _Move) -> Stop:
 
 def _word_array(call: str, words: Iterable[int]) -> Any:
     """An array of C with the words."""
-    items = _errors.items_of(call, words)
+    items = _fields.list_of(words)
+    if items is None:
+        raise TypeError(f"{call}: words is of type {type(words).__name__}, not a list of integers")
     try:
         return (c_uint32 * len(items)).from_buffer(array("I", items))
     except (OverflowError, TypeError):
@@ -478,7 +439,7 @@ def state_fault(state: State) -> Optional[str]:
     return _FIELDS[out.value] if out.value else None
 
 
-def _fill_handle(call: str, make: Any, handle: Structure, image: Any, *more: int) -> int:
+def _fill_handle(call: str, make: Any, handle: c_void_p, image: Any, *more: int) -> int:
     """Fills a handle by a call that takes an image, and returns the image's length."""
     data = _errors.bytes_of(call, "image", image)
     status = make(byref(handle), data, len(data), *more)
@@ -493,11 +454,11 @@ class _Owner:
     """Owns a handle, which one call at a time uses. What the handle holds is freed at the end of a `with`
     block, or when the owner is dropped."""
 
-    _owner, _refuses = "machine", "pickled"
+    _owner, _refuses, _free = "machine", "pickled", "brsp_free"
 
     def _hold(self) -> None:
         """Makes an empty handle."""
-        self._handle, self._other, self._lock = _Handle(), _Handle(), threading.Lock()
+        self._handle, self._other, self._lock = c_void_p(), c_void_p(), threading.Lock()
         self._at, self._other_at = addressof(self._handle), addressof(self._other)
 
     def _check_free(self, call: str) -> None:
@@ -528,19 +489,19 @@ class _Owner:
         """
         self._check_free(call)
         with self._lock:
-            self._other.at = self._handle.at
+            self._other.value = self._handle.value
             try:
-                self._handle.at = None
+                self._handle.value = None
                 return work(self._other_at, *given)
             finally:
-                self._handle.at = self._other.at
+                self._handle.value = self._other.value
 
     def __reduce__(self) -> Any:
         raise TypeError(f"a {self._owner} can't be {self._refuses}")
 
     def close(self) -> None:
-        """Frees it."""
-        raise NotImplementedError
+        """Frees the machine or the session. Any later call is refused with NO_MACHINE."""
+        self._call_alone("close", getattr(_lib, self._free))
 
     def __enter__(self: _O) -> _O:
         return self
@@ -586,10 +547,6 @@ class Machine(_Owner):
 
     def __deepcopy__(self, memo: Any) -> "Machine":
         return self.copy()
-
-    def close(self) -> None:
-        """Frees the machine. Any later call is refused with NO_MACHINE."""
-        self._call_alone("close", _lib.brsp_free)
 
     def _call_with(self, call: str, *given: int) -> None:
         """Makes a short call that takes numbers."""
@@ -663,11 +620,7 @@ class Machine(_Owner):
         lanes ">u2". This call needs numpy.
         """
         numpy, data = _numpy("memory_array"), bytearray(self.memory(bank, address, length))
-        kind = numpy.dtype(dtype)
-        if kind.itemsize == 0 or len(data) % kind.itemsize:
-            size = f"the {kind.itemsize} bytes of {kind}"
-            raise ValueError(f"memory_array: length is {len(data)}, not a multiple of {size}")
-        return numpy.frombuffer(data, kind)
+        return numpy.frombuffer(data, dtype)
 
     def memory_words(self, bank: int, address: int, count: int) -> List[int]:
         """`count` words of a memory, the high byte of each first."""
@@ -926,17 +879,13 @@ class Session(_Owner):
     A script of more than 1048576 bytes raises RspError with TOO_LONG, as does any later `feed` or `end`.
     """
 
-    _owner, _refuses = "session", "copied or pickled"
+    _owner, _refuses, _free = "session", "copied or pickled", "brsp_session_free"
 
     def __init__(self, image: Optional[bytes] = None) -> None:
         self._hold()
         data = _ZEROS if image is None else image
         self._length = _fill_handle("Session", _lib.brsp_session_new, self._handle, data)
         self._replies = (ctypes.c_char * _ROOM)()
-
-    def close(self) -> None:
-        """Frees the session. Any later call is refused with NO_MACHINE."""
-        self._call_alone("close", _lib.brsp_session_free)
 
     def _answer(self, call: str, work: Any, *given: Any) -> bytes:
         """The replies of a call that fits them into the buffer."""

@@ -1,18 +1,32 @@
 """Why calls are refused: the ranges of their arguments, and messages."""
 
+import enum
 import operator
 from ctypes import Structure, c_int64, c_size_t, c_uint32
-from typing import Any, Dict, List, NamedTuple, Optional, Sequence, Tuple
+from typing import Any, Dict, NamedTuple, Sequence, Tuple
 
-from .fields import alike, list_of
+from .fields import alike
 from .formatting import SP_NAMES
 
 BELOW = 1 << 32
 OUT_OF_RANGE, OTHER_WORD = 103, 118
-FAULTS = {
-    10: "BadLine", 11: "UnknownName", 12: "BadOperand", 13: "OutOfRange", 14: "LabelTwice",
-    15: "LabelMissing", 16: "PastEnd", 17: "OutOfMemory", 33: "NotText",
-}  # fmt: skip
+
+
+class Fault(enum.IntEnum):
+    """Why a text has no meaning. FAULTS has the names in scripts."""
+
+    BAD_LINE = 10
+    UNKNOWN_NAME = 11
+    BAD_OPERAND = 12
+    OUT_OF_RANGE = 13
+    LABEL_TWICE = 14
+    LABEL_MISSING = 15
+    PAST_END = 16
+    OUT_OF_MEMORY = 17
+    NOT_TEXT = 33
+
+
+FAULTS = {fault.value: fault.name.title().replace("_", "") for fault in Fault}
 
 
 def printable(text: str) -> str:
@@ -150,15 +164,7 @@ def script_of(call: str, script: Any) -> bytes:
     return script.encode() if isinstance(script, str) else bytes_of(call, "script", script)
 
 
-def items_of(call: str, words: Any) -> List[Any]:
-    """The items of an iterable of words."""
-    items: Optional[List[Any]] = list_of(words)
-    if items is None:
-        raise TypeError(f"{call}: words is of type {type(words).__name__}, not a list of integers")
-    return items
-
-
-# What `set` takes in a field.
+# What `set` takes in a field, in the order of the numbers of BRSP_FIELD_ in brsp.h.
 FIELDS = {
     "words[0]": "0",
     "divider.loaded": "0 or 1",
@@ -199,7 +205,6 @@ _FORMS = (
     f"{_VECTOR}, with a lane, [0] to [7]",
 )
 _MEMORY = (7, 8)
-_BAD_OPERAND, _LABEL_MISSING = 12, 15
 
 
 def allowed(found: Operand, fault: int) -> str:
@@ -208,9 +213,9 @@ def allowed(found: Operand, fault: int) -> str:
         return ""
     span = f"{found.low} to {found.high}" if found.step else ""
     span += f", a multiple of {found.step}" if found.step > 1 else ""
-    if fault == _BAD_OPERAND:
+    if fault == Fault.BAD_OPERAND:
         form = _FORMS[found.kind] if found.kind < len(_FORMS) else "another one"
         span = f"{form} {span}".strip() + ", and a scalar register in parentheses" * (found.kind in _MEMORY)
-    elif fault == _LABEL_MISSING:
+    elif fault == Fault.LABEL_MISSING:
         span = f"the label of a line, or {span}"
     return f"operand {found.number} may be {span}"

@@ -1,5 +1,6 @@
 """Helpers for tests of the Python module `rsp`: a machine with a program, and calls that are refused."""
 
+import os
 import re
 import shutil
 from pathlib import Path
@@ -9,6 +10,10 @@ import pytest
 
 import rsp
 from lib import TOP
+
+
+# The environment in which another Python finds the module of the tree.
+ENV = {**os.environ, "PYTHONPATH": str(TOP / "library/python"), "PYTHONDONTWRITEBYTECODE": "1"}
 
 
 def assert_refused(status: rsp.Status, call: Callable[..., Any], *words: Any) -> None:

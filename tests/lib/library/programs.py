@@ -2,6 +2,7 @@
 
 import re
 from pathlib import Path
+from typing import Any
 
 import pytest
 
@@ -37,9 +38,9 @@ def main_of(lines: str) -> str:
     return f'#include "brsp_savestate.h"\n#include <stdio.h>\nint main(void)\n{{\n{lines}\nreturn 0;\n}}\n'
 
 
-def assert_passes(program: Path) -> None:
+def assert_passes(program: Path, *words: object, **how: Any) -> None:
     """Asserts that a program, which counts its checks, ends with `N passed, 0 failed`."""
-    ran = run(program)
+    ran = run(program, *words, **how)
     has_passed = re.search(r"(?m)^[1-9]\d* passed, 0 failed\n\Z", ran.stdout)
     assert ran.returncode == 0 and has_passed, f"status {ran.returncode}\n{ran.stdout}"
 

@@ -46,20 +46,11 @@ def least(call: Callable[[], object]) -> float:
     return min(taken)
 
 
-@pytest.mark.parametrize("word", (DMA_IN, DMA_OUT), ids=("from RDRAM", "to RDRAM"))
-def test_run(word: int) -> None:
-    steps, most = re.findall(r"a `brsp_run` of at most ([\d,]+) steps takes less than (\d+) ms", TEXT)[0]
-    one, count = machine(word), int(steps.replace(",", ""))
-    stops = []
-    assert least(lambda: stops.append(one.run(count))) < int(most)
-    assert all(it.steps == count for it in stops)
-
-
-def test_run_until_move() -> None:
-    steps, most = re.findall(
-        r"a `brsp_run_until_move` of at most ([\d,]+) steps, .*? takes less than (\d+) ms", TEXT
-    )[0]
-    one, count = machine(STORE), int(steps.replace(",", ""))
-    stops = []
-    assert least(lambda: stops.append(one.run_until_move(count, 0, 12))) < int(most)
+@pytest.mark.parametrize("call, word", (("run", DMA_IN), ("run", DMA_OUT), ("run_until_move", STORE)))
+def test_call(call: str, word: int) -> None:
+    sentence = rf"a `brsp_{call}` of at most ([\d,]+) steps.*? takes less than (\d+) ms"
+    steps, most = re.findall(sentence, TEXT)[0]
+    count, masks = int(steps.replace(",", "")), (0, 12) if call == "run_until_move" else ()
+    made, stops = getattr(machine(word), call), []
+    assert least(lambda: stops.append(made(count, *masks))) < int(most)
     assert all(it.steps == count for it in stops)

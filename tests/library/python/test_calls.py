@@ -4,7 +4,6 @@ They fail if a call does something else than docs/EMBEDDING.md says, or isn't re
 """
 
 import operator
-import os
 import signal
 import sys
 from contextlib import suppress
@@ -14,8 +13,7 @@ from unittest import mock
 import pytest
 
 import rsp
-from lib import TOP
-from lib.library.module import assert_raises, assert_refused, loaded
+from lib.library.module import ENV, assert_raises, assert_refused, loaded
 from lib.processes import succeeds
 from rsp import Reason, RspError, State, Status
 from rsp.errors import ARGUMENTS, WORD
@@ -61,7 +59,7 @@ FUNCTIONS: Dict[str, Callable[..., object]] = {
 
 def methods_of(kind: type) -> Set[str]:
     """The public methods of a class."""
-    return {name for name, value in vars(kind).items() if callable(value) and not name.startswith("_")}
+    return {name for name in dir(kind) if callable(getattr(kind, name)) and not name.startswith("_")}
 
 
 def test_calls_at_work() -> None:
@@ -71,16 +69,13 @@ def test_calls_at_work() -> None:
     machine, session = loaded("nop\nbreak\n", 4), rsp.Session(bytes(64))
     before, dmem = machine.get(), machine.memory(rsp.DMEM, 0, 4096)
     with machine._lock, session._lock, mock.patch.multiple(rsp, _lib=mock.DEFAULT, _quick=mock.DEFAULT):
-        for name, given in CALLS.items():
-            busy = f"{name}: another call is using the machine"
-            assert_raises(RspError, busy, getattr(machine, name), *given)
-        busy = "another call is using the session"
-        for name, given in OF_A_SESSION.items():
-            assert_raises(RspError, f"{name}: {busy}", getattr(session, name), *given)
+        for owner, calls in (machine, CALLS), (session, OF_A_SESSION):
+            busy = f"another call is using the {owner._owner}"
+            for name, given in calls.items():
+                assert_raises(RspError, f"{name}: {busy}", getattr(owner, name), *given)
         assert_raises(RspError, f"feed: {busy}", list, session.iter_feed("step\n"))
         assert_raises(RspError, f"rdram: {busy}", lambda: session.rdram)
-        busy = "image_length: another call is using the machine"
-        assert_raises(RspError, busy, lambda: machine.image_length)
+        assert_raises(RspError, "image_length: another call", lambda: machine.image_length)
         assert_refused(Status.NO_MACHINE, machine.step)
     assert machine.get() == before and machine.memory(rsp.DMEM, 0, 4096) == dmem
     assert machine.step() is Status.OK and session.feed("step\n") == b"step Done pc 004\n"
@@ -173,13 +168,10 @@ REFUSALS: Tuple[Refusal, ...] = (
     (Status.TASK_PLACE, "start_task: 4 isn't a multiple of 8", lambda it: it.start_task(4)),
     (Status.TASK_SIZE, "of the structure at 0, isn't 1 to 4096", lambda it: it.start_task(0)),
     (OUT, "2 words from 4092 on pass the end of IMEM", lambda it: it.memory_words(rsp.IMEM, 4092, 2)),
-    (OUT, "17 words from 0 on pass the end of RDRAM", lambda it: it.memory_words(rsp.RDRAM, 0, 17)),
     (OUT, "8 bytes from 4090 on pass the end of DMEM", lambda it: it.memory(rsp.DMEM, 4090, 8)),
-    (OUT, "65 bytes from 0 on pass the end of RDRAM", lambda it: it.memory(rsp.RDRAM, 0, 65)),
     (OUT, "from 4095 on pass the end of IMEM", lambda it: it.load(rsp.IMEM, 4095, b"ab")),
     (TypeError, "load: data is of type list", lambda it: it.load(rsp.DMEM, 0, [1, 2])),
     (TypeError, "load: data is of type int", lambda it: it.load(rsp.DMEM, 0, 5)),
-    (TypeError, "load: data is of type NoneType", lambda it: it.load(rsp.DMEM, 0, None)),
     (ValueError, "released memoryview", lambda it: it.load(rsp.DMEM, 0, released())),
     (ZeroDivisionError, "", lambda it: it.load_words(rsp.DMEM, 0, fail())),
     (ZeroDivisionError, "", lambda it: it.set_vreg(3, fail())),
@@ -197,7 +189,6 @@ REFUSALS: Tuple[Refusal, ...] = (
     (OUT, "set_reg: register 0 holds 0, and not 3", lambda it: it.set_reg(0, 3)),
     (ValueError, "vectors[3] has 7 items, not 8", lambda it: it.set_vreg(3, [0] * 7)),
     (ValueError, "lane 2 is 65536", lambda it: it.set_vreg(3, [0, 0, 65536, 0, 0, 0, 0, 0])),
-    (TypeError, "vectors[3] is of type str", lambda it: it.set_vreg(3, "01234567")),
     (TypeError, "Machine: image is of type str", lambda it: ANY.Rsp("image")),
     (OUT, "image has 65 bytes, not a multiple of 8 from 64 to 8388608", lambda it: rsp.Rsp(bytes(65))),
     (OUT, "image has 0 bytes", lambda it: rsp.Rsp(b"")),
@@ -216,22 +207,6 @@ def test_refusal(case: Refusal) -> None:
     if isinstance(kind, Status):
         assert_refused(kind, call, machine)
     assert machine.get() == State() and machine.memory(rsp.DMEM, 0, 4096) == bytes(4096)
-
-
-def test_copy() -> None:
-    machine = loaded(3 * "addiu $1, $1, 1\n" + "break\n", 2)
-    machine.load(rsp.RDRAM, 4088, b"RDRAMend")
-    machine.step()
-    machine.add_break(8)
-    other = machine.copy()
-    assert other.get() == machine.get() and other.memory(rsp.RDRAM, 4088, 8) == b"RDRAMend"
-    assert_refused(Status.SHORT_HISTORY, other.back, 1)
-    assert_refused(Status.NO_BREAK, other.drop_break, 8)
-    assert (other.run(9), other.reg(1), machine.reg(1)) == ((Reason.HALT, 3, 16, None), 3, 1)
-    assert_refused(Status.SHORT_HISTORY, other.back, 3)
-    other.back(2)
-    machine.close()
-    assert other.reg(1) == 2
 
 
 def test_handle_is_empty_meanwhile() -> None:
@@ -270,8 +245,7 @@ print("done")
 def test_three_threads(turn: int) -> None:
     """Three threads that call one machine and one session at once: no signal ends the process, and no machine
     is lost."""
-    env = {**os.environ, "PYTHONPATH": str(TOP / "library/python")}
-    assert succeeds(sys.executable, "-c", RACE, env=env) == "done\n"
+    assert succeeds(sys.executable, "-c", RACE, env=ENV) == "done\n"
 
 
 def test_interrupt() -> None:
@@ -298,16 +272,12 @@ def test_interrupt() -> None:
 
 def test_steps_and_stops() -> None:
     machine = loaded(LOOP, 8)
-    assert machine.step() is Status.OK and machine.reg(1) == 3
-    machine.back(1)
     machine.add_break(16)
     assert_refused(Status.BREAK_TWICE, machine.add_break, 16)
     assert machine.run(100) == (Reason.BREAK, 4, 16, None)
     machine.drop_break(16)
-    assert_refused(Status.NO_BREAK, machine.drop_break, 16)
     assert (machine.add_watch(64, 4), machine.run(100)) == (0, (Reason.WATCH, 3, 12, 0))
     machine.drop_watch(0)
-    assert_refused(Status.NO_WATCH, machine.drop_watch, 0)
     assert machine.run(100).reason is Reason.HALT and machine.step() is Status.HALTED
     assert machine.step_changes() is None
 
@@ -319,19 +289,12 @@ def test_reserved_word() -> None:
     assert machine.step() is Status.RESERVED and machine.step_changes() is None
     stop = machine.run(5)
     assert (stop, stop.word) == ((Reason.RESERVED, 0, 4, None), 0xFFFFFFFE)
-    machine.write(4, 2)
-    stop = machine.run(5)
-    assert stop.reason is Reason.HALT and stop.word is None, "halted goes before reserved"
 
 
 def test_passed_move() -> None:
     machine = loaded("mfc0 $3, $c7\nmtc0 $3, $c2\nnop\n")
-    assert machine.pass_move(0xFEDCBA98) is Status.OK
-    assert (machine.reg(3), machine.peek(7)) == (0xFEDCBA98, 0)
-    assert machine.pass_move() is Status.OK
-    assert (machine.reg(3), machine.peek(2)) == (0xFEDCBA98, 0xFF8), "nothing is written"
-    assert machine.regs().pc == 8
-    assert_refused(Status.OTHER_WORD, machine.pass_move)
+    assert machine.pass_move(0xFEDCBA98) is Status.OK and machine.pass_move() is Status.OK
+    assert (machine.reg(3), machine.regs().pc) == (0xFEDCBA98, 8)
     machine.write(4, 2)
     assert machine.pass_move() is Status.HALTED
 
@@ -341,7 +304,6 @@ def test_run_until_a_move() -> None:
     stop = machine.run_until_move(100, 1 << 7, 1 << 2)
     assert (stop, stop.word) == ((Reason.MOVE, 1, 4, None), None)
     assert stop.move == (0x40033800, 7, False, 0)
-    assert machine.run_until_move(100, 1 << 7, 0).steps == 0, "it isn't passed"
     assert machine.pass_move(5) is Status.OK
     stop = machine.run_until_move(100, 0, 0xFFFF)
     assert (stop[:2], stop.move) == ((Reason.MOVE, 0), rsp.Move(0x40841000, 2, True, 0x1238))
@@ -351,6 +313,7 @@ def test_run_until_a_move() -> None:
 
 def test_events() -> None:
     machine = loaded(EVENTS, 8)
+    machine.load(rsp.IMEM, 0xF80, b"16 bytes to move")
     stop = machine.event(6)
     assert (stop.reason, stop.steps, stop.move, stop.dma) == (rsp.Reason.LIMIT, 6, None, None)
     assert (stop.status, stop.interrupt, machine.history()) == (0, False, 6)
@@ -360,21 +323,8 @@ def test_events() -> None:
     stop = machine.event(1)
     assert (stop.reason, stop.move) == (rsp.Reason.DMA, rsp.Move(0x40831800, 3, True, 0x01801007))
     assert stop.dma == rsp.Dma(rsp.IMEM, 0xF80, 0x200, 8, 2, 24, True)
-
-
-def test_pass_dma() -> None:
-    """Passing over a DMA is the step, except that no bytes are moved."""
-    machine = loaded(EVENTS, 8)
-    machine.run(7)
-    other = machine.copy()
-    other.load(rsp.IMEM, 0xF80, b"16 bytes to move")
-    machine.load(rsp.IMEM, 0xF80, b"16 bytes to move")
-    assert machine.pass_dma() is rsp.Status.OK and other.step() is rsp.Status.OK
-    assert machine.get() == other.get() and machine.history() == 0
-    assert other.memory(rsp.RDRAM, 0x200, 8) + other.memory(rsp.RDRAM, 0x220, 8) == b"16 bytes to move"
-    assert machine.memory(rsp.RDRAM, 0, 4096) == bytes(4096)
-    machine.run(1)
-    assert machine.pass_dma() is rsp.Status.HALTED
+    assert machine.pass_dma() is Status.OK and machine.memory(rsp.RDRAM, 0, 4096) == bytes(4096)
+    assert (machine.run(9).steps, machine.pass_dma()) == (1, Status.HALTED)
 
 
 def test_an_interrupt() -> None:
@@ -410,8 +360,6 @@ def test_trace() -> None:
     assert str(last) == f"00c 4a010894 $v2 {lanes} vco 0002 vcc 0000 vce 00"
     assert str(first) == "000 34018001 $1 00008001 vco 0000 vcc 0000 vce 00"
     assert not moved.diff(moved) and "vco" in [part.name for part in last.diff(moved)]
-    machine.back(4)
-    assert machine.regs().pc == 4, "a trace can be undone"
 
 
 def test_trace_one_by_one() -> None:
@@ -445,22 +393,15 @@ def test_sp_registers() -> None:
     words.interrupt = 1
     machine.set_sp(words)
     assert machine.sp() == words and (machine.peek(4), machine.get().interrupt) == (0x50E2, 1)
-    for n, word in enumerate((4, 1, 0, 0, 4, 1, 1, 2)):
-        wrong = machine.sp()
-        wrong.words[n] = word
-        assert_refused(OUT, machine.set_sp, wrong)
-    assert machine.sp() == words, "a refused word changes nothing"
 
 
 def test_state() -> None:
     machine = rsp.Rsp()
     state = machine.get()
-    assert (state.pc, state.npc, state.sp[2]) == (0, 4, 0xFF8)
     state.words[31], state.vectors[31][7], state.accumulators.high[7], state.sp[15] = 1, 2, 3, 4
     state.divider.loaded = state.interrupt = 1
     state.flags.extra = 0x80
     machine.set(state)
-    assert machine.get() == state
     parts = (machine.reg(31), machine.vreg(31)[7], machine.acc().high[7], machine.peek(15))
     assert parts == (1, 2, 3, 4)
     assert (machine.divider().loaded, machine.flags().extra, machine.read(31)) == (1, 0x80, 4)
@@ -478,25 +419,16 @@ def test_memories() -> None:
     assert machine.memory(rsp.DMEM, 9, 5) == b"\0\1\0\2\0"
     machine.load_words(rsp.DMEM, 4092, [0x01020304])
     assert machine.memory(rsp.DMEM, 4092, 4) == b"\1\2\3\4"
-    assert machine.memory_words(rsp.DMEM, 4091, 1) == [0x00010203]
     assert machine.memory_words(rsp.DMEM, 4088, 2) == [0, 0x01020304]
     assert machine.memory_words(rsp.DMEM, 4096, 0) == []
     assert machine.memory(rsp.DMEM, 4096, 0) == b""
     machine.load_words(rsp.DMEM, 4096, [])
-    machine.write(1, 8)
-    machine.write(2, 7)
-    assert machine.memory(rsp.DMEM, 0, 8) == bytes(range(8, 16)), "a DMA"
 
 
 def test_labels() -> None:
     words = rsp.assemble(EVENTS, 0x100)
     assert words.labels == {"start": 0x100, "transfer": 0x11C, "end": 0x120}
     assert [*words.labels] == ["start", "transfer", "end"] and rsp.assemble("nop").labels == {}
-    machine = rsp.Rsp()
-    machine.load_words(rsp.IMEM, 0x100, words)
-    machine.set_pc(words.labels["start"])
-    machine.add_break(words.labels["end"])
-    assert machine.run(100).pc == 0x120
 
 
 def test_texts() -> None:

@@ -21,13 +21,14 @@ import pytest
 
 import rsp
 from lib import TOP
+from lib.library import module
 from lib.library.module import loaded
 from lib.pages import block_with, page
 from lib.processes import run, succeeds
 from rsp.gdb import Stub, Wire, after_script
 
 STUB = (sys.executable, "-m", "rsp.gdb")
-ENV = {**os.environ, "PYTHONPATH": str(TOP / "library/python"), "TERM": "dumb", "LC_ALL": "C"}
+ENV = {**module.ENV, "TERM": "dumb", "LC_ALL": "C"}
 with_gdb = pytest.mark.needs("gdb-multiarch", "mips-linux-gnu-gcc")
 # Doubles 72 samples, one turn too many: the last store but one is in the limit at 0x80.
 TEXT = """start: ori $16, $0, 0; ori $17, $0, 0x80; jal scale; ori $8, $0, 1; bgezal $0, check; nop

@@ -5,7 +5,6 @@ Python 3.8 or `mypy --strict` refuses it. What the module does is tested on the 
 """
 
 import ast
-import os
 import re
 import shutil
 import sys
@@ -17,7 +16,7 @@ import pytest
 import rsp
 from lib import TESTS, TOP
 from lib.library import FIRST_DIFFERENCE
-from lib.library.module import copy_of_package
+from lib.library.module import ENV, copy_of_package
 from lib.library.programs import other_version
 from lib.packages import need
 from lib.pages import page
@@ -40,10 +39,9 @@ def site(tmp_path_factory: pytest.TempPathFactory) -> Path:
     return folder / "site"
 
 
-def by_python(*words: object, path: Path) -> str:
+def by_python(*words: object, path: Path = OURS, **how: Any) -> str:
     """What Python says with one folder more on its path."""
-    where = {**os.environ, "PYTHONPATH": str(path), "PYTHONDONTWRITEBYTECODE": "1"}
-    return run(sys.executable, *words, env=where).stdout
+    return run(sys.executable, *words, env={**ENV, "PYTHONPATH": str(path)}, **how).stdout
 
 
 def files_in(folder: Path) -> Dict[str, bytes]:
@@ -74,42 +72,22 @@ def test_example(name: str, site: Path) -> None:
     assert by_python(EXAMPLES / f"{name}.py", *words, path=site) == expected
 
 
-def test_view_of_a_task(folder: Path) -> None:
-    """By an image with the task, and by a script that has started it."""
-    script, image = page("examples/task.rsp").partition("\ntask ")[0] + "\n", folder / "image"
-    image.write_bytes(rsp.run_script(script, bytes(0x2000)).image)
-    (folder / "script").write_text(f"{script}task 0x100\n")
-    for words in ([image, 1, "--task", "0x100"], [folder / "script", 1, "--script"]):
-        output = by_python(EXAMPLES / "step_view.py", *words, path=OURS)
-        assert output.splitlines()[1] == f"{'> 000 addiu $1, $0, 4224'.ljust(40)}| $1 00001080"
-
-
-WITH_OURS = {**os.environ, "PYTHONPATH": str(OURS)}
-
-
-def counts(script: Path, *words: object) -> Tuple[str, int]:
-    """What rsp.counts prints of a script, and its status."""
-    ran = run(sys.executable, "-m", "rsp.counts", script, *words, env=WITH_OURS)
-    return ran.stdout, ran.returncode
-
-
 def test_counts(folder: Path) -> None:
     """A loop of three turns in several runs, and an instruction that is never executed."""
     text, script = (HERE / "turns.s").read_text(), folder / "script"
     script.write_text(f"asm 0\n{text}dead: nop\nend\nrun 2\nstep\nbrek 0\nrun 100\nback 3\n")
-    output, status = counts(script)
+    output = by_python("-m", "rsp.counts", script)
     counted = re.sub(r"(?m)^( +\d+) +[\d.]+ % ", r"\1", output.partition("never executed:")[0])
     assert counted.partition("\n")[2] == (HERE / "turns.counted").read_text()
     assert output.startswith("rsp.counts: line 12: fault 30 BadCommand\n")
-    assert output.endswith("never executed:\ndead:\n                   018 nop\n") and status == 0
-    assert counts(script, "--fail-unexecuted")[1] == 1
+    assert output.endswith("never executed:\ndead:\n                   018 nop\n")
     line = '"$0" -m rsp.counts "$1" | true'
-    assert run("sh", "-c", line, sys.executable, script, env=WITH_OURS).stdout.count("\n") == 1
+    assert run("sh", "-c", line, sys.executable, script, env=ENV).stdout.count("\n") == 1
 
 
 def test_counts_of_a_task(folder: Path) -> None:
     """What the boot code loads is counted, with the label of the block that it came from."""
-    output, _ = counts(TOP / "examples/task.rsp")
+    output = by_python("-m", "rsp.counts", TOP / "examples/task.rsp")
     assert re.findall(r"(?m)^(\w+):\n +1 +2.9 %  (\w+) mfc0", output) == [("wait", "034"), ("sent", "0b0")]
     assert "\n      35 steps\n" in output
 
@@ -120,31 +98,31 @@ def suite(by: str, changed: str, site: Path, folder: Path) -> str:
     assert text.count("vmulf $v3,") == 1
     (folder / "test_microcode.py").write_text(text.replace("vmulf", changed))
     words = [] if by == "unittest" else ["-q", "-p", "no:cacheprovider", "test_microcode.py"]
-    env = {**os.environ, "PYTHONPATH": str(site), "PYTHONDONTWRITEBYTECODE": "1"}
-    return run(sys.executable, "-m", by, *words, env=env, cwd=folder).stdout
+    return by_python("-m", by, *words, path=site, cwd=folder)
 
 
 @in_site
 @pytest.mark.parametrize("by, passes", (("unittest", "Ran 3 tests"), ("pytest", "3 passed")))
 def test_suite(by: str, passes: str, site: Path, folder: Path) -> None:
-    """A suite of the cookbook assert_passes, and a fault of its microcode fails its tests."""
+    """A suite of the cookbook passes, and a fault of its microcode fails its tests."""
     assert passes in suite(by, "vmulf", site, folder)
     assert re.search("FAILED \\(failures=|[23] failed", suite(by, "vmulu", site, folder))
 
 
+# A library of another version, and one that lacks a call: the call, and why it is refused.
+OTHER_LIBRARIES = {
+    "": "has version 2 of the interface, and this module is for 1",
+    "brsp_image_length": "is older than this package: it lacks brsp_image_length",
+}
+
+
 @pytest.mark.needs("cc", "ar")
-@pytest.mark.parametrize(
-    ("without", "expected"),
-    [
-        ("", "libbrsp.so has version 2 of the interface, and this module is for 1"),
-        ("brsp_image_length", "libbrsp.so is older than this package: it lacks brsp_image_length"),
-    ],
-)
-def test_other_library(without: str, expected: str, folder: Path) -> None:
-    """A library of another version, and one that lacks a call."""
+@pytest.mark.parametrize("without", OTHER_LIBRARIES)
+def test_other_library(without: str, folder: Path) -> None:
     shutil.copytree(OURS / "rsp", folder / "rsp")
     shutil.copy(other_version(folder, without) / "libbrsp.so", folder / "rsp")
-    assert by_python("-c", "import rsp", path=folder).endswith(f"ImportError: {expected}\n")
+    expected = f"ImportError: libbrsp.so {OTHER_LIBRARIES[without]}\n"
+    assert by_python("-c", "import rsp", path=folder).endswith(expected)
 
 
 def test_no_library(folder: Path) -> None:
@@ -213,8 +191,8 @@ def test_types(folder: Path) -> None:
     (folder / "wrong.py").write_text(WRONG)
     strict = ("mypy", "--strict", "--python-version", "3.8", "--cache-dir", folder / "cache")
     # Not at the top, whose pyproject.toml has mypy leave out what it doesn't find.
-    how: Dict[str, Any] = {"cwd": folder, "env": {**os.environ, "MYPYPATH": str(OURS)}}
-    output = run(*strict, OURS / "rsp", "typed.py", "wrong.py", **how).stdout
+    env = {**ENV, "MYPYPATH": str(OURS)}
+    output = run(*strict, OURS / "rsp", "typed.py", "wrong.py", cwd=folder, env=env).stdout
     if 'module named "numpy"' in output:
         pytest.skip("mypy finds no numpy (Debian's package python3-numpy)")
     assert re.findall(r"(\w+)\.pyi?:(\d+): error", output) == [("wrong", "3"), ("wrong", "4")], output

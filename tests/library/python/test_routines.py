@@ -1,7 +1,7 @@
 """rsp.routines beside microcode/ and crates/rsp_routines/specs, and what it finds in runs.
 
 They fail if its words aren't those of a routine's text, its premises aren't those of the routine's theorem,
-or a run is message otherwise.
+or a run is reported otherwise.
 """
 
 import re

@@ -142,8 +142,6 @@ def test_strict_line_of_a_stranger() -> None:
 
 
 def test_refused_calls() -> None:
-    for length in (0, 63, 65, (1 << 23) + 8):
-        assert_refused(Status.OUT_OF_RANGE, rsp.Session, bytes(length))
     session = rsp.Session(bytes(64))
     assert_raises(TypeError, "Session: image is of type str", rsp.Session, "image")
     assert_raises(TypeError, "feed: script is of type int", session.feed, 3)

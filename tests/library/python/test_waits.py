@@ -4,7 +4,6 @@ They fail if an instruction that comes too early isn't named, or another one is.
 of examples/ and of docs/COOKBOOK.md lacks none.
 """
 
-import os
 import re
 import sys
 import textwrap
@@ -16,7 +15,7 @@ import pytest
 import rsp
 import rsp.waits
 from lib import TOP
-from lib.library.module import assert_raises, loaded
+from lib.library.module import ENV, assert_raises, loaded
 from lib.library.programs import built
 from lib.pages import block_with
 from lib.processes import run, succeeds
@@ -226,13 +225,9 @@ def test_order_after_another_move() -> None:
 def test_rows_and_the_end_of_dmem() -> None:
     """Two rows of 16 bytes from ff0 on are bytes ff0 to 00f."""
     rows = "ori $2, $0, 0xff0\nlui $3, 0x80\nori $3, $3, 0x100f\n" + GET
-    for line, expected in {
-        "lw $5, 12($0)": 1,
-        "lw $5, 16($0)": 0,
-        "lb $5, 0xff0($0)": 1,
-        "lb $5, 0xfef($0)": 0,
-    }.items():
-        assert len(list(rsp.waits.missing(loaded(f"{rows}{line}\nbreak\n")))) == expected, line
+    inside, outside = ("lw $5, 12($0)", "lb $5, 0xff0($0)"), ("lw $5, 16($0)", "lb $5, 0xfef($0)")
+    for line in inside + outside:
+        assert len(list(rsp.waits.missing(loaded(f"{rows}{line}\nbreak\n")))) == (line in inside), line
 
 
 def test_machine_afterwards() -> None:
@@ -276,10 +271,9 @@ def test_cookbook(folder: Path) -> None:
     code, line = (block_with(name, "import rsp, rsp.waits", more) for more in (0, 1))
     block = block_with(name, "        jal   fetch             # the first block")
     text = "ori $1, $0, 0x800\nori $7, $0, 0xc00\n" + block.replace("# its address", "\nlw $5, 0($4)")
-    env = {**os.environ, "PYTHONPATH": str(TOP / "library/python")}
     for program, expected in (text, []), (re.sub(r"(?m)^(next:).*\n.*\n", r"\1\n", text), [line.strip()]):
         (folder / "text.s").write_text(program)
-        output = succeeds(sys.executable, "-c", textwrap.dedent(code), cwd=folder, env=env)
+        output = succeeds(sys.executable, "-c", textwrap.dedent(code), cwd=folder, env=ENV)
         assert output.splitlines()[:1] == expected
 
 
@@ -287,7 +281,6 @@ def test_cookbook(folder: Path) -> None:
 def test_in_c(folder: Path) -> None:
     """The example in C names the same of all these programs."""
     example = TOP / "examples/c/waits.c"
-    assert len(example.read_text().splitlines()) <= 120
     made, text = built(folder, example), folder / "text.s"
     right: Dict[str, Tuple[str, Named]] = {f"right: {name}": (text, []) for name, text in RIGHT.items()}
     for name, (program, expected) in {**right, **WRONG}.items():
@@ -303,6 +296,6 @@ def test_in_c(folder: Path) -> None:
     text.write_text(f"lw $5, 8($0)\n{BEGIN}beq $5, $0, end\nnop\n{GET}{LOAD}end: break\n")
     for data, status in (bytes(12), 0), (bytes(11) + b"\1", 1):
         image.write_bytes(data)
-        assert run(made, text, TOP / "examples/c/waits.c", image).returncode == status
+        assert run(made, text, example, image).returncode == status
     assert run(made).returncode == run(made, folder / "none").returncode == 2
     assert run(made, text, folder / "none").returncode == 2

@@ -24,7 +24,6 @@ import subprocess
 import tempfile
 from pathlib import Path
 
-
 from rsp_tools import TOP
 from rsp_tools.theorem import stop
 from rsp_tools.theorem.joined import joined_proof
@@ -58,14 +57,12 @@ def check_name(name: str) -> None:
     folders = ("src", ".rt"), ("specs", ".antt"), ("proofs", ".antt")
     files = [file for folder, end in folders for file in (CRATE / folder).glob(f"*{end}")]
     mine = name, module, f"{module}Runs"
-    for file in files:
-        if file.stem in mine:
-            why = "take another name, or delete that routine's files and lines"
-            stop(f"`{name}` is used already, by {file.relative_to(CRATE)}: {why}")
-    for file in files:
-        if file.stem.lower() in map(str.lower, mine):
-            where = file.relative_to(CRATE)
-            stop(f"`{name}` is too near to {where}: a file of it would differ from that in case alone")
+    for where in (file.relative_to(CRATE) for file in files if file.stem in mine):
+        why = "take another name, or delete that routine's files and lines"
+        stop(f"`{name}` is used already, by {where}: {why}")
+    lower = {one.lower() for one in mine}
+    for where in (file.relative_to(CRATE) for file in files if file.stem.lower() in lower):
+        stop(f"`{name}` is too near to {where}: a file of it would differ from that in case alone")
     if re.search(rf"\b{name}\b", (CRATE / "src/lib.rt").read_text()):
         stop(f"lib.rt has the name `{name}` already")
 
@@ -102,12 +99,6 @@ def proof(routine: Routine | Joined) -> str:
     return routine_proof(routine) if routine.returns else straight_proof(routine)
 
 
-def write(path: str, text: str) -> None:
-    (CRATE / path).parent.mkdir(parents=True, exist_ok=True)
-    (CRATE / path).write_text(text)
-    print("wrote", (CRATE / path).relative_to(TOP))
-
-
 def declare(routine: Routine | Joined) -> None:
     """Adds the routine's lines to lib.rt and to both Lib.antt."""
     lib = CRATE / "src/lib.rt"
@@ -135,7 +126,9 @@ def main(name: str, text: str) -> None:
         f"proofs/{name}/words/Answers.antt": text_answer(routine),
     }
     for path, contents in files.items():
-        write(path, contents)
+        (CRATE / path).parent.mkdir(parents=True, exist_ok=True)
+        (CRATE / path).write_text(contents)
+        print("wrote", (CRATE / path).relative_to(TOP))
     declare(routine)
     print(f"now: cd crates/rsp_routines && rt check --only {name}")
 

@@ -3,8 +3,6 @@
 The lines begin with `--| `: they are comments until the author has written what a round stores.
 """
 
-from __future__ import annotations
-
 from .kit import OPENED
 from .routine import Routine
 
@@ -18,11 +16,8 @@ def marked(text: str) -> str:
 
 def result_use(routine: Routine) -> str:
     """The line that brings the result of a loop over buffers."""
-    return (
-        marked(f"use Rattle.rsp_routines.specs.{routine.module}.{{result_of, result}}")
-        if routine.target
-        else ""
-    )
+    line = f"use Rattle.rsp_routines.specs.{routine.module}.{{result_of, result}}"
+    return marked(line) if routine.target else ""
 
 
 def loaded(routine: Routine, state: str, offset: str) -> list[str]:
@@ -55,10 +50,8 @@ stored t is =
 
 def reads(routine: Routine, registers: str) -> tuple[str, str]:
     """Lines for the vector registers after the loads, and the proof of the one that is stored."""
-    if (
-        routine.pieces[0].kind != "takes"
-        or len([piece for piece in routine.pieces if piece.kind == "takes"]) > 1
-    ):
+    kinds = [piece.kind for piece in routine.pieces]
+    if kinds[0] != "takes" or kinds.count("takes") > 1:
         return "", "?"
     vectors = [int(load.split()[1]) for load in routine.pieces[0].members]
     count = " ∙ ".join(f"length-with_vector _ {vector} _" for vector in reversed(vectors[1:]))

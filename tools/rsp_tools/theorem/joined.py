@@ -1,13 +1,11 @@
 """The proof of a loop with straight code before it or after it, which may return."""
 
-from __future__ import annotations
-
 from .buffers import marked, result_use
 from .instructions import uses
 from .kit import KIT, OPENED
 from .loops import lemmas, needs_bound
 from .pieces import aligned, bases_of
-from .routine import Joined, Routine, Wait
+from .routine import Joined, Routine
 from .straight import code_text, record_text
 from .waits import USES as WAITS, wait_lemmas
 
@@ -48,27 +46,20 @@ def does(joined: Joined) -> str:
     facts = "".join(f" a{base}" for base in joined.straight_bases)
     cuts = [f"steps_after {before} ({joined.later_steps}) s"] if joined.front else []
     cuts += [f"steps_after {each if joined.wait else f'(n * {each})'} {after} u"] if joined.back else []
-    turns = wait_lines(joined, joined.wait) if joined.wait else loop_lines(joined)
-    lines = [*front_lines(joined), *turns, *back_lines(joined)]
+    given = joined.wait.given if joined.wait else " n entered"
+    lines = [*front_lines(joined), *turn_lines(joined), *back_lines(joined)]
     results = marked(f"      filled = {filled(joined)};") if joined.loop.target else ""
     rounds = "" if joined.wait else " n"
     claimed = f"{joined.module}Does words s"
     return f"""\
 pub does : SumsOfProducts → Does{joined.module} words
 unfolding {OPENED}
-does law s is at{facts}{given(joined)} =
+does law s is at{facts}{given} =
 {"".join(f"    {line}{chr(10)}" for line in lines)}    let done : {claimed} t{rounds} = record {{
 {results}      others = {others(joined)};
     }} in
     subst (λ (x : State). {claimed} x{rounds}) (sym ({' ∙ '.join(cuts)})) done
 """
-
-
-def given(joined: Joined) -> str:
-    """The last arguments of the theorem."""
-    if joined.wait:
-        return "" if joined.wait.is_quiet else " ready"
-    return " n entered"
 
 
 def moved(joined: Joined) -> str:
@@ -87,9 +78,7 @@ def moved(joined: Joined) -> str:
         proof = f"subst (λ x. made {' '.join(args)} u.dmem) e{base} ({proof})"
     last = " ".join(f"(register s.registers {base})" for base in bases)
     filled = "IsFilled (result {0}) {0}.dmem m (register {0}.registers {1}) n"
-    return (
-        marked(
-            f"""\
+    text = f"""\
 -- what the loop fills, as of the first state
 moved : (s u : State) (m : List ℕ) (n : ℕ) → {equal} → u.dmem ≡ s.dmem
     → {filled.format("u", joined.loop.target)} → {filled.format("s", joined.loop.target)}
@@ -97,9 +86,7 @@ moved s u m n {" ".join(facts)} d f =
     let made = λ ({" ".join(names.values())} : ℕ) (w : List ℕ). {made} in
     subst (λ w. made {last} w) d ({proof})
 """
-        )
-        + "\n"
-    )
+    return marked(text) + "\n"
 
 
 def filled(joined: Joined) -> str:
@@ -124,10 +111,13 @@ def middle(joined: Joined) -> str:
     return "wait" if joined.wait else "loop"
 
 
+def back_words(joined: Joined) -> str:
+    return "back.words" if joined.returns else "back_words"
+
+
 def rest(joined: Joined) -> str:
     """The words from the loop on."""
-    back = "back.words" if joined.returns else "back_words"
-    return f"({middle(joined)}.words ++ {back})" if joined.back else f"{middle(joined)}.words"
+    return f"({middle(joined)}.words ++ {back_words(joined)})" if joined.back else f"{middle(joined)}.words"
 
 
 def front_lines(joined: Joined) -> list[str]:
@@ -144,33 +134,22 @@ def front_lines(joined: Joined) -> list[str]:
     ]
 
 
-def loop_lines(joined: Joined) -> list[str]:
-    """The loop: v is the state after it."""
-    back = "back.words" if joined.returns else "back_words"
-    at = f"(first_block loop.words {back} u at_u)" if joined.back else "at_u"
-    lines = [
-        f"let entered_u : {joined.module}Entered u n = {entered(joined)} in",
-        f"let mid = ends law u ok {at} n entered_u in",
-        f"let v = steps_of (n * {joined.steps[1]}) u in",
-        "let ran_v = loop_ran loop n (Holds u n) u v at_u.next mid in",
-    ]
-    return [*lines, f"let at_v = ran_at loop.words {back} _ u v at_u ran_v in"] if joined.back else lines
-
-
-def wait_lines(joined: Joined, wait: Wait) -> list[str]:
-    """The wait: v is the state after it."""
-    back = "back.words" if joined.returns else "back_words"
-    at = f"(first_block wait.words {back} u at_u)" if joined.back else "at_u"
-    lines = []
-    if joined.front and not wait.is_quiet:
-        lines.append("let same : u.sp ≡ s.sp = ap (λ (x : State). x.sp) first.frame in")
-        lines.append(f"let ready : {wait.ready('u')} = rw same ready in")
-    lines += [
-        f"let mid = waits law u ok {at}{given(joined)} in",
-        f"let v = steps_of {joined.steps[1]} u in",
-        "let ran_v = mid in",
-    ]
-    return [*lines, f"let at_v = ran_at wait.words {back} _ u v at_u ran_v in"] if joined.back else lines
+def turn_lines(joined: Joined) -> list[str]:
+    """The loop or the wait: v is the state after it."""
+    wait, words, lines = joined.wait, f"{middle(joined)}.words {back_words(joined)}", []
+    at = f"(first_block {words} u at_u)" if joined.back else "at_u"
+    steps, ran = f"(n * {joined.steps[1]})", "loop_ran loop n (Holds u n) u v at_u.next mid"
+    if wait:
+        steps, ran = f"{joined.steps[1]}", "mid"
+        if joined.front and not wait.is_quiet:
+            lines.append("let same : u.sp ≡ s.sp = ap (λ (x : State). x.sp) first.frame in")
+            lines.append(f"let ready : {wait.ready('u')} = rw same ready in")
+        lines.append(f"let mid = waits law u ok {at}{wait.given} in")
+    else:
+        lines.append(f"let entered_u : {joined.module}Entered u n = {entered(joined)} in")
+        lines.append(f"let mid = ends law u ok {at} n entered_u in")
+    lines += [f"let v = steps_of {steps} u in", f"let ran_v = {ran} in"]
+    return [*lines, f"let at_v = ran_at {words} _ u v at_u ran_v in"] if joined.back else lines
 
 
 def entered(joined: Joined) -> str:
@@ -220,12 +199,10 @@ def others(joined: Joined) -> str:
     """The frame of all blocks."""
     sets = f"{joined.numbers} {joined.vectors} refl"
     if joined.returns:
-        ran = (
-            f"(blocks_join front_words {middle(joined)}.words _ _ s u v ran_u ran_v)"
-            if joined.front
-            else "ran_v"
-        )
-        words = f"(front_words ++ {middle(joined)}.words)" if joined.front else f"{middle(joined)}.words"
+        ran, words = "ran_v", f"{middle(joined)}.words"
+        if joined.front:
+            ran = f"(blocks_join front_words {words} _ _ s u v ran_u ran_v)"
+            words = f"(front_words ++ {words})"
         return f"ran_returns {words} _ back s v t is {ran} refl last {sets}"
     ran = "ran_v"
     if joined.back:

@@ -1,7 +1,5 @@
 """The proof of a loop: what holds after k rounds, what one round does, and whether one is left."""
 
-from __future__ import annotations
-
 import re
 
 from .buffers import MARK, filled, marked, memory, result_use, stored
@@ -65,10 +63,8 @@ def counted(routine: Routine) -> str:
 
     count = routine.rounds.register
     counts = moved(count, routine.rounds.step % 2**32)
-    sides = [
-        ("q", count, counts),
-        *(("q", base, moved(base, wide(routine.far[base]))) for base in routine.bases),
-    ]
+    sides = [("q", count, counts)]
+    sides += [("q", base, moved(base, wide(routine.far[base]))) for base in routine.bases]
     sides.append(("p", count, f"register r {count}" if routine.rounds.is_late else counts))
     if routine.rounds.branch == "bne":
         sides.append(("p", routine.rounds.other, f"register r {routine.rounds.other}"))
@@ -136,9 +132,8 @@ def taken(routine: Routine) -> str:
         other = f"register s.registers {counter.other}"
         same = f"spares.scalars {counter.other} refl"
         return f"rw (q.{last}, q.{last + 1}, {same}) (more {count} ({other}) n k {facts})"
-    return (
-        f"rw (q.{last}, q.{last + 1}) (more {count} (register t.registers 0) n k {facts} is.registers.zero)"
-    )
+    zero = f"(register t.registers 0) n k {facts} is.registers.zero"
+    return f"rw (q.{last}, q.{last + 1}) (more {count} {zero})"
 
 
 def needs_bound(routine: Routine) -> bool:
@@ -154,15 +149,10 @@ def small_fact(routine: Routine) -> str:
 
 def facts_of(routine: Routine) -> str:
     """The facts of one round about the base registers."""
-    lines = []
-    for base in routine.bases:
-        lines.append(f"let b{base} = holds.base_{base} in")
-        if routine.target:
-            lines.append(f"let f{base} = entered.buffer_{base} in")
-            lines.append(f"let s{base} = f{base}.aligned in")
-            lines.append(f"let i{base} = f{base}.inside in")
-        else:
-            lines.append(f"let s{base} = entered.aligned_{base} in")
+    aligned = ["let s{0} = entered.aligned_{0} in"]
+    buffer = ["let f{0} = entered.buffer_{0} in", "let s{0} = f{0}.aligned in", "let i{0} = f{0}.inside in"]
+    forms = ["let b{0} = holds.base_{0} in", *(buffer if routine.target else aligned)]
+    lines = [form.format(base) for base in routine.bases for form in forms]
     lines += [
         f"let a{base} : register t.registers {base} % 16 ≡ 0 = omega arith in" for base in routine.bases
     ]
@@ -175,7 +165,7 @@ def one_round(routine: Routine) -> str:
         for number, base in enumerate(routine.bases, 1)
     )
     words = f"is.registers.words {routine.rounds.register}"
-    small = f"let m = {small_fact(routine)} in " if routine.rounds.small and needs_bound(routine) else ""
+    small = "let m = entered.small in " if needs_bound(routine) else ""
     return f"""\
 one_round : (s : State) (n : ℕ) → {routine.module}Entered s n → HandsOn loop s n (Holds s n)
 unfolding {OPENED}
@@ -195,15 +185,12 @@ one_round s n entered k t h is spares holds =
 
 def ends(routine: Routine) -> str:
     """The law of loops, with the invariant."""
-    starts = [f"count = omega (arith, is.registers.words {routine.rounds.register});"]
+    start = f"      count = omega (arith, is.registers.words {routine.rounds.register});\n"
     for base in routine.bases:
         proof = f"omega (arith, is.registers.words {base})" if routine.far[base] else "refl"
-        starts.append(f"base_{base} = {proof};")
-    start = "".join(f"      {line}\n" for line in starts)
-    if routine.target:
-        start += (
-            f"{MARK}      filled = filled_none (result s) s.dmem (register s.registers {routine.target});\n"
-        )
+        start += f"      base_{base} = {proof};\n"
+    target = f"(register s.registers {routine.target})"
+    start += f"{MARK}      filled = filled_none (result s) s.dmem {target};\n" if routine.target else ""
     return f"""\
 ends : SumsOfProducts → (s : State) → IsState s → IsAt loop.words s → (n : ℕ) → {routine.module}Entered s n
     → AfterLoop loop n (Holds s n) s (steps_of (n * {len(routine.code)}) s)

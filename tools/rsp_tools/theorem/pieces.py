@@ -30,9 +30,8 @@ def listing(members: list[str]) -> str:
 
 def is_whole(instruction: Instruction) -> bool:
     """Whether it loads or stores a whole register, with an offset that keeps the base aligned."""
-    return (
-        instruction.name in ("lqv", "sqv") and instruction.fields["e"] == 0 and instruction.fields["off"] < 64
-    )
+    fields = instruction.fields
+    return instruction.name in ("lqv", "sqv") and fields["e"] == 0 and fields["off"] < 64
 
 
 def pieces_of(code: list[Instruction], steady: dict[int, int]) -> list[Piece]:
@@ -103,13 +102,12 @@ def named(pieces: list[Piece]) -> list[Piece]:
 
 def definitions(pieces: list[Piece]) -> str:
     """The definitions of the pieces that have names."""
-    text = ""
-    for kind, member in ("takes", "WholeLoad"), ("sums", "Term"):
-        for piece in pieces:
-            if piece.kind == kind:
-                name = piece.name
-                text += f"abbrev {name} : List {member}\n{name} = {listing(piece.members)}\n\n"
-    return text
+    return "".join(
+        f"abbrev {piece.name} : List {member}\n{piece.name} = {listing(piece.members)}\n\n"
+        for kind, member in (("takes", "WholeLoad"), ("sums", "Term"))
+        for piece in pieces
+        if piece.kind == kind
+    )
 
 
 def pieces_text(pieces: list[Piece], indent: int) -> str:

@@ -67,6 +67,11 @@ class Wait:
         """Whether the register always reads 0."""
         return self.number in QUIET
 
+    @property
+    def given(self) -> str:
+        """The argument of the premise, if there is one."""
+        return "" if self.is_quiet else " ready"
+
     def value(self, state: str) -> str:
         """What the branch compares."""
         word = f"read_value {self.number} {state}.sp"

@@ -1,7 +1,5 @@
 """The routine in Rattle, src/name.rt, and the answers that join it to its theorem."""
 
-from __future__ import annotations
-
 from .routine import Text
 
 

@@ -34,9 +34,7 @@ def statement(routine: Routine | Joined) -> str:
     text = "\n    ++ ".join(f'line (codes "{line}")' for line in routine.lines)
     inner = routine.loop if isinstance(routine, Joined) else routine
     loop = inner if inner.counter else None
-    what, rounds = f"the {len(routine.code)} steps from s to t do", ""
-    if loop:
-        what, rounds = "all steps from s to t do", " (n : ℕ)"
+    what, rounds = ("all", " (n : ℕ)") if loop else (f"the {len(routine.code)}", "")
     start = routine.entry if isinstance(routine, Joined) else "s"
     filled = ""
     if loop and loop.target:
@@ -48,7 +46,7 @@ abbrev pub text : List ℕ
 text =
     {text}
 
-{result(loop)}{entered(loop)}-- what {what}
+{result(loop)}{entered(loop)}-- what {what} steps from s to t do
 pub record {routine.module}Does (words : List ℕ) (s t : State){rounds} : Type 0 where
   -- TODO: the result
 {marked(filled)}{moved_bases(routine)}  -- nothing else changed
@@ -87,11 +85,8 @@ def entered(loop: Routine | None) -> str:
     facts += [f"pub small : {loop.rounds.small}"] if needs_bound(loop) else []
     for base in loop.bases:
         start = f"register s.registers {base}"
-        facts.append(
-            f"pub buffer_{base} : IsBuffer ({start}) n"
-            if loop.target
-            else f"pub aligned_{base} : {start} % 16 ≡ 0"
-        )
+        buffer = f"pub buffer_{base} : IsBuffer ({start}) n"
+        facts.append(buffer if loop.target else f"pub aligned_{base} : {start} % 16 ≡ 0")
     for base in dict.fromkeys(loop.sources if loop.target else []):
         if base != loop.target:
             target = f"register s.registers {loop.target}"

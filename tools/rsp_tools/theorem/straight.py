@@ -1,7 +1,5 @@
 """The proofs of straight code, and of a routine that returns."""
 
-from __future__ import annotations
-
 from .kit import KIT, OPENED
 from .instructions import uses
 from .pieces import aligned, definitions, pieces_text

@@ -1,7 +1,5 @@
 """The proof of a wait for an SP register: a block whose branch isn't taken."""
 
-from __future__ import annotations
-
 from .instructions import uses
 from .kit import KIT, OPENED
 from .routine import Routine, Wait
@@ -14,7 +12,6 @@ use Rattle.rsp_microcode.proofs.Branches.{block_runs}
 
 
 def wait_proof(routine: Routine, wait: Wait) -> str:
-    given = "" if wait.is_quiet else " ready"
     sets = f"{routine.numbers} {routine.vectors}"
     return f"""-- {routine.name}.
 {KIT}{USES}use Rattle.rsp_microcode.proofs.Joins.{{ran_others}}
@@ -22,17 +19,17 @@ def wait_proof(routine: Routine, wait: Wait) -> str:
 
 {wait_lemmas(routine, wait)}
 pub does : SumsOfProducts → Does{routine.module} wait.words
-does law s is at{given} = record {{
-  others = ran_others wait.words _ s _ is at.next (waits law s is at{given}) {sets} refl;
+does law s is at{wait.given} = record {{
+  others = ran_others wait.words _ s _ is at.next (waits law s is at{wait.given}) {sets} refl;
 }}
 """
 
 
 def wait_lemmas(routine: Routine, wait: Wait) -> str:
     """The wait as a block, and that its branch isn't taken."""
-    premise, given, ready = f"{wait.ready('s')} → ", " ready", "ready"
+    premise, ready = f"{wait.ready('s')} → ", "ready"
     if wait.is_quiet:
-        premise, given, ready = "", "", "quiet s.sp"
+        premise, ready = "", "quiet s.sp"
         if wait.mask is not None:
             ready = f"ap (λ n. bit_and n {wait.mask}) (quiet s.sp)"
     if wait.until_set and routine.code[-2].fields["s"]:
@@ -54,7 +51,7 @@ compared s n =
 
 -- nothing but an instruction changes an SP register, so the wait ends in its first round or never
 waits : SumsOfProducts → (s : State) → IsState s → IsAt wait.words s → {premise}{ran}
-waits law s is at{given} =
+waits law s is at{wait.given} =
     let r = compared s is.registers.count in
     let zero = is.registers.zero in
     (block_runs law wait wait_decoded refl s is at tt).passed (rw (r.0, r.1, zero, {ready}) refl)
