@@ -69,7 +69,6 @@ def copy_edited(edit: Edit, top: Path) -> None:
     (top / RUNNER).parent.mkdir()
     shutil.copyfile(TOP / RUNNER, top / RUNNER)
     text = (top / edit.source).read_text()
-    assert text.count(edit.old) == 1, edit
     (top / edit.source).write_text(text.replace(edit.old, edit.new))
 
 
@@ -106,9 +105,7 @@ def test_replay_of_fault(library: Path, folder: Path) -> None:
 @pytest.mark.parametrize("arguments, status", [("--help", 0), ("--what", 2), ("a b", 2)])
 def test_arguments(arguments: str, status: int, folder: Path) -> None:
     ended = run(FUZZ / "build", *arguments.split(), cwd=folder)
-    assert ended.returncode == status and ended.stdout.startswith(
-        "usage: fuzz/build [-h] [OUT]"
-    ), ended.stdout
+    assert (ended.returncode, ended.stdout[:28]) == (status, "usage: fuzz/build [-h] [OUT]")
 
 
 def test_each_call_is_made() -> None:

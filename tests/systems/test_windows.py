@@ -121,10 +121,9 @@ def test_shared(made: Path) -> None:
 def test_static(made: Path, name: str) -> None:
     """It shows the calls alone, takes what a C library has, and has a table of each frame."""
     library = made / "lib" / name
+    shown = symbol_names("-g", "--defined-only", library)
     # Objects for MSVC share such constants.
-    assert {
-        it for it in symbol_names("-g", "--defined-only", library) if not it.startswith("__xmm@")
-    } == CALLS
+    assert {it for it in shown if not it.startswith("__xmm@")} == CALLS
     needed = symbol_names("-u", library)
     assert {"free", "malloc"} <= needed <= STATIC[name]
     assert CALLS & using_stack(library) <= framed(library)

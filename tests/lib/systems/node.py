@@ -48,10 +48,9 @@ def check_use(project: Path) -> None:
     assert succeeds(*command(), "use.mjs", cwd=project).splitlines()[-1] == "LIMIT"
     if version() < PLAIN:
         ended = run("node", "use.mjs", cwd=project)
+        assert ended.returncode == 1
         # V8's own error, which follows, names the flag too.
-        assert (
-            ended.returncode == 1 and WITHOUT in ended.stdout and f"or since 20 with {FLAG};" in ended.stdout
-        )
+        assert WITHOUT in ended.stdout and f"or since 20 with {FLAG};" in ended.stdout
 
 
 class Node(Runner):

@@ -8,9 +8,8 @@ from rsp_tools import TOP
 from rsp_tools.systems import program
 from rsp_tools.systems.toolchain import Word, call
 
-FLAGS = (
-    "-O1 -fno-omit-frame-pointer -fsanitize=address,undefined,fuzzer-no-link -fno-sanitize-recover=undefined"
-)
+FLAGS = "-O1 -fno-omit-frame-pointer -fsanitize=address,undefined,fuzzer-no-link"
+FLAGS += " -fno-sanitize-recover=undefined"
 # The sources that a target tests, where it doesn't include them; of the program all but windows.c.
 TARGETS = {
     "calls": "",

@@ -49,9 +49,8 @@ def converted(text: str) -> str:
     body = call(CONVERTER, "--unsafe", "--extension", "table", "--to", "html", text=text)
     body = re.sub(r"<h([1-6])>(.*?)</h\1>", with_anchor, body)
     body = re.sub(r'(<a href="\w+)\.md(?=["#])', r"\1.html", body)
-    return with_rows(
-        body.replace("<table>", '<div class="wide"><table>').replace("</table>", "</table></div>")
-    )
+    body = body.replace("<table>", '<div class="wide"><table>').replace("</table>", "</table></div>")
+    return with_rows(body)
 
 
 def markdown(name: str) -> str:
