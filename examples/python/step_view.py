@@ -1,14 +1,17 @@
-"""step_view.py SOURCE [STEPS [FROM]]: shows microcode beside what each step changed.
+"""step_view.py SOURCE [STEPS [FROM]] [--task ADDR | --script]: shows microcode beside what each step changed.
 
-It assembles a text, runs it from 0 on, and shows the steps FROM to STEPS. On the left is the code around the
-step, which is marked; on the right are the registers, the flags and the lines of DMEM that it changed.
+It assembles a text, runs it from 0 on, and shows the steps FROM to STEPS. With --task SOURCE is an image of
+RDRAM, and the task whose structure is at ADDR there runs; with --script SOURCE is a script for `rsp run`, and
+the machine goes on as that leaves it. On the left is the code around the step, which is
+marked; on the right are the registers, the flags and the lines of DMEM that it changed.
 """
 
 import argparse
 from pathlib import Path
-from typing import Iterator, List, Tuple
+from typing import Iterator, List, Optional, Tuple
 
 import rsp
+from rsp.script import ASKED, machine_of
 
 AROUND = 2  # lines of code before and after the step
 Seen = Tuple[rsp.State, bytes]
@@ -42,9 +45,20 @@ def show(machine: rsp.Machine, place: int, right: List[str]) -> None:
         print(f"{line}| {right[n] if n < len(right) else ''}".rstrip())
 
 
-def main(source: Path, steps: int, first: int) -> None:
-    with rsp.Machine() as machine:
+def started(source: Path, task: Optional[int], script: bool) -> rsp.Machine:
+    """A machine that is about to run a text, a task of an image, or what a script has left."""
+    if script:
+        return machine_of(*rsp.run_script(source.read_bytes() + ASKED))
+    machine = rsp.Machine(bytes(64) if task is None else source.read_bytes())
+    if task is None:
         machine.load_words(rsp.IMEM, 0, rsp.assemble(source.read_text()))
+    else:
+        machine.start_task(task)
+    return machine
+
+
+def main(source: Path, steps: int, first: int, task: Optional[int], script: bool) -> None:
+    with started(source, task, script) as machine:
         for number in range(1, steps + 1):
             before = seen(machine)
             if machine.step() is not rsp.Status.OK:
@@ -58,4 +72,6 @@ words = argparse.ArgumentParser(description=__doc__, formatter_class=argparse.Ra
 words.add_argument("source", type=Path)
 words.add_argument("steps", nargs="?", type=int, default=20)
 words.add_argument("first", nargs="?", type=int, default=1, metavar="from")
+words.add_argument("--task", type=lambda text: int(text, 0), metavar="ADDR")
+words.add_argument("--script", action="store_true")
 main(**vars(words.parse_args()))

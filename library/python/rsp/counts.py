@@ -1,11 +1,11 @@
 """Counts how often a script executes each instruction.
 
-    python3 -m rsp.counts SCRIPT [--rdram FILE]
+    python3 -m rsp.counts SCRIPT [--rdram FILE] [--fail-unexecuted]
 
 It carries out the script as `rsp run` does, with its loads, blocks and tasks, and names the lines that are
 refused on standard error. Each line that it prints has the executions of an instruction, their share of all
 steps, its address and its text; labels are those of the script's blocks. Instructions of these blocks that
-were never executed are at the end.
+were never executed are at the end, and with --fail-unexecuted the status is then 1.
 """
 
 import argparse
@@ -93,12 +93,13 @@ def report(found: Counted) -> Iterator[str]:
         yield from _lines(found, place, " " * 17)
 
 
-def main() -> None:
-    """The program."""
+def main() -> int:
+    """The program. The status."""
     form = argparse.RawDescriptionHelpFormatter
     parser = argparse.ArgumentParser("python3 -m rsp.counts", description=__doc__, formatter_class=form)
     parser.add_argument("script", metavar="SCRIPT", type=Path)
     parser.add_argument("--rdram", metavar="FILE", type=Path, help="the image, instead of zeros")
+    parser.add_argument("--fail-unexecuted", action="store_true")
     options = parser.parse_args()
     try:
         image = options.rdram.read_bytes() if options.rdram else bytes(1 << 22)
@@ -108,9 +109,11 @@ def main() -> None:
         print("\n".join(report(found)), flush=True)
     except BrokenPipeError:
         os.dup2(os.open(os.devnull, os.O_WRONLY), 1)  # so that Python's end writes nothing to the closed pipe
+        return 0
     except (OSError, ValueError, rsp.RspError) as error:
         sys.exit(f"rsp.counts: {error}")
+    return int(options.fail_unexecuted and bool(found.unexecuted()))
 
 
 if __name__ == "__main__":
-    main()
+    sys.exit(main())

@@ -72,6 +72,16 @@ def test_example(name: str, site: Path) -> None:
     assert by_python(EXAMPLES / f"{name}.py", *words, path=site) == expected
 
 
+def test_view_of_a_task(folder: Path) -> None:
+    """By an image with the task, and by a script that has started it."""
+    script, image = page("examples/task.rsp").partition("\ntask ")[0] + "\n", folder / "image"
+    image.write_bytes(rsp.run_script(script, bytes(0x2000)).image)
+    (folder / "script").write_text(f"{script}task 0x100\n")
+    for words in ([image, 1, "--task", "0x100"], [folder / "script", 1, "--script"]):
+        output = by_python(EXAMPLES / "step_view.py", *words)
+        assert output.splitlines()[1] == f"{'> 000 addiu $1, $0, 4224'.ljust(40)}| $1 00001080"
+
+
 def test_counts(folder: Path) -> None:
     """A loop of three turns in several runs, and an instruction that is never executed."""
     text, script = (HERE / "turns.s").read_text(), folder / "script"
@@ -81,6 +91,8 @@ def test_counts(folder: Path) -> None:
     assert counted.partition("\n")[2] == (HERE / "turns.counted").read_text()
     assert output.startswith("rsp.counts: line 12: fault 30 BadCommand\n")
     assert output.endswith("never executed:\ndead:\n                   018 nop\n")
+    failing = "-m", "rsp.counts", script, "--fail-unexecuted"
+    assert run(sys.executable, *failing, env=ENV).returncode == 1
     line = '"$0" -m rsp.counts "$1" | true'
     assert run("sh", "-c", line, sys.executable, script, env=ENV).stdout.count("\n") == 1
 
