@@ -137,7 +137,7 @@ class Copy:
         section = section_of("Loops")
         name = search(r"`tools/theorem (\w+) masks\.s`", section)[1]
         text, unmark, result, lemma = blocks_of(section)
-        use = search(r"`([^`]*)` replaces the `\?`", section)[1]
+        use = search(r"Replace its\s+`\?`\s+by\s+`([^`]*)`", section)[1]
         begun, module = self.begin(name, text), module_of(name)
         run("sh", "-c", unmark, cwd=self.crate, check=True)
         first, rest = lemma.split("\n", 1)
