@@ -41,7 +41,7 @@ def test_mark(block: Block) -> None:
 
 @for_blocks("rsp", lambda block: block.kind == "rsp")
 def test_rsp(block: Block, program: Path) -> None:
-    """The program, given the block as it stands, replies what the block shows."""
+    """The program, given the block as it is on the page, replies what the block shows."""
     blocks = blocks_in(block.page)
     session = ""
     if block.option == "continues":

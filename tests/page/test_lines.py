@@ -1,8 +1,8 @@
 """A script's lines as the page draws them below a text area whose letters are transparent, and what it says
 to write in place of one at fault, evaluated in Node; and the types of the page's modules, checked by tsc.
 
-They fail if the page shows another line than the one that runs, if a line takes so long that the page stands
-still, or if the page says another thing of a line than `rsp asm --explain`.
+They fail if the page shows another line than the one that runs, if a line takes so long that the page
+hangs, or if the page says another thing of a line than `rsp asm --explain`.
 """
 
 import csv

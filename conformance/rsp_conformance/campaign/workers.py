@@ -14,7 +14,7 @@ from .protocol import Options, Result, Task
 from .supervise import PYTHON, check
 
 COMMAND = [str(PYTHON), "rsp_conformance.campaign.supervise", str(os.getpid())]
-TRIES = 3  # of a task whose process fails, such as one that the system kills when memory is out
+TRIES = 3  # of a task whose process fails, such as one that the system kills when it runs out of memory
 
 
 def options_of(args: argparse.Namespace) -> Options:
