@@ -42,7 +42,7 @@ def build_library(folder: Path) -> List[Path]:
         marked.write_text(re.sub(functions, r"\1sanitize_address \2", source.read_text()))
         llvm("clang", *OPTIONS, "-o", made, marked)
         marked.unlink()
-        keep(KEPT, made_of, {made.name: made})
+        keep(KEPT, made_of, [made])
     shutil.copy(KEPT / made.name, made)
     call(compiler()[0], "-O1", "-fPIC", "-c", "-o", heap, places.PARTS / "heap.c")
     return [made, heap]

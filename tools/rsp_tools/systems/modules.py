@@ -1,5 +1,4 @@
-"""The modules of the library that `rattle build` hands to clang for each processor, and the program's
-objects.
+"""The modules of the library and of the program that `rattle build` hands to clang for each processor.
 
 The kit has no command that gives them. It takes the folder of its toolchain by a word, though, so here a
 folder of links stands for it, with a program `clang` that keeps its input. A module is kept until a source
@@ -9,7 +8,7 @@ import shutil
 import subprocess
 import tempfile
 from pathlib import Path
-from typing import Callable, Dict, List, NamedTuple
+from typing import Callable, List, NamedTuple
 
 from rsp_tools.build import Build, over_libraries
 from rsp_tools.targets import PROCESSORS
@@ -19,12 +18,14 @@ from .toolchain import Refused, kit, llvm
 
 
 class Module(NamedTuple):
-    """A module of the library in LLVM's language, the archive that the kit itself makes of it, and how it
-    has clang compile it."""
+    """A module in LLVM's language, what the kit itself makes of it (an archive, or the program's object), the
+    words that optimize on any system, and what the kit gives clang: the module as it is, and all words."""
 
     text: Path
     archive: Path
     flags: List[str]
+    given: Path = Path()
+    words: List[str] = []
 
 
 # What gives the module for a processor.
@@ -102,40 +103,41 @@ def flags(words: List[str]) -> List[str]:
     return ["-O3", "-ffunction-sections", "-fdata-sections", *passes]
 
 
+def own(words: List[str]) -> List[str]:
+    """The words by which the kit has clang compile a module, without those that name files or folders."""
+    return [it for it in words[: words.index("-c")] + words[words.index("-o") + 2 :] if "sysroot" not in it]
+
+
 def is_kept(folder: Path, made_of: str) -> bool:
     """Whether a folder has what was made of these sources."""
     path = folder / "mark"
     return path.is_file() and path.read_text(errors="surrogateescape") == made_of
 
 
-def keep(folder: Path, made_of: str, files: Dict[str, Path]) -> None:
-    """Puts files into a folder by these names, and last of what they were made."""
+def keep(folder: Path, made_of: str, files: List[Path]) -> None:
+    """Puts files into a folder, and last of what they were made."""
     shutil.rmtree(folder, ignore_errors=True)
     folder.mkdir(parents=True)
-    for name, path in files.items():
-        shutil.copy(path, folder / name)
+    for path in files:
+        shutil.copy(path, folder)
     folder.joinpath("mark").write_text(made_of, errors="surrogateescape")
 
 
-def module(processor: str) -> Module:
-    """The module for a processor, made again if a source has changed."""
-    made_of, kept = mark(LIBRARY), places.KEPT / processor
+def module(processor: str, crate: Crate = LIBRARY) -> Module:
+    """The module of a crate for a processor, made again if a source has changed."""
+    made_of, kept = mark(crate), places.KEPT / f"{crate.name}-{processor}"
     if not is_kept(kept, made_of):
         with tempfile.TemporaryDirectory() as at:
-            take(LIBRARY, processor, Path(at))
-            as_text = ["-S", "-emit-llvm", "-Xclang", "-disable-llvm-passes", "-Wno-override-module"]
-            llvm("clang", "-x", "ir", Path(at, "module"), *as_text, "-o", Path(at, "module.ll"))
-            names = {"module.ll": "module.ll", "module.words": "module.words", "librsp_c.a": "made"}
-            keep(kept, made_of, {name: Path(at, made) for name, made in names.items()})
+            take(crate, processor, Path(at))
+            # Without its target, clang would give the module the layout of data that this machine has.
+            as_text = [f"--target={PROCESSORS[processor].triple}", "-S", "-emit-llvm"]
+            as_text += ["-Xclang", "-disable-llvm-passes", "-o", str(Path(at, "module.ll"))]
+            llvm("clang", "-x", "ir", Path(at, "module"), *as_text)
+            keep(kept, made_of, [Path(at, it) for it in ("module", "module.ll", "module.words", "made")])
     words = kept.joinpath("module.words").read_text().splitlines()
-    return Module(kept / "module.ll", kept / "librsp_c.a", flags(words))
+    return Module(kept / "module.ll", kept / "made", flags(words), kept / "module", own(words))
 
 
 def program(processor: str) -> Path:
-    """The object of the proved program for a processor, made again if a source has changed."""
-    made_of, kept = mark(PROGRAM), places.KEPT / f"{PROGRAM.name}-{processor}"
-    if not is_kept(kept, made_of):
-        with tempfile.TemporaryDirectory() as at:
-            take(PROGRAM, processor, Path(at))
-            keep(kept, made_of, {"rsp_main.o": Path(at, "made")})
-    return kept / "rsp_main.o"
+    """The object of the proved program for a processor."""
+    return module(processor, PROGRAM).archive
