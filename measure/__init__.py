@@ -7,8 +7,9 @@ from typing import Optional
 
 from lib import TOP
 from lib.packages import is_here, without
+from rsp_tools import build
 
-PROGRAM = TOP / "crates/rsp_main/out/rsp_main"
+PROGRAM = build.program() or build.LINKED
 LIBRARY = TOP / "library/c/libbrsp.a"
 
 

@@ -8,7 +8,7 @@ more.
 import os
 import tempfile
 from pathlib import Path
-from typing import Any, Callable, Iterator, List
+from typing import Any, Callable, Iterator, List, NoReturn
 
 import pytest
 
@@ -17,7 +17,7 @@ pytest.register_assert_rewrite("lib")  # before its first import
 from lib import TOP  # noqa: E402
 from lib.packages import need  # noqa: E402
 from lib.program import Result, run_program  # noqa: E402
-from rsp_tools.build import Build  # noqa: E402
+from rsp_tools import build  # noqa: E402
 
 LIBRARY = TOP / "library/c"
 NOTHING = "nothing to test: "
@@ -53,7 +53,7 @@ def pytest_runtest_setup(item: pytest.Item) -> None:
     need(*(tool for mark in item.iter_markers("needs") for tool in mark.args))
 
 
-def stop(request: pytest.FixtureRequest, why: str) -> None:
+def stop(request: pytest.FixtureRequest, why: str) -> NoReturn:
     """Fails a test that lacks what all others need too, and begins no other."""
     request.session.shouldfail = why
     pytest.fail(f"{NOTHING}{why}", pytrace=False)
@@ -76,19 +76,19 @@ def pytest_xdist_node_collection_finished(node: Any) -> None:
 @pytest.fixture(scope="session")
 def program(request: pytest.FixtureRequest) -> Path:
     """The program: the built one, if it is built of the sources as they are, or that of --program."""
-    named, build = request.config.getoption("--program"), Build("rsp_main")
-    path = Path(named or build.file)
+    named = request.config.getoption("--program")
+    path = Path(named) if named else build.program()
+    if not path:
+        stop(request, "there is no program of the sources as they are: type `./rsp run </dev/null`")
     if not os.access(path, os.X_OK):
-        stop(request, f"there is no program {path}: type `./rsp run </dev/null`, which builds it")
-    if not named and not build.is_built():
-        stop(request, f"{path} isn't of the sources as they are: type `./rsp run </dev/null`")
+        stop(request, f"there is no program {path}")
     return path
 
 
 @pytest.fixture(scope="session")
 def library(request: pytest.FixtureRequest) -> Path:
     """The folder of the C library, built of the sources as they are."""
-    if not (LIBRARY / "libbrsp.so").is_file() or not Build("rsp_c").is_built():
+    if not build.is_made("crates/rsp_c/out/linked"):
         stop(request, f"{LIBRARY} has no library of the sources as they are: type `library/c/build`")
     return LIBRARY
 

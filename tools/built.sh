@@ -1,18 +1,21 @@
 #!/bin/sh
-# Whether a crate is built of the sources as they are, without reading them: ./rsp and library/c/build source this file, and tools/build calls it.
+# Whether a file is made of the sources as they are: ./rsp, library/c/build and tools/link source this file, and Python calls it.
 
-# The mark of tools/build has four parts: what proved the crate, the names of the crates that it is made of, the sum of `tell_times`, and
-# the sums of all files. The third is empty if tools/build has to look which kit is here.
-is_built() { # TOP FILE: whether the file below crates/ is. Sets `proved_by`
+# A mark says of what files are made: what proved the crate, the names of the crates that it is made of, the sum of their sources, and in all other
+# lines the sums of the files, as sha256sum prints them, with their names from the top.
+is_made() { # TOP MARK: whether the files are there and made of the sources as they are, by a kit of the right logic. Sets `proved_by`
     # shellcheck disable=SC2034  # who sources this file reads it
-    { read -r proved_by && read -r crates && read -r times; } 2>/dev/null <"$1/crates/${2%/*}/built" &&
-        [ "$times" ] && [ "$times" = "$(tell_times "$1" "$2" "$crates")" ]
+    { read -r proved_by && read -r crates && read -r sum; } 2>/dev/null <"$1/$2" || return
+    read -r logic <"$1/tools/logic"
+    # shellcheck disable=SC2086  # each crate is a word
+    case $proved_by in *"$logic") [ "$sum" = "$(tell_sources "$1" $crates)" ] ;; *) false ;; esac && (cd "$1" && tail -n +4 "$2" | sha256sum -c --status)
 }
 
-# A file that is changed gets another time, which no command sets back, or another number.
-tell_times() { # TOP FILE CRATES: a sum of the sizes, times and numbers of all files
-    cd "$1/crates" || return
-    # shellcheck disable=SC2046  # each folder is a word
-    find -L ../crates.txt ../tools/logic "$2" $(for it in $3; do echo "$it/src $it/specs $it/proofs"; done) \
-        ! -type d -printf '%p %s %C@ %i\n' 2>/dev/null | sha256sum
+tell_sources() { # TOP CRATE..: the sum of the crates' lines of crates.txt, and of the names and contents of their files
+    (
+        cd "$1/crates" && shift || exit
+        grep -E "^($(IFS='|' && echo "$*"))[: ]" ../crates.txt
+        # shellcheck disable=SC2046  # each folder is a word
+        find -L $(for it; do echo "$it/src $it/specs $it/proofs"; done) ! -type d -exec sha256sum {} + 2>/dev/null | LC_ALL=C sort
+    ) | sha256sum
 }

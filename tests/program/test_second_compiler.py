@@ -28,9 +28,7 @@ def other(tmp_path_factory: pytest.TempPathFactory) -> Path:
     """The program of the other compiler."""
     ours, below = build.Build("rsp_main").file, crates.with_below("rsp_main")[:-1]
     made, file = tmp_path_factory.mktemp("other") / "rsp", ours.with_suffix(".by-rattle")
-    if not ours.exists():
-        pytest.fail(f"there is no {ours}: type `./rsp run </dev/null`, which builds it")
-    if file.exists() and file.stat().st_mtime > ours.stat().st_mtime - BETWEEN:
+    if ours.exists() and file.exists() and file.stat().st_mtime > ours.stat().st_mtime - BETWEEN:
         return file
     need("rt")
     if missing := [crate for crate in below if not (crates.library(crate) / f"{crate}.rlib").exists()]:

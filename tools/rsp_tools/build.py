@@ -4,9 +4,8 @@ It fails if a proof does, and then says where to read more. CRATE is rsp_main, t
 this), or rsp_c, the library for C (library/c/build calls this).
 
 It prints when each crate begins, how far a long proof is, and how long the proof took. It does nothing if
-nothing has changed: the mark out/built has the kit's version, and the sums of the built file and of its
-sources. ./rsp and library/c/build see by the times of these files that nothing has changed (built.sh). If a
-run is stopped, the next run continues from there.
+nothing has changed: the mark out/built has the kit's version, and the sums of the sources and of the built
+file (built.sh). If a run is stopped, the next run continues from there.
 """
 
 import argparse
@@ -22,7 +21,7 @@ from pathlib import Path
 from typing import List, NoReturn, Optional
 
 from rsp_tools import TOOLS, TOP
-from rsp_tools.crates import CRATES, LINES, library, proved_with, uses, with_below
+from rsp_tools.crates import CRATES, library, proved_with, uses, with_below
 from rsp_tools.proof import PROCESSORS, Proof
 
 LOGIC = (TOOLS / "logic").read_text().strip()
@@ -35,6 +34,7 @@ BUILT = {
     "rsp_c": ("library/c/build", "librsp_c.a", "lib", PROCESSORS),
 }
 PARTS = ("src", "specs", "proofs")  # the folders of a crate
+LINKED = CRATES / "rsp_main/out/rsp"  # the program that cc makes of compiled/
 
 
 def changed_at(name: str) -> float:
@@ -43,20 +43,35 @@ def changed_at(name: str) -> float:
     return max(os.lstat(f"{at}/{file}").st_ctime for at, _, files in folders for file in ["", *files])
 
 
-def sum_of(path: Path) -> str:
-    """A line with the file's sum; empty if the file can't be read."""
-    try:
-        return f"{hashlib.sha256(path.read_bytes()).hexdigest()}  {path.relative_to(CRATES)}\n"
-    except OSError:
-        return ""
+def line_of(name: str, data: bytes) -> str:
+    """The line that sha256sum prints of a file, whose name begins at the top."""
+    return f"{hashlib.sha256(data).hexdigest()}  {name}\n"
+
+
+def said(function: str, *words: str) -> "subprocess.CompletedProcess[str]":
+    """How a function of tools/built.sh ended, with what it printed."""
+    script = f'. "$1/tools/built.sh" && {function} "$@"'
+    command = ["sh", "-c", script, "sh", str(TOP), *words]
+    return subprocess.run(command, stdout=subprocess.PIPE, text=True)
+
+
+def is_made(mark: str) -> bool:
+    """Whether the files of a mark are there, made of the sources as they are."""
+    return said("is_made", mark).returncode == 0
+
+
+def program() -> Optional[Path]:
+    """The program of the sources as they are: of compiled/, or of the kit; None if there is none."""
+    if is_made("crates/rsp_main/out/linked"):
+        return LINKED
+    build = Build("rsp_main")
+    return build.file if build.is_built() else None
 
 
 def sources(crate: str) -> str:
-    """The sources of the crate and of those below: their lines of crates.txt, and the sums of all files."""
+    """The names of the crate and of those below, and the sum of all their files, each in a line."""
     names = with_below(crate)
-    folders = [folder for name in names for part in PARTS for folder in os.walk(CRATES / name / part)]
-    paths = sorted(Path(at, file) for at, _, files in folders for file in files)
-    return "".join([*(f"{LINES[name]}\n" for name in names), *map(sum_of, paths)])
+    return f"{' '.join(names)}\n{said('tell_sources', *names).stdout}"
 
 
 @functools.lru_cache(None)
@@ -93,7 +108,7 @@ class Build:
         self.file, self.object = out / file, out / f"{crate}.o"
         self.mark, self.log = out / "built", out / "built.log"
         # The system's clock of files is a little behind, so a change from now on gets a later time.
-        self.since, self.times = time.time() - 0.02, self.file_times()
+        self.since = time.time() - 0.02
         time.sleep(0.02)
         self.sources = sources(crate)
         self.proof: Optional[Proof] = None
@@ -111,23 +126,15 @@ class Build:
             self.proof.end()
         os._exit(status)
 
-    def file_times(self) -> str:
-        """The times that ./rsp and library/c/build compare."""
-        script = '. "$1/tools/built.sh" && tell_times "$1" "$2" "$3"'
-        words = ["sh", "-c", script, "sh", str(TOP), str(self.file.relative_to(CRATES)), self.crates()]
-        return subprocess.run(words, stdout=subprocess.PIPE, text=True).stdout.strip()
-
-    def crates(self) -> str:
-        return " ".join(with_below(self.crate))
-
     def made_of(self) -> str:
-        """The last part of the mark."""
-        return self.sources + sum_of(self.file)
+        """The mark but its first line."""
+        data = self.file.read_bytes() if self.file.exists() else b""
+        return self.sources + line_of(str(self.file.relative_to(TOP)), data)
 
     def marked(self) -> str:
         """The kit's version if the mark says that the file is built of these sources, otherwise empty."""
         text = self.mark.read_text(errors="surrogateescape") if self.mark.exists() else ""
-        version, *_, made_of = [*text.split("\n", 3), ""][:4]
+        version, _, made_of = text.partition("\n")
         return version if self.file.exists() and made_of == self.made_of() else ""
 
     def is_built(self) -> bool:
@@ -138,11 +145,8 @@ class Build:
         return version != "" and is_right
 
     def put_mark(self, version: str) -> None:
-        """Writes the mark, without times if the kit has another logic: the next run then compares kits."""
-        times = self.times if version.endswith(LOGIC) else ""
-        text = f"{version}\n{self.crates()}\n{times}\n{self.made_of()}"
         new = self.mark.with_name(f"built.{os.getpid()}")
-        new.write_text(text, errors="surrogateescape")
+        new.write_text(f"{version}\n{self.made_of()}", errors="surrogateescape")
         new.replace(self.mark)
 
     def prove(self) -> None:
@@ -190,7 +194,6 @@ class Build:
         elif not self.has_object():
             # `rt ci` took the program from what it keeps, and keeps no object file.
             self.compile("src/main.rt", self.object)
-        self.times = self.file_times()
         # An edit that was taken back in the meantime leaves the same sums, and may yet be part of the file.
         edited = [name for name in with_below(self.crate) if changed_at(name) >= self.since]
         if edited:
@@ -246,8 +249,6 @@ def main() -> int:
             build.since = os.stat(proved).st_mtime
         if proved or not build.is_built():
             build.build(bool(proved))
-        elif os.access(build.mark.parent, os.W_OK):  # a file that was built elsewhere has other times here
-            build.put_mark(build.marked())
     except OSError as fault:
         build.fail(f"{fault.filename or build.log}: {fault.strerror}, so nothing is built here")
     if options.command:

@@ -108,7 +108,7 @@ CROSS: Tuple[Target, ...] = (
         tested="natively, with musl 1.2.3",
         triples={"x86_64": "x86_64-unknown-linux-musl"},
         linker="elf_x86_64",
-        start="start_musl.c",
+        start="start.c",
         # A program that is static and can be at any address. musl's words for gcc have no such kind.
         linked="-fPIE -pie -nostartfiles -l:rcrt1.o -Wl,-static,--no-dynamic-linker,-z,text,--wrap=main",
         shared="lib/libbrsp.so",

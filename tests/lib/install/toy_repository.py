@@ -49,7 +49,7 @@ pub extern "C" fn rsp_answer() -> u32 {
 }
 HEADER = "#define BRSP_VERSION 1\nuint32_t rsp_answer(void);\n"
 COPIED = "VERSION rsp library/c/build library/c/brsp.map library/python/pyproject.toml"
-TOOLS = "sh env cat dirname readlink find sha256sum"
+TOOLS = "sh env cat dirname readlink find grep head sed sha256sum sort tail uname"
 # Programs in place of `rt`, without the rest of its kit: of another logic; of this one, which prints what it
 # is asked for; failing.
 RT = {

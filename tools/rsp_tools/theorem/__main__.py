@@ -24,7 +24,7 @@ import subprocess
 import tempfile
 from pathlib import Path
 
-from rsp_tools import TOP
+from rsp_tools import TOP, build
 from rsp_tools.theorem import stop
 from rsp_tools.theorem.joined import joined_proof
 from rsp_tools.theorem.loops import loop_proof
@@ -35,7 +35,7 @@ from rsp_tools.theorem.straight import routine_proof, straight_proof
 from rsp_tools.theorem.waits import wait_proof
 
 CRATE = TOP / "crates" / "rsp_routines"
-PROGRAM = os.environ.get("RSP_PROGRAM", str(TOP / "crates/rsp_main/out/rsp_main"))
+PROGRAM = os.environ.get("RSP_PROGRAM") or str(build.program() or build.LINKED)
 RESERVED = set(
     """
     as break const continue crate dyn else enum extern false fn for ghost if impl in let loop match mod
