@@ -11,7 +11,6 @@ from typing import Iterator
 
 import pytest
 
-from lib import TOP
 from lib.install.clone import cloned
 from lib.install.unpacked import archive_for, unpacked
 from lib.packages import need
@@ -21,8 +20,6 @@ from lib.processes import succeeds
 def release(into: Path) -> None:
     """Copies the folder dist of two runs of ./release, in a folder with a blank in its name. The runs differ
     in their umask and their time zone."""
-    if not (TOP / "crates/rsp_main/out/rsp_main.o").is_file():  # `rt ci` keeps none
-        succeeds("rt", "run", "--", "--version", cwd=TOP / "crates/rsp_main")
     with tempfile.TemporaryDirectory() as folder:
         clone = cloned(Path(folder, "a clone"))
         for name, mask, zone in ("first", 0o022, "UTC"), ("second", 0o077, "Pacific/Chatham"):

@@ -143,15 +143,14 @@ def test_passes_the_check_of_vectors(archive: Path) -> None:
 
 @pytest.mark.needs("cc", "objcopy")
 def test_start_asks_the_processor(folder: Path) -> None:
-    """What start.c says of the processor, beside what glibc says."""
-    packaging = TOP / "tools/packaging"
-    for path in packaging / "start.c", packaging / "cpuid.h", TESTS / "install/archive/features.c":
-        shutil.copy(path, folder)
+    """What start_x86_64.c says of the processor, beside what glibc says."""
+    start = TOP / "tools/rsp_tools/systems/start_x86_64.c"
+    shutil.copy(TESTS / "install/archive/features.c", folder)
     where = {"cwd": folder, "env": BARE}
     if run("cc", "-fsyntax-only", "features.c", **where).returncode:
         pytest.skip("there is no sys/platform/x86.h (Debian's package libc6-dev)")
+    succeeds("cc", "-O2", "-D__x86_get_cpuid_feature_leaf=own", "-c", "-o", "start.o", start, **where)
     for command in (
-        "cc -O2 -D__x86_get_cpuid_feature_leaf=own -c start.c",
         "objcopy --localize-symbol=_start start.o",
         "cc -o features features.c start.o",
         "./features",

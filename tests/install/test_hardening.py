@@ -7,14 +7,13 @@ from pathlib import Path
 
 import pytest
 
-from lib import TOP
 from lib.hardening import PLUGIN_CALLS, check_elf, checks, first_instructions
 from lib.processes import succeeds
 from rsp_tools.packaging.link import linked_program
 
 pytestmark = pytest.mark.needs("cc", "readelf", "objdump")
-OBJECT = TOP / "crates/rsp_main/out/rsp_main.o"
-OURS = {"rsp_before_main", "__x86_get_cpuid_feature_leaf", "statx"}  # the functions of start.c
+OURS = {"__x86_get_cpuid_feature_leaf", "statx"}  # the functions of our C
+BEGINS = {"__wrap_main", "rsp_before_main"}  # that of start.c, and that of start_x86_64.c
 
 
 def test_library(library: Path) -> None:
@@ -32,11 +31,12 @@ def test_plugin(library: Path, folder: Path) -> None:
     assert {first[name] for name in PLUGIN_CALLS} == {"endbr64"}
 
 
-@pytest.mark.needs("rt")
-def test_program(program: Path, folder: Path) -> None:
-    if not OBJECT.is_file():
-        pytest.skip("there is no object file of the program: `rt ci` keeps none, and ./rsp makes one")
-    (folder / "rsp").write_bytes(linked_program(OBJECT))
+@pytest.mark.parametrize("name", ["the clone's", "the release's"])
+def test_program(name: str, program: Path, folder: Path) -> None:
+    made = linked_program() if name == "the release's" else program.read_bytes()
+    assert made, "compiled/ isn't made of the sources as they are"
+    (folder / "rsp").write_bytes(made)
     check_elf(folder / "rsp", is_program=True)
     first = first_instructions(folder / "rsp")
-    assert {first[name] for name in OURS} == {"endbr64"}
+    assert {first[it] for it in [*OURS, *BEGINS] if it in first} == {"endbr64"}
+    assert OURS < {*first} and BEGINS & {*first}

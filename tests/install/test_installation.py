@@ -186,9 +186,11 @@ def test_cmake(prefix: Path, folder: Path) -> None:
 @pytest.mark.needs("rt")
 def test_two_libraries_in_one_program(library: Path, folder: Path) -> None:
     """libbrsp.a beside its code as `rt lib` leaves it, like any library of the kit, with calls other_*."""
+    if not (archive := TOP / "crates/rsp_c/out/librsp_c.a").is_file():
+        pytest.skip("the kit's own archive isn't here, which `rt ci` and ./prove make")
     heap = Path(succeeds("rt", "doc").strip()).parent / "c/liblibc_c.a"
     names = [f"--redefine-sym={name}=other{name[4:]}" for name in header.calls()]
-    succeeds("objcopy", *names, TOP / "crates/rsp_c/out/librsp_c.a", folder / "other.a")
+    succeeds("objcopy", *names, archive, folder / "other.a")
     libraries = (library / "libbrsp.a", folder / "other.a", heap)
     whole = ("-Wl,--whole-archive", *libraries, "-Wl,--no-whole-archive")
     succeeds(compiled(folder / "two", f"-I{library}", HERE / "two.c", *whole))

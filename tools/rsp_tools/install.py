@@ -11,7 +11,7 @@ library/c/build builds it first, if it isn't built. It fails at the first file t
   PREFIX/lib/cmake/brsp/            for find_package(brsp): the targets brsp::brsp and brsp::brsp_static
   PREFIX/share/man/man1/rsp.1
   PREFIX/share/bash-completion/completions/rsp, zsh/site-functions/_rsp, fish/vendor_completions.d/rsp.fish
-  PREFIX/bin/rsp                   if ./rsp has built the program
+  PREFIX/bin/rsp                   unless compiled/ is of other sources
 
 pkg-config reads the variable PKG_CONFIG_PATH, and cmake takes -DCMAKE_PREFIX_PATH=PREFIX. A second install
 replaces the first one. For packages of a distribution the files go below DESTDIR, if the variable is set,
@@ -25,7 +25,7 @@ import signal
 import subprocess
 import sys
 from pathlib import Path
-from typing import NoReturn, Optional
+from typing import NoReturn
 
 from rsp_tools import TOP
 from rsp_tools.packaging import install_tree
@@ -37,14 +37,6 @@ NAME = "library/c/install"
 
 def fail(text: str) -> NoReturn:
     sys.exit(f"{NAME}: {text}")
-
-
-def program() -> Optional[bytes]:
-    """The program, linked for any Linux; None if it isn't built."""
-    object_file = TOP / "crates/rsp_main/out/rsp_main.o"
-    version = subprocess.run([TOP / "rsp", "--version"], capture_output=True, text=True).stdout
-    is_built = object_file.is_file() and "proved and built by" in version
-    return linked_program(object_file) if is_built else None
 
 
 def uninstall(prefix: Path) -> int:
@@ -84,9 +76,11 @@ def main() -> None:
         fail("library/c/build has built no library")
     os.umask(0o022)  # what root installs others read, whatever the umask of root's shell
     rpath = "" if arguments.no_rpath else install_tree.RPATH
-    files = list(contents(prefix.replace(" ", "\\ "), program(), rpath))
+    files = list(contents(prefix.replace(" ", "\\ "), linked_program(), rpath))
     put_all(to, files, fail)
-    more = "" if files[-1].name == "bin/rsp" else ", without the program, which ./rsp builds"
+    more = (
+        "" if files[-1].name == "bin/rsp" else ", without the program, because compiled/ is of other sources"
+    )
     print(f"{NAME}: {len(files)} files in {to}{more}")
 
 

@@ -42,7 +42,6 @@ from rsp_tools.systems.toolchain import missing
 from rsp_tools.targets import CROSS, PAGE, listed
 
 OTHERS = [*SYSTEMS, PAGE.name]
-OBJECT = TOP / "crates/rsp_main/out/rsp_main.o"
 NEWCOMER = "tests/install/test_newcomer.py"
 # What links and packs, for any system.
 PROGRAMS = "git cc ar ld objcopy".split()
@@ -132,12 +131,12 @@ def plugin() -> bytes:
         return Path(folder, "plugin.so").read_bytes()
 
 
-def all_archives(names: List[str], release: About) -> Iterator[Archive]:
+def all_archives(program: bytes, names: List[str], release: About) -> Iterator[Archive]:
     """The archives, with those of these other systems."""
     libraries = libraries_of(names)
     if libraries:  # each is made anew, so no archive has the library of another commit
         run("tools/systems", *libraries, reason="tools/systems failed, so nothing is made")
-    yield archives.of_native(linked_program(OBJECT), plugin(), release)
+    yield archives.of_native(program, plugin(), release)
     yield archives.of_conformance(release)
     yield archives.of_source(release)
     for name in names:
@@ -164,13 +163,13 @@ def main() -> None:
     version, day = install_tree.version()
     check_versions()
     check_day(day, output_of("git", "tag", "--points-at", "HEAD").split())
-    run("./rsp", "run", reason="./rsp has built nothing")
+    program = linked_program()
+    if not program:
+        fail("compiled/ isn't made of the sources as they are: tools/assemble makes it")
     run("library/c/build", reason="library/c/build has built nothing")
-    if not OBJECT.is_file():
-        fail(f"{OBJECT} isn't there: run `rt run -- run` in crates/rsp_main")
     reasons = [f"{NEWCOMER}: --untested"] if options.untested else run_newcomer()
     release = release_info.of_head()
-    packed = {archive.name: archive.packed() for archive in all_archives(names, release)}
+    packed = {archive.name: archive.packed() for archive in all_archives(program, names, release)}
     files = {**packed, "SHA256SUMS": HOW + archive_formats.sums(packed)}
     put_all(TOP / "dist", [File(name, data) for name, data in files.items()], fail)
     for name, data in packed.items():
