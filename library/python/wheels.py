@@ -1,8 +1,8 @@
 """What `pip install ./library/python` calls: it puts the module and library/c/libbrsp.so into a wheel.
 
-It needs nothing but Python, so an install needs no network, no setuptools and no compiler. Two wheels of the
-same files and date have the same bytes. An editable install names this folder alone, so a change of the
-module or the library is there at the next import. It fails if library/c/build hasn't made the library.
+library/c/build makes the library first, which needs a C compiler; an install needs no network and no
+setuptools. Two wheels of the same files and date have the same bytes. An editable install names this folder
+alone, so a change of the module or the library is there at the next import.
 
 The wheel has the tags of glibc 2.17, manylinux2014: the library needs libc.so.6 alone, and no newer symbol,
 which tests/install sees.
@@ -12,6 +12,7 @@ import base64
 import hashlib
 import re
 import stat
+import subprocess
 import time
 import zipfile
 from pathlib import Path
@@ -83,9 +84,8 @@ def with_command(name: str, program: bytes) -> Dict[str, bytes]:
 
 
 def made() -> Path:
-    """The library, if it is built."""
-    if not MADE.is_file():
-        raise FileNotFoundError(f"{MADE} isn't there: run library/c/build first")
+    """The library, of the sources as they are."""
+    subprocess.run([MADE.with_name("build")], check=True)
     return MADE
 
 

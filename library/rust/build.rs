@@ -1,7 +1,7 @@
 //! Finds libbrsp.a, or for MSVC brsp_static.lib. The first of these that has it counts:
 //! - the folder that RSP_LIB_DIR names;
 //! - lib/TARGET/, where the release archives have the library, and for Linux on x86-64 also lib/;
-//! - for Linux on x86-64 ../c, where `library/c/build` puts it in the repository;
+//! - for Linux, in the repository, ../c, where `library/c/build` makes it now;
 //! - the folder that pkg-config names, where `library/c/install` has put it.
 
 use std::env;
@@ -10,8 +10,8 @@ use std::path::{Path, PathBuf};
 use std::process::Command;
 
 const READ: [&str; 3] = ["RSP_LIB_DIR", "PKG_CONFIG", "PKG_CONFIG_PATH"];
-/// What the targets have in their names for which `library/c/build` makes libbrsp.a.
-const BUILT: [&str; 2] = ["x86_64-", "-linux-"];
+/// The script that makes ../c/libbrsp.a for the system on which cargo runs.
+const BUILD: &str = "../c/build";
 
 /// The library folder of an installed rsp that is no older than this crate.
 fn installed() -> Option<PathBuf> {
@@ -36,12 +36,21 @@ fn folder(target: &str) -> Option<PathBuf> {
         return Some(named.into());
     }
     let here = Path::new(env!("CARGO_MANIFEST_DIR"));
+    let is_host = target == env::var("HOST").unwrap_or_default();
     let mut beside = vec![here.join("lib").join(target)];
-    if BUILT.iter().all(|part| target.contains(part)) {
-        beside.extend([here.join("lib"), here.join("../c")]);
+    if target.starts_with("x86_64-") && target.contains("-linux-") {
+        beside.push(here.join("lib"));
     }
-    let found = beside.into_iter().find(|it| it.join(names(target).0).is_file());
-    found.or_else(|| (target == env::var("HOST").unwrap_or_default()).then(installed).flatten())
+    if let Some(found) = beside.into_iter().find(|it| it.join(names(target).0).is_file()) {
+        return Some(found);
+    }
+    if is_host && target.contains("-linux-") && here.join(BUILD).is_file() {
+        println!("cargo:rerun-if-changed=../../compiled/rsp_c.made");
+        let ended = Command::new(here.join(BUILD)).status();
+        assert!(ended.map_or(false, |it| it.success()), "library/c/build has made no library");
+        return Some(here.join("../c"));
+    }
+    is_host.then(installed).flatten()
 }
 
 /// The calls of src/raw.rs that a library lacks, by the symbols that its archive lists first. None if it lists them in a way that isn't known here.
@@ -60,7 +69,7 @@ fn main() {
     let target = env::var("TARGET").expect("cargo names the target");
     let (file, name) = names(&target);
     let folder = folder(&target).unwrap_or_else(|| {
-        panic!("{file} for {target} isn't found: put it into lib/{target} of the crate, or name its folder by RSP_LIB_DIR; for Linux on x86-64 library/c/build or library/c/install makes it")
+        panic!("{file} for {target} isn't found: put it into lib/{target} of the crate, or name its folder by RSP_LIB_DIR; library/c/install also makes it")
     });
     let library = folder.join(file);
     println!("cargo:rerun-if-changed={}", library.display());
