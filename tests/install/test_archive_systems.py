@@ -46,12 +46,10 @@ docs/SYSTEMS.md examples/first.rsp examples/c/lockstep.c microcode/README.md mic
 # What tools/systems makes for an archive beside what the record names, and what more an archive has.
 MADE = {
     "windows-x86_64": "lib/libbrsp.dll.a lib/brsp.lib",
-    "vendor": "CMakeLists.txt include/brsp.h program/main.c src/Linux-x86_64.s",
     "wasm64": "package.json rsp.js rsp.d.ts rsp.wasm",
     "page": "index.html",
 }
 MORE = {
-    "vendor": "docs/EMBEDDING.md examples/c/console.hpp examples/first.rsp",
     "wasm64": "docs/EMBEDDING.md examples/js/lockstep.js microcode/copy.s",
 }
 SYSTEMS = [target.name for target in (*CROSS, PAGE)]

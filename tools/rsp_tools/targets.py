@@ -155,11 +155,6 @@ CROSS: Tuple[Target, ...] = (
         wheel=("macosx_11_0_universal2",),
     ),
     Target(
-        name="vendor",
-        title="other projects",
-        holds="the library as assembly, with a CMakeLists.txt: gcc or clang build it without the kit",
-    ),
-    Target(
         name="wasm64",
         title="browsers, Node, Deno",
         holds="`rsp.wasm` with an ES module and its types, as an npm package",

@@ -25,7 +25,6 @@ library/python/README.md library/rust docs examples microcode CHANGELOG.md
 NOT_THERE = "docs/PLUGIN.md"
 PARTS_OF: Mapping[str, Sequence[str]] = {
     "wasm64": "docs examples microcode CHANGELOG.md".split(),
-    "vendor": "docs examples/c examples/first.rsp CHANGELOG.md".split(),
     "page": ["CHANGELOG.md"],
 }
 

@@ -22,7 +22,7 @@ from typing import Callable, Dict, Mapping, NamedTuple, Tuple
 
 from rsp_tools.targets import CROSS, Target, listed
 
-from . import linux, macos, manual, vendor, web_page, places, wasm, windows
+from . import linux, macos, manual, web_page, places, wasm, windows
 from .modules import Source, module
 from .toolchain import Refused, missing
 
@@ -43,7 +43,6 @@ def system_of(target: Target) -> System:
     return {
         "windows-x86_64": System(windows.make, (target.compiler,)),
         "macos": System(macos.make),
-        "vendor": System(vendor.make),
         "wasm64": System(wasm.make, (manual.CONVERTER,), more={"page": web_page.make}),
     }[target.name]
 
