@@ -10,7 +10,8 @@
  *     ..
  *     brsp_load_state(&machine, bytes, length);
  *
- * Each call returns a status of brsp.h, and is made of calls of brsp.h, which are proved. */
+ * This header is written in C over calls of brsp.h: those calls are proved, and the header is only tested.
+ * Each call returns a status of brsp.h. */
 #ifndef BRSP_SAVESTATE_H
 #define BRSP_SAVESTATE_H
 

@@ -7,8 +7,11 @@ It fails if the program does something else than a line of a table says, or if a
   docs/data/commands.tsv       each command's sample, and how many lines it is answered with
   docs/data/faults.tsv         each fault is what its example ends with; `$ ` begins a command of the shell
   conformance/README.md        the instructions of whole programs
+
+It also fails if a page counts something else than the repository has, or names other crates.
 """
 
+import json
 import re
 from difflib import unified_diff
 from itertools import chain
@@ -18,16 +21,18 @@ from typing import Any, Dict, Iterable, Iterator, List, Set, Tuple
 
 import pytest
 
-from lib import worked_cases
+from lib import TOP, worked_cases
 from lib.same_items import assert_same_items
-from lib.pages import cells_of, data, page, replies, tables, words_of
+from lib.pages import block_with, cells_of, data, page, replies, sentences, tables, words_of
 from lib.processes import run
 from rsp_conformance import bench, flat, programs
 from rsp_conformance.table import ROWS, Row
+from rsp_conformance.vectors import VECTORS
 from rsp_tools import page_tables
+from rsp_tools.crates import LINES, uses
 
 Line = Dict[str, str]
-OF_VECTORS = "conformance/README.md"
+OF_VECTORS, GUARANTEES = "conformance/README.md", "docs/GUARANTEES.md"
 OPEN_BLOCK = "fault 10 BadLine line 1\n"  # what a script ends with that hasn't closed its block
 FAULTS = {*range(4, 8), *range(10, 18), *range(20, 28), *range(30, 34), *range(40, 44)}
 
@@ -172,8 +177,40 @@ def test_faults_of_commands() -> None:
 
 
 def test_forms_planned_otherwise() -> None:
-    """DECISIONS has each form that was planned otherwise: who shortens the page drops no reason."""
-    assert len([*tables("docs/DECISIONS.md", "## Forms that were planned otherwise")]) >= 13
+    """DECISIONS has each form that was planned otherwise: who shortens the page drops no reason.
+
+    It names each crate that wasn't planned, and as GUARANTEES does, those of the kit.
+    """
+    rows = {row[0]: row[1] for row in tables("docs/DECISIONS.md", "## Forms that were planned otherwise")}
+    others = re.findall(r"`(rsp_\w+)`", rows["sixteen crates"])
+    assert len(rows) >= 18 and rows["sixteen crates"].startswith(f"{len(LINES)}: ")
+    assert len({*others} & LINES.keys()) == len(others) == len(LINES) - 16
+    of_kit = {used for name in LINES for used in uses(name)} - {*LINES, "core", "std_alloc", "std_heap"}
+    (listed,) = (f"{planned} {cell}" for planned, cell in rows.items() if "crates of the kit" in planned)
+    assert_same_items(re.findall(r"`(\w+)`", listed), of_kit)
+    (trusted,) = re.findall(r"\*\*The kit's libraries\*\*, (.*?)\. - ", sentences(GUARANTEES))
+    assert_same_items(re.findall(r"`(\w+)`", trusted), of_kit | {"rsp_example"})
+
+
+def test_figures() -> None:
+    """What pages count: vectors, cases, planted faults, routines, instructions, and lines to copy."""
+    steps = [path.read_text().count("\n") for path in VECTORS.glob("steps/*.jsonl")]
+    (each,) = re.findall(r"(?m)^CASES = (\d+)$", page("tests/campaigns/test_planted.py"))
+    agreed = f"in {len(ROWS) * int(each) // 100_000 / 10} million cases"
+    bugs, routines = page("tests/campaigns/bugs.tsv").splitlines()[1:], len([*TOP.glob("microcode/*.s")])
+    z64 = json.loads(page("conformance/z64/campaign.json"))["instructions"].values()
+    covered = {line.split("\t")[0] for line in page("conformance/coverage.tsv").splitlines()[1:]}
+    runners = [block_with(OF_VECTORS, f"# python3 {name}.py").count("\n") for name in ("steps", "programs")]
+    bench, command = (page(f"examples/{it}").count("\n") for it in ("hdl/tb.sv", "js/cases.mjs"))
+    figures = {
+        "README.md": f"Run {sum(steps):,} [test vectors]; {agreed}; one of {routines} [proved routines]; "
+        f"its {len(ROWS)} instructions; differs on [{sum(it['differ'] > 0 for it in z64)} of {len(ROWS)}]",
+        GUARANTEES: f"{agreed}; [{len(bugs)} faults were planted in it]",
+        OF_VECTORS: f"{sum(steps):,} cases, {min(steps)} to {max(steps)} of each of the {len(steps)}; "
+        f"runner of {runners[0]} lines; runner of {runners[1]} lines; bench of {bench} lines; "
+        f"some {round(command, -1)} lines, such as [cases.mjs]; outcomes of {len(covered)} instructions",
+    }
+    assert not [it for name in figures for it in figures[name].split("; ") if it not in sentences(name)]
 
 
 def test_messages() -> None:

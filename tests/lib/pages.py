@@ -12,6 +12,11 @@ from rsp_tools.page_tables import anchor, data  # noqa: F401 (for those who impo
 NO_PAGES = ("out", "vectors", "target", "node_modules")  # folders of what is built, and of test vectors
 
 
+def sentences(name: str) -> str:
+    """The text of a page, without the ends of its lines."""
+    return " ".join(page(name).split())
+
+
 def pages_below(root: Path) -> List[Path]:
     """The pages of a folder and of those inside it, except of hidden folders and of what is built."""
     found = [path for path in root.iterdir() if path.name[0] != "." and path.name not in NO_PAGES]

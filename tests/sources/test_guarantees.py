@@ -12,8 +12,8 @@ isn't there. They run nothing and prove nothing.
   docs/data/without_mutations.tsv   each crate without a file must-fail/*.edit
 
 Each part of what GUARANTEES has as proved has a contract or a law in the first two, and they have no other
-part. GUARANTEES names each module of the kit whose definitions the main theorem cites, and each file that is
-linked into what we ship, or changes it, and isn't proved, with its test.
+part. GUARANTEES names each module of the kit whose definitions the main theorem cites, and with its test each
+file that is linked into what we ship, or included from it, or changes it, and isn't proved.
 """
 
 import ast
@@ -25,6 +25,7 @@ from typing import Dict, Iterator, List, NamedTuple, Optional, Set, Tuple
 from lib import TESTS, TOP
 from lib.definitions import rests_on, used_by
 from lib.pages import data, page, tables
+from lib.processes import run
 from lib.same_items import assert_same_items
 from rsp_tools.page_tables import crates
 from rsp_tools.systems import wasm
@@ -47,6 +48,8 @@ FORMS = {"name": r"^[^/\"\n]*\bfn \w+[(<]", "clause": r"^\s*requires\b", "ensure
 # Where the signature of a function ends, and what in it says that the call may need memory.
 SIGNATURE_END = re.compile(r"\brequires\b|\bensures\b|\{\}?\n|;\n")
 OF_MEMORY = re.compile(r"\bGlobal\b|\bAllocError\b")
+# The folders whose headers nobody gets, or of which the page speaks as a whole.
+OTHER_HEADERS = ("tests/", "fuzz/", "plugin/", "conformance/", "library/c/program/")
 
 
 class Part(NamedTuple):
@@ -165,13 +168,19 @@ def linked() -> Set[str]:
     return named - {path.name for path in TOP.glob("library/c/program/*.c")}
 
 
+def headers() -> Set[str]:
+    """The headers of the program and the libraries in which a function has a body."""
+    names = run("git", "ls-files", "-co", "--exclude-standard", "*.h", "*.hpp").stdout.split()
+    return {it for it in names if not it.startswith(OTHER_HEADERS) and re.search(r"\)[\w ]*\s*\{", page(it))}
+
+
 def test_unproved_files() -> None:
-    """GUARANTEES lists each such file with its tests, which are there."""
+    """GUARANTEES lists each such file, and each header with code, with its tests, which are there."""
     rows = {row[0].strip("`"): row[3] for row in tables(GUARANTEES, "## Assumed") if len(row) == 4}
     files = {name for name in rows if name.endswith(".c")}
     assert {name.rpartition("/")[2] for name in files} == linked()
     # What changes the kit's module before clang compiles it, and the program that isn't the proved one.
-    assert {*rows} == files | {"tools/rsp_tools/systems/rewriting.py", "library/c/program"}
+    assert {*rows} == files | headers() | {"tools/rsp_tools/systems/rewriting.py", "library/c/program"}
     tests = {name: re.findall(r"`(tests/[^`]*)`", cell) for name, cell in rows.items()}
     assert [name for name, paths in tests.items() if not paths] == []
     assert [it for it in (*rows, *sum(tests.values(), [])) if not (TOP / it).exists()] == []
@@ -267,9 +276,12 @@ def test_contracts() -> None:
 
 
 def test_streams() -> None:
-    """The table has each clause of run_bench, by its first word."""
+    """The table has each clause of run_bench, by its first word, and GUARANTEES what they use of Run.antt."""
     clauses = {name for _, call, name in promises() if call == "run_bench"}
     assert_same_items({row["Clause"].split()[0] for row in data("streams")}, clauses)
+    (names,) = (names for module, names in used_by(MAIN_THEOREM) if module == "Rattle.rsp_bench.specs.Run")
+    (listed,) = re.findall(r"`rsp_bench/specs/Run.antt`:\n\n((?:- .*\n)+)", page(GUARANTEES))
+    assert_same_items(re.findall(r"(?m)^- `(\w+)", listed), names)
 
 
 def test_parts() -> None:
