@@ -48,22 +48,27 @@ def line_of(name: str, data: bytes) -> str:
     return f"{hashlib.sha256(data).hexdigest()}  {name}\n"
 
 
-def said(function: str, *words: str) -> "subprocess.CompletedProcess[str]":
-    """How a function of tools/built.sh ended, with what it printed."""
-    script = f'. "$1/tools/built.sh" && {function} "$@"'
-    command = ["sh", "-c", script, "sh", str(TOP), *words]
+def said(script: str, *words: str) -> "subprocess.CompletedProcess[str]":
+    """How a script of functions of tools/built.sh ended, with what it printed."""
+    command = ["sh", "-c", f'. "$1/tools/built.sh" && {script}', "sh", str(TOP), *words]
     return subprocess.run(command, stdout=subprocess.PIPE, text=True)
 
 
 def is_made(mark: str) -> bool:
     """Whether the files of a mark are there, made of the sources as they are."""
-    return said("is_made", mark).returncode == 0
+    return said('is_made "$@"', mark).returncode == 0
+
+
+def folder(crate: str) -> Optional[Path]:
+    """The folder of the files that cc makes of a crate; None if they aren't made of the sources as they are."""
+    found = said('find_made "$@" && echo "$folder"', crate).stdout
+    return Path(found[:-1]) if found else None
 
 
 def program() -> Optional[Path]:
     """The program of the sources as they are: of compiled/, or of the kit; None if there is none."""
-    if is_made("crates/rsp_main/out/linked"):
-        return LINKED
+    if found := folder("rsp_main"):
+        return found / "rsp"
     build = Build("rsp_main")
     return build.file if build.is_built() else None
 
@@ -71,7 +76,8 @@ def program() -> Optional[Path]:
 def sources(crate: str) -> str:
     """The names of the crate and of those below, and the sum of all their files, each in a line."""
     names = with_below(crate)
-    return f"{' '.join(names)}\n{said('tell_sources', *names).stdout}"
+    total = said('tell_sources "$@"', *names).stdout
+    return f"{' '.join(names)}\n{total}"
 
 
 @functools.lru_cache(None)
