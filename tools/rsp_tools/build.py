@@ -80,6 +80,12 @@ def sources(crate: str) -> str:
     return f"{' '.join(names)}\n{total}"
 
 
+def listed_sources() -> str:
+    """compiled/sources: each source of what is in compiled/, and the first digits of its sum."""
+    crates = {name for crate in BUILT for name in with_below(crate)}
+    return said('tell_list "$@"', *sorted(crates)).stdout
+
+
 @functools.lru_cache(None)
 def kit() -> str:
     """The version of the kit on this machine; empty if there is none."""
