@@ -60,7 +60,7 @@ def is_made(mark: str) -> bool:
 
 
 def folder(crate: str) -> Optional[Path]:
-    """The folder of the files that cc makes of a crate; None if they aren't made of the sources as they are."""
+    """Where the files lie that cc makes of a crate; None if they aren't made of the sources as they are."""
     found = said('find_made "$@" && echo "$folder"', crate).stdout
     return Path(found[:-1]) if found else None
 
