@@ -39,10 +39,10 @@ def test_missing_package(target: Target, folder: Path) -> None:
 
 def test_sources_that_have_changed(monkeypatch: pytest.MonkeyPatch) -> None:
     """No library for another system is made of what was built of other sources."""
-    monkeypatch.setattr(modules.Build, "is_built", lambda _: False)
+    monkeypatch.setattr(modules.build.Build, "is_built", lambda _: False)
     for crate in modules.LIBRARY, modules.PROGRAM:
         with pytest.raises(
-            toolchain.Refused, match=f"isn't built of the sources as they are: {crate.command} "
+            toolchain.Refused, match=f"{crate.name} isn't built .*: `tools/build {crate.name}` "
         ):
             modules.mark(crate)
 

@@ -1,5 +1,5 @@
-"""The library for another Linux: the archive that the kit itself makes, with a heap, which shows only the
-calls of brsp.h; and the proved program."""
+"""The library for another Linux: what the kit itself makes, with a heap, which shows only the calls of
+brsp.h; and the proved program."""
 
 import shutil
 from pathlib import Path
@@ -7,8 +7,9 @@ from pathlib import Path
 from rsp_tools import hardening
 from rsp_tools.targets import Target
 
-from . import header, modules, packages, places
-from .modules import Source, module
+from . import header, packages, places
+from .modules import PROGRAM, Source, module
+from .objects import as_given
 from .toolchain import call, llvm
 
 LINKED = "-Wl,-z,defs,--gc-sections"
@@ -21,9 +22,8 @@ def make(target: Target, out: Path, at: Path, source: Source = module) -> None:
     words = [f"--target={target.triples[target.processor]}", "-O2", "-fPIC", "-ffreestanding"]
     words += hardening.words(target.name, "compile")
     llvm("clang", *words, "-c", "-o", at / "heap.o", places.PARTS / "heap.c")
-    archive = source(target.processor).archive
-    words = ["-m", target.linker, "-r", "-o", str(at / "all.o"), "--whole-archive"]
-    llvm("ld.lld", *words, archive, at / "heap.o")
+    as_given(source(target.processor), at / "library.o", "-c")
+    llvm("ld.lld", "-m", target.linker, "-r", "-o", at / "all.o", at / "library.o", at / "heap.o")
     llvm("llvm-objcopy", *exported, at / "all.o", at / "rsp.o")
     (out / "lib").mkdir(parents=True)
     llvm("llvm-ar", "rcsD", out / "lib" / "libbrsp.a", at / "rsp.o")
@@ -35,6 +35,6 @@ def make(target: Target, out: Path, at: Path, source: Source = module) -> None:
     program = out / target.program
     program.parent.mkdir()
     words = ["-O2", *target.linked.split(), "-s", *hardening.words(target.name), LINKED]
-    objects = (places.PARTS / target.start, at / "heap.o", modules.program(target.processor))
-    call(target.compiler, *words, "-o", program, *objects)
+    as_given(module(target.processor, PROGRAM), at / "program.o", "-c")
+    call(target.compiler, *words, "-o", program, places.PARTS / target.start, at / "heap.o", at / "program.o")
     packages.wheel(out, out / "lib" / soname, "libbrsp.so", target.wheel, program)

@@ -1,5 +1,5 @@
-"""The library as one object for a system other than Linux: the module of a processor, rewritten, with the
-heap inside."""
+"""What is compiled of a module: for Linux the code that the kit itself makes; for another system the library
+as one object, the module rewritten, with the heap inside."""
 
 from pathlib import Path
 from typing import Iterable
@@ -10,6 +10,13 @@ from . import places
 from .modules import Module
 from .rewriting import Change, rewritten
 from .toolchain import llvm
+
+
+def as_given(module: Module, to: Path, *kind: str) -> None:
+    """Compiles a module for Linux by the kit's own words, to an object with `-c`, to assembly with `-S`. LLVM
+    reads a module that was printed in another order, and then makes other code of it, so the text won't do.
+    """
+    llvm("clang", *module.words, *kind, "-x", "ir", "-o", to, module.given)
 
 
 def compiled(
