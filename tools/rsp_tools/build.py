@@ -177,9 +177,10 @@ class Build:
         return self.object.exists() and self.object.stat().st_mtime > self.file.stat().st_mtime - 60
 
     def compile(self, source: str, to: Path) -> None:
-        """Builds a file over the libraries of `rt ci`, which lack stamps: `rt lib` would prove them again."""
+        """Builds a file over the libraries of `rt ci`, which lack stamps: `rt lib` would prove them again. What
+        the check finds is kept for ./prove."""
         words = [*f"{source} --backend llvm --jobs {PROCESSORS} -o".split(), str(to)]
-        words += ["--toolchain", f"{kit_folder()}/toolchain"]
+        words += ["--toolchain", f"{kit_folder()}/toolchain", "--incremental", "out/incremental"]
         self.run([*over_libraries("build", self.crate), *words])
 
     def build(self, is_proved: bool) -> None:
