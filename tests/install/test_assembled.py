@@ -5,7 +5,6 @@ is assembled than the kit's, if ./prove passes what is stale, or if NOTICE leave
 """
 
 import re
-import shutil
 from pathlib import Path
 from typing import Tuple
 
@@ -13,9 +12,9 @@ import pytest
 
 from lib import TOP
 from lib.processes import succeeds
-from rsp_tools import assemble
+from rsp_tools import assemble, record
 from rsp_tools.crates import LINES, uses, with_below
-from rsp_tools.systems import modules, places
+from rsp_tools.systems import modules
 from rsp_tools.systems.modules import LIBRARY, PROGRAM, Crate
 from rsp_tools.targets import PROCESSORS
 
@@ -56,11 +55,11 @@ def test_module_as_the_kit_gives_it(folder: Path) -> None:
     """What our clang keeps is what is compiled for Linux, by the words that it was given; its text, of which
     other code is made, is not. The text has the layout of the module's processor, and not of this one."""
     at, source = folder / "at", folder / "module.ll"
-    (at / "toolchain/bin").mkdir(parents=True)
+    modules.link_toolchain(at / "toolchain")
     source.write_text(f'target triple = "{ARM}"\n\ndefine i32 @seven() {{\n  ret i32 7\n}}\n')
     words = [f"--target={ARM}", "--sysroot=/none", "-ffunction-sections", "-c", "-x", "ir", source, "-o"]
-    succeeds(shutil.copy(places.PARTS / "clang", at / "toolchain/bin"), *words, at / "made", "-O3")
-    assert (at / "made").read_bytes() == b""
+    succeeds(at / "toolchain/bin/clang", *words, at / "made", "-O3")
+    assert b"seven" not in (at / "made").read_bytes()
     modules.print_text(at / "module", "aarch64", at / "text.ll")
     assert f'target triple = "{ARM}"' in (at / "text.ll").read_text()
     kept = modules.own((at / "module.words").read_text().splitlines())
@@ -82,10 +81,14 @@ def test_what_prove_says(
         return status, capsys.readouterr().out.splitlines()[-1]
 
     monkeypatch.setattr(assemble, "COMPILED", folder)
-    monkeypatch.setattr(assemble, "record", lambda *_: "")
+    monkeypatch.setattr(assemble, "record", lambda tops, _: assemble.made_of(tops))
+    monkeypatch.setattr(record, "sources", lambda _: "sum -")
     assert run("kit 1", "sum 1", b"1\n") == (1, "0 passed, 4 failed")
     assert assemble.write(made, "") == 0 and "a.s, rsp_main.made, b.s" in capsys.readouterr().out
     assert run("kit 1", "sum 1", b"1\n") == run("kit 2", "sum 1", b"1\n") == (0, "4 passed, 0 failed")
+    (folder / "record").write_text("<<<<<<< HEAD\n")  # after a merge in which the marks fit
+    for name in "record", "nothing":
+        assert assemble.write(made, "") == 0 and f": {name} in compiled/" in capsys.readouterr().out
     assert run("kit 1", "sum 1", b"2\n") == (1, "3 passed, 1 failed")
     assert run("kit 2", "sum 1", b"2\n") == (3, "3 passed, 0 failed")
     assert run("kit 2", "sum 2", b"2\n") == (1, "1 passed, 3 failed")

@@ -21,14 +21,14 @@ import signal
 import subprocess
 import sys
 import tempfile
-from concurrent.futures import Executor, Future, ThreadPoolExecutor
+from concurrent.futures import ThreadPoolExecutor
 from pathlib import Path
 from typing import Dict, List, Mapping, NamedTuple, NoReturn, Tuple
 
 from rsp_tools import TOOLS, TOP
 from rsp_tools.build import is_made, kit, line_of, sources
 from rsp_tools.packaging.install_tree import File, put_all
-from rsp_tools.record import record
+from rsp_tools.record import made_of, record
 from rsp_tools.systems import places, wasm
 from rsp_tools.systems.modules import LIBRARY, PROGRAM, Crate, Module, module
 from rsp_tools.systems.objects import as_given, compiled
@@ -57,6 +57,7 @@ KINDS = {
         "lib", "linux-x86_64 linux-aarch64 windows-x86_64 macos", "heap.c allocator.c memory_wasm.c"
     ),
 }
+TOPS = [crate.name for crate in KINDS]
 Files = Dict[str, bytes]  # by their names in compiled/
 # What GNU's assembler lacks: the first lets lld merge functions, the others say where an epilogue is, which
 # no table of frames of this version holds.
@@ -130,16 +131,14 @@ def web() -> bytes:
         return Path(at, "rsp.wasm").read_bytes()
 
 
-def start(pool: Executor, crate: Crate) -> Dict[str, "Future[bytes]"]:
-    """Begins to make the files of a crate."""
-    going = {name: pool.submit(assembly, crate, *it) for name, it in triples(crate).items()}
-    return {**going, "rsp.wasm": pool.submit(web)} if crate == LIBRARY else going
-
-
 def make() -> Dict[Crate, Files]:
     """Makes all files side by side. Each has a thread, because most wait for a module at first."""
     with ThreadPoolExecutor(20) as pool:
-        going = {crate: start(pool, crate) for crate in KINDS}
+        going = {
+            crate: {name: pool.submit(assembly, crate, *it) for name, it in triples(crate).items()}
+            for crate in KINDS
+        }
+        going[LIBRARY]["rsp.wasm"] = pool.submit(web)
         return {crate: {name: it.result() for name, it in files.items()} for crate, files in going.items()}
 
 
@@ -166,7 +165,7 @@ def marked(crate: Crate) -> Tuple[str, str]:
 
 def stale() -> str:
     """A sentence if compiled/ isn't made of the sources as they are, otherwise empty."""
-    is_right = all(is_made(f"compiled/{crate.name}.made") for crate in KINDS)
+    is_right = all(is_made(f"compiled/{name}.made") for name in TOPS)
     return "" if is_right else "compiled/ isn't made of the sources as they are: tools/assemble makes it"
 
 
@@ -203,8 +202,9 @@ def write(made: Mapping[Crate, Files], output: str) -> int:
         new.update((name, files[name]) for name in differing(files))
         if marked(crate)[1] != mark(crate, files).partition("\n")[2]:
             new[f"{crate.name}.made"] = mark(crate, files).encode()
-    if new or output or not (COMPILED / "record").exists():
-        new["record"] = record([crate.name for crate in KINDS], output).encode()
+    kept = COMPILED / "record"
+    if new or output or not kept.exists() or made_of(TOPS) not in kept.read_text():
+        new["record"] = record(TOPS, output).encode()
     put_all(COMPILED, [File(*it) for it in new.items()], fail)
     print(f"{NAME}: {', '.join(new) or 'nothing'} in compiled/ is new")
     return 0
@@ -221,9 +221,9 @@ def main() -> int:
     parser.add_argument("--mutations", metavar="FILE", default="", help=said)
     options = parser.parse_args()
     signal.signal(signal.SIGINT, lambda *_: sys.exit(130))
-    for crate in KINDS:
-        if subprocess.run([TOOLS / "build", crate.name]).returncode:
-            fail(f"{crate.name} isn't proved")
+    for name in TOPS:
+        if subprocess.run([TOOLS / "build", name]).returncode:
+            fail(f"{name} isn't proved")
     try:
         return check(make()) if options.check else write(make(), options.mutations)
     except (Refused, OSError) as reason:

@@ -33,9 +33,7 @@ def said(name: str) -> str:
     if module.exists() or time_of(log) >= time_of(library(name) / "stamp") > 0:
         return (module if module.exists() else log).read_text(errors="replace")
     words = [*over_libraries("check", name), "src/lib.rt", "--incremental", "out/incremental"]
-    return subprocess.run(
-        words, cwd=CRATES / name, stdout=subprocess.PIPE, text=True, errors="replace"
-    ).stdout
+    return subprocess.run(words, cwd=CRATES / name, capture_output=True, text=True, errors="replace").stderr
 
 
 def counts(name: str) -> Tuple[int, int]:
@@ -55,15 +53,19 @@ def mutations(output: str) -> str:
     return f"{len([*filter(None, tried)])} of {len(tried)} refused, {datetime.date.fromtimestamp(day)}"
 
 
+def made_of(tops: Sequence[str]) -> str:
+    """The sums of the sources of the crates on top with all below."""
+    return ", ".join(f"{sources(top).split()[-2]} ({top})" for top in tops)
+
+
 def record(tops: Sequence[str], output: str) -> str:
     """The text, of the crates on top with all below, and of the mutations of a file."""
     names = [*dict.fromkeys(name for top in tops for name in with_below(top))]
     with ThreadPoolExecutor(at_once()) as pool:
         found = dict(zip(names, pool.map(counts, names)))
-    made_of = ", ".join(f"{sources(top).split()[-2]} ({top})" for top in tops)
     axioms = ", ".join(f"{found[top][1]} of the kit's ({top})" for top in tops)
     lines = "\n".join(f"{name:<15} {functions:>4}" for name, (functions, _) in found.items())
     total = sum(functions for functions, _ in found.values())
     return FORM.format(
-        datetime.date.today(), kit(), made_of, axioms, mutations(output), total, len(found), lines
+        datetime.date.today(), kit(), made_of(tops), axioms, mutations(output), total, len(found), lines
     )

@@ -59,11 +59,11 @@ def mark(crate: Crate) -> str:
 
 def link_toolchain(folder: Path) -> None:
     """A folder of links to the kit's toolchain, with our program as its clang."""
-    (folder / "bin").mkdir(parents=True)
+    (folder / "bin/kit").mkdir(parents=True)
     (folder / "lib").symlink_to(kit() / "toolchain/lib")
     for it in (kit() / "toolchain/bin").iterdir():
         (folder / "bin" / it.name).symlink_to(it.resolve())
-    (folder / "bin/clang").unlink()
+    (folder / "bin/clang").rename(folder / "bin/kit/clang")
     shutil.copy(places.PARTS / "clang", folder / "bin/clang")
 
 
@@ -79,12 +79,13 @@ def take(crate: Crate, processor: str, folder: Path) -> None:
         [*words, "--toolchain", str(folder / "toolchain"), "-o", str(folder / "made")],
         cwd=crate.out.parent,
         stdin=subprocess.DEVNULL,
-        capture_output=True,
+        stdout=subprocess.PIPE,
+        stderr=subprocess.STDOUT,
         text=True,
         errors="replace",
     )
     if ended.returncode or not (folder / "module").is_file():
-        last = "\n".join((ended.stdout + ended.stderr).strip().splitlines()[-20:])
+        last = "\n".join(ended.stdout.strip().splitlines()[-20:])
         raise Refused(f"`rattle build` for {processor} ended with status {ended.returncode}:\n{last}")
     (folder / "said").write_text(ended.stdout)
 
