@@ -14,7 +14,7 @@ from lib import TOP
 from lib.processes import succeeds
 from rsp_tools import assemble, record
 from rsp_tools.crates import LINES, uses, with_below
-from rsp_tools.systems import modules
+from rsp_tools.systems import modules, objects
 from rsp_tools.systems.modules import LIBRARY, PROGRAM, Crate
 from rsp_tools.targets import PROCESSORS
 
@@ -46,8 +46,8 @@ def test_git_finds_the_version_before() -> None:
 def test_labels() -> None:
     """One more function leaves the text of the others as it was, though clang gives them other numbers."""
     one, other = (FUNCTION.format(name="other", number=it) for it in (0, 1))
-    text = assemble.with_stable_labels(FUNCTION.format(name="new", number=0) + other)
-    assert text.endswith(assemble.with_stable_labels(one)) and not re.search(r"\.L[A-Za-z_]+[01]\b", text)
+    text = objects.with_stable_labels(FUNCTION.format(name="new", number=0) + other)
+    assert text.endswith(objects.with_stable_labels(one)) and not re.search(r"\.L[A-Za-z_]+[01]\b", text)
 
 
 @pytest.mark.needs("rt")
@@ -64,7 +64,7 @@ def test_module_as_the_kit_gives_it(folder: Path) -> None:
     assert f'target triple = "{ARM}"' in (at / "text.ll").read_text()
     kept = modules.own((at / "module.words").read_text().splitlines())
     made = modules.Module(at / "none", [], at / "module", kept)
-    text = assemble.for_linux(made, ARM, at)
+    text = objects.for_linux(made, ARM, at)
     assert "\n\t.section\t.text.seven," in text and ".Lfunc_end0" not in text
 
 
@@ -94,6 +94,12 @@ def test_what_prove_says(
     assert run("kit 2", "sum 2", b"2\n") == (1, "1 passed, 3 failed")
     (folder / "b.s").write_bytes(b"2\n")
     assert run("kit 2", "sum 1", b"2\n", LIBRARY) == (1, "3 passed, 1 failed")
+
+
+def test_mutations(folder: Path) -> None:
+    """The record has those of `rt ci` that were refused, and also says how many weren't."""
+    (folder / "said").write_text("rt: must-fail a/b.edit: refused, as it must be: c\nmust-fail a/d.edit: NOT")
+    assert re.fullmatch(r"1 of 2 refused, \d{4}-\d\d-\d\d", record.mutations(str(folder / "said")))
 
 
 def test_notice() -> None:

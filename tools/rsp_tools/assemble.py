@@ -15,8 +15,6 @@ This alone is no fault, because another kit may compile the same sources to othe
 """
 
 import argparse
-import hashlib
-import re
 import signal
 import subprocess
 import sys
@@ -31,9 +29,9 @@ from rsp_tools.packaging.install_tree import File, put_all
 from rsp_tools.record import made_of, record
 from rsp_tools.systems import places, wasm
 from rsp_tools.systems.modules import LIBRARY, PROGRAM, Crate, Module, module
-from rsp_tools.systems.objects import as_given, compiled
+from rsp_tools.systems.objects import common, compiled, for_linux
 from rsp_tools.systems.rewriting import with_unwind_tables, without_stack_probes
-from rsp_tools.systems.toolchain import Refused, llvm
+from rsp_tools.systems.toolchain import Refused
 from rsp_tools.systems.windows import GNU
 from rsp_tools.targets import PROCESSORS, TARGETS
 
@@ -59,9 +57,6 @@ KINDS = {
 }
 TOPS = [crate.name for crate in KINDS]
 Files = Dict[str, bytes]  # by their names in compiled/
-# What GNU's assembler lacks: the first lets lld merge functions, the others say where an epilogue is, which
-# no table of frames of this version holds.
-LACKING = (".addrsig", ".seh_startepilogue", ".seh_endepilogue")
 
 
 def triples(crate: Crate) -> Dict[str, Tuple[str, str]]:
@@ -72,37 +67,6 @@ def triples(crate: Crate) -> Dict[str, Tuple[str, str]]:
         for target in targets
         for processor, triple in target.triples.items()
     }
-
-
-def common(path: Path) -> str:
-    """An assembly text, without what GNU's assembler lacks."""
-    lines = path.read_text().splitlines(keepends=True)
-    return "".join(it for it in lines if not it.lstrip().startswith(LACKING))
-
-
-def with_stable_labels(text: str) -> str:
-    """A text for Linux whose labels have sums of the functions' names in place of their numbers: a function
-    more or less doesn't change all the others, which git would keep again."""
-    ends = re.findall(r"(?m)^\t\.size\t(.+), \.Lfunc_end(\d+)-", text)
-    sums = {number: hashlib.sha256(name.encode()).hexdigest()[:8] for name, number in ends}
-    if len({*sums.values()}) < len(sums):
-        raise Refused("two functions have the same sum")
-    label = re.compile(r"(\.L(?:BB|CPI|JTI|func_end))(\d+)(?=_|\b)")
-    return label.sub(lambda it: it[1] + sums.get(it[2], it[2]), text)
-
-
-def heap(triple: str, at: Path) -> str:
-    """The kit's functions of the heap over those of the C library. Only the text to which they are added sees
-    them, because another library of the kit may be in the same program."""
-    words = [f"--target={triple}", "-O2", "-fPIC", "-ffreestanding", "-fno-asynchronous-unwind-tables"]
-    llvm("clang", *words, "-fno-verbose-asm", "-S", "-o", at / "heap.s", places.PARTS / "heap.c")
-    return re.sub(r"(?m)^\t\.(?:globl|file|ident)\b.*\n", "", common(at / "heap.s")).replace(".L", ".Lheap_")
-
-
-def for_linux(made: Module, triple: str, at: Path) -> str:
-    """What the kit itself makes for Linux, with the heap."""
-    as_given(made, at / "linux.s", "-fno-verbose-asm", "-S")
-    return with_stable_labels(common(at / "linux.s")) + heap(triple, at)
 
 
 def for_other(made: Module, processor: str, triple: str, at: Path) -> str:

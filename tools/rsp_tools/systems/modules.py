@@ -11,7 +11,7 @@ import tempfile
 from pathlib import Path
 from typing import Callable, List, NamedTuple
 
-from rsp_tools import build
+from rsp_tools import TOOLS, build
 from rsp_tools.targets import PROCESSORS
 
 from . import places
@@ -48,12 +48,10 @@ PROGRAM = Crate("rsp_main", "src/main.rt")
 
 
 def mark(crate: Crate) -> str:
-    """The kit's version and the sums of all sources. Refused if the crate isn't built of them."""
+    """The kit's version and the sums of all sources. If the crate isn't built of these, it is built first."""
     built = build.Build(crate.name)
-    if not built.is_built():
-        raise Refused(
-            f"{crate.name} isn't built of the sources as they are: `tools/build {crate.name}` does it"
-        )
+    if not built.is_built() and subprocess.run([TOOLS / "build", crate.name]).returncode:
+        raise Refused(f"{crate.name} isn't proved")
     return f"{build.kit()}\n{built.made_of()}"
 
 
