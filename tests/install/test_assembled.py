@@ -39,7 +39,7 @@ def test_git_finds_the_version_before() -> None:
             found = ((found >> 2) + (letter << 24)) % 2**32
         return found
 
-    names = [name for crate in assemble.KINDS for name in assemble.triples(crate)]
+    names = [name for crate in assemble.CRATES for name in assemble.triples(crate)]
     assert len({*map(name_hash, names)}) == len(names) == len([*assemble.COMPILED.glob("*.s")])
 
 
@@ -104,7 +104,7 @@ def test_mutations(folder: Path) -> None:
 
 def test_notice() -> None:
     """It names the crates of the kit that ours use, and those whose names are in the files."""
-    below = {used for crate in assemble.KINDS for name in with_below(crate.name) for used in uses(name)}
+    below = {used for crate in assemble.CRATES for name in with_below(crate.name) for used in uses(name)}
     texts = "".join(path.read_text() for path in assemble.COMPILED.glob("Linux-*.s"))
     inside = {*re.findall(r'"\.text\.(?:unlikely\.)?<*(\w+)::', texts)}
     listed = {*re.findall(r"(?m)^  (\w+)(?:$| +after )", (TOP / "compiled/NOTICE").read_text())}

@@ -21,7 +21,7 @@ import sys
 import tempfile
 from concurrent.futures import ThreadPoolExecutor
 from pathlib import Path
-from typing import Dict, List, Mapping, NamedTuple, NoReturn, Tuple
+from typing import Dict, List, Mapping, NoReturn, Tuple
 
 from rsp_tools import TOOLS, TOP
 from rsp_tools.build import is_made, kit, line_of, sources
@@ -37,33 +37,16 @@ from rsp_tools.targets import PROCESSORS, TARGETS
 
 NAME = "tools/assemble"
 COMPILED = TOP / "compiled"
-
-
-class Kind(NamedTuple):
-    """Of the files of a crate: how their names end, for which targets there are some, and the C in them."""
-
-    end: str
-    targets: str
-    parts: str
-
-
-# git looks for the version before among files whose names have the same last letters, so no two files may
-# have those (tests/install/test_assembled.py).
-KINDS = {
-    PROGRAM: Kind("rsp", "linux-x86_64 linux-aarch64", "heap.c"),
-    LIBRARY: Kind(
-        "lib", "linux-x86_64 linux-aarch64 windows-x86_64 macos", "heap.c allocator.c memory_wasm.c"
-    ),
-}
-TOPS = [crate.name for crate in KINDS]
+CRATES = (PROGRAM, LIBRARY)
+TOPS = [crate.name for crate in CRATES]
 Files = Dict[str, bytes]  # by their names in compiled/
 
 
 def triples(crate: Crate) -> Dict[str, Tuple[str, str]]:
     """The processor and clang's triple of each file of a crate, by the file's name."""
-    targets = [TARGETS[name] for name in KINDS[crate].targets.split()]
+    targets = [TARGETS[name] for name in crate.targets.split()]
     return {
-        f"{target.cmake[0]}-{triple.partition('-')[0]}-{KINDS[crate].end}.s": (processor, triple)
+        f"{target.cmake[0]}-{triple.partition('-')[0]}-{crate.end}.s": (processor, triple)
         for target in targets
         for processor, triple in target.triples.items()
     }
@@ -100,7 +83,7 @@ def make() -> Dict[Crate, Files]:
     with ThreadPoolExecutor(20) as pool:
         going = {
             crate: {name: pool.submit(assembly, crate, *it) for name, it in triples(crate).items()}
-            for crate in KINDS
+            for crate in CRATES
         }
         going[LIBRARY]["rsp.wasm"] = pool.submit(web)
         return {crate: {name: it.result() for name, it in files.items()} for crate, files in going.items()}
@@ -109,7 +92,7 @@ def make() -> Dict[Crate, Files]:
 def mark(crate: Crate, files: Files) -> str:
     """What tools/built.sh reads: of what these files are made, and first by which kit."""
     sums = [line_of(f"compiled/{name}", data) for name, data in files.items()]
-    for path in map(places.PARTS.joinpath, KINDS[crate].parts.split()):
+    for path in map(places.PARTS.joinpath, crate.parts.split()):
         sums.append(line_of(str(path.relative_to(TOP)), path.read_bytes()))
     return f"{kit()}\n{sources(crate.name)}{''.join(sums)}"
 

@@ -13,13 +13,13 @@ from rsp_tools.proof import at_once, time_of
 from rsp_tools.systems import places
 from rsp_tools.systems.toolchain import Refused
 
-FORM = """What the kit said of the sources of the files in this folder, for readers without it. tools/assemble
-wrote this. With the kit, ./prove proves the same again, and `rt ci` tries the mutations.
+FORM = """What the kit said of the sources of the files in this folder. tools/assemble wrote it for readers
+who don't have the kit; ./prove proves the same again, and `rt ci` tries the mutations.
 
 day         {}
 kit         {}
 sources     {}
-axioms      {}
+axioms      {}: contracts of C functions, which the kit assumes
 mutations   {}
 functions   {} are proved, in {} crates:
 
@@ -63,7 +63,7 @@ def record(tops: Sequence[str], output: str) -> str:
     names = [*dict.fromkeys(name for top in tops for name in with_below(top))]
     with ThreadPoolExecutor(at_once()) as pool:
         found = dict(zip(names, pool.map(counts, names)))
-    axioms = ", ".join(f"{found[top][1]} of the kit's ({top})" for top in tops)
+    axioms = ", ".join(f"{found[top][1]} ({top})" for top in tops)
     lines = "\n".join(f"{name:<15} {functions:>4}" for name, (functions, _) in found.items())
     total = sum(functions for functions, _ in found.values())
     return FORM.format(
