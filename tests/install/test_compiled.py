@@ -1,8 +1,7 @@
 """A clone is all one needs: the program, the library and what is over it, made of compiled/ without the kit.
 
-It fails if compiled/ isn't made of the sources as they are, if a clone in a folder with a blank, with an
-empty HOME and no `rt`, doesn't build there, or if it builds of sources that are changed. That the kit makes
-the same bytes is for ./prove.
+It fails if a clone in a folder with a blank, with an empty HOME and no `rt`, doesn't build there, or if it
+builds of sources that are changed. That the kit makes the same bytes is for ./prove.
 """
 
 import re
@@ -17,8 +16,6 @@ from lib.library import LOCKSTEP
 from lib.pages import page
 from lib.processes import succeeds
 from lib.user import User
-from rsp_tools import build
-from rsp_tools.assemble import COMPILED
 
 pytestmark = [pytest.mark.needs("git", "cc", "ar"), pytest.mark.xdist_group("compiled")]
 PATH = "/usr/bin:/bin"  # where the kit isn't
@@ -65,27 +62,6 @@ def refuses(user: User, script: str, reason: str) -> None:
     """That a script prints nothing but a message that begins with the reason."""
     ended = user.types(script)
     assert (ended.returncode, ended.stdout) == (1, "") and ended.stderr.startswith(f"rsp: {reason}")
-
-
-@pytest.mark.parametrize("crate", build.BUILT)
-def test_is_of_the_sources(crate: str) -> None:
-    assert build.is_made(
-        f"compiled/{crate}.made"
-    ), "tools/assemble makes compiled/ of the sources as they are"
-
-
-def test_git_finds_the_version_before() -> None:
-    """git looks for it among files whose names have the same sum (pack_name_hash), which few letters at the
-    end decide: where two have the same, each change of one line is stored as a whole file."""
-
-    def name_hash(name: str) -> int:
-        found = 0
-        for letter in name.encode():
-            found = ((found >> 2) + (letter << 24)) % 2**32
-        return found
-
-    names = [f"compiled/{path.name}" for path in COMPILED.glob("*.s")]
-    assert len({*map(name_hash, names)}) == len(names) == 7
 
 
 def test_program(stranger: User) -> None:

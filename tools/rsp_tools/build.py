@@ -117,7 +117,7 @@ class Build:
     def __init__(self, crate: str) -> None:
         self.crate, (self.command, file, self.verb, self.jobs) = crate, BUILT[crate]
         out = CRATES / crate / "out"
-        self.file, self.object = out / file, out / f"{crate}.o"
+        self.file = out / file
         self.mark, self.log = out / "built", out / "built.log"
         # The system's clock of files is a little behind, so a change from now on gets a later time.
         self.since = time.time() - 0.02
@@ -183,16 +183,12 @@ class Build:
             print(*output.splitlines()[-25:], sep="\n", file=sys.stderr)
             self.fail(f"{failed} isn't proved, for the reason above; all that `rt` said is in {self.log}")
 
-    def has_object(self) -> bool:
-        """Whether there is the program's object file, which `rt` makes just before the program, and which
-        ./release links again."""
-        return self.object.exists() and self.object.stat().st_mtime > self.file.stat().st_mtime - 60
-
-    def compile(self, source: str, to: Path) -> None:
-        """Builds a file over the libraries of `rt ci`, which lack stamps: `rt lib` would prove them again."""
-        words = [*f"{source} --backend llvm --jobs {PROCESSORS} -o".split(), str(to)]
-        words += ["--toolchain", f"{kit_folder()}/toolchain"]
-        self.run([*over_libraries("build", self.crate), *words])
+    def compile(self) -> None:
+        """Builds the library over those of `rt ci`, which lack stamps: `rt lib` would prove them again. What
+        the check finds is kept for ./prove."""
+        words = f"src/lib.rt --crate-type staticlib --backend llvm --jobs {PROCESSORS}".split()
+        words += ["--toolchain", f"{kit_folder()}/toolchain", "--incremental", "out/incremental"]
+        self.run([*over_libraries("build", self.crate), *words, "-o", str(self.file)])
 
     def build(self, is_proved: bool) -> None:
         version = self.check_kit()
@@ -202,10 +198,7 @@ class Build:
         if not is_proved or is_library and any(stamp.exists() for stamp in stamps):
             self.prove()
         elif is_library:
-            self.compile("src/lib.rt --crate-type staticlib", self.file)
-        elif not self.has_object():
-            # `rt ci` took the program from what it keeps, and keeps no object file.
-            self.compile("src/main.rt", self.object)
+            self.compile()
         # An edit that was taken back in the meantime leaves the same sums, and may yet be part of the file.
         edited = [name for name in with_below(self.crate) if changed_at(name) >= self.since]
         if edited:
