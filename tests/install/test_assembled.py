@@ -83,17 +83,17 @@ def test_what_prove_says(
     monkeypatch.setattr(assemble, "COMPILED", folder)
     monkeypatch.setattr(assemble, "record", lambda tops, _: assemble.made_of(tops))
     monkeypatch.setattr(record, "sources", lambda _: "sum -")
-    assert run("kit 1", "sum 1", b"1\n") == (1, "0 passed, 4 failed")
+    assert run("kit 1", "sum 1", b"1\n") == (1, "0 passed, 5 failed")
     assert assemble.write(made, "") == 0 and "a.s, rsp_main.made, b.s" in capsys.readouterr().out
-    assert run("kit 1", "sum 1", b"1\n") == run("kit 2", "sum 1", b"1\n") == (0, "4 passed, 0 failed")
+    assert run("kit 1", "sum 1", b"1\n") == run("kit 2", "sum 1", b"1\n") == (0, "5 passed, 0 failed")
     (folder / "record").write_text("<<<<<<< HEAD\n")  # after a merge in which the marks fit
     for name in "record", "nothing":
         assert assemble.write(made, "") == 0 and f": {name} in compiled/" in capsys.readouterr().out
-    assert run("kit 1", "sum 1", b"2\n") == (1, "3 passed, 1 failed")
-    assert run("kit 2", "sum 1", b"2\n") == (3, "3 passed, 0 failed")
-    assert run("kit 2", "sum 2", b"2\n") == (1, "1 passed, 3 failed")
+    assert run("kit 1", "sum 1", b"2\n") == (1, "4 passed, 1 failed")
+    assert run("kit 2", "sum 1", b"2\n") == (3, "4 passed, 0 failed")
+    assert run("kit 2", "sum 2", b"2\n") == (1, "2 passed, 3 failed")
     (folder / "b.s").write_bytes(b"2\n")
-    assert run("kit 2", "sum 1", b"2\n", LIBRARY) == (1, "3 passed, 1 failed")
+    assert run("kit 2", "sum 1", b"2\n", LIBRARY) == (1, "4 passed, 1 failed")
 
 
 def test_mutations(folder: Path) -> None:

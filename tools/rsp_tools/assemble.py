@@ -24,7 +24,7 @@ from pathlib import Path
 from typing import Dict, List, Mapping, NoReturn, Tuple
 
 from rsp_tools import TOOLS, TOP
-from rsp_tools.build import is_made, kit, line_of, sources
+from rsp_tools.build import is_made, kit, line_of, listed_sources, sources
 from rsp_tools.packaging.install_tree import File, put_all
 from rsp_tools.record import made_of, record
 from rsp_tools.systems import places, wasm
@@ -103,6 +103,11 @@ def differing(files: Files) -> List[str]:
     return [name for name, path in paths.items() if not path.is_file() or path.read_bytes() != files[name]]
 
 
+def listed() -> Files:
+    """The list by which a message names the first source that is changed (tools/built.sh)."""
+    return {"sources": listed_sources().encode()}
+
+
 def marked(crate: Crate) -> Tuple[str, str]:
     """The kit that the mark names, and all else that the mark says; empty if there is none."""
     path = COMPILED / f"{crate.name}.made"
@@ -130,13 +135,14 @@ def check(made: Mapping[Crate, Files]) -> int:
     """Names the files that would become others, and counts. The status."""
     compared = [compare(crate, files) for crate, files in made.items()]
     wrong, others = ([name for it in compared for name in it[number]] for number in (0, 1))
+    wrong += differing(listed())
     for name in wrong:
         print(f"compiled/{name} isn't what `{kit()}` makes of these sources: tools/assemble makes it")
     for name in others:
         print(f"compiled/{name} is made by another kit, and `{kit()}` makes other bytes of the same sources")
     if others:
         print("This alone is no fault, but only the kit that the mark names can check these files")
-    count = sum(len(files) + 1 for files in made.values()) - len(wrong) - len(others)
+    count = sum(len(files) + 1 for files in made.values()) + 1 - len(wrong) - len(others)
     print(f"{count} passed, {len(wrong)} failed")
     return 1 if wrong else 3 if others else 0
 
@@ -149,6 +155,7 @@ def write(made: Mapping[Crate, Files], output: str) -> int:
         new.update((name, files[name]) for name in differing(files))
         if marked(crate)[1] != mark(crate, files).partition("\n")[2]:
             new[f"{crate.name}.made"] = mark(crate, files).encode()
+    new.update((name, listed()[name]) for name in differing(listed()))
     kept = COMPILED / "record"
     if new or output or not kept.exists() or made_of(TOPS) not in kept.read_text():
         new["record"] = record(TOPS, output).encode()
