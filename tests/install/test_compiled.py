@@ -133,12 +133,10 @@ def test_without_reading(stranger: User) -> None:
     prints(stranger, f"{FIRST}; sleep 2.1; {FIRST}")
     bare = f"{with_tools(stranger, '')} CC= {FIRST}"
     assert prints(stranger, bare) == REPLIES
-    hidden = (
-        f"cp -p {SOURCE} ~/kept; printf q | dd of={SOURCE} conv=notrunc status=none; touch -r ~/kept {SOURCE}"
-    )
-    refuses(stranger, f"{hidden}; {FIRST}", f"{SOURCE} isn't as it was")
-    young = f"git checkout -q crates; while touch {SOURCE}; do sleep 0.2; done & trap 'kill $!' EXIT; sleep 1"
-    refuses(stranger, f"{young}; {FIRST} >~/replies; {bare}", "no sha256sum, shasum or openssl is on")
+    hidden = f"printf q | dd of={SOURCE} conv=notrunc status=none; touch -r ~/kept {SOURCE}"
+    refuses(stranger, f"cp -p {SOURCE} ~/kept; {hidden}; sleep 2.1; {FIRST}", f"{SOURCE} isn't as it was")
+    young = f"git checkout -q {SOURCE}; while touch {SOURCE}; do sleep 0.2; done & trap 'kill $!' EXIT"
+    refuses(stranger, f"{young}; sleep 1; {FIRST} >~/replies; {bare}", "no sha256sum, shasum or openssl is on")
 
 
 def test_first_builds_at_once(stranger: User) -> None:
