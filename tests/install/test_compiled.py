@@ -97,8 +97,9 @@ def test_other_tools(stranger: User, names: str) -> None:
     """They make it, find it made, and see a change; busybox's find tells no times."""
     path = with_tools(stranger, names, "busybox" if "busybox" in names else "$it")
     prints(stranger, f"rm -rf {OUT} && {path} sh tools/link rsp_main")
-    assert prints(stranger, f"{path} CC=false sh {FIRST}") == REPLIES
-    refuses(stranger, f"echo >>{SOURCE}; {path} sh {FIRST}", f"{SOURCE} isn't as it was")
+    found = f"{path} CC=false sh {FIRST}"
+    assert prints(stranger, found) == REPLIES
+    refuses(stranger, f"echo >>{SOURCE}; {found}", f"{SOURCE} isn't as it was")
     prints(stranger, "git checkout -q crates")
 
 
@@ -108,10 +109,10 @@ def test_without_reading(stranger: User) -> None:
     prints(stranger, f"{FIRST}; sleep 2.1; {FIRST}")
     bare = f"{with_tools(stranger, '')} CC= {FIRST}"
     assert prints(stranger, bare) == REPLIES
-    hidden = f"cp -p {SOURCE} ~/kept && sed -i s/p/q/ {SOURCE} && touch -r ~/kept {SOURCE}"
-    refuses(stranger, f"{hidden} && {FIRST}", f"{SOURCE} isn't as it was")
-    assert prints(stranger, f"git checkout -q crates; CC=false {FIRST}") == REPLIES
-    refuses(stranger, bare, "no sha256sum, shasum or openssl is on this machine")
+    hidden = f"printf q | dd of={SOURCE} conv=notrunc status=none; touch -r ~/kept {SOURCE}"
+    refuses(stranger, f"cp -p {SOURCE} ~/kept; {hidden}; sleep 2.1; {FIRST}", f"{SOURCE} isn't as it was")
+    young = f"git checkout -q {SOURCE}; while touch {SOURCE}; do sleep 0.2; done & trap 'kill $!' EXIT"
+    refuses(stranger, f"{young}; sleep 1; {FIRST} >~/replies; {bare}", "no sha256sum, shasum or openssl is on")
 
 
 def test_first_builds_at_once(stranger: User) -> None:
