@@ -112,7 +112,7 @@ def test_without_reading(stranger: User) -> None:
     hidden = f"printf q | dd of={SOURCE} conv=notrunc status=none; touch -r ~/kept {SOURCE}"
     refuses(stranger, f"cp -p {SOURCE} ~/kept; {hidden}; sleep 2.1; {FIRST}", f"{SOURCE} isn't as it was")
     young = f"git checkout -q {SOURCE}; while touch {SOURCE}; do sleep 0.2; done & trap 'kill $!' EXIT"
-    refuses(stranger, f"{young}; sleep 1; {FIRST} >~/replies; {bare}", "no sha256sum, shasum or openssl is on")
+    refuses(stranger, f"{young}; sleep 1; {FIRST} >~/replies; {bare}", "no sha256sum, shasum or openssl is")
 
 
 def test_first_builds_at_once(stranger: User) -> None:
