@@ -5,7 +5,9 @@
 #include <stdarg.h>
 #include <stdio.h>
 
+#ifdef __x86_64__
 __asm__(".symver dlsym, dlsym@GLIBC_2.2.5"); /* by the version that it had when it was in libdl, the plugin loads with an older glibc too */
+#endif
 plugin_options options = { .check_folder = ".", .check_addresses = 1 };
 static m64p_message *message;
 static void *message_context;

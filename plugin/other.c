@@ -7,7 +7,9 @@
 #include <string.h>
 
 /* As in options.c. */
+#ifdef __x86_64__
 __asm__(".symver dlopen, dlopen@GLIBC_2.2.5\n.symver dlsym, dlsym@GLIBC_2.2.5\n.symver dlerror, dlerror@GLIBC_2.2.5\n.symver dladdr, dladdr@GLIBC_2.2.5");
+#endif
 other_plugin other;
 enum { SP_SPACE = 1 << 20 }; /* more than there is: a plugin's DMA may run past the end */
 static void (*initiate)(m64p_rsp_info, unsigned *);

@@ -1,10 +1,10 @@
 """A clone is all one needs: the program, the library and what is over it, made of compiled/ without the kit.
 
-It fails if compiled/ isn't made of the sources as they are, if a clone in a folder with a blank, with an
-empty HOME and no `rt`, doesn't build there, or if it builds of sources that are changed. That the kit makes
-the same bytes is for ./prove.
+It fails if a clone in a folder with a blank, with an empty HOME and no `rt`, doesn't build there, or if it
+builds of sources that are changed. That the kit makes the same bytes is for ./prove.
 """
 
+import re
 import tempfile
 from pathlib import Path
 from typing import Iterator
@@ -16,12 +16,14 @@ from lib.library import LOCKSTEP
 from lib.pages import page
 from lib.processes import succeeds
 from lib.user import User
-from rsp_tools import build
-from rsp_tools.assemble import COMPILED
 
 pytestmark = [pytest.mark.needs("git", "cc", "ar"), pytest.mark.xdist_group("compiled")]
 PATH = "/usr/bin:/bin"  # where the kit isn't
 FIRST = "./rsp run examples/first.rsp"
+# What the scripts of the shell call beside the compiler, binutils and a program that sums.
+TOOLS = "sh cat cp cut dirname find grep head mkdir mktemp mv readlink rm sed sort uname uniq"
+OUT = "crates/rsp_main/out crates/rsp_c/out library/c/libbrsp* plugin/*.so"
+SOURCE = "crates/rsp_numbers/src/lib.rt"
 REPLIES = page("examples/first.out")
 # A project that takes the library in one of these ways, and a package that takes it by cargo.
 PROJECT = """cmake_minimum_required(VERSION 3.13)
@@ -43,7 +45,7 @@ def stranger() -> Iterator[User]:
     with tempfile.TemporaryDirectory(prefix="rsp-compiled-") as name:
         base = Path(name)
         base.chmod(0o755)
-        succeeds("git", "clone", "-q", TOP, base / "a b/rsp")
+        succeeds("git", "clone", "-q", "-c", "core.autocrlf=true", TOP, base / "a b/rsp")
         user = User(base / "a b/rsp", base / "home", base, path=PATH)
         assert user.types("! command -v rt").returncode == 0
         yield user
@@ -56,25 +58,10 @@ def prints(user: User, script: str) -> str:
     return ended.stdout
 
 
-@pytest.mark.parametrize("crate", build.BUILT)
-def test_is_of_the_sources(crate: str) -> None:
-    assert build.is_made(
-        f"compiled/{crate}.made"
-    ), "tools/assemble makes compiled/ of the sources as they are"
-
-
-def test_git_finds_the_version_before() -> None:
-    """git looks for it among files whose names have the same sum (pack_name_hash), which few letters at the
-    end decide: where two have the same, each change of one line is stored as a whole file."""
-
-    def name_hash(name: str) -> int:
-        found = 0
-        for letter in name.encode():
-            found = ((found >> 2) + (letter << 24)) % 2**32
-        return found
-
-    names = [f"compiled/{path.name}" for path in COMPILED.glob("*.s")]
-    assert len({*map(name_hash, names)}) == len(names) == 7
+def refuses(user: User, script: str, reason: str) -> None:
+    """That a script prints nothing but a message that begins with the reason."""
+    ended = user.types(script)
+    assert (ended.returncode, ended.stdout) == (1, "") and ended.stderr.startswith(f"rsp: {reason}")
 
 
 def test_program(stranger: User) -> None:
@@ -86,9 +73,89 @@ def test_program(stranger: User) -> None:
 
 
 @pytest.mark.needs("clang")
-def test_program_by_clang(stranger: User) -> None:
-    prints(stranger, "rm -rf crates/rsp_main/out")
-    assert prints(stranger, f"CC=clang {FIRST}") == REPLIES
+@pytest.mark.parametrize("cc", ["clang", "env gcc -m64"])
+def test_compilers(stranger: User, cc: str) -> None:
+    """CC is words, and the folder of a compiler's own files isn't that of TMPDIR."""
+    prints(stranger, f"rm -rf {OUT}")
+    assert prints(stranger, f"CC='{cc}' TMPDIR=/none {FIRST}") == REPLIES
+    prints(stranger, f"CC='{cc}' TMPDIR=/none plugin/build ~/plugin.so")
+
+
+def with_tools(user: User, names: str, source: str = "$it") -> str:
+    """The start of a command that finds no other tools than TOOLS, which this source has, and these."""
+    prints(user, "rm -rf ~/tools && mkdir ~/tools")
+    for those, of in (TOOLS, source), (f"{names} as ld ar", "$it"):
+        prints(user, f'for it in {those}; do ln -s "$(command -v {of})" ~/tools/$it; done')
+    return 'PATH="$HOME/tools"'
+
+
+@pytest.mark.needs("/usr/bin/busybox", "clang", "/usr/bin/openssl")
+@pytest.mark.parametrize(
+    "names", ["gcc shasum perl", "gcc openssl", "clang sha256sum", "gcc sha256sum busybox"]
+)
+def test_other_tools(stranger: User, names: str) -> None:
+    """They make it, find it made, and see a change; busybox's find tells no times."""
+    path = with_tools(stranger, names, "busybox" if "busybox" in names else "$it")
+    prints(stranger, f"rm -rf {OUT} && {path} sh tools/link rsp_main")
+    found = f"{path} CC=false sh {FIRST}"
+    assert prints(stranger, found) == REPLIES
+    refuses(stranger, f"echo >>{SOURCE}; {found}", f"{SOURCE} isn't as it was")
+    prints(stranger, "git checkout -q crates")
+
+
+def test_without_reading(stranger: User) -> None:
+    """A state that is as it was stands for the sums, but not that of a change, however it is hidden, nor of a
+    file that is so young that it may change again without another time."""
+    prints(stranger, f"{FIRST}; sleep 2.1; {FIRST}")
+    bare = f"{with_tools(stranger, '')} CC= {FIRST}"
+    assert prints(stranger, bare) == REPLIES
+    hidden = f"printf q | dd of={SOURCE} conv=notrunc status=none; touch -r ~/kept {SOURCE}"
+    refuses(stranger, f"cp -p {SOURCE} ~/kept; {hidden}; sleep 2.1; {FIRST}", f"{SOURCE} isn't as it was")
+    young = f"git checkout -q {SOURCE}; while touch {SOURCE}; do sleep 0.2; done & trap 'kill $!' EXIT"
+    refuses(stranger, f"{young}; sleep 1; {FIRST} >~/replies; {bare}", "no sha256sum, shasum or openssl is")
+
+
+def test_first_builds_at_once(stranger: User) -> None:
+    prints(stranger, f"rm -rf {OUT}")
+    for command, output in (FIRST, REPLIES), ("library/c/build --folder", f"{stranger.at}/library/c\n"):
+        at_once = f"for it in 1 2 3 4 5 6; do {command} >~/at.$it & done; wait; cat ~/at.*; rm ~/at.*"
+        assert prints(stranger, at_once) == output * 6
+    left = "cd crates; ls rsp_main/out rsp_c/out | grep -v state; CC=false ../library/c/build"
+    assert prints(stranger, left) == "rsp_c/out:\nlinked\n\nrsp_main/out:\nlinked\nrsp\n"
+
+
+def test_tree_that_cannot_be_written(stranger: User) -> None:
+    """What is made lies in the user's cache, or where RSP_OUT says; a user who has neither is told of it."""
+    prints(stranger, f"rm -rf {OUT} && chmod a-w crates/rsp_main crates/rsp_c library/c")
+    try:
+        assert prints(stranger, FIRST) == prints(stranger, f"CC=false {FIRST}") == REPLIES
+        cache = prints(stranger, "library/c/build --folder && CC=false library/c/build")
+        assert cache.startswith(f"{stranger.env['HOME']}/.cache/rsp/")
+        prints(stranger, f"plugin/build && ls '{cache[:-1]}'/mupen64plus-rsp-proved.so")
+        refuses(stranger, f"HOME=/none {FIRST}", "cannot write /none/.cache/rsp/")
+    finally:
+        prints(stranger, "chmod u+w crates/rsp_main crates/rsp_c library/c")
+
+
+@pytest.mark.needs("aarch64-linux-gnu-gcc", "qemu-aarch64")
+def test_other_processor(stranger: User) -> None:
+    """The assembly is that for which the compiler makes code, and what is made for another processor is made
+    anew. Nothing is written into the tree."""
+    prints(stranger, f"rm -rf {OUT}")
+    cross = 'export RSP_OUT="$HOME/out"; CC=aarch64-linux-gnu-gcc tools/link rsp_main'
+    run = "qemu-aarch64 -L /usr/aarch64-linux-gnu ~/out/rsp run examples/first.rsp"
+    assert prints(stranger, f"{cross}; {run}; {FIRST}") == f"{stranger.env['HOME']}/out\n{REPLIES * 2}"
+    assert prints(stranger, "git status --porcelain --ignored") == ""
+    prints(stranger, "printf '#!/bin/sh\\necho riscv64-linux-gnu\\n' >~/riscv && chmod +x ~/riscv")
+    known = "compiled/ has no assembly for Linux-riscv64, only for Linux-aarch64 Linux-x86_64\n"
+    refuses(stranger, f"CC=~/riscv {FIRST}", known)
+
+
+def test_archive(stranger: User) -> None:
+    """Without git the sums of compiled/ name what is changed."""
+    prints(stranger, "mkdir ~/'an archive' && git archive HEAD | tar -x -C ~/'an archive'")
+    assert prints(stranger, f"cd ~/'an archive' && {FIRST}") == REPLIES
+    refuses(stranger, f"cd ~/'an archive' && echo >>{SOURCE} && library/c/build", f"{SOURCE} isn't as it was")
 
 
 def test_library_and_plugin(stranger: User) -> None:
@@ -126,24 +193,34 @@ def test_cargo(stranger: User, source: str) -> None:
     prints(stranger, "rm -rf ~/uses")
 
 
+CHANGES = {
+    f"echo '// more' >>{SOURCE}": SOURCE,
+    "touch crates/rsp_numbers/specs/New.antt": "crates/rsp_numbers/specs/New.antt",
+    "rm -r crates/rsp_numbers/proofs": "crates/rsp_numbers/proofs/Join.antt",
+    "mv crates/rsp_numbers/src/sign.rt crates/rsp_numbers/src/other.rt": "crates/rsp_numbers/src/other.rt",
+    "sed -i '/^rsp_numbers:/s/$/ rsp_decode/' crates.txt": "crates.txt",
+    "echo logic 0 >tools/logic": "tools/logic",
+    "for it in compiled/Linux-x86_64*; do echo >>$it; done": "compiled/Linux-x86_64-",
+}
+EDITORS = ".lib.rt.swp lib.rt~ lib.rt.orig .DS_Store .#lib.rt ._lib.rt"
+
+
 def test_sources_that_are_changed(stranger: User) -> None:
-    """Only a change of what a file is made of counts, and one that is taken back doesn't."""
+    """Only a change of what a file is made of counts, its first one is named, and one that is taken back
+    doesn't count."""
     prints(stranger, "echo '// more' >>crates/rsp_routines/src/lib.rt; echo >>docs/README.md")
+    prints(stranger, f"cd crates/rsp_numbers/src && touch {EDITORS}")
     assert prints(stranger, FIRST) == REPLIES
-    for change in (
-        "echo '// more' >>src/lib.rt",
-        "touch src/new.rt",
-        "rm -r proofs",
-        "mv src/sign.rt src/other.rt",
-    ):
-        prints(stranger, f"cd crates/rsp_numbers && {change}")
+    for change, name in CHANGES.items():
+        prints(stranger, change)
         for command in FIRST, "library/c/build":
-            ended = stranger.types(command)
-            assert (ended.returncode, ended.stdout) == (1, "") and "git status crates" in ended.stderr
-        prints(stranger, "git checkout -q crates/rsp_numbers && git clean -qfd crates/rsp_numbers")
+            refuses(stranger, command, name)
+        prints(stranger, "git checkout -q . && git clean -qfd")
         assert prints(stranger, f"CC=false {FIRST}") == REPLIES
-    prints(stranger, "git checkout -q .")
 
 
 def test_work_tree_is_clean_afterwards(stranger: User) -> None:
+    """And its line ends are those of the commit, though core.autocrlf is set."""
     assert prints(stranger, "git status --porcelain") == ""
+    lines = prints(stranger, "git ls-files --eol").splitlines()
+    assert [it for it in lines if not re.match(r"i/(\S+) +w/\1 ", it)] == []

@@ -27,8 +27,6 @@ from rsp_conformance.states import numbers_of, texts_of
 from rsp_conformance.vectors import VECTORS, entries_in, names_in
 from rsp_tools.systems import modules
 from rsp_tools.systems.__main__ import SYSTEMS
-from rsp_tools.systems.toolchain import llvm
-from rsp_tools.targets import PROCESSORS
 
 pytestmark = pytest.mark.timeout(3600)
 DATA = TESTS / "systems"
@@ -146,16 +144,14 @@ def test_all_instructions_are_traced(expected: Lines) -> None:
 
 
 def changed(processor: str, at: Path) -> modules.Module:
-    """The module of a processor in which a clamp has another bound, and its archive."""
-    made, text, archive = modules.module(processor), at / f"{processor}.ll", at / f"{processor}.a"
-    whole = made.text.read_text()
-    planted, number = re.subn(FORMS[processor], lambda it: str(it[0]).replace("-32768", "-32767"), whole)
+    """The module of a processor in which a clamp has another bound."""
+    made, text = modules.module(processor), at / f"{processor}.ll"
+    planted, number = re.subn(
+        FORMS[processor], lambda it: str(it[0]).replace("-32768", "-32767"), made.text.read_text()
+    )
     assert number, "the module has the constant"
     text.write_text(planted)
-    words = [f"--target={PROCESSORS[processor].triple}", "-x", "ir", "-c", *made.flags, "-fPIC"]
-    llvm("clang", *words, "-Wno-override-module", "-o", at / "planted.o", text)
-    llvm("llvm-ar", "rcsD", archive, at / "planted.o")
-    return modules.Module(text, archive, made.flags)
+    return made._replace(text=text, given=text)
 
 
 @on()

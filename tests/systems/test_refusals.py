@@ -37,13 +37,13 @@ def test_missing_package(target: Target, folder: Path) -> None:
     assert ended.returncode == 1 and expected in ended.stdout
 
 
-def test_sources_that_have_changed(monkeypatch: pytest.MonkeyPatch) -> None:
+def test_sources_that_are_not_proved(monkeypatch: pytest.MonkeyPatch, folder: Path) -> None:
     """No library for another system is made of what was built of other sources."""
-    monkeypatch.setattr(modules.Build, "is_built", lambda _: False)
+    monkeypatch.setattr(modules.build.Build, "is_built", lambda _: False)
+    monkeypatch.setattr(modules, "TOOLS", folder)
+    (folder / "build").symlink_to("/bin/false")
     for crate in modules.LIBRARY, modules.PROGRAM:
-        with pytest.raises(
-            toolchain.Refused, match=f"isn't built of the sources as they are: {crate.command} "
-        ):
+        with pytest.raises(toolchain.Refused, match=f"{crate.name} isn't proved"):
             modules.mark(crate)
 
 

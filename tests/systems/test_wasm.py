@@ -58,7 +58,7 @@ def test_another_intrinsic(folder: Path) -> None:
     module.write_text(SMALL.replace("  %c = call", f"  {FOREIGN}\n  %c = call"))
     way.mkdir()
     with pytest.raises(Refused, match="has the intrinsic llvm.x86.rsp.add, which no rule names"):
-        wasm.make(out, way, lambda _: Module(module, module, ["-O3"]))
+        wasm.make(out, way, lambda _: Module(module, ["-O3"]))
     assert not out.exists() and not [*way.iterdir()]
 
 

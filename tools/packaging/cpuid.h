@@ -1,6 +1,9 @@
-/* cpuid.h: the call by which the program for x86-64 finds the processor's instruction sets. glibc has it from 2.33 on, and musl not at all. */
+/* cpuid.h: the calls by which the program for x86-64 finds the processor's instruction sets, and says which it lacks. glibc has the first from 2.33 on,
+ * and musl has neither. */
 #include <cpuid.h>
 #include <stddef.h>
+#include <string.h>
+#include <unistd.h>
 
 /* glibc's struct cpuid_feature: eax, ebx, ecx and edx of a leaf, as the processor says them, and what of them can be used. */
 struct features {
@@ -18,4 +21,14 @@ __attribute__((visibility("hidden"))) const struct features *__x86_get_cpuid_fea
     if (at != &found[1] && __get_cpuid(leaves[number], &to[0], &to[1], &to[2], &to[3]))
         for (size_t i = 0; i < 4; i++) at->usable[i] = to[i];
     return at;
+}
+
+/* glibc's other name of write, by which main says that the processor is too old. Its sentence goes on with an option of the kit, which who runs the
+ * program doesn't have. */
+__attribute__((visibility("hidden"))) ssize_t __write(int file, const void *from, size_t len)
+{
+    static const char theirs[] = "this machine lacks a feature of x86-64-v2";
+    static const char ours[] = "rsp: this processor lacks a feature of x86-64-v2, such as SSE4.2 or POPCNT, without which rsp can't run\n";
+    if (len < sizeof theirs || memcmp(from, theirs, sizeof theirs - 1) != 0) return write(file, from, len);
+    return write(file, ours, sizeof ours - 1);
 }

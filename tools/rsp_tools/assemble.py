@@ -1,87 +1,55 @@
-"""tools/assemble [--check]: makes the files of compiled/ anew, of which cc makes the program and the library.
+"""tools/assemble makes the files of compiled/ anew, of which cc makes the program and the library for C.
+./prove makes them too, changes nothing, and compares each byte with what is there.
 
-It first proves both here, if that isn't done (tools/build). Then the kit compiles them: to assembly for each
-system, and the library to WebAssembly. The same sources give the same bytes in any folder. It needs the kit,
-and takes some ten minutes of a processor; another version of the kit may make other bytes.
+Both need the kit. They first prove the program and the library here, if that isn't done (tools/build). Then
+the kit compiles them, several files at a time: to assembly for each system, and the library to WebAssembly.
+Beside the proofs that takes some three minutes on four processors. The same kit makes the same bytes of the
+same sources in any folder.
 
---check changes nothing, names each file that would become another one, and counts in its last line.
-The status is 0 if all is made or the same, 1 if not, 2 if the words are wrong.
+tools/assemble also writes compiled/record: which kit proved what, and on which day. ./prove names each file
+that differs, and counts in its last line.
+
+The status is 0 if all is made or the same, 1 if not, and 2 if the words are wrong. It is 3 if ./prove finds
+files that differ, but they are of these sources, and the marks name another kit than the one that is here.
+This alone is no fault, because another kit may compile the same sources to other bytes.
 """
 
 import argparse
-import hashlib
-import re
 import signal
 import subprocess
 import sys
 import tempfile
+from concurrent.futures import ThreadPoolExecutor
 from pathlib import Path
-from typing import Dict, List, NoReturn
+from typing import Dict, List, Mapping, NoReturn, Tuple
 
 from rsp_tools import TOOLS, TOP
-from rsp_tools.build import Build, kit, line_of
+from rsp_tools.build import is_made, kit, line_of, listed_sources, sources
 from rsp_tools.packaging.install_tree import File, put_all
+from rsp_tools.record import made_of, record
 from rsp_tools.systems import places, wasm
 from rsp_tools.systems.modules import LIBRARY, PROGRAM, Crate, Module, module
-from rsp_tools.systems.objects import compiled
+from rsp_tools.systems.objects import common, compiled, for_linux
 from rsp_tools.systems.rewriting import with_unwind_tables, without_stack_probes
-from rsp_tools.systems.toolchain import Refused, llvm
+from rsp_tools.systems.toolchain import Refused
 from rsp_tools.systems.windows import GNU
 from rsp_tools.targets import PROCESSORS, TARGETS
 
 NAME = "tools/assemble"
 COMPILED = TOP / "compiled"
-# How the names of their files end. git looks for the version before among files with the same last letters,
-# so no two files may have those (tests/install/test_compiled.py).
-CRATES = {PROGRAM: "rsp", LIBRARY: "lib"}
-# The C that is part of the files too.
-PARTS = {PROGRAM: ["heap.c"], LIBRARY: ["heap.c", "allocator.c", "memory_wasm.c"]}
-# What GNU's assembler lacks: the first lets lld merge functions, the others say where an epilogue is, which
-# no table of frames of this version holds.
-LACKING = (".addrsig", ".seh_startepilogue", ".seh_endepilogue")
+CRATES = (PROGRAM, LIBRARY)
+TOPS = [crate.name for crate in CRATES]
+Files = Dict[str, bytes]  # by their names in compiled/
 
 
-def triples(crate: Crate) -> Dict[str, str]:
-    """clang's triple of each file of a crate, by the file's name. Linux has one for each processor, and the
-    proved program is for Linux alone."""
-    found: Dict[str, str] = {}
-    for target in TARGETS.values():
-        for triple in target.triples.values():
-            if crate == LIBRARY or target.is_linux:
-                found.setdefault(f"{target.cmake[0]}-{triple.partition('-')[0]}-{CRATES[crate]}.s", triple)
-    return found
-
-
-def common(path: Path) -> str:
-    """An assembly text, without what GNU's assembler lacks."""
-    lines = path.read_text().splitlines(keepends=True)
-    return "".join(it for it in lines if not it.lstrip().startswith(LACKING))
-
-
-def with_stable_labels(text: str) -> str:
-    """A text for Linux whose labels have sums of the functions' names in place of their numbers: a function
-    more or less doesn't change all the others, which git would keep again."""
-    ends = re.findall(r"(?m)^\t\.size\t(.+), \.Lfunc_end(\d+)-", text)
-    sums = {number: hashlib.sha256(name.encode()).hexdigest()[:8] for name, number in ends}
-    if len({*sums.values()}) < len(sums):
-        raise Refused("two functions have the same sum")
-    label = re.compile(r"(\.L(?:BB|CPI|JTI|func_end))(\d+)(?=_|\b)")
-    return label.sub(lambda it: it[1] + sums.get(it[2], it[2]), text)
-
-
-def heap(triple: str, at: Path) -> str:
-    """The kit's functions of the heap over those of the C library. Only the text to which they are added sees
-    them, because another library of the kit may be in the same program."""
-    words = [f"--target={triple}", "-O2", "-fPIC", "-ffreestanding", "-fno-asynchronous-unwind-tables"]
-    llvm("clang", *words, "-fno-verbose-asm", "-S", "-o", at / "heap.s", places.PARTS / "heap.c")
-    return re.sub(r"(?m)^\t\.(?:globl|file|ident)\b.*\n", "", common(at / "heap.s")).replace(".L", ".Lheap_")
-
-
-def for_linux(made: Module, triple: str, at: Path) -> str:
-    """What the kit itself makes for Linux, by its own words, with the heap. (LLVM reads a module that was
-    printed in another order, and then makes other code of it.)"""
-    llvm("clang", *made.words, "-fno-verbose-asm", "-S", "-x", "ir", "-o", at / "linux.s", made.given)
-    return with_stable_labels(common(at / "linux.s")) + heap(triple, at)
+def triples(crate: Crate) -> Dict[str, Tuple[str, str]]:
+    """The processor and clang's triple of each file of a crate, by the file's name."""
+    targets = [TARGETS[name] for name in crate.targets.split()]
+    return {
+        f"{target.cmake[0]}-{triple.partition('-')[0]}-{crate.end}.s": (processor, triple)
+        for target in targets
+        for processor, triple in target.triples.items()
+    }
 
 
 def for_other(made: Module, processor: str, triple: str, at: Path) -> str:
@@ -94,9 +62,8 @@ def for_other(made: Module, processor: str, triple: str, at: Path) -> str:
     return common(compiled(made._replace(flags=flags), processor, triple, at, changes, kind="-S"))
 
 
-def assembly(crate: Crate, triple: str) -> bytes:
+def assembly(crate: Crate, processor: str, triple: str) -> bytes:
     """A file."""
-    processor = "aarch64" if triple.startswith("arm64") else triple.partition("-")[0]
     made = module(processor, crate)
     with tempfile.TemporaryDirectory() as at:
         if triple == PROCESSORS[processor].triple:
@@ -111,46 +78,89 @@ def web() -> bytes:
         return Path(at, "rsp.wasm").read_bytes()
 
 
-def mark(crate: Crate, made: Dict[str, bytes]) -> bytes:
-    """What tools/built.sh reads: of what these files are made."""
-    build = Build(crate.name)
-    sums = [line_of(f"compiled/{name}", data) for name, data in made.items()]
-    sums += [
-        line_of(str(it.relative_to(TOP)), it.read_bytes()) for it in map(places.PARTS.joinpath, PARTS[crate])
-    ]
-    return f"{build.marked()}\n{build.sources}{''.join(sums)}".encode()
+def make() -> Dict[Crate, Files]:
+    """Makes all files side by side. Each has a thread, because most wait for a module at first."""
+    with ThreadPoolExecutor(20) as pool:
+        going = {
+            crate: {name: pool.submit(assembly, crate, *it) for name, it in triples(crate).items()}
+            for crate in CRATES
+        }
+        going[LIBRARY]["rsp.wasm"] = pool.submit(web)
+        return {crate: {name: it.result() for name, it in files.items()} for crate, files in going.items()}
 
 
-def files(crate: Crate) -> Dict[str, bytes]:
-    """What is made of a crate, by the names in compiled/, and last its mark."""
-    made = {name: assembly(crate, triple) for name, triple in triples(crate).items()}
-    if crate == LIBRARY:
-        made["rsp.wasm"] = web()
-    return {**made, f"{crate.name}.made": mark(crate, made)}
+def mark(crate: Crate, files: Files) -> str:
+    """What tools/built.sh reads: of what these files are made, and first by which kit."""
+    sums = [line_of(f"compiled/{name}", data) for name, data in files.items()]
+    for path in map(places.PARTS.joinpath, crate.parts.split()):
+        sums.append(line_of(str(path.relative_to(TOP)), path.read_bytes()))
+    return f"{kit()}\n{sources(crate.name)}{''.join(sums)}"
 
 
-def differing(made: Dict[str, bytes]) -> List[str]:
+def differing(files: Files) -> List[str]:
     """The names of those that aren't there with these bytes."""
-    paths = {name: COMPILED / name for name in made}
-    return [name for name, path in paths.items() if not path.is_file() or path.read_bytes() != made[name]]
+    paths = {name: COMPILED / name for name in files}
+    return [name for name, path in paths.items() if not path.is_file() or path.read_bytes() != files[name]]
 
 
-def check(made: Dict[str, bytes]) -> int:
-    """Names the files that would become others, and counts."""
-    others = differing(made)
+def listed() -> Files:
+    """The list by which a message names the first source that is changed (tools/built.sh)."""
+    return {"sources": listed_sources().encode()}
+
+
+def marked(crate: Crate) -> Tuple[str, str]:
+    """The kit that the mark names, and all else that the mark says; empty if there is none."""
+    path = COMPILED / f"{crate.name}.made"
+    version, _, of_what = (path.read_text() if path.is_file() else "").partition("\n")
+    return version, of_what
+
+
+def stale() -> str:
+    """A sentence if compiled/ isn't made of the sources as they are, otherwise empty."""
+    is_right = all(is_made(f"compiled/{name}.made") for name in TOPS)
+    return "" if is_right else "compiled/ isn't made of the sources as they are: tools/assemble makes it"
+
+
+def compare(crate: Crate, files: Files) -> Tuple[List[str], List[str]]:
+    """The names of what is wrong; and of files that differ, but whose mark is right and names another kit
+    than the one that is here."""
+    (version, of_what), others = marked(crate), differing(files)
+    there = {name: (COMPILED / name).read_bytes() for name in files if (COMPILED / name).is_file()}
+    if of_what != mark(crate, there).partition("\n")[2]:
+        return [*others, f"{crate.name}.made"], []
+    return (others, []) if version == kit() else ([], others)
+
+
+def check(made: Mapping[Crate, Files]) -> int:
+    """Names the files that would become others, and counts. The status."""
+    compared = [compare(crate, files) for crate, files in made.items()]
+    wrong, others = ([name for it in compared for name in it[number]] for number in (0, 1))
+    wrong += differing(listed())
+    for name in wrong:
+        print(f"compiled/{name} isn't what `{kit()}` makes of these sources: tools/assemble makes it")
     for name in others:
-        print(
-            f"compiled/{name} isn't what `{kit()}` makes of the sources as they are: tools/assemble makes it"
-        )
-    print(f"{len(made) - len(others)} passed, {len(others)} failed")
-    return int(bool(others))
+        print(f"compiled/{name} is made by another kit, and `{kit()}` makes other bytes of the same sources")
+    if others:
+        print("This alone is no fault, but only the kit that the mark names can check these files")
+    count = sum(len(files) + 1 for files in made.values()) + 1 - len(wrong) - len(others)
+    print(f"{count} passed, {len(wrong)} failed")
+    return 1 if wrong else 3 if others else 0
 
 
-def write(made: Dict[str, bytes]) -> int:
-    """Writes the files, and names those that are new."""
-    others = differing(made)
-    put_all(COMPILED, [File(name, made[name]) for name in others], fail)
-    print(f"{NAME}: {', '.join(others) or 'nothing'} in compiled/ is new")
+def write(made: Mapping[Crate, Files], output: str) -> int:
+    """Writes the files that are new, with the record, and names them. A mark of the same sources and files
+    stays, whichever kit it names."""
+    new: Files = {}
+    for crate, files in made.items():
+        new.update((name, files[name]) for name in differing(files))
+        if marked(crate)[1] != mark(crate, files).partition("\n")[2]:
+            new[f"{crate.name}.made"] = mark(crate, files).encode()
+    new.update((name, listed()[name]) for name in differing(listed()))
+    kept = COMPILED / "record"
+    if new or output or not kept.exists() or made_of(TOPS) not in kept.read_text():
+        new["record"] = record(TOPS, output).encode()
+    put_all(COMPILED, [File(*it) for it in new.items()], fail)
+    print(f"{NAME}: {', '.join(new) or 'nothing'} in compiled/ is new")
     return 0
 
 
@@ -159,19 +169,19 @@ def fail(text: str) -> NoReturn:
 
 
 def main() -> int:
-    form = argparse.RawDescriptionHelpFormatter
+    form, said = argparse.RawDescriptionHelpFormatter, "what `rt ci` printed: the record has its mutations"
     parser = argparse.ArgumentParser(prog=NAME, description=__doc__, formatter_class=form)
-    parser.add_argument("--check", action="store_true", help="compare with what is there, and change nothing")
+    parser.add_argument("--check", action="store_true", help="compare, as ./prove does")
+    parser.add_argument("--mutations", metavar="FILE", default="", help=said)
     options = parser.parse_args()
     signal.signal(signal.SIGINT, lambda *_: sys.exit(130))
-    for crate in CRATES:
-        if subprocess.run([TOOLS / "build", crate.name]).returncode:
-            fail(f"{crate.name} isn't proved")
+    for name in TOPS:
+        if subprocess.run([TOOLS / "build", name]).returncode:
+            fail(f"{name} isn't proved")
     try:
-        made = {name: data for crate in CRATES for name, data in files(crate).items()}
-    except Refused as reason:
+        return check(make()) if options.check else write(make(), options.mutations)
+    except (Refused, OSError) as reason:
         fail(str(reason))
-    return check(made) if options.check else write(made)
 
 
 if __name__ == "__main__":

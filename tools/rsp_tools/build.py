@@ -48,22 +48,27 @@ def line_of(name: str, data: bytes) -> str:
     return f"{hashlib.sha256(data).hexdigest()}  {name}\n"
 
 
-def said(function: str, *words: str) -> "subprocess.CompletedProcess[str]":
-    """How a function of tools/built.sh ended, with what it printed."""
-    script = f'. "$1/tools/built.sh" && {function} "$@"'
-    command = ["sh", "-c", script, "sh", str(TOP), *words]
+def said(script: str, *words: str) -> "subprocess.CompletedProcess[str]":
+    """How a script of functions of tools/built.sh ended, with what it printed."""
+    command = ["sh", "-c", f'. "$1/tools/built.sh" && {script}', "sh", str(TOP), *words]
     return subprocess.run(command, stdout=subprocess.PIPE, text=True)
 
 
 def is_made(mark: str) -> bool:
     """Whether the files of a mark are there, made of the sources as they are."""
-    return said("is_made", mark).returncode == 0
+    return said('is_made "$@"', mark).returncode == 0
+
+
+def folder(crate: str) -> Optional[Path]:
+    """Where the files lie that cc makes of a crate; None if they aren't made of the sources as they are."""
+    found = said('find_made "$@" && echo "$folder"', crate).stdout
+    return Path(found[:-1]) if found else None
 
 
 def program() -> Optional[Path]:
     """The program of the sources as they are: of compiled/, or of the kit; None if there is none."""
-    if is_made("crates/rsp_main/out/linked"):
-        return LINKED
+    if found := folder("rsp_main"):
+        return found / "rsp"
     build = Build("rsp_main")
     return build.file if build.is_built() else None
 
@@ -71,7 +76,14 @@ def program() -> Optional[Path]:
 def sources(crate: str) -> str:
     """The names of the crate and of those below, and the sum of all their files, each in a line."""
     names = with_below(crate)
-    return f"{' '.join(names)}\n{said('tell_sources', *names).stdout}"
+    total = said('tell_sources "$@"', *names).stdout
+    return f"{' '.join(names)}\n{total}"
+
+
+def listed_sources() -> str:
+    """compiled/sources: each source of what is in compiled/, and the first digits of its sum."""
+    crates = {name for crate in BUILT for name in with_below(crate)}
+    return said('tell_list "$@"', *sorted(crates)).stdout
 
 
 @functools.lru_cache(None)
@@ -105,7 +117,7 @@ class Build:
     def __init__(self, crate: str) -> None:
         self.crate, (self.command, file, self.verb, self.jobs) = crate, BUILT[crate]
         out = CRATES / crate / "out"
-        self.file, self.object = out / file, out / f"{crate}.o"
+        self.file = out / file
         self.mark, self.log = out / "built", out / "built.log"
         # The system's clock of files is a little behind, so a change from now on gets a later time.
         self.since = time.time() - 0.02
@@ -171,16 +183,12 @@ class Build:
             print(*output.splitlines()[-25:], sep="\n", file=sys.stderr)
             self.fail(f"{failed} isn't proved, for the reason above; all that `rt` said is in {self.log}")
 
-    def has_object(self) -> bool:
-        """Whether there is the program's object file, which `rt` makes just before the program, and which
-        ./release links again."""
-        return self.object.exists() and self.object.stat().st_mtime > self.file.stat().st_mtime - 60
-
-    def compile(self, source: str, to: Path) -> None:
-        """Builds a file over the libraries of `rt ci`, which lack stamps: `rt lib` would prove them again."""
-        words = [*f"{source} --backend llvm --jobs {PROCESSORS} -o".split(), str(to)]
-        words += ["--toolchain", f"{kit_folder()}/toolchain"]
-        self.run([*over_libraries("build", self.crate), *words])
+    def compile(self) -> None:
+        """Builds the library over those of `rt ci`, which lack stamps: `rt lib` would prove them again. What
+        the check finds is kept for ./prove."""
+        words = f"src/lib.rt --crate-type staticlib --backend llvm --jobs {PROCESSORS}".split()
+        words += ["--toolchain", f"{kit_folder()}/toolchain", "--incremental", "out/incremental"]
+        self.run([*over_libraries("build", self.crate), *words, "-o", str(self.file)])
 
     def build(self, is_proved: bool) -> None:
         version = self.check_kit()
@@ -190,10 +198,7 @@ class Build:
         if not is_proved or is_library and any(stamp.exists() for stamp in stamps):
             self.prove()
         elif is_library:
-            self.compile("src/lib.rt --crate-type staticlib", self.file)
-        elif not self.has_object():
-            # `rt ci` took the program from what it keeps, and keeps no object file.
-            self.compile("src/main.rt", self.object)
+            self.compile()
         # An edit that was taken back in the meantime leaves the same sums, and may yet be part of the file.
         edited = [name for name in with_below(self.crate) if changed_at(name) >= self.since]
         if edited:

@@ -90,8 +90,11 @@ class Proof:
                 print(fault, file=crate.out)
                 status = 2
             crate.out.seek(0)
-            with self.log.open("a") as log:
-                log.write(f"== {crate.name}\n{crate.out.read()}")
+            said = crate.out.read()
+        if not status:
+            Path(crate.folder, "out/proof.log").write_text(said)  # of which compiled/record has the counts
+        with self.log.open("a") as log:
+            log.write(f"== {crate.name}\n{said}")
         return status
 
     def prove_last(self, _: int) -> int:

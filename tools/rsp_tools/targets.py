@@ -35,9 +35,7 @@ class Target(NamedTuple):
     tested: str = ""  # where its tests were run
     ending: str = "tar.gz"  # of the archive's file
     triples: Mapping[str, str] = {}  # what clang calls the system, for each processor
-    # Of a Linux: the emulation of ld.lld, the file of rsp_tools/systems by which the program begins, and the
-    # words that link the program.
-    linker: str = ""
+    # Of a Linux: the file of rsp_tools/systems by which the program begins, and the words that link it.
     start: str = ""
     linked: str = ""
     # Below the system's folder:
@@ -84,7 +82,6 @@ CROSS: Tuple[Target, ...] = (
         holds="`rsp`; `libbrsp.a`, `libbrsp.so.1`; glibc 2.17 or newer",
         tested="in the emulator qemu-aarch64, not on an ARM processor",
         triples={"aarch64": "aarch64-unknown-linux-gnu"},
-        linker="aarch64linux",
         start="start_aarch64.c",
         linked="-fPIE -pie -nostartfiles",
         shared="lib/libbrsp.so",
@@ -107,7 +104,6 @@ CROSS: Tuple[Target, ...] = (
         holds="`rsp`, which needs no other file; `libbrsp.a`, `libbrsp.so.1`",
         tested="natively, with musl 1.2.3",
         triples={"x86_64": "x86_64-unknown-linux-musl"},
-        linker="elf_x86_64",
         start="start.c",
         # A program that is static and can be at any address. musl's words for gcc have no such kind.
         linked="-fPIE -pie -nostartfiles -l:rcrt1.o -Wl,-static,--no-dynamic-linker,-z,text,--wrap=main",

@@ -49,7 +49,7 @@ pub extern "C" fn rsp_answer() -> u32 {
 }
 HEADER = "#define BRSP_VERSION 1\nuint32_t rsp_answer(void);\n"
 COPIED = "VERSION rsp library/c/build library/c/brsp.map library/python/pyproject.toml"
-TOOLS = "sh env cat dirname readlink find grep head sed sha256sum sort tail uname"
+TOOLS = "sh env cat cut dirname readlink find grep rm sed sha256sum sort uname uniq"
 # Programs in place of `rt`, without the rest of its kit: of another logic; of this one, which prints what it
 # is asked for; failing.
 RT = {
@@ -65,6 +65,7 @@ esac
 exec {rattle} "$@"
 """
 RSP, C = "./rsp run", "library/c/build"
+PROCESSOR = os.uname().machine
 LONGEST = 600  # seconds that a run may take on a busy machine
 Data = Union[None, bytes, Callable[[bytes], Optional[bytes]]]
 
@@ -96,6 +97,7 @@ class ToyRepository:
         self.root, self.results, self.go = folder / "repository", dict[str, Result](), folder / "go"
         shutil.copytree(TOP / "tools", self.root / "tools")
         texts = {"crates.txt": CRATES, "library/c/brsp.h": HEADER}
+        texts.update({f"compiled/Linux-{PROCESSOR}-{kind}.s": "" for kind in ("rsp", "lib")})
         texts.update({f"crates/{name}": text for name, text in SOURCES.items()})
         texts.update({name: (TOP / name).read_text() for name in COPIED.split()})
         for name, text in texts.items():

@@ -6,8 +6,8 @@ for all other systems than Linux on x86-64 with glibc:
 Each is a folder library/systems/SYSTEM. wasm64 also makes library/systems/page, files that answer scripts in
 a browser. The libraries for C come with files for pkg-config and CMake, and with the Python wheel.
 
-It needs a clone whose library is built (library/c/build), for another Linux also the program (./rsp run), the
-kit, and packages of Debian that it names. Each system takes some minutes of processor. The same sources of
+It needs the kit, and packages of Debian that it names. It first proves the library, and for another Linux the
+program, if they aren't proved (tools/build). Each system takes some minutes of processor. The same sources of
 the same commit give the same bytes, because a wheel has the time of the commit. What the kit's `rattle build`
 hands to clang is kept until a source changes. The status is 0 if all are made, 1 if one isn't, 2 if the words
 are wrong. If a system isn't made, its folder stays as it was."""

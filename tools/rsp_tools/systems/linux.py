@@ -1,14 +1,14 @@
-"""The library for another Linux: the archive that the kit itself makes, with a heap, which shows only the
-calls of brsp.h; and the proved program."""
+"""The library and the proved program for another Linux, of the same assembly as in compiled/."""
 
 import shutil
 from pathlib import Path
 
 from rsp_tools import hardening
-from rsp_tools.targets import Target
+from rsp_tools.targets import PROCESSORS, Target
 
-from . import header, modules, packages, places
-from .modules import Source, module
+from . import header, packages, places
+from .modules import PROGRAM, Source, module
+from .objects import for_linux
 from .toolchain import call, llvm
 
 LINKED = "-Wl,-z,defs,--gc-sections"
@@ -16,15 +16,9 @@ LINKED = "-Wl,-z,defs,--gc-sections"
 
 def make(target: Target, out: Path, at: Path, source: Source = module) -> None:
     """Writes the folder of a target, from the modules of a source. `at` is for files on the way."""
-    exported = [f"--keep-global-symbol={it}" for it in header.calls()]
-    soname = f"libbrsp.so.{header.interface()}"
-    words = [f"--target={target.triples[target.processor]}", "-O2", "-fPIC", "-ffreestanding"]
-    words += hardening.words(target.name, "compile")
-    llvm("clang", *words, "-c", "-o", at / "heap.o", places.PARTS / "heap.c")
-    archive = source(target.processor).archive
-    words = ["-m", target.linker, "-r", "-o", str(at / "all.o"), "--whole-archive"]
-    llvm("ld.lld", *words, archive, at / "heap.o")
-    llvm("llvm-objcopy", *exported, at / "all.o", at / "rsp.o")
+    soname, triple = f"libbrsp.so.{header.interface()}", PROCESSORS[target.processor].triple
+    (at / "library.s").write_text(for_linux(source(target.processor), triple, at))
+    call(target.compiler, "-c", "-o", at / "rsp.o", at / "library.s")
     (out / "lib").mkdir(parents=True)
     llvm("llvm-ar", "rcsD", out / "lib" / "libbrsp.a", at / "rsp.o")
     words = ["-shared", f"-Wl,-soname,{soname}", *hardening.words(target.name, "link"), LINKED]
@@ -35,6 +29,6 @@ def make(target: Target, out: Path, at: Path, source: Source = module) -> None:
     program = out / target.program
     program.parent.mkdir()
     words = ["-O2", *target.linked.split(), "-s", *hardening.words(target.name), LINKED]
-    objects = (places.PARTS / target.start, at / "heap.o", modules.program(target.processor))
-    call(target.compiler, *words, "-o", program, *objects)
+    (at / "program.s").write_text(for_linux(module(target.processor, PROGRAM), triple, at))
+    call(target.compiler, *words, "-o", program, places.PARTS / target.start, at / "program.s")
     packages.wheel(out, out / "lib" / soname, "libbrsp.so", target.wheel, program)

@@ -1,16 +1,17 @@
 """The modules of the library and of the program that `rattle build` hands to clang for each processor.
 
 The kit has no command that gives them. It takes the folder of its toolchain by a word, though, so here a
-folder of links stands for it, with a program `clang` that keeps its input. A module is kept until a source
-of the library or the kit changes."""
+folder of links stands for it, with a program `clang` that only keeps its input. A module is kept until a
+source of the crate or the kit changes."""
 
+import fcntl
 import shutil
 import subprocess
 import tempfile
 from pathlib import Path
 from typing import Callable, List, NamedTuple
 
-from rsp_tools.build import Build, over_libraries
+from rsp_tools import TOOLS, build
 from rsp_tools.targets import PROCESSORS
 
 from . import places
@@ -18,11 +19,10 @@ from .toolchain import Refused, kit, llvm
 
 
 class Module(NamedTuple):
-    """A module in LLVM's language, what the kit itself makes of it (an archive, or the program's object), the
-    words that optimize on any system, and what the kit gives clang: the module as it is, and all words."""
+    """A module: as text in LLVM's language, with the words that optimize it on any system; and as the kit
+    gives it to clang, with all words but those that name files."""
 
     text: Path
-    archive: Path
     flags: List[str]
     given: Path = Path()
     words: List[str] = []
@@ -33,64 +33,78 @@ Source = Callable[[str], Module]
 
 
 class Crate(NamedTuple):
-    """A crate that a clone builds for itself: what it is, how it is made, and the words of `rattle build` for
-    it."""
+    """A crate of which there are modules, with the words of `rattle build` for it; and of its files in
+    compiled/ how their names end, for which targets there are some, and the C in them."""
 
     name: str
-    what: str
-    command: str
     words: str
+    end: str
+    targets: str
+    parts: str
 
     @property
     def out(self) -> Path:
         return places.CRATES / self.name / "out"
 
 
-LIBRARY = Crate("rsp_c", "library", "library/c/build", "src/lib.rt --crate-type staticlib")
-PROGRAM = Crate("rsp_main", "program", "./rsp run", "src/main.rt")
+# git looks for the version before among files whose names have the same last letters, so no two files may
+# have those (tests/install/test_assembled.py).
+PROGRAM = Crate("rsp_main", "src/main.rt", "rsp", "linux-x86_64 linux-aarch64", "heap.c")
+LIBRARY = Crate(
+    "rsp_c",
+    "src/lib.rt --crate-type staticlib",
+    "lib",
+    "linux-x86_64 linux-aarch64 windows-x86_64 macos",
+    "heap.c allocator.c memory_wasm.c",
+)
 
 
 def mark(crate: Crate) -> str:
-    """The kit's version and the sums of all sources. Refused if the crate isn't built of them."""
-    build = Build(crate.name)
-    if not build.is_built():
-        raise Refused(f"the {crate.what} isn't built of the sources as they are: {crate.command} makes it")
-    return f"{build.marked()}\n{build.made_of()}"
+    """The kit's version and the sums of all sources. If the crate isn't built of these, it is built first."""
+    built = build.Build(crate.name)
+    if not built.is_built() and subprocess.run([TOOLS / "build", crate.name]).returncode:
+        raise Refused(f"{crate.name} isn't proved")
+    return f"{build.kit()}\n{built.made_of()}"
 
 
 def link_toolchain(folder: Path) -> None:
     """A folder of links to the kit's toolchain, with our program as its clang."""
-    (folder / "bin").mkdir(parents=True)
-    (folder / "lib").symlink_to(kit() / "toolchain" / "lib")
+    (folder / "bin/kit").mkdir(parents=True)
+    (folder / "lib").symlink_to(kit() / "toolchain/lib")
     for it in (kit() / "toolchain/bin").iterdir():
-        (folder / "bin" / it.name).symlink_to(kit() / "toolchain/bin/clang" if it.is_symlink() else it)
-    (folder / "bin" / "kit").mkdir()
-    (folder / "bin" / "clang").rename(folder / "bin" / "kit" / "clang")
-    shutil.copy(places.PARTS / "clang", folder / "bin" / "clang")
+        (folder / "bin" / it.name).symlink_to(it.resolve())
+    (folder / "bin/clang").rename(folder / "bin/kit/clang")
+    shutil.copy(places.PARTS / "clang", folder / "bin/clang")
 
 
 def take(crate: Crate, processor: str, folder: Path) -> None:
-    """Has the kit build a crate for a processor, and leaves what it makes and its module in a folder."""
-    kept, found = places.KEPT / f"{crate.name}-incremental", crate.out / "incremental"
-    if not kept.is_dir() and found.is_dir():
-        # A check over what the crate's own check found takes a minute, and leaves that as it was. After
-        # `rt ci` there is none.
-        shutil.copytree(found, kept, symlinks=True)
+    """Has the kit build a crate for a processor, and leaves in a folder the module, the words for clang, and
+    what the kit said."""
     link_toolchain(folder / "toolchain")
-    # The words are those of `rt`, with a processor and a toolchain.
-    words = [*over_libraries("build", crate.name), *f"{crate.words} --backend llvm --jobs 2".split()]
-    words += ["--incremental", str(kept), "--target", PROCESSORS[processor].triple]
+    # The words are those of `rt`, with a processor and a toolchain. The check loads what the crate's own
+    # check, or that for another processor, has left.
+    words = build.over_libraries("build", crate.name) + f"{crate.words} --backend llvm --jobs 2".split()
+    words += ["--incremental", str(crate.out / "incremental"), "--target", PROCESSORS[processor].triple]
     ended = subprocess.run(
         [*words, "--toolchain", str(folder / "toolchain"), "-o", str(folder / "made")],
         cwd=crate.out.parent,
         stdin=subprocess.DEVNULL,
-        capture_output=True,
+        stdout=subprocess.PIPE,
+        stderr=subprocess.STDOUT,
         text=True,
         errors="replace",
     )
     if ended.returncode or not (folder / "module").is_file():
-        last = "\n".join((ended.stdout + ended.stderr).strip().splitlines()[-20:])
+        last = "\n".join(ended.stdout.strip().splitlines()[-20:])
         raise Refused(f"`rattle build` for {processor} ended with status {ended.returncode}:\n{last}")
+    (folder / "said").write_text(ended.stdout)
+
+
+def print_text(given: Path, processor: str, to: Path) -> None:
+    """Writes a module as text. Without its target, clang would give the text the layout of data that this
+    machine has."""
+    words = [f"--target={PROCESSORS[processor].triple}", "-S", "-emit-llvm"]
+    llvm("clang", "-x", "ir", given, *words, "-Xclang", "-disable-llvm-passes", "-o", to)
 
 
 def flags(words: List[str]) -> List[str]:
@@ -124,20 +138,16 @@ def keep(folder: Path, made_of: str, files: List[Path]) -> None:
 
 
 def module(processor: str, crate: Crate = LIBRARY) -> Module:
-    """The module of a crate for a processor, made again if a source has changed."""
-    made_of, kept = mark(crate), places.KEPT / f"{crate.name}-{processor}"
-    if not is_kept(kept, made_of):
-        with tempfile.TemporaryDirectory() as at:
-            take(crate, processor, Path(at))
-            # Without its target, clang would give the module the layout of data that this machine has.
-            as_text = [f"--target={PROCESSORS[processor].triple}", "-S", "-emit-llvm"]
-            as_text += ["-Xclang", "-disable-llvm-passes", "-o", str(Path(at, "module.ll"))]
-            llvm("clang", "-x", "ir", Path(at, "module"), *as_text)
-            keep(kept, made_of, [Path(at, it) for it in ("module", "module.ll", "module.words", "made")])
+    """The module of a crate for a processor, made again if a source has changed. Of a crate only one is made
+    at a time, because the check for the second one loads what that for the first has found."""
+    kept = places.KEPT / f"{crate.name}-{processor}"
+    kept.parent.mkdir(parents=True, exist_ok=True)
+    with open(places.KEPT / f"{crate.name}.lock", "w") as lock:
+        fcntl.flock(lock, fcntl.LOCK_EX)
+        if not is_kept(kept, made_of := mark(crate)):
+            with tempfile.TemporaryDirectory() as at:
+                take(crate, processor, Path(at))
+                print_text(Path(at, "module"), processor, Path(at, "module.ll"))
+                keep(kept, made_of, [Path(at, it) for it in ("module", "module.ll", "module.words", "said")])
     words = kept.joinpath("module.words").read_text().splitlines()
-    return Module(kept / "module.ll", kept / "made", flags(words), kept / "module", own(words))
-
-
-def program(processor: str) -> Path:
-    """The object of the proved program for a processor."""
-    return module(processor, PROGRAM).archive
+    return Module(kept / "module.ll", flags(words), kept / "module", own(words))

@@ -13,9 +13,3 @@ int __wrap_main(int given, char **them)
     begin(given, them);
     return __real_main();
 }
-
-/* glibc's other name of write, by which main says that the processor is too old. */
-__attribute__((visibility("hidden"))) ssize_t __write(int file, const void *from, size_t len)
-{
-    return write(file, from, len);
-}

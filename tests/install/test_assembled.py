@@ -1,0 +1,111 @@
+"""compiled/ as tools/assemble makes it and ./prove compares it, by the files as they are and by small texts.
+
+It fails if files are named or written so that git keeps each change of a line as a whole file, if other code
+is assembled than the kit's, if ./prove passes what is stale, or if NOTICE leaves out a crate of the kit.
+"""
+
+import re
+from pathlib import Path
+from typing import Tuple
+
+import pytest
+
+from lib import TOP
+from lib.processes import succeeds
+from rsp_tools import assemble, record
+from rsp_tools.crates import LINES, uses, with_below
+from rsp_tools.systems import modules, objects
+from rsp_tools.systems.modules import LIBRARY, PROGRAM, Crate
+from rsp_tools.targets import PROCESSORS
+
+ARM = PROCESSORS["aarch64"].triple
+FUNCTION = """\t.section\t.text.{name}
+{name}:
+\tje\t.LBB{number}_1
+.LBB{number}_1:
+\tmovl\t.LCPI{number}_0(%rip), %eax
+.Lfunc_end{number}:
+\t.size\t{name}, .Lfunc_end{number}-{name}
+"""
+
+
+def test_git_finds_the_version_before() -> None:
+    """git looks for it among files whose names have the same sum (pack_name_hash), which few letters at the
+    end decide: of two files with the same sum, a change of one line is stored as a whole file."""
+
+    def name_hash(name: str) -> int:
+        found = 0
+        for letter in f"compiled/{name}".encode():
+            found = ((found >> 2) + (letter << 24)) % 2**32
+        return found
+
+    names = [name for crate in assemble.CRATES for name in assemble.triples(crate)]
+    assert len({*map(name_hash, names)}) == len(names) == len([*assemble.COMPILED.glob("*.s")])
+
+
+def test_labels() -> None:
+    """One more function leaves the text of the others as it was, though clang gives them other numbers."""
+    one, other = (FUNCTION.format(name="other", number=it) for it in (0, 1))
+    text = objects.with_stable_labels(FUNCTION.format(name="new", number=0) + other)
+    assert text.endswith(objects.with_stable_labels(one)) and not re.search(r"\.L[A-Za-z_]+[01]\b", text)
+
+
+@pytest.mark.needs("rt")
+def test_module_as_the_kit_gives_it(folder: Path) -> None:
+    """What our clang keeps is what is compiled for Linux, by the words that it was given; its text, of which
+    other code is made, is not. The text has the layout of the module's processor, and not of this one."""
+    at, source = folder / "at", folder / "module.ll"
+    modules.link_toolchain(at / "toolchain")
+    source.write_text(f'target triple = "{ARM}"\n\ndefine i32 @seven() {{\n  ret i32 7\n}}\n')
+    words = [f"--target={ARM}", "--sysroot=/none", "-ffunction-sections", "-c", "-x", "ir", source, "-o"]
+    succeeds(at / "toolchain/bin/clang", *words, at / "made", "-O3")
+    assert b"seven" not in (at / "made").read_bytes()
+    modules.print_text(at / "module", "aarch64", at / "text.ll")
+    assert f'target triple = "{ARM}"' in (at / "text.ll").read_text()
+    kept = modules.own((at / "module.words").read_text().splitlines())
+    made = modules.Module(at / "none", [], at / "module", kept)
+    text = objects.for_linux(made, ARM, at)
+    assert "\n\t.section\t.text.seven," in text and ".Lfunc_end0" not in text
+
+
+def test_what_prove_says(
+    monkeypatch: pytest.MonkeyPatch, folder: Path, capsys: pytest.CaptureFixture[str]
+) -> None:
+    """Files of another kit are no fault as long as their sources are the same."""
+    made = {PROGRAM: {"a.s": b"1\n"}, LIBRARY: {"b.s": b"1\n"}}
+
+    def run(kit: str, of: str, data: bytes, crate: Crate = PROGRAM) -> Tuple[int, str]:
+        monkeypatch.setattr(assemble, "kit", lambda: kit)
+        monkeypatch.setattr(assemble, "sources", lambda _: f"names\n{of}\n")
+        status = assemble.check({**made, crate: {name: data for name in made[crate]}})
+        return status, capsys.readouterr().out.splitlines()[-1]
+
+    monkeypatch.setattr(assemble, "COMPILED", folder)
+    monkeypatch.setattr(assemble, "record", lambda tops, _: assemble.made_of(tops))
+    monkeypatch.setattr(record, "sources", lambda _: "sum -")
+    assert run("kit 1", "sum 1", b"1\n") == (1, "0 passed, 5 failed")
+    assert assemble.write(made, "") == 0 and "a.s, rsp_main.made, b.s" in capsys.readouterr().out
+    assert run("kit 1", "sum 1", b"1\n") == run("kit 2", "sum 1", b"1\n") == (0, "5 passed, 0 failed")
+    (folder / "record").write_text("<<<<<<< HEAD\n")  # after a merge in which the marks fit
+    for name in "record", "nothing":
+        assert assemble.write(made, "") == 0 and f": {name} in compiled/" in capsys.readouterr().out
+    assert run("kit 1", "sum 1", b"2\n") == (1, "4 passed, 1 failed")
+    assert run("kit 2", "sum 1", b"2\n") == (3, "4 passed, 0 failed")
+    assert run("kit 2", "sum 2", b"2\n") == (1, "2 passed, 3 failed")
+    (folder / "b.s").write_bytes(b"2\n")
+    assert run("kit 2", "sum 1", b"2\n", LIBRARY) == (1, "4 passed, 1 failed")
+
+
+def test_mutations(folder: Path) -> None:
+    """The record has those of `rt ci` that were refused, and also says how many weren't."""
+    (folder / "said").write_text("rt: must-fail a/b.edit: refused, as it must be: c\nmust-fail a/d.edit: NOT")
+    assert re.fullmatch(r"1 of 2 refused, \d{4}-\d\d-\d\d", record.mutations(str(folder / "said")))
+
+
+def test_notice() -> None:
+    """It names the crates of the kit that ours use, and those whose names are in the files."""
+    below = {used for crate in assemble.CRATES for name in with_below(crate.name) for used in uses(name)}
+    texts = "".join(path.read_text() for path in assemble.COMPILED.glob("Linux-*.s"))
+    inside = {*re.findall(r'"\.text\.(?:unlikely\.)?<*(\w+)::', texts)}
+    listed = {*re.findall(r"(?m)^  (\w+)(?:$| +after )", (TOP / "compiled/NOTICE").read_text())}
+    assert listed == (below | inside) - {*LINES}
