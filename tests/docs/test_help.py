@@ -38,7 +38,7 @@ def test_version(started: Path) -> None:
 
 def commands() -> List[List[str]]:
     """The commands that one types: files that can be run, and modules for tools/python."""
-    files = [*TOP.glob("conformance/*"), *TOP.glob("tools/*"), TOP / "release"]
+    files = [*TOP.glob("conformance/*"), *TOP.glob("tools/*"), TOP / "release", TOP / "prove"]
     programs = [path for path in sorted(files) if path.is_file() and os.access(path, os.X_OK)]
     measures = [path.stem for path in sorted(TOP.glob("measure/*.py")) if "__main__" in path.read_text()]
     modules = ["rsp_tools.page_tables", *(f"measure.{name}" for name in measures)]

@@ -3,7 +3,7 @@
 
 Both need the kit. They first prove the program and the library here, if that isn't done (tools/build). Then
 the kit compiles them, several files at a time: to assembly for each system, and the library to WebAssembly.
-Beside the proofs that takes some three minutes on four processors. The same kit makes the same bytes of the
+Beside the proofs that takes some seven minutes of processor time. The same kit makes the same bytes of the
 same sources in any folder.
 
 tools/assemble also writes compiled/record: which kit proved what, and on which day. ./prove names each file
