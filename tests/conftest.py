@@ -93,7 +93,7 @@ def program(request: pytest.FixtureRequest) -> Path:
 @pytest.fixture(scope="session")
 def library(request: pytest.FixtureRequest) -> Path:
     """The folder of the C library, built of the sources as they are."""
-    if not build.is_made("crates/rsp_c/out/linked"):
+    if build.folder("rsp_c") != LIBRARY:
         stop(request, f"{LIBRARY} has no library of the sources as they are: type `library/c/build`")
     return LIBRARY
 
