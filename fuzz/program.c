@@ -107,7 +107,7 @@ uint32_t caught_brsp_session_new(brsp_session *b, const uint8_t *image, size_t l
 static int run(char *line)
 {
     char name[] = "rsp", *words[MOST_WORDS + 2] = { name };
-    int count = 1;
+    volatile int count = 1; /* or gcc 14 warns that longjmp might change it */
     for (char *word = strtok(line, " "); word && count <= MOST_WORDS; word = strtok(NULL, " ")) words[count++] = word;
     int status = setjmp(end);
     return status ? status - 1 : caught_main(count, words);

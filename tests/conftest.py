@@ -15,7 +15,7 @@ import pytest
 pytest.register_assert_rewrite("lib")  # before its first import
 
 from lib import TOP  # noqa: E402
-from lib.packages import need  # noqa: E402
+from lib.packages import is_here, need, without  # noqa: E402
 from lib.program import Result, run_program  # noqa: E402
 from rsp_tools import build  # noqa: E402
 
@@ -47,6 +47,11 @@ def pytest_collection_modifyitems(items: List[pytest.Item]) -> None:
         return max([300, *(mark.args[0] for mark in item.iter_markers("timeout") if mark.args)])
 
     items.sort(key=limit, reverse=True)
+
+
+def pytest_report_header() -> List[str]:
+    """A hint to whoever has changed a crate, and tests what the kit made of it."""
+    return [] if is_here("compiled") else [without("compiled")]
 
 
 def pytest_runtest_setup(item: pytest.Item) -> None:
@@ -88,7 +93,7 @@ def program(request: pytest.FixtureRequest) -> Path:
 @pytest.fixture(scope="session")
 def library(request: pytest.FixtureRequest) -> Path:
     """The folder of the C library, built of the sources as they are."""
-    if not build.is_made("crates/rsp_c/out/linked"):
+    if build.folder("rsp_c") != LIBRARY:
         stop(request, f"{LIBRARY} has no library of the sources as they are: type `library/c/build`")
     return LIBRARY
 

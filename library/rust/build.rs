@@ -15,7 +15,7 @@ const BUILD: &str = "../c/build";
 
 /// The library folder of an installed rsp that is no older than this crate.
 fn installed() -> Option<PathBuf> {
-    let command = env::var_os("PKG_CONFIG").unwrap_or("pkg-config".into());
+    let command = env::var_os("PKG_CONFIG").unwrap_or_else(|| "pkg-config".into());
     let expected = concat!("brsp >= ", env!("CARGO_PKG_VERSION"));
     let output = Command::new(command).args(["--variable=libdir", expected]).output().ok()?;
     let folder = String::from_utf8(output.stdout).ok()?.trim().replace("\\ ", " ");

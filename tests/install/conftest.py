@@ -11,7 +11,7 @@ from typing import Iterator
 
 import pytest
 
-from lib.install.clone import cloned
+from lib import TOP
 from lib.install.unpacked import archive_for, unpacked
 from lib.packages import need
 from lib.processes import succeeds
@@ -21,7 +21,8 @@ def release(into: Path) -> None:
     """Copies the folder dist of two runs of ./release, in a folder with a blank in its name. The runs differ
     in their umask and their time zone."""
     with tempfile.TemporaryDirectory() as folder:
-        clone = cloned(Path(folder, "a clone"))
+        clone = Path(folder, "a clone")
+        succeeds("git", "clone", "-q", TOP, clone)
         for name, mask, zone in ("first", 0o022, "UTC"), ("second", 0o077, "Pacific/Chatham"):
             environment = {**os.environ, "TZ": zone}
             succeeds("./release", "--untested", cwd=clone, env=environment, umask=mask)
@@ -33,9 +34,7 @@ def released(request: pytest.FixtureRequest, tmp_path_factory: pytest.TempPathFa
     """A folder with both, which one of xdist's workers makes for all."""
     if request.config.getoption("--archive"):
         pytest.skip("the archives are given by --archive")
-    need("rt", "cc", "ar", "objdump", "clean-tree")
-    for name in "program", "library":
-        request.getfixturevalue(name)
+    need("rt", "cc", "ar", "objdump", "clean-tree", "compiled")
     root = tmp_path_factory.getbasetemp()
     root = root.parent if "PYTEST_XDIST_WORKER" in os.environ else root
     folder = root / "released"

@@ -1,29 +1,41 @@
-"""What the files that are built here were hardened with: the program of a release, the library, the plugin.
+"""What the files that are built here were hardened with: the program, the library and the plugin, by gcc and
+by clang, and the program of a release.
 
 It fails if a word of tools/hardening doesn't reach a file.
 """
 
+import os
 from pathlib import Path
+from typing import Dict
 
 import pytest
 
 from lib.hardening import PLUGIN_CALLS, check_elf, checks, first_instructions
+from lib.packages import need
 from lib.processes import succeeds
 from rsp_tools.packaging.link import linked_program
 
-pytestmark = pytest.mark.needs("cc", "readelf", "objdump")
+pytestmark = pytest.mark.needs("ar", "readelf", "objdump", "compiled")
 OURS = {"__x86_get_cpuid_feature_leaf", "statx"}  # the functions of our C
 BEGINS = {"__wrap_main", "rsp_before_main"}  # that of start.c, and that of start_x86_64.c
 
 
-def test_library(library: Path) -> None:
-    check_elf(library / "libbrsp.so")
+@pytest.fixture(scope="module", params=["gcc", "clang"])
+def compiler(request: pytest.FixtureRequest, tmp_path_factory: pytest.TempPathFactory) -> Dict[str, str]:
+    """The environment by which a compiler makes all that is built, in a folder of its own."""
+    need(request.param)
+    return {**os.environ, "CC": request.param, "RSP_OUT": str(tmp_path_factory.mktemp("made"))}
 
 
-def test_plugin(library: Path, folder: Path) -> None:
+def test_library(compiler: Dict[str, str]) -> None:
+    succeeds("library/c/build", env=compiler)
+    check_elf(Path(compiler["RSP_OUT"], "libbrsp.so"))
+
+
+def test_plugin(compiler: Dict[str, str], folder: Path) -> None:
     """Its C checks the stack and buffers, and where a call may lead begins with the mark of that."""
     plugin = folder / "plugin.so"
-    succeeds("plugin/build", plugin)
+    succeeds("plugin/build", plugin, env=compiler)
     check_elf(plugin)
     found = checks(plugin)
     assert "__stack_chk_fail" in found and len(found) > 1
@@ -31,12 +43,18 @@ def test_plugin(library: Path, folder: Path) -> None:
     assert {first[name] for name in PLUGIN_CALLS} == {"endbr64"}
 
 
-@pytest.mark.parametrize("name", ["the clone's", "the release's"])
-def test_program(name: str, program: Path, folder: Path) -> None:
-    made = linked_program() if name == "the release's" else program.read_bytes()
-    assert made, "compiled/ isn't made of the sources as they are"
-    (folder / "rsp").write_bytes(made)
-    check_elf(folder / "rsp", is_program=True)
-    first = first_instructions(folder / "rsp")
+def check_program(program: Path) -> None:
+    check_elf(program, is_program=True)
+    first = first_instructions(program)
     assert {first[it] for it in [*OURS, *BEGINS] if it in first} == {"endbr64"}
     assert OURS < {*first} and BEGINS & {*first}
+
+
+def test_program(compiler: Dict[str, str]) -> None:
+    succeeds("./rsp", "run", env=compiler)
+    check_program(Path(compiler["RSP_OUT"], "rsp"))
+
+
+def test_released_program(folder: Path) -> None:
+    (folder / "rsp").write_bytes(linked_program() or b"")
+    check_program(folder / "rsp")

@@ -1,12 +1,11 @@
-"""What a newcomer does first, in a clone of HEAD in a folder `a b/rsp`: the tests, and the blocks of pages.
+"""What a newcomer does first, in a clone of HEAD in a folder `a b/rsp`: README's two commands, then the
+blocks of all pages.
 
-It fails if one doesn't end well there, or leaves the work tree of the clone changed. The files that are built
-here for HEAD are copied into the clone. All runs there with an empty HOME, with the system's programs and the
-kit on its PATH, and if root starts it, as the user nobody.
+It fails if one doesn't end well there, or leaves the work tree of the clone changed. The newcomer has only
+the system's programs, an empty HOME and no kit. If root starts this, he is the user nobody.
 """
 
 import re
-import shutil
 import tempfile
 from pathlib import Path
 from typing import Callable, Iterator
@@ -14,9 +13,10 @@ from typing import Callable, Iterator
 import pytest
 
 from lib import TOP
-from lib.install.clone import cloned
 from lib.install.needed_packages import typed_blocks
-from lib.page_blocks import Block, check_typed
+from lib.page_blocks import Block, blocks_in, check_typed
+from lib.pages import page
+from lib.processes import succeeds
 from lib.user import User
 
 pytestmark = [
@@ -27,10 +27,9 @@ pytestmark = [
 # These tests read neither names nor paths nor git, so in a clone they do the same.
 ELSEWHERE = """
 tests/mathematics tests/program/test_vectors.py tests/program/test_bad_input.py
-tests/program/test_failing_allocations.py tests/docs/test_flags.py tests/install/test_building.py
+tests/program/test_failing_allocations.py tests/docs/test_flags.py
 """.split()
-# This would prove all crates in the clone if its program isn't built here.
-OTHER_COMPILER = "tests/program/test_second_compiler.py", "crates/rsp_main/out/rsp_main.by-rattle"
+LEFT = f"-k 'not valgrind' {' '.join(f'--ignore={path}' for path in ELSEWHERE)}"
 
 
 @pytest.fixture(scope="session")
@@ -38,28 +37,35 @@ def stranger() -> Iterator[User]:
     with tempfile.TemporaryDirectory(prefix="rsp-newcomer-") as name:
         base = Path(name)
         base.chmod(0o755)
-        kit = shutil.which("rt")
-        path = "/usr/bin:/bin" + (f":{Path(kit).resolve().parent}" if kit else "")
-        user = User(cloned(base / "a b/rsp"), base / "home", base, path=path)
-        user.types("mkdir ~/prefix && library/c/install ~/prefix")  # PREFIX of the pages
+        succeeds("git", "clone", "-q", TOP, base / "a b/rsp")
+        user = User(base / "a b/rsp", base / "home", base)
+        assert user.types("! command -v rt").returncode == 0
         yield user
 
 
-def test_suite(stranger: User, record_property: Callable[[str, object], None]) -> None:
-    """The tests outside the crates, except those that would do the same anywhere. The report of this test has
-    those that were skipped, for ./release."""
-    ignored = ELSEWHERE + [OTHER_COMPILER[0]] * (not (stranger.at / OTHER_COMPILER[1]).exists())
-    assert [path for path in ignored if not (TOP / path).exists()] == []
-    ended = stranger.types(f"tests/all -k 'not valgrind' {' '.join(f'--ignore={path}' for path in ignored)}")
+def test_two_commands(stranger: User, record_property: Callable[[str, object], None]) -> None:
+    """README's block as it is, except that tests which would do the same anywhere are left out. The report of
+    this test has those that were skipped, for ./release."""
+    (block,) = [it for it in blocks_in("README.md") if "\ntests/all " in it.text]
+    assert [path for path in ELSEWHERE if not (TOP / path).exists()] == []
+    ended = stranger.types(f'export PYTEST_ADDOPTS="{LEFT}"\n{block.text}')
     assert ended.returncode == 0, f"{ended.stdout[-5000:]}{ended.stderr[-1000:]}"
+    assert ended.stdout.startswith(page("examples/first.out"))
     for skipped in re.findall(r"(?m)^SKIPPED \[\d+\] (.*)$", ended.stdout):
         record_property("left out", skipped)
 
 
+@pytest.fixture(scope="session")
+def installed(stranger: User) -> User:
+    """The same, after the installation into PREFIX of the pages."""
+    assert stranger.types("mkdir ~/prefix && library/c/install ~/prefix").returncode == 0
+    return stranger
+
+
 @pytest.mark.parametrize("block", typed_blocks(), ids=str)
-def test_block(stranger: User, block: Block) -> None:
+def test_block(installed: User, block: Block) -> None:
     """Each block of a page that is marked as run. `rsp` is that of the clone."""
-    check_typed(stranger, block, f'export PATH="{stranger.at}:$PATH"')
+    check_typed(installed, block, f'export PATH="{installed.at}:$PATH"')
 
 
 def test_work_tree_is_clean_afterwards(stranger: User) -> None:

@@ -9,6 +9,7 @@ import subprocess
 import sys
 
 from lib import TOP
+from rsp_tools import build
 from rsp_tools.systems import toolchain
 
 # Debian's packages of tools whose package has another name, of files, and of modules of Python.
@@ -42,6 +43,7 @@ PACKAGES = {
 OTHERS = {
     "rt": "there is no `rt`, the Rattle kit (README.md)",
     "clean-tree": "the work tree differs from its commit",
+    "compiled": "compiled/ isn't made of the crates as they are: tools/assemble makes it",
 }
 # Programs that don't take --version.
 SILENT = {"rt", "sh", "Xvfb", "iverilog", "clean-tree"}
@@ -53,6 +55,8 @@ def is_here(tool: str) -> bool:
     if tool == "clean-tree":
         words = ["git", "-C", str(TOP), "status", "--porcelain"]
         return not subprocess.run(words, stdout=subprocess.PIPE).stdout
+    if tool == "compiled":
+        return all(build.is_made(f"compiled/{crate}.made") for crate in build.BUILT)
     if tool.startswith("python:"):
         return importlib.util.find_spec(tool[7:]) is not None
     return bool(glob.glob(tool)) if "/" in tool else shutil.which(tool) is not None

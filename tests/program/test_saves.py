@@ -165,11 +165,10 @@ def test_limit_of_standard_output(ignoring: Trial) -> None:
     assert replies.read_bytes() == run_program(program, ["run"], script).output[:1024]
 
 
-def test_killed_by_the_limit(trial: Trial) -> None:
-    """The file that the killed run has begun stays, and is in no later run's way."""
+def test_left_by_a_killed_run(trial: Trial) -> None:
+    """The file that a killed run has begun stays, and is in no later run's way."""
     beside = ".file.rsp-save-0"
-    trial.run(before=lambda: limited(False)).assert_kept().assert_files("file", beside)
-    assert trial.result.status == -signal.SIGXFSZ
+    (trial.folder / beside).write_bytes(OLD[:1024])
     trial.run().assert_saved().assert_files("file", beside)
     trial.run(trial.folder / "free", limited).assert_refused().assert_files("file", beside)
 

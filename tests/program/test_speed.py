@@ -8,9 +8,7 @@ from pathlib import Path
 
 import pytest
 
-from lib.packages import need
 from lib.pages import data
-from lib.processes import run
 from measure.speed import LOOPS, by_calls, by_script, compile_caller, figure
 
 ROWS = {row["call"]: row for row in data("speed")}
@@ -23,15 +21,11 @@ def caller(tmp_path_factory: pytest.TempPathFactory) -> Path:
 
 
 @pytest.mark.xdist_group("speed")
+@pytest.mark.needs("valgrind", "cc")
 @pytest.mark.usefixtures("program", "library")
 @pytest.mark.parametrize("call", ROWS)
 def test_host_instructions(call: str, caller: Path) -> None:
-    need("valgrind", "cc", "rt")
-    row = ROWS[call]
-    kit = run("rt", "version").stdout.split()[0]
-    if kit != row["kit"]:
-        pytest.skip(f"the figures are those of {row['kit']} at {row['commit']}, and this is {kit}")
     for name in LOOPS:
         how = call.removeprefix("brsp_")
         steps = by_script(name) if call == "run" else by_calls(caller, how, name)
-        assert figure(steps, *STEPS) == pytest.approx(float(row[name]), rel=0.03), name
+        assert figure(steps, *STEPS) == pytest.approx(float(ROWS[call][name]), rel=0.03), name

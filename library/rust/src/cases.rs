@@ -175,13 +175,13 @@ macro_rules! cases {
     ($emulator:ty) => {
         /// Opens an emulator with these memories.
         #[no_mangle]
-        pub unsafe extern "C" fn cases_open(_what: *const u8, memories: *const u8) -> *mut $crate::cases::Side<$emulator> {
+        unsafe extern "C" fn cases_open(_what: *const u8, memories: *const u8) -> *mut $crate::cases::Side<$emulator> {
             $crate::cases::open(memories)
         }
 
         /// Runs cases. No state is refused.
         #[no_mangle]
-        pub unsafe extern "C" fn cases_run(
+        unsafe extern "C" fn cases_run(
             side: *mut $crate::cases::Side<$emulator>,
             cases: *const $crate::cases::Case,
             ends: *mut $crate::cases::End,
@@ -193,37 +193,37 @@ macro_rules! cases {
 
         /// Sets all registers.
         #[no_mangle]
-        pub unsafe extern "C" fn cases_set(side: *mut $crate::cases::Side<$emulator>, state: *const $crate::State) {
+        unsafe extern "C" fn cases_set(side: *mut $crate::cases::Side<$emulator>, state: *const $crate::State) {
             $crate::cases::set(side, state)
         }
 
         /// Gives all registers.
         #[no_mangle]
-        pub unsafe extern "C" fn cases_get(side: *mut $crate::cases::Side<$emulator>, state: *mut $crate::State) {
+        unsafe extern "C" fn cases_get(side: *mut $crate::cases::Side<$emulator>, state: *mut $crate::State) {
             $crate::cases::get(side, state)
         }
 
         /// Sets all memories.
         #[no_mangle]
-        pub unsafe extern "C" fn cases_load(side: *mut $crate::cases::Side<$emulator>, memories: *const u8) {
+        unsafe extern "C" fn cases_load(side: *mut $crate::cases::Side<$emulator>, memories: *const u8) {
             $crate::cases::load(side, memories)
         }
 
         /// Gives all memories.
         #[no_mangle]
-        pub unsafe extern "C" fn cases_look(side: *mut $crate::cases::Side<$emulator>, memories: *mut u8) {
+        unsafe extern "C" fn cases_look(side: *mut $crate::cases::Side<$emulator>, memories: *mut u8) {
             $crate::cases::look(side, memories)
         }
 
         /// Makes steps.
         #[no_mangle]
-        pub unsafe extern "C" fn cases_step(side: *mut $crate::cases::Side<$emulator>, steps: u32) {
+        unsafe extern "C" fn cases_step(side: *mut $crate::cases::Side<$emulator>, steps: u32) {
             $crate::cases::steps(side, steps);
         }
 
         /// Makes steps without a pause, and returns how many are done.
         #[no_mangle]
-        pub unsafe extern "C" fn cases_steps(side: *mut $crate::cases::Side<$emulator>, steps: u32) -> u32 {
+        unsafe extern "C" fn cases_steps(side: *mut $crate::cases::Side<$emulator>, steps: u32) -> u32 {
             $crate::cases::steps(side, steps)
         }
     };

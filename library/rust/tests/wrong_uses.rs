@@ -71,7 +71,10 @@ fn outcome((_, words, wrong, every): &(&str, [u32; 3], Wrong, u32)) -> String {
 /// RSP_WRONG_USES names the table; without it there is nothing to do. A machine that is gone can't be used in Rust.
 #[test]
 fn wrong_uses() {
-    let Some(path) = std::env::var_os("RSP_WRONG_USES") else { return };
+    let path = match std::env::var_os("RSP_WRONG_USES") {
+        Some(path) => path,
+        None => return,
+    };
     let table = std::fs::read_to_string(path).unwrap();
     let expected: Vec<_> = table.lines().skip(1).filter(|it| !it.starts_with("no machine\t")).collect();
     let found = USES.iter().map(|it| format!("{}\t{}", it.0, outcome(it).replace("OutOfRange", "OUT_OF_RANGE")));
