@@ -32,23 +32,19 @@ def test_library_agrees_with_itself(kind: str, folder: Path) -> None:
     assert {path: path.stat().st_mtime_ns for path in folder.glob("out/*-*.json")} == before
 
 
-# A module of an emulator that knows how often it was started, and the processes of its task and its campaign.
+# A module of an emulator that knows how often it was started, and the process of its campaign.
 STARTED = """import os, time
 from campaigns.emulator import WrongShift as Mine
 with open(f"{os.path.basename(os.getcwd())}.starts", "ab", 0) as file:
     file.write(b"x")
     start = file.tell()
-task = os.getppid()
-campaign = int(open(f"/proc/{task}/stat").read().split()[3])
+campaign = os.getppid()
 """
 STOP_IN_TASKS = "if start == 4: os.kill(campaign, {})\nif start in (3, 4): time.sleep(99)\n"
-KILLED = "campaign: 3 tasks aren't done (a task ended with status -9); start it again\n"
-# What the module does then; the status and the errors of the campaign, and the starts.
+# What the module does then; the status and the errors of the campaign.
 STOPS = {
-    "killed": (STOP_IN_TASKS.format(9), -9, "", 4),
-    "Ctrl-C": (STOP_IN_TASKS.format(2), 1, "campaign: stopped; started again, it goes on\n", 4),
-    "tasks killed": ("if start in (3, 4): os.kill(task, 9)\n", 0, "", 7),
-    "tasks killed three times": ("if 3 <= start <= 11: os.kill(task, 9)\n", 1, KILLED, 11),
+    "killed": (STOP_IN_TASKS.format(9), -9, ""),
+    "Ctrl-C": (STOP_IN_TASKS.format(2), 1, "campaign: stopped; started again, it goes on\n"),
 }
 
 
@@ -60,7 +56,7 @@ def test_results_after_a_stop(stop: str, folder: Path) -> None:
     (folder / "mine.py").write_text(STARTED + then)
     words = ("python:mine:Mine", "--instructions", "add,beq,sqv,sra,vadd", "--cases", 40, "--workers", 2)
     ended = campaign(*words, "out", cwd=folder, timeout=90)
-    assert [ended.returncode, ended.stderr, starts.stat().st_size] == expected
+    assert [ended.returncode, ended.stderr, starts.stat().st_size] == [*expected, 4]
     until = time.time() + 5
     while left := glob.glob(f"/proc/[0-9]*/cwd/{starts.name}"):
         assert time.time() < until, left
