@@ -1,10 +1,12 @@
 """Campaigns on a cluster of Dask have the results of one process, also if a part of the cluster is lost."""
 
+import re
 import signal
 import socket
 import subprocess
 import sys
 import time
+from functools import partial
 from pathlib import Path
 from typing import Any, Dict, Iterator, List, Tuple
 
@@ -18,6 +20,8 @@ pytestmark = [
     pytest.mark.timeout(900),
 ]
 LOST = pytest.mark.outside("it starts clusters and kills their parts, for minutes")
+# A worker with another version of Dask.
+OTHER = "import distributed\ndistributed.__version__ = '0.1'\nfrom distributed.cli.dask_worker import main\nmain()"
 CHANGES = "from campaigns.emulator import Machine\nopen(__file__, 'a').write('#')\n"
 PROGRAMS = ("--programs", 20, "--programs-size", 10)
 WORDS = ("--instructions", FEW, "--cases", 30000, "--size", 10000, *PROGRAMS)
@@ -35,11 +39,12 @@ class Cluster:
             self.add_worker()
 
     def part(self, kind: str, *words: str) -> "subprocess.Popen[bytes]":
-        command = [sys.executable, "-m", f"distributed.cli.dask_{kind}", *words, "--dashboard-address", ":0"]
-        return subprocess.Popen([*command, "--no-dashboard"], stderr=subprocess.DEVNULL, cwd="/")
+        how = ("-c", OTHER) if kind == "other" else ("-m", f"distributed.cli.dask_{kind}")
+        command = [sys.executable, *how, *words, "--dashboard-address", ":0", "--no-dashboard"]
+        return subprocess.Popen(command, stderr=subprocess.DEVNULL, cwd="/")
 
-    def add_worker(self) -> None:
-        self.parts.append(self.part("worker", self.address, "--nthreads", "1", "--no-nanny"))
+    def add_worker(self, kind: str = "worker") -> None:
+        self.parts.append(self.part(kind, self.address, "--nthreads", "1", "--no-nanny"))
 
     def kill(self, *parts: "subprocess.Popen[bytes]") -> None:
         for part in parts:
@@ -55,7 +60,11 @@ def cluster() -> Iterator[Cluster]:
 
 
 def test_cluster(cluster: Cluster, folder: Path) -> None:
-    """A cluster gives the results of one process. A worker with other files is refused by its name."""
+    """A cluster gives the results of one process. A worker with other files or another Dask is refused by its
+    name.
+    """
+    from distributed import Client
+
     words: Tuple[object, ...] = (faulty(2), "--instructions", "vadd,lqv,vxor", "--cases", 3000, *PROGRAMS)
     output_of(folder / "here", *words, "--size", 2000)
     ended = campaign(*words, "--size", 2000, "--scheduler", cluster.address, folder / "out")
@@ -69,12 +78,20 @@ def test_cluster(cluster: Cluster, folder: Path) -> None:
     assert (ended.returncode, ended.stderr) == (1, f"campaign: {socket.gethostname()}: {why}\n")
     ended = campaign(*words, "--scheduler", "none://x", "none", cwd=folder)
     assert ended.returncode == 1 and ended.stderr.startswith("campaign: no scheduler answers at none://x: ")
+    cluster.add_worker("other")
+    with Client(cluster.address) as client:
+        client.wait_for_workers(3)
+    (folder / "mine.py").write_text("from campaigns.emulator import Machine\n")
+    ended = campaign(*words, "--scheduler", cluster.address, "other", cwd=folder)
+    why = r"campaign: tcp://[\d.]+:\d+: has version 0.1 of distributed, and the campaign has .*\n"
+    assert ended.returncode == 1 and re.fullmatch(why, ended.stderr)
 
 
 def started(out: Path, results: int, *words: str) -> "subprocess.Popen[str]":
     """A campaign that has so many results, or that has ended."""
     pipes: Dict[str, Any] = {"stdout": subprocess.PIPE, "stderr": subprocess.PIPE, "text": True}
     command = map(str, (CAMPAIGN, faulty(1), *WORDS, *words, out))
+    pipes["preexec_fn"] = partial(signal.signal, signal.SIGINT, signal.SIG_DFL)
     process = subprocess.Popen([*command], cwd=SOURCES, **pipes)
     while process.poll() is None and len([*out.glob("*-*.json")]) < results:
         time.sleep(0.05)
@@ -99,8 +116,8 @@ def test_lost_workers(cluster: Cluster, folder: Path) -> None:
     assert_ends(process, folder / "out")
 
 
-GONE = "campaign: the scheduler is gone; started again, it goes on\n"
-STOPPED = "campaign: stopped; started again, it goes on\n"
+GONE = " is gone: start it, and type the same line again, which continues the campaign\n"
+STOPPED = "campaign: stopped; started again, it continues\n"
 # What ends a campaign, its status, and the end of its errors.
 ENDS: List[Tuple[Any, int, str]] = [(signal.SIGKILL, -9, ""), (signal.SIGINT, 1, STOPPED), (None, 1, GONE)]
 

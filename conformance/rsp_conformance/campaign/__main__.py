@@ -237,5 +237,5 @@ if __name__ == "__main__":
     try:
         main()
     except KeyboardInterrupt:
-        stop("stopped; started again, it goes on")
+        stop("stopped; started again, it continues")
     os._exit(0)  # else Dask closes its connections first, and may write to stderr meanwhile

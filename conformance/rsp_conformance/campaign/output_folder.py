@@ -11,7 +11,7 @@ from rsp_conformance.safe_files import MOST_JSON, read_file, write_file
 from . import CampaignFault
 from .hashes import files_of, hashes, other_hashes
 from .protocol import PROGRAM, VERSION, Result, Task, plural
-from .report import file_of, task_of
+from .report import file_of, result_in, task_of
 
 # The options that decide a campaign's cases and programs.
 SETTINGS = ("emulator", "instructions", "seed", "cases", "size", "programs", "programs_size", "steps")
@@ -87,7 +87,7 @@ class OutputFolder:
         return self.out / file_of(task)
 
     def tasks_left(self) -> List[Task]:
-        return [task for task in self.tasks if not self.path_of(task).exists()]
+        return [task for task in self.tasks if not result_in(self.path_of(task))]
 
     def save(self, result: Result) -> None:
         """Writes a result."""

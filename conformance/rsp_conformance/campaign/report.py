@@ -3,11 +3,10 @@
 import html
 import json
 from pathlib import Path
-from typing import Any, Dict, Iterator, List, Tuple
+from typing import Any, Dict, Iterator, List, Optional, Tuple
 
 from rsp_conformance.command_line import printable
 
-from . import CampaignFault
 from .protocol import PROGRAM, Result, Task, plural
 from .supervise import add, nothing
 
@@ -22,7 +21,7 @@ td.n { text-align: right; font-variant-numeric: tabular-nums }
 
 def results_in(out: Path) -> List[Result]:
     """The results in a campaign's folder, by instruction and number, with those of programs last."""
-    found = [result_in(path) for path in out.glob("*-*-*.json")]
+    found = [result for path in out.glob("*-*-*.json") if (result := result_in(path))]
     return sorted(found, key=lambda found: (found["instruction"] == PROGRAM, *task_of(found)))
 
 
@@ -36,13 +35,13 @@ def file_of(task: Task) -> str:
     return f"{'-'.join(map(str, task))}.json"
 
 
-def result_in(path: Path) -> Result:
-    """The result in a file."""
+def result_in(path: Path) -> Optional[Result]:
+    """The result in a file; None if there is no file, or if it isn't whole, as a loss of power leaves it."""
     try:
         found: Result = json.loads(path.read_text())
         return found
-    except ValueError:
-        raise CampaignFault(f"{path} isn't a result: delete it, and start the campaign again") from None
+    except (FileNotFoundError, ValueError):
+        return None
 
 
 def summary(results: List[Result]) -> Dict[str, Result]:
