@@ -43,19 +43,19 @@ with open(f"{os.path.basename(os.getcwd())}.starts", "ab", 0) as file:
 campaign = os.getppid()
 """
 STOP_IN_TASKS = "if start == 4: os.kill(campaign, {})\nif start in (3, 4): time.sleep(99)\n"
-# What the module does then; the status and the errors of the campaign.
+# The signal, and the status and the errors of the campaign.
 STOPS = {
-    "killed": (STOP_IN_TASKS.format(9), -9, ""),
-    "Ctrl-C": (STOP_IN_TASKS.format(2), 1, "campaign: stopped; started again, it continues\n"),
+    "killed": (9, -9, ""),
+    "Ctrl-C": (2, 1, "campaign: stopped; started again, it continues\n"),
 }
 
 
 @pytest.mark.parametrize("stop", STOPS)
 def test_results_after_a_stop(stop: str, folder: Path) -> None:
     """A campaign that was stopped leaves no process. It continues, and has the results of one process."""
-    then, *expected = STOPS[stop]
+    number, *expected = STOPS[stop]
     starts = folder / f"{folder.name}.starts"
-    (folder / "mine.py").write_text(STARTED + then)
+    (folder / "mine.py").write_text(STARTED + STOP_IN_TASKS.format(number))
     words = ("python:mine:Mine", "--instructions", "add,beq,sqv,sra,vadd", "--cases", 40, "--workers", 2)
     heeds = partial(signal.signal, signal.SIGINT, signal.SIG_DFL)
     ended = campaign(*words, "out", cwd=folder, timeout=90, preexec_fn=heeds)

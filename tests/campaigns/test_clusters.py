@@ -60,9 +60,7 @@ def cluster() -> Iterator[Cluster]:
 
 
 def test_cluster(cluster: Cluster, folder: Path) -> None:
-    """A cluster gives the results of one process. A worker with other files or another Dask is refused by its
-    name.
-    """
+    """It gives the results of one process. A worker with other files or another Dask is named, and refused."""
     from distributed import Client
 
     words: Tuple[object, ...] = (faulty(2), "--instructions", "vadd,lqv,vxor", "--cases", 3000, *PROGRAMS)
@@ -83,7 +81,7 @@ def test_cluster(cluster: Cluster, folder: Path) -> None:
         client.wait_for_workers(3)
     (folder / "mine.py").write_text("from campaigns.emulator import Machine\n")
     ended = campaign(*words, "--scheduler", cluster.address, "other", cwd=folder)
-    why = r"campaign: tcp://[\d.]+:\d+: has version 0.1 of distributed, and the campaign has .*\n"
+    why = r"campaign: tcp://[\d.]+:\d+ has distributed 0.1, and the campaign has .*\n"
     assert ended.returncode == 1 and re.fullmatch(why, ended.stderr)
 
 

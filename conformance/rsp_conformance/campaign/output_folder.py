@@ -29,11 +29,8 @@ def settings_in(out: Path) -> Dict[str, Any]:
     try:
         found = json.loads(read_file(out / "campaign.json", MOST_JSON))
         return {key: found[key] for key in ("generator", *SETTINGS, "hashes")}
-    except KeyError as fault:
-        why = f": it has no {fault}"
-    except ValueError:
-        why = ""
-    raise CampaignFault(f"{out}/campaign.json isn't what a campaign wrote{why}")
+    except (KeyError, ValueError):
+        raise CampaignFault(f"{out}/campaign.json isn't what a campaign wrote") from None
 
 
 class OutputFolder:

@@ -50,11 +50,11 @@ class Cluster(Threads):
     def __init__(self, address: str) -> None:
         try:
             from distributed import Client
+
+            self.client = Client(address)
         except ImportError:
             how = "apt-get install python3-distributed (or pip install distributed)"
             raise CampaignFault(f"{sys.executable} has no Dask: {how}") from None
-        try:
-            self.client = Client(address)
         except (OSError, ValueError) as fault:
             raise CampaignFault(f"no scheduler answers at {address}: {fault}") from None
         if not self.client.nthreads():
@@ -73,8 +73,7 @@ class Cluster(Threads):
         for worker, theirs in {"the scheduler": found["scheduler"], **found["workers"]}.items():
             for name in ("python", "dask", "distributed"):
                 if (other := theirs["packages"][name]) != ours[name]:
-                    why = f"has version {other} of {name}, and the campaign has {ours[name]}"
-                    raise CampaignFault(f"{worker}: {why}")
+                    raise CampaignFault(f"{worker} has {name} {other}, and the campaign has {ours[name]}")
 
     def start(self, *call: Any) -> "Future[Any]":
         how = {"input": json.dumps([os.getcwd(), *call]), "check": True, "capture_output": True, "text": True}
