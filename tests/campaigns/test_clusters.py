@@ -21,7 +21,10 @@ pytestmark = [
 ]
 LOST = pytest.mark.outside("it starts clusters and kills their parts, for minutes")
 # A worker with another version of Dask.
-OTHER = "import distributed\ndistributed.__version__ = '0.1'\nfrom distributed.cli.dask_worker import main\nmain()"
+OTHER = """import distributed
+distributed.__version__ = "0.1"
+from distributed.cli.dask_worker import main
+main()"""
 CHANGES = "from campaigns.emulator import Machine\nopen(__file__, 'a').write('#')\n"
 PROGRAMS = ("--programs", 20, "--programs-size", 10)
 WORDS = ("--instructions", FEW, "--cases", 30000, "--size", 10000, *PROGRAMS)
@@ -60,7 +63,7 @@ def cluster() -> Iterator[Cluster]:
 
 
 def test_cluster(cluster: Cluster, folder: Path) -> None:
-    """It gives the results of one process. A worker with other files or another Dask is named, and refused."""
+    """It has the results of one process. A worker with other files or another Dask is refused by its name."""
     from distributed import Client
 
     words: Tuple[object, ...] = (faulty(2), "--instructions", "vadd,lqv,vxor", "--cases", 3000, *PROGRAMS)
