@@ -1,7 +1,9 @@
 """The library agrees with itself as each kind of emulator; and folders with results of an earlier run."""
 
 import glob
+import signal
 import time
+from functools import partial
 from pathlib import Path
 
 import pytest
@@ -32,35 +34,32 @@ def test_library_agrees_with_itself(kind: str, folder: Path) -> None:
     assert {path: path.stat().st_mtime_ns for path in folder.glob("out/*-*.json")} == before
 
 
-# A module of an emulator that knows how often it was started, and the processes of its task and its campaign.
+# A module of an emulator that knows how often it was started, and the process of its campaign.
 STARTED = """import os, time
 from campaigns.emulator import WrongShift as Mine
 with open(f"{os.path.basename(os.getcwd())}.starts", "ab", 0) as file:
     file.write(b"x")
     start = file.tell()
-task = os.getppid()
-campaign = int(open(f"/proc/{task}/stat").read().split()[3])
+campaign = os.getppid()
 """
 STOP_IN_TASKS = "if start == 4: os.kill(campaign, {})\nif start in (3, 4): time.sleep(99)\n"
-KILLED = "campaign: 3 tasks aren't done (a task ended with status -9); start it again\n"
-# What the module does then; the status and the errors of the campaign, and the starts.
+# The signal, and the status and the errors of the campaign.
 STOPS = {
-    "killed": (STOP_IN_TASKS.format(9), -9, "", 4),
-    "Ctrl-C": (STOP_IN_TASKS.format(2), 1, "campaign: stopped; started again, it goes on\n", 4),
-    "tasks killed": ("if start in (3, 4): os.kill(task, 9)\n", 0, "", 7),
-    "tasks killed three times": ("if 3 <= start <= 11: os.kill(task, 9)\n", 1, KILLED, 11),
+    "killed": (9, -9, ""),
+    "Ctrl-C": (2, 1, "campaign: stopped; started again, it continues\n"),
 }
 
 
 @pytest.mark.parametrize("stop", STOPS)
 def test_results_after_a_stop(stop: str, folder: Path) -> None:
     """A campaign that was stopped leaves no process. It continues, and has the results of one process."""
-    then, *expected = STOPS[stop]
+    number, *expected = STOPS[stop]
     starts = folder / f"{folder.name}.starts"
-    (folder / "mine.py").write_text(STARTED + then)
+    (folder / "mine.py").write_text(STARTED + STOP_IN_TASKS.format(number))
     words = ("python:mine:Mine", "--instructions", "add,beq,sqv,sra,vadd", "--cases", 40, "--workers", 2)
-    ended = campaign(*words, "out", cwd=folder, timeout=90)
-    assert [ended.returncode, ended.stderr, starts.stat().st_size] == expected
+    heeds = partial(signal.signal, signal.SIGINT, signal.SIG_DFL)
+    ended = campaign(*words, "out", cwd=folder, timeout=90, preexec_fn=heeds)
+    assert [ended.returncode, ended.stderr, starts.stat().st_size] == [*expected, 4]
     until = time.time() + 5
     while left := glob.glob(f"/proc/[0-9]*/cwd/{starts.name}"):
         assert time.time() < until, left
@@ -118,7 +117,9 @@ def test_file_that_has_changed(named: str, folder: Path) -> None:
 
 
 def test_folder_of_another_campaign(folder: Path) -> None:
-    """It is refused with the difference and with what to do, and so is a spoilt result."""
+    """It is refused with the difference and with what to do. The task of a result that isn't whole is run
+    again.
+    """
     words = (built("library"), "--instructions", "beq", "--cases", 40)
     output_of(folder, *words)
     for other, why in OTHER.items():
@@ -126,6 +127,7 @@ def test_folder_of_another_campaign(folder: Path) -> None:
         how = "take another folder for OUT, or delete this one"
         expected = f"campaign: {folder} holds another campaign: {why}; {how}\n"
         assert (ended.returncode, ended.stderr) == (1, expected)
+    whole = results_of(folder)
     (folder / "beq-0-40.json").write_text("{")
-    ended = campaign(*words, "--here", folder)
-    assert ended.returncode == 1 and "beq-0-40.json isn't a result" in ended.stderr
+    output_of(folder, *words)
+    assert results_of(folder) == whole

@@ -1,4 +1,4 @@
-"""Vectors and results that come from somebody else: malformed ones are refused in a sentence, or escaped.
+"""Vectors that come from somebody else: malformed ones are refused, and texts of emulators are escaped.
 
 It fails if a malformed file isn't refused by its name, if an expectation is never compared, or if text of a
 result becomes HTML, or moves a terminal's cursor.
@@ -9,14 +9,12 @@ import math
 import os
 import resource
 from pathlib import Path
-from typing import Any, Callable, Dict, List, Tuple
+from typing import Any, Callable, Dict, List
 
 import pytest
 
 from rsp_conformance import bench, generate, steps
-from rsp_conformance.campaign import CampaignFault
-from rsp_conformance.campaign.output_folder import OutputFolder, settings_in
-from rsp_conformance.campaign.report import html_table, results_in, text_table
+from rsp_conformance.campaign.report import html_table, text_table
 from rsp_conformance.campaign.supervise import nothing
 from rsp_conformance.safe_files import FileFault, read_file, write_file
 from rsp_conformance.vectors import VECTORS, VectorsFault, entries_in, manifest_in, memory_in
@@ -42,87 +40,8 @@ def variants(valid: Dict[str, Any], malformed: Dict[str, List[Any]]) -> Dict[str
     }
 
 
-HASHES = {"emulator": "a", "library": "b"}
-TASK = {"instruction": "vadd", "seed": "1", "start": 0, "size": 20}
-RESULT: Dict[str, Any] = {**nothing(), **TASK, "count": 20, "hashes": HASHES}
-WRONG_PARTS: Dict[str, List[Any]] = {
-    **{"instruction": [5, [], "../vadd"], "seed": [None], "hashes": [[]]},
-    **{"start": ["0", -1], "size": ["20", 19]},
-    **{"count": ["x", 19, 21, math.nan], "differ": [21, -1, True], "processor": ["1", math.nan, math.inf]},
-    **{"parts": [[], {"$v1": "x"}, {"$v1": 21}], "shown": [5, [5]], "unseen": ["x", [[]]], "faults": [{}]},
-}
-RESULTS = variants(RESULT, WRONG_PARTS)
-RESULTS["given up for a number"] = {**RESULT, "count": 1, "given up": 5}
-
-
-@pytest.mark.parametrize("text", [*NOT_JSON_OBJECTS, "{}", *map(json.dumps, RESULTS.values())])
-def test_malformed_result(text: str, folder: Path) -> None:
-    write_in(folder, "vadd-0-20.json", text)
-    with pytest.raises(CampaignFault, match="vadd-0-20.json isn't a result"):
-        results_in(folder)
-
-
-# Valid results with another value than that of their file or their campaign.
-OTHERS: Dict[str, Tuple[str, Dict[str, Any], str]] = {
-    "instruction": ("vadd-0-20.json", {"instruction": "vsub"}, "has what vsub-0-20.json has to have"),
-    "copy": ("a-b-1.json", {}, "has what vadd-0-20.json has to have"),
-    "task": ("vadd-7-20.json", {"start": 7}, "is the result of another campaign"),
-    "seed": ("vadd-0-20.json", {"seed": "2"}, "is the result of another campaign"),
-    "hashes": ("vadd-0-20.json", {"hashes": {**HASHES, "library": "c"}}, "is the result of another campaign"),
-}
-
-
-def campaign_in(folder: Path) -> OutputFolder:
-    """A campaign of two tasks, which has no file yet."""
-    campaign = OutputFolder.__new__(OutputFolder)
-    campaign.out, campaign.settings = folder, {"emulator": "mine", "hashes": HASHES, "seed": "1"}
-    campaign.tasks = [("vadd", 0, 20), ("vadd", 20, 20)]
-    return campaign
-
-
-@pytest.mark.parametrize("name, more, why", OTHERS.values(), ids=OTHERS)
-def test_result_of_another_task(name: str, more: Dict[str, Any], why: str, folder: Path) -> None:
-    """It isn't counted for any task, nor twice for its own."""
-    campaign = campaign_in(folder)
-    campaign.save(RESULT)
-    assert [result["start"] for result in campaign.results()] == [0]
-    assert campaign.tasks_left() == [("vadd", 20, 20)]
-    write_in(folder, name, json.dumps({**RESULT, **more}))
-    with pytest.raises(CampaignFault) as refused:
-        campaign.results()
-    assert str(refused.value) == f"{folder / name} {why}: delete it, and start the campaign again"
-
-
-def test_result_with_other_files(folder: Path) -> None:
-    with pytest.raises(CampaignFault, match="files of the library have changed since this campaign began"):
-        campaign_in(folder).save({**RESULT, "hashes": {**HASHES, "library": "c"}})
-    assert not [*folder.iterdir()]
-
-
-SETTINGS: Dict[str, Any] = {
-    **{"generator": 2, "emulator": "mine", "instructions": ["vadd"], "seed": "1", "cases": 20, "size": 20},
-    **{"programs": 0, "programs_size": 1, "steps": 5, "hashes": HASHES},
-}
-WRONG_SETTINGS: Dict[str, List[Any]] = {
-    "steps": ["x", None, 0, math.inf, 0.5, True, 1 << 53],
-    "instructions": [None, "vadd", [], ["v"], [5], [["vadd"]], {"vadd": 1, "v": 2}],
-}
-OTHER_SETTINGS = variants(SETTINGS, WRONG_SETTINGS)
-
-
-@pytest.mark.parametrize("text", [*NOT_JSON_OBJECTS, "{}", *map(json.dumps, OTHER_SETTINGS.values())])
-def test_malformed_campaign(text: str, folder: Path) -> None:
-    path = write_in(folder, "campaign.json", json.dumps(SETTINGS))
-    assert settings_in(folder) == SETTINGS
-    path.write_text(text)
-    with pytest.raises(CampaignFault, match="campaign.json isn't what a campaign wrote"):
-        settings_in(folder)
-
-
 # The functions that read a file of somebody else's folder, by the file.
 READERS: Dict[str, Callable[[Path], Any]] = {
-    "vadd-0-20.json": results_in,
-    "campaign.json": settings_in,
     "steps/ADD.jsonl": lambda folder: entries_in(folder, "ADD"),
     "programs/ADD.json": lambda folder: manifest_in(folder, "ADD"),
     "programs/ADD-0.imem": lambda folder: memory_in(folder / "programs/ADD-0.imem"),
@@ -139,7 +58,7 @@ def test_large_file(name: str, folder: Path) -> None:
             READERS[name](folder)
         assert str(refused.value) == f"{path} has more than {most} bytes"
     os.truncate(path, most)
-    with pytest.raises((CampaignFault, VectorsFault), match=path.name):
+    with pytest.raises(VectorsFault, match=path.name):
         READERS[name](folder)
 
 
@@ -163,10 +82,7 @@ def test_no_file(make: Callable[[Path], Any], why: str, folder: Path) -> None:
 def test_folders_elsewhere(folder: Path) -> None:
     """A link in place of a folder is refused, and nothing is written where it leads."""
     (folder / "elsewhere").mkdir()
-    for name in ("programs", "flat"):
-        (folder / name).symlink_to("elsewhere")
-    with pytest.raises(FileFault, match="programs is a link, and has to be a folder"):
-        campaign_in(folder).save({**RESULT, "programs": [{"name": "x", "source": "", "script": ""}]})
+    (folder / "flat").symlink_to("elsewhere")
     with pytest.raises(FileFault, match="flat is a link, and has to be a folder"):
         generate.write_all_forms(VECTORS, ["ADD"], folder, ["flat"])
     assert not [*(folder / "elsewhere").iterdir()]
@@ -193,12 +109,12 @@ def test_file_without_room(folder: Path) -> None:
     assert [*folder.iterdir()] == [path] and path.read_text() == "old"
 
 
-def test_escaped_result(folder: Path) -> None:
+def test_escaped_result() -> None:
     """Texts of a result become neither HTML nor control characters of a terminal."""
     text = "<script>\x1b]0;title\x07 and \x9b31m\u202e\n\ud800"
-    result = {**RESULT, "unseen": [text], "shown": [text], "parts": {text: 1}, "given up": text}
-    write_in(folder, "vadd-0-20.json", json.dumps(result))
-    table, html = text_table(results_in(folder)), html_table(results_in(folder), "<script>")
+    texts = {"unseen": [text], "shown": [text], "parts": {text: 1}, "given up": text}
+    result = {**nothing(), "instruction": "vadd", "count": 20, **texts}
+    table, html = text_table([result]), html_table([result], "<script>")
     escaped = r"\x1b]0;title\x07 and \x9b31m\u202e\n\ud800"
     assert (table.count(escaped), html.count(escaped)) == (3, 4)
     assert "<script" not in html and html.count("&lt;script&gt;") == 6

@@ -9,7 +9,6 @@ emulator writes are shown with its fault. It fails if a task isn't done, or with
 """
 
 import argparse
-import contextlib
 import os
 import re
 import sys
@@ -23,7 +22,7 @@ from rsp_conformance.table import ROWS as INSTRUCTIONS
 
 from . import CampaignFault
 from .output_folder import MOST, OutputFolder, settings_in
-from .report import html_table, text_table
+from .report import html_table, results_in, text_table
 from .protocol import PROGRAM, VERSION, name_of, plural
 from .supervise import check
 from .workers import options_of, results
@@ -45,7 +44,9 @@ PROGRESS_SECONDS = 60  # between two lines of progress, if they go to a file
 
 
 def stop(sentence: object) -> NoReturn:
-    sys.exit(printable(f"campaign: {sentence}"))
+    """Ends the campaign at once, and with it the children of tasks that still run."""
+    print(printable(f"campaign: {sentence}"), file=sys.stderr, flush=True)
+    os._exit(1)
 
 
 class Progress:
@@ -79,15 +80,15 @@ def run(args: argparse.Namespace) -> None:
     folder.open()
     todo = folder.tasks_left()
     progress = Progress(len(folder.tasks) - len(todo), len(folder.tasks))
-    done, differ, lost = 0, 0, None
-    with contextlib.closing(results(args, todo)) as found:
-        for number, result in enumerate(found, 1):
-            if isinstance(result, OSError):
-                lost = result
-                continue
-            folder.save(result)
-            done, differ = done + result["count"], differ + result["differ"]
-            progress.update(number, done, differ)
+    done, differ, lost = 0, 0, ""
+    options = {**options_of(args), "hashes": folder.settings["hashes"]}
+    for number, result in enumerate(results(args, todo, options), 1):
+        if isinstance(result, str):
+            lost = result
+            continue
+        folder.save(result)
+        done, differ = done + result["count"], differ + result["differ"]
+        progress.update(number, done, differ)
     progress.end()
     report(args, folder)
     if folder.earlier_results:
@@ -100,7 +101,7 @@ def run(args: argparse.Namespace) -> None:
 
 def report(args: argparse.Namespace, folder: OutputFolder) -> None:
     """Prints and writes the table."""
-    if found := folder.results():
+    if found := results_in(args.out):
         text, title = text_table(found), f"{args.emulator.rpartition('/')[2]} against the proved library"
         write_output(text + "\n")
         write_file(args.out / "table.txt", text + "\n")
@@ -193,7 +194,8 @@ def arguments() -> argparse.Namespace:
     files = "more files and folders of the emulator, whose contents count (only those that EMULATOR names)"
     add("--files", type=paths_of, default=[], metavar="PATH,..", help=files)
     add("--seed", type=seed_of, default="1", help="letters a to z and digits (1)")
-    add("--here", action="store_true", help="works in this process, on one processor")
+    add("--here", action="store_const", const=1, dest="workers", help="one task at a time, as --workers 1")
+    add("--scheduler", metavar="ADDRESS", help="runs the tasks on a cluster of Dask")
     names = f"VADD-g{VERSION}-7-000123, VADD-g{VERSION}-7-000123..000130, or PROGRAM-g{VERSION}-7-000005"
     add("--case", type=case_of, metavar="NAME", help=f"shows {names}")
     add("emulator", metavar="EMULATOR")
@@ -235,4 +237,5 @@ if __name__ == "__main__":
     try:
         main()
     except KeyboardInterrupt:
-        stop("stopped; started again, it goes on")
+        stop("stopped; started again, it continues")
+    os._exit(0)  # else Dask closes its connections first, and may write to stderr meanwhile

@@ -22,7 +22,7 @@ def built(name: str, flags: Sequence[str] = (), source: Optional[Path] = None) -
     path = SOURCES / "out" / f"{name}-{hash_of([source, *sources()], ' '.join(flags))[:16]}.so"
     if path.exists():
         return str(path)
-    temporary = path.with_name(f"{path.name}.{os.getpid()}")
+    temporary = path.with_name(f"{path.name}.{os.urandom(8).hex()}")
     command = ["cc", *FLAGS, *flags, str(source), str(LIBRARY), "-ldl", "-o", str(temporary)]
     try:
         path.parent.mkdir(exist_ok=True)

@@ -45,9 +45,10 @@ class Emulator:
 
     def for_programs(self, compared: rsp.Machine) -> Any:
         """The emulator for rsp.first_difference, beside the machine that it is compared with."""
-        if not hasattr(self, "load"):
-            raise CampaignFault(f"{type(self).__name__} takes no programs")
-        return for_programs(self, compared)
+        machine = getattr(self, "machine", self)
+        if not hasattr(machine, "load"):
+            raise CampaignFault(f"{type(machine).__name__} takes no programs: it has no `load`")
+        return for_programs(machine, compared)
 
     def memories_after(self, case: Array, memories: bytes, compared: rsp.Machine) -> Optional[bytes]:
         """All memories after a case, run as a program of one step; None if the emulator takes no programs.
@@ -227,11 +228,6 @@ class Python(Single):
         """All memories after a case. A class with `ends` shows them only if it takes programs."""
         base = Emulator if hasattr(self.machine, "ends") else Single
         return base.memories_after(self, case, memories, compared)
-
-    def for_programs(self, compared: rsp.Machine) -> Any:
-        if not hasattr(self.machine, "load"):
-            raise CampaignFault(f"{type(self.machine).__name__} takes no programs: it has no `load`")
-        return for_programs(self.machine, compared)
 
 
 # The keys of the state in an answer.

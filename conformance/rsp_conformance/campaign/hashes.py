@@ -82,3 +82,8 @@ def files_of(spec: str, others: Iterable[str]) -> List[str]:
 def hashes(spec: str, others: Iterable[str]) -> Dict[str, str]:
     """The hashes of a result; `others` are files and folders of the emulator that EMULATOR doesn't name."""
     return {"emulator": hash_of(files_of(spec, others)), "library": hash_of(sources())}
+
+
+def other_hashes(ours: Dict[str, str], theirs: Dict[str, str]) -> List[str]:
+    """The names of our hashes that others don't have."""
+    return [key for key in ours if theirs.get(key) != ours[key]]

@@ -6,13 +6,12 @@ from pathlib import Path
 from typing import Any, Dict, List
 
 from rsp_conformance.command_line import printable
-from rsp_conformance.safe_files import MOST_JSON, make_folder, read_file, write_file
-from rsp_conformance.table import ROWS
+from rsp_conformance.safe_files import MOST_JSON, read_file, write_file
 
 from . import CampaignFault
-from .hashes import files_of, hashes
+from .hashes import files_of, hashes, other_hashes
 from .protocol import PROGRAM, VERSION, Result, Task, plural
-from .report import AGAIN, file_of, results_in, task_of
+from .report import file_of, result_in, task_of
 
 # The options that decide a campaign's cases and programs.
 SETTINGS = ("emulator", "instructions", "seed", "cases", "size", "programs", "programs_size", "steps")
@@ -27,26 +26,11 @@ LISTED = 8  # files that are named in a sentence
 
 def settings_in(out: Path) -> Dict[str, Any]:
     """The settings of the campaign in a folder, of which instructions and steps can be used."""
-    why = ""
     try:
         found = json.loads(read_file(out / "campaign.json", MOST_JSON))
-        settings = {key: found[key] for key in ("generator", *SETTINGS, "hashes")}
-        names, steps = settings["instructions"], settings["steps"]
-        if not isinstance(names, list) or not names or not all(name in ROWS for name in names):
-            raise ValueError(f": 'instructions' is {names!r:.40}")
-        if type(steps) is not int or not 0 < steps < MOST:
-            raise ValueError(f": 'steps' is {steps!r:.40}")
-        return settings
-    except KeyError as fault:
-        why = f": it has no {fault}"
-    except (ValueError, TypeError, RecursionError) as fault:
-        why = str(fault) if type(fault) is ValueError else ""
-    raise CampaignFault(f"{out}/campaign.json isn't what a campaign wrote{why}")
-
-
-def other_hashes(ours: Dict[str, str], theirs: Any) -> List[str]:
-    """The names of our hashes that others, which may be any value of JSON, don't have."""
-    return [key for key in ours if not isinstance(theirs, dict) or theirs.get(key) != ours[key]]
+        return {key: found[key] for key in ("generator", *SETTINGS, "hashes")}
+    except (KeyError, ValueError):
+        raise CampaignFault(f"{out}/campaign.json isn't what a campaign wrote") from None
 
 
 class OutputFolder:
@@ -78,7 +62,7 @@ class OutputFolder:
             how = "take another folder for OUT, or delete this one"
             difference = self.difference(other[0], found)
             raise CampaignFault(f"{self.out} holds another campaign: {difference}; {how}")
-        self.earlier_results = len(self.results())
+        self.earlier_results = len(self.tasks) - len(self.tasks_left())
 
     def difference(self, key: str, found: Dict[str, Any]) -> str:
         """What the campaign in the folder has for another setting, in a clause."""
@@ -99,27 +83,14 @@ class OutputFolder:
     def path_of(self, task: Task) -> Path:
         return self.out / file_of(task)
 
-    def results(self) -> List[Result]:
-        """The results in the folder."""
-        found = results_in(self.out)
-        for result in found:
-            task = task_of(result)
-            if task not in self.tasks or any(result[key] != self.settings[key] for key in ("seed", "hashes")):
-                raise CampaignFault(f"{self.path_of(task)} is the result of another campaign: {AGAIN}")
-        return found
-
     def tasks_left(self) -> List[Task]:
-        return [task for task in self.tasks if not self.path_of(task).exists()]
+        return [task for task in self.tasks if not result_in(self.path_of(task))]
 
     def save(self, result: Result) -> None:
-        """Writes a result. It is refused if files have changed meanwhile, or if no case could be run."""
-        if not result["count"] and "given up" in result:
-            raise CampaignFault(f"{self.settings['emulator']}: {result['given up']}")
-        if other := other_hashes(self.settings["hashes"], result["hashes"]):
-            raise CampaignFault(f"the files of the {other[0]} have changed since this campaign began")
+        """Writes a result."""
         for program in result["programs"]:
             folder = self.out / "programs"
-            make_folder(folder)
+            folder.mkdir(exist_ok=True)
             write_file(folder / f"{program['name']}.s", program.pop("source"))
             write_file(folder / f"{program['name']}.script", program.pop("script"))
         write_file(self.path_of(task_of(result)), json.dumps(result) + "\n")

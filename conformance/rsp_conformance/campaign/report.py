@@ -3,15 +3,12 @@
 import html
 import json
 from pathlib import Path
-from typing import Any, Dict, Iterator, List, Tuple
+from typing import Any, Dict, Iterator, List, Optional, Tuple
 
 from rsp_conformance.command_line import printable
-from rsp_conformance.safe_files import MOST_JSON, read_file
-from rsp_conformance.table import ROWS
 
-from . import CampaignFault
 from .protocol import PROGRAM, Result, Task, plural
-from .supervise import LISTS, NUMBERS, add, nothing
+from .supervise import add, nothing
 
 HEADS = ("", "cases", "not shown", "differ", "choices", "faults", "first difference")
 STYLE = """body { font: 15px/1.4 system-ui, sans-serif; margin: 2em; color: #222 }
@@ -24,32 +21,8 @@ td.n { text-align: right; font-variant-numeric: tabular-nums }
 
 def results_in(out: Path) -> List[Result]:
     """The results in a campaign's folder, by instruction and number, with those of programs last."""
-    found = [result_in(path) for path in out.glob("*-*-*.json")]
+    found = [result for path in out.glob("*-*-*.json") if (result := result_in(path))]
     return sorted(found, key=lambda found: (found["instruction"] == PROGRAM, *task_of(found)))
-
-
-AGAIN = "delete it, and start the campaign again"
-COUNTS = [key for key in NUMBERS if key != "processor"]
-# The parts of a result and their types. `true` isn't one of these ints.
-TYPES: Dict[str, Tuple[type, ...]] = {
-    **{"instruction": (str,), "seed": (str,), "parts": (dict,), "hashes": (dict,), "processor": (int, float)},
-    **{key: (int,) for key in ("start", "size", *COUNTS)},
-    **{key: (list,) for key in LISTS},
-}
-# What a table raises for a result with other parts than it should have.
-MALFORMED = (ValueError, KeyError, TypeError, AttributeError, ArithmeticError, RecursionError)
-
-
-def check_result(found: Any) -> None:
-    """Raises one of MALFORMED unless a table can show this, and each case of the task is counted once."""
-    done, size = found["count"], found["size"]
-    is_right = all(type(found[key]) in types for key, types in TYPES.items())
-    is_right &= found["instruction"] in (PROGRAM, *ROWS) and found["start"] >= 0 and size > 0
-    is_right &= done == size or done < size and isinstance(found["given up"], str)
-    counts = [*(found[key] for key in COUNTS), *found["parts"].values(), len(found["faults"])]
-    if not is_right or not all(0 <= count <= done for count in counts):
-        raise ValueError
-    html_table([found], text_table([found]))
 
 
 def task_of(result: Result) -> Task:
@@ -62,16 +35,13 @@ def file_of(task: Task) -> str:
     return f"{'-'.join(map(str, task))}.json"
 
 
-def result_in(path: Path) -> Result:
-    """The result in a file."""
+def result_in(path: Path) -> Optional[Result]:
+    """The result in a file; None if there is no file, or if it isn't whole, as a loss of power leaves it."""
     try:
-        found: Result = json.loads(read_file(path, MOST_JSON))
-        check_result(found)
-    except MALFORMED:
-        raise CampaignFault(f"{path} isn't a result: {AGAIN}") from None
-    if path.name != (name := file_of(task_of(found))):
-        raise CampaignFault(f"{path} has what {name} has to have: {AGAIN}")
-    return found
+        found: Result = json.loads(path.read_text())
+        return found
+    except (FileNotFoundError, ValueError):
+        return None
 
 
 def summary(results: List[Result]) -> Dict[str, Result]:

@@ -6,8 +6,8 @@ is still UNDONE. If the case alone doesn't repeat the fault, an earlier case has
 shortest run of cases that repeats the fault is searched, and the first case of this run is the faulty one.
 New child processes run the cases before and after the faulty one.
 
-As a program, whose argument is its parent's process, it reads the arguments of `check` as JSON from its
-standard input, and writes the result to its standard output.
+As a program it reads [FOLDER, the arguments of `check`..] as JSON from its standard input, and writes the
+result to its standard output.
 """
 
 import contextlib
@@ -17,6 +17,7 @@ import mmap
 import os
 import re
 import signal
+import socket
 import subprocess
 import sys
 import threading
@@ -29,7 +30,7 @@ from rsp_conformance import TOP
 from rsp_conformance.command_line import printable
 
 from . import CampaignFault
-from .hashes import hashes
+from .hashes import hashes, other_hashes
 from .search import fewest
 from .protocol import BATCH, END_BYTES, SHOWN, STATUS_AT, UNDONE, Options, Result, name_of, plural
 
@@ -209,22 +210,32 @@ def number_in(line: str) -> int:
 
 
 def check(spec: str, name: str, seed: str, start: int, count: int, options: Options) -> Result:
-    """Runs a task, and returns its result in the form of the task's file."""
+    """Runs a task, and returns its result in the form of the task's file.
+
+    A CampaignFault says why no case can be run, or that files have other hashes than those in `options`.
+    """
     began = time.time()
     result = run_in_children((spec, name, seed, start, count), options)
+    if not result["count"] and "given up" in result:
+        raise CampaignFault(f"{spec}: {result['given up']}")
+    if "hashes" in options and (other := other_hashes(options["hashes"], hashes(spec, options["files"]))):
+        raise CampaignFault(f"the files of the {other[0]} aren't those with which this campaign began")
     result["shown"] = sorted(result["shown"], key=number_in)[:SHOWN]
     result["unseen"] = [*dict.fromkeys(result["unseen"])]
     task = {"instruction": name, "seed": seed, "start": start, "size": count}
-    return {**task, **result, "hashes": hashes(spec, options["files"]), "seconds": time.time() - began}
+    return {**task, **result, "seconds": time.time() - began}
 
 
-def main(parent: int) -> None:
-    end_with_parent(parent)
+def main() -> None:
+    end_with_parent(os.getppid())
+    folder, *call = json.load(sys.stdin)
+    if os.path.isdir(folder):  # the emulator's relative paths begin where the campaign was started
+        os.chdir(folder)
     try:
-        json.dump(check(*json.load(sys.stdin)), sys.stdout)
+        json.dump(check(*call), sys.stdout)
     except (CampaignFault, OSError) as fault:
-        sys.exit(str(fault))
+        sys.exit(f"{socket.gethostname()}: {fault}")
 
 
 if __name__ == "__main__":
-    main(int(sys.argv[1]))
+    main()

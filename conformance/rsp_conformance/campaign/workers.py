@@ -1,20 +1,26 @@
-"""Runs the tasks of a campaign: in this process, or each in a process for which a thread waits."""
+"""Runs the tasks of a campaign by an executor: in threads of this process, or on a cluster of Dask.
+
+A thread calls `check`, and waits for the child processes of its task, which end with this process. A worker
+of a cluster runs supervise.py as a program, so it needs no module of ours, and a worker that was started long
+ago takes the files as they are now.
+"""
 
 import argparse
-import contextlib
 import itertools
 import json
 import os
 import subprocess
-import threading
-from concurrent.futures import ThreadPoolExecutor, as_completed
-from typing import Any, Generator, List, Set, Tuple, Union
+import sys
+from concurrent.futures import CancelledError, Executor, Future, ThreadPoolExecutor
+from queue import SimpleQueue
+from typing import Any, Iterator, List, Union
 
+from . import CampaignFault
 from .protocol import Options, Result, Task
 from .supervise import PYTHON, check
 
-COMMAND = [str(PYTHON), "rsp_conformance.campaign.supervise", str(os.getpid())]
-TRIES = 3  # of a task whose process fails, such as one that the system kills when it runs out of memory
+COMMAND = [str(PYTHON), "rsp_conformance.campaign.supervise"]
+AHEAD = 1000  # the most tasks that wait or run; an adaptive cluster grows by how many wait
 
 
 def options_of(args: argparse.Namespace) -> Options:
@@ -23,57 +29,83 @@ def options_of(args: argparse.Namespace) -> Options:
     return {**{name: getattr(args, name) for name in names}, "whole": False}
 
 
-class Processes:
-    """The processes of the tasks that run. `close` kills them."""
+class Threads:
+    """How a task is started on this computer, and what comes of it."""
 
-    def __init__(self) -> None:
-        self.lock, self.is_closed = threading.Lock(), False
-        self.running: Set["subprocess.Popen[str]"] = set()
+    def __init__(self, workers: int) -> None:
+        self.executor: Executor = ThreadPoolExecutor(workers)
 
-    def run(self, call: Tuple[Any, ...]) -> Result:
-        """The result of a task. An OSError says why there is none."""
-        with self.lock:
-            if self.is_closed:
-                raise OSError("the campaign is stopped")
-            pipe = subprocess.PIPE
-            process = subprocess.Popen(COMMAND, stdin=pipe, stdout=pipe, stderr=pipe, text=True)
-            self.running.add(process)
-        output, errors = process.communicate(json.dumps(call))
-        with self.lock:
-            self.running.remove(process)
-        if process.returncode:
-            last_line = errors.strip().split("\n")[-1]
-            raise OSError(last_line or f"a task ended with status {process.returncode}")
-        result: Result = json.loads(output)
+    def start(self, *call: Any) -> "Future[Any]":
+        return self.executor.submit(check, *call)
+
+    def result_of(self, ended: "Future[Any]") -> Union[Result, str]:
+        """The result of a task. A CampaignFault says why no case of it can be run."""
+        result: Result = ended.result()
         return result
 
-    def try_to_run(self, call: Tuple[Any, ...]) -> Union[Result, OSError]:
-        """The result of a task, or why the last try has none."""
-        for _ in range(TRIES):
-            try:
-                return self.run(call)
-            except OSError as fault:
-                lost = fault
-        return lost
 
-    def close(self) -> None:
-        """Kills the processes. No other can begin."""
-        with self.lock:
-            self.is_closed = True
-            for process in self.running:
-                process.kill()
+class Cluster(Threads):
+    """The same on a cluster of Dask, whose workers have our files at the same paths."""
+
+    def __init__(self, address: str) -> None:
+        try:
+            from distributed import Client
+
+            self.client = Client(address)
+        except ImportError:
+            how = "apt-get install python3-distributed (or pip install distributed)"
+            raise CampaignFault(f"{sys.executable} has no Dask: {how}") from None
+        except (OSError, ValueError) as fault:
+            raise CampaignFault(f"no scheduler answers at {address}: {fault}") from None
+        if not self.client.nthreads():
+            print("campaign: the cluster has no worker yet", file=sys.stderr, flush=True)
+        self.address, self.checked = address, {""}
+        self.executor = self.client.get_executor(pure=False, retries=2)
+
+    def check_versions(self) -> None:
+        """Raises a CampaignFault if the scheduler or a worker that has come has other versions of Dask or
+        Python than this process, because all its tasks could fail.
+        """
+        if self.checked == (workers := {"", *self.client.scheduler_info()["workers"]}):
+            return
+        found, self.checked = self.client.get_versions(), workers
+        ours = found["client"]["packages"]
+        for worker, theirs in {"the scheduler": found["scheduler"], **found["workers"]}.items():
+            for name in ("python", "dask", "distributed"):
+                if (other := theirs["packages"][name]) != ours[name]:
+                    raise CampaignFault(f"{worker} has {name} {other}, and the campaign has {ours[name]}")
+
+    def start(self, *call: Any) -> "Future[Any]":
+        how = {"input": json.dumps([os.getcwd(), *call]), "check": True, "capture_output": True, "text": True}
+        return self.executor.submit(subprocess.run, COMMAND, **how)
+
+    def result_of(self, ended: "Future[Any]") -> Union[Result, str]:
+        """The result of a task, or why the cluster has lost it. A fault of a worker that all its tasks would
+        have ends the campaign, because such a worker would take most tasks.
+        """
+        try:
+            self.check_versions()
+            result: Result = json.loads(ended.result().stdout)
+            return result
+        except FileNotFoundError as fault:
+            raise CampaignFault(f"a worker can't run {fault.filename}: {fault.strerror}") from None
+        except (CancelledError, OSError):
+            how = "start it, and type the same line again, which continues the campaign"
+            raise CampaignFault(f"the scheduler at {self.address} is gone: {how}") from None
+        except subprocess.CalledProcessError as fault:
+            if fault.returncode < 0:
+                return f"a task ended with status {fault.returncode}"
+            raise CampaignFault(fault.stderr.strip().split("\n")[-1]) from None
+        except Exception as fault:  # of Dask, if all workers are lost that tried a task
+            return str(fault)
 
 
-def results(args: argparse.Namespace, todo: List[Task]) -> Generator[Union[Result, OSError], None, None]:
-    """The results of tasks in the order in which they end, with an exception for each lost result.
-
-    Closing this generator ends all processes.
-    """
-    options = options_of(args)
+def results(args: argparse.Namespace, todo: List[Task], options: Options) -> Iterator[Union[Result, str]]:
+    """The results of tasks in the order in which they end, with a reason for each lost result."""
     calls = ((args.emulator, name, args.seed, start, count, options) for name, start, count in todo)
-    if args.here:
-        yield from itertools.starmap(check, calls)
-        return
-    with ThreadPoolExecutor(args.workers) as threads, contextlib.closing(Processes()) as processes:
-        for ended in as_completed([threads.submit(processes.try_to_run, call) for call in calls]):
-            yield ended.result()
+    where = Cluster(args.scheduler) if args.scheduler else Threads(args.workers)
+    ended: "SimpleQueue[Future[Any]]" = SimpleQueue()
+    for number in range(len(todo)):
+        for call in itertools.islice(calls, 1 if number else AHEAD):
+            where.start(*call).add_done_callback(ended.put)
+        yield where.result_of(ended.get())
