@@ -1,7 +1,6 @@
 """Wrong arguments of the commands of conformance/ (wrong_words.tsv), each of which one sentence answers."""
 
 import json
-import shutil
 from pathlib import Path
 
 import pytest
@@ -50,16 +49,12 @@ def test_vectors(words: str, sentence: str, files: Path, program: Path, library:
 
 @pytest.mark.parametrize("tool", ["generate", "run"])
 def test_no_program(tool: str, folder: Path) -> None:
-    """In a repository whose program isn't built they name `rt`, which isn't on this PATH."""
-    for name in "conformance/rsp_conformance", "library/python", "tools":
-        shutil.copytree(TOP / name, folder / name, ignore=shutil.ignore_patterns("out", "__pycache__"))
-    for name in "rsp", f"conformance/{tool}":
-        shutil.copy(TOP / name, folder / name)
-    (folder / "conformance/vectors").symlink_to(TOP / "conformance/vectors")
+    """In a clone whose program isn't made they say in a line why it can't be."""
     words = [folder / "new"] if tool == "generate" else []
-    ended = run(folder / "conformance" / tool, *words, cwd=folder, env={"PATH": "/usr/bin:/bin"})
+    env = {"PATH": "/usr/bin:/bin", "CC": "none", "RSP_OUT": str(folder)}
+    ended = run(TOP / "conformance" / tool, *words, cwd=folder, env=env)
     assert (ended.returncode, ended.stdout.count("\n")) == (1, 1), ended.stdout
-    assert "`rt`" in ended.stdout
+    assert "there is no none" in ended.stdout
 
 
 @pytest.mark.needs("cc", "python:numpy")

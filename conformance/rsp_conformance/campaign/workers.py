@@ -11,6 +11,7 @@ import json
 import os
 import subprocess
 import sys
+import warnings
 from concurrent.futures import CancelledError, Executor, Future, ThreadPoolExecutor
 from queue import SimpleQueue
 from typing import Any, Iterator, List, Union
@@ -51,7 +52,8 @@ class Cluster(Threads):
         try:
             from distributed import Client
 
-            self.client = Client(address)
+            with warnings.catch_warnings(record=True):  # check_versions says it in a sentence
+                self.client = Client(address)
         except ImportError:
             how = "apt-get install python3-distributed (or pip install distributed)"
             raise CampaignFault(f"{sys.executable} has no Dask: {how}") from None
@@ -87,6 +89,8 @@ class Cluster(Threads):
             self.check_versions()
             result: Result = json.loads(ended.result().stdout)
             return result
+        except CampaignFault:
+            raise
         except FileNotFoundError as fault:
             raise CampaignFault(f"a worker can't run {fault.filename}: {fault.strerror}") from None
         except (CancelledError, OSError):
