@@ -7,7 +7,6 @@
 mod allowed;
 mod head;
 mod lines;
-mod operands;
 mod places;
 mod replies;
 mod texts;
