@@ -309,6 +309,26 @@ def test_words_past_the_end(files: Files) -> None:
     assert re.findall(r"(?m)^text:(\d+): fault (\d+)", errors) == [("1025", "16"), ("1031", "11")]
 
 
+# A line that isn't ASCII, and one that is too long, both with a label.
+BAD_LINES = ("x: nop # é", f"x: nop # {'-' * 300}")
+
+
+@pytest.mark.parametrize("number", (1, 2))
+@pytest.mark.parametrize("line", BAD_LINES, ids=("not ASCII", "long"))
+def test_bad_line_has_no_label(line: str, number: int, files: Files, rsp: Any) -> None:
+    """Such a line is BadLine, and neither line is LabelTwice: each command names this one fault."""
+    fault, text = f"fault 10 BadLine line {number}", f"{line}\nx: nop\n"
+    if number == 2:
+        text = f"x: nop\n{line}\n"
+    (files.folder / "text").write_text(text, encoding="utf-8")
+    assert rsp("asm", "text", "made").errors.decode() == f"rsp: {fault}\n"
+    answered = rsp("run", "--explain", script=f"asm 0\n{text}end\n".encode())
+    assert answered.output.decode() == f"{fault}\n"
+    explained = rsp("asm", "text", "made", "--explain").errors
+    for errors, head in ((explained, f"text:{number}"), (answered.errors, f"line {number + 1}")):
+        assert re.findall(r"(?m)^(\S.*): (fault .*)$", errors.decode()) == [(head, fault)]
+
+
 @pytest.mark.needs("/usr/include/mupen64plus")
 def test_sp_names(files: Files) -> None:
     """The names of SP registers have the numbers of mupen64plus's header, which lists them in order."""

@@ -23,6 +23,7 @@ use Rattle.rsp_asm.specs.declared.explanation.FaultyOperand.{FaultyOperand}
 use Rattle.rsp_asm.specs.Forms.{Shape, nothing_shape, numbers_shape, row_shape, form_shape}
 use Rattle.rsp_asm.specs.Explanations.{kind_at, expected, is_required, is_error, is_refused, is_yes, verdict, operand, unread, refused, faulty_in_form, faulty_in_parts, faulty_in_line, is_of_operand, operand_of_fault, explained_words, explained, explanation, text_in_parts, operand_text, name_in_parts, statement_name}
 use Rattle.rsp_asm.specs.FormOperands.{expected_in, IsUsable, AreUsable, faulty_in_shape}
+use Rattle.rsp_asm.specs.OperandFaults.{fault_in_form, fault_in_parts, operand_fault, fault_in_shape}
 use Rattle.rsp_asm.proofs.Decodes.{form_usable}
 use Rattle.rsp_asm.proofs.Forms.{is_row}
 use Rattle.rsp_asm.proofs.SameAddresses.{fields_same, words_same}
@@ -166,6 +167,24 @@ no_shape labels (Some form) ts e = absurd cc
 pub by_parts : (labels : Option Labels) (line : List ℕ) (o : Option LineParts) → o ≡ split_line line → faulty_in_parts labels o ≡ faulty_in_line labels line
 unfolding faulty_in_line
 by_parts labels line o e = ap (faulty_in_parts labels) e
+
+-- the same of the fault of one operand
+pub fault_by_shape : (o : Option Form) (s : Shape) (ts : List (List ℕ)) (i : ℕ) → Some s ≡ option_map form_shape o → fault_in_shape s ts i ≡ fault_in_form o ts i
+fault_by_shape None s ts i e = absurd cc
+fault_by_shape (Some form) s ts i e = let same : s ≡ form_shape form = cc in ap (λ x. fault_in_shape x ts i) same ∙ by_form form
+  where
+    by_form : (form : Form) → fault_in_shape (form_shape form) ts i ≡ fault_in_form (Some form) ts i
+    by_form no_operation = refl
+    by_form numbers_form = refl
+    by_form (row_form row) = refl
+
+pub fault_of_none : (o : Option Form) (ts : List (List ℕ)) (i : ℕ) → None ≡ option_map form_shape o → None ≡ fault_in_form o ts i
+fault_of_none None ts i e = refl
+fault_of_none (Some form) ts i e = absurd cc
+
+pub fault_by_parts : (line : List ℕ) (i : ℕ) (o : Option LineParts) → o ≡ split_line line → fault_in_parts o i ≡ operand_fault line i
+unfolding operand_fault
+fault_by_parts line i o e = ap (λ x. fault_in_parts x i) e
 
 pub text_by_parts : (line : List ℕ) (i : ℕ) (o : Option LineParts) → o ≡ split_line line → text_in_parts o i ≡ operand_text line i
 unfolding operand_text

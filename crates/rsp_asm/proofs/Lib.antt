@@ -14,3 +14,4 @@ pub mod BlockTexts
 pub mod Explaining
 pub mod OperandBounds
 pub mod LabelWalk
+pub mod FaultWalk

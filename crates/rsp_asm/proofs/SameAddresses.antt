@@ -45,7 +45,7 @@ same_behind (Some name) address new old table once h same q =
 -- ---- the first pass
 
 module _ (xs ys : Labels) (same : SameAddresses xs ys) where
-  twice_same : (o : Option (List ℕ)) → is_label_taken xs o ≡ is_label_taken ys o
+  pub twice_same : (o : Option (List ℕ)) → is_label_taken xs o ≡ is_label_taken ys o
   twice_same None = refl
   twice_same (Some name) = ap is_some (same name)
 

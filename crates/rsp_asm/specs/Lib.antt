@@ -10,3 +10,5 @@ pub mod BlockFault
 pub mod Explanations
 pub mod FormOperands
 pub mod LabelList
+pub mod OperandFaults
+pub mod TextFaults

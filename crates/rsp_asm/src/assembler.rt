@@ -27,7 +27,7 @@ pub(crate) fn next_line(text: &[u8]) -> Option<(&[u8], &[u8])>
 }
 
 /// Adds the label of a line, if it has one. If there is no memory for it, the labels are unchanged.
-fn add_label<'a>(
+pub(crate) fn add_label<'a>(
     labels: &mut Labels<'a>,
     name: Option<&'a [u8]>,
     address: u16,

@@ -96,7 +96,7 @@ pub struct FaultyOperand {
 }
 
 /// What a statement takes as its operand `index`.
-fn expected_at(named: Form, index: usize) -> Expected
+pub(crate) fn expected_at(named: Form, index: usize) -> Expected
     ensures { result ≡ expected_in (form named) index }
 {
     match named {
@@ -110,7 +110,7 @@ fn expected_at(named: Form, index: usize) -> Expected
 }
 
 /// Whether a line without the operand `index` lacks it.
-fn is_required(expected: Expected, index: usize) -> bool
+pub(crate) fn is_required(expected: Expected, index: usize) -> bool
     ensures { result ≡ is_required expected index }
 {
     match expected {
@@ -121,7 +121,11 @@ fn is_required(expected: Expected, index: usize) -> bool
 }
 
 /// Whether an operand is out of its range, or its label is missing; without labels only a number can be. None if it can't be read.
-fn is_refused(expected: Expected, text: &[u8], labels: Option<&Labels<'_>>) -> Option<bool>
+pub(crate) fn is_refused(
+    expected: Expected,
+    text: &[u8],
+    labels: Option<&Labels<'_>>,
+) -> Option<bool>
     requires { IsUsable expected }
     ensures { result ≡ verdict (option_map (λ t. t.now) labels.entry) expected text.now }
 {
@@ -206,7 +210,7 @@ pub fn statement_name(line: &[u8]) -> &[u8]
 }
 
 /// The operand `index` in the text after a statement's name, counted from 0.
-fn nth(text: &[u8], index: usize) -> Option<&[u8]>
+pub(crate) fn nth(text: &[u8], index: usize) -> Option<&[u8]>
     ensures { option_map (λ t. t.now) result ≡ text_at (operand_texts text.now) index }
 {
     let mut left = index;

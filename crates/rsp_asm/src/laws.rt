@@ -3,6 +3,7 @@
 ghost use Rattle.rsp_asm.specs.AssembleFaults.{NoTextMeansOutOfMemory};
 ghost use Rattle.rsp_asm.specs.Decoding.{BlocksDecode, StatementsDecode};
 ghost use Rattle.rsp_asm.specs.Explanations.{BoundsHold};
+ghost use Rattle.rsp_asm.specs.TextFaults.{FirstFaultEnds};
 
 /// The instruction table decodes what the assembler writes: an accepted statement of an instruction gives one word, and the table
 /// decodes that word to the instruction with the values of the operands as fields. It is the canonical word of that instruction:
@@ -28,4 +29,11 @@ pub fn no_text_means_out_of_memory()
 #[tactic(auto, using(crate::proofs::OperandBounds::bounds_hold))]
 pub fn bounds_hold()
     ensures { BoundsHold }
+{}
+
+/// The first of all faults that [`faults_of`](crate::faults_of) finds in a text is the one with which the first pass of
+/// [`assemble`](crate::assemble) ends, and there is none exactly if the first pass finds none.
+#[tactic(auto, using(crate::proofs::FaultWalk::first_fault_ends))]
+pub fn first_fault_ends()
+    ensures { FirstFaultEnds }
 {}

@@ -61,8 +61,19 @@ pub(crate) fn split_line(line: &[u8]) -> Option<LineParts<'_>>
     })
 }
 
+/// The label of a line; None if it has none, or is no line.
+#[tactic(auto, unfolding(rsp_syntax::specs::SourceLine::label_of))]
+pub(crate) fn label_of(line: &[u8]) -> Option<&[u8]>
+    ensures { option_map (λ t. t.now) result ≡ label_of line.now }
+{
+    match split_line(line) {
+        Some(parts) => parts.label,
+        None => None,
+    }
+}
+
 /// Whether the line's label is already among the labels.
-fn is_label_taken(labels: &Labels<'_>, name: Option<&[u8]>) -> bool
+pub(crate) fn is_label_taken(labels: &Labels<'_>, name: Option<&[u8]>) -> bool
     ensures { result ≡ is_label_taken labels.now (option_map (λ t. t.now) name.entry) }
 {
     match name {

@@ -5,7 +5,7 @@ use std::alloc::Global;
 use std::cell::RefCell;
 use std::io::{self, Read, Write};
 
-/// The most faults that are explained.
+/// The most replies that are explained. Of a block twenty faults are.
 const EXPLAINED: u64 = 20;
 
 /// The bytes of a script that were read so far.
@@ -85,7 +85,7 @@ pub(crate) struct Watch<'a, E> {
     head: Head<'a>,
     /// Where the explanations go, if they are asked for.
     errors: Option<E>,
-    /// How many faults were to be explained.
+    /// How many replies were to be explained.
     count: u64,
 }
 
@@ -179,7 +179,7 @@ impl<'a, E: Write> Watch<'a, E> {
         }
     }
 
-    /// Says how many faults aren't explained.
+    /// Says how many replies aren't explained.
     fn end(&mut self) {
         let more = self.count.saturating_sub(EXPLAINED);
         if let Some(errors) = &mut self.errors {
@@ -208,7 +208,7 @@ impl<'a, W: Write, E: Write> Watcher<'a, W, E> {
         self.watch.first()
     }
 
-    /// Says how many faults aren't explained, after the last reply.
+    /// Says how many replies aren't explained, after the last one.
     pub(crate) fn end(&mut self) {
         self.watch.end();
     }

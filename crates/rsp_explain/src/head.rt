@@ -1,3 +1,6 @@
+ghost use Rattle.std.specs.Prelude.{Some};
+ghost use Rattle.rsp_explain.specs.Heads.{head_text};
+
 use std::fmt::{self, Display, Formatter, Write};
 
 /// What a message on a line begins with.
@@ -17,6 +20,8 @@ pub(crate) struct LineHead<'a> {
 }
 
 impl Display for LineHead<'_> {
+    ghost output = { λ l. Some (head_text l.head l.number) };
+
     fn fmt<W: Write>(&self, f: &mut Formatter<W>) -> fmt::Result {
         let number = self.number;
         match self.head {

@@ -1,14 +1,19 @@
 // What is said of a line that has a fault.
 
 use crate::allowed::{Allowed, kind_of};
-use crate::operands::{OPERANDS, RefusedOperands};
 use rsp_advice::{
     Advice, Visible, nearest_statement, of_comment, of_line, of_operand, of_statement, respelled,
     respelled_in_range,
 };
-use rsp_asm::{AsmFaultKind, FaultyOperand, operand_text, statement_name};
+use rsp_asm::{
+    AsmFaultKind, Expected, FaultyOperand, OperandFault, operand_fault, operand_text,
+    statement_name,
+};
 use std::alloc::{AllocError, Global};
 use std::str;
+
+/// More operands than a line of 256 bytes has.
+const OPERANDS: usize = 260;
 
 /// What `--explain` says of a line that the first pass refuses: its text, and what is wrong in it. For an operand that is its number,
 /// its text, and what may be there, each time; for a statement whose name is unknown, the name. Then what to write, where the text is
@@ -91,17 +96,22 @@ fn meant(alloc: Global, name: &str, operand: &str) -> Result<String, AllocError>
     }
 }
 
-/// What is wrong with each operand of a line that is refused.
+/// What is wrong with each operand of a line that is refused. One too many is said only if no other is wrong: an operand that is written
+/// as two may be the cause.
 fn operand_reasons(alloc: Global, line: &str) -> Result<String, AllocError> {
     let mut said = String::new(alloc);
-    let Some(mut refused) = RefusedOperands::of(line, name_of(line)) else {
-        return Ok(said);
-    };
-    for _ in 0..OPERANDS {
-        let Some((faulty, fault)) = refused.next() else {
-            break;
+    for index in 0..OPERANDS {
+        let Some(OperandFault { expected, kind }) = operand_fault(line.as_bytes(), index) else {
+            if operand_text(line.as_bytes(), index).is_none() {
+                break;
+            }
+            continue;
         };
-        let reason = operand_reason(alloc, line, faulty, fault)?;
+        if matches!(expected, Expected::Nothing) && !said.is_empty() {
+            break;
+        }
+        let number = index + 1;
+        let reason = operand_reason(alloc, line, FaultyOperand { number, expected }, kind)?;
         said.push_str(reason.as_str())?;
     }
     Ok(said)

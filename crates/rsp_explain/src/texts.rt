@@ -1,75 +1,25 @@
 // The faults of a source text.
 
-ghost use Rattle.std.specs.Prelude.{◌≤◌};
+ghost use Rattle.std.specs.Prelude.{◌≡◌, ◌≤◌, ◌++◌, ◌-◌, IfOk, OnOk, length};
+ghost use Rattle.std.specs.String.{string_bytes};
+ghost use Rattle.rsp_syntax.specs.SourceText.{meaning_of_text};
+ghost use Rattle.rsp_explain.specs.Said.{AreSaid, AreExplained, IsExplained, count_said, fault_in, fault_said, text_faults};
 
 use crate::head::{Head, LineHead};
 use crate::lines::{refused_line, refused_operand};
-use rsp_asm::{AsmFault, AsmFaultKind, assemble, explain, read_line};
-use rsp_operands::Labels;
-use rsp_syntax::{Boundary, cut, is_label, trim};
+use rsp_asm::{AsmFault, AsmFaultKind, assemble, explain, faults_of};
 use std::alloc::{AllocError, Global};
 
-/// The most faults of a text that are said.
+/// The most faults of a text that are explained.
 const LIMIT: usize = 20;
 
-/// The first pass over a text that goes on after a fault. A line with a fault gives no words.
-#[derive(Drop)]
-struct FirstPass<'a> {
-    alloc: Global,
-    labels: Labels<'a>,
-    /// The address of the next word, at most 4096.
-    address: u16,
-    /// Whether a word would be past the end of IMEM.
-    is_full: bool,
-}
-
-impl<'a> FirstPass<'a> {
-    fn new(alloc: Global, origin: u16) -> FirstPass<'a> {
-        FirstPass {
-            alloc,
-            labels: Labels::new(alloc),
-            address: origin.min(4096),
-            is_full: false,
-        }
-    }
-
-    /// The fault of the next line. Of words past the end of IMEM only the first is one.
-    fn refuse(&mut self, line: &'a str) -> Result<Option<AsmFaultKind>, AllocError> {
-        let address = self.address.min(4096);
-        let found = read_line(self.alloc, line.as_bytes(), address);
-        if let Some(name) = label_in(line.as_bytes()) {
-            if self.labels.find(name).is_some() {
-                return Ok(Some(AsmFaultKind::LabelTwice));
-            }
-            self.labels.add(name, address)?;
-        }
-        match found {
-            Ok(layout) => {
-                self.address = layout.size.saturating_mul(4).saturating_add(address);
-                Ok(None)
-            }
-            Err(AsmFaultKind::PastEnd) if self.is_full => Ok(None),
-            Err(fault) => {
-                self.is_full |= matches!(fault, AsmFaultKind::PastEnd);
-                Ok(Some(fault))
-            }
-        }
-    }
-}
-
-/// The label of a line that may have another fault.
-fn label_in(line: &[u8]) -> Option<&[u8]> {
-    let text = match cut(line, Boundary::Comment) {
-        Some((text, _)) => text,
-        None => line,
-    };
-    let (name, _) = cut(trim(text), Boundary::Colon)?;
-    if is_label(name) { Some(name) } else { None }
-}
-
 /// What `--explain` says of a text that the assembler refuses, whose first word is at `origin`: each fault of the first pass, at most 20
-/// of them and how many more there are, else the fault of the second pass. A fault begins with the head and the number of its line;
-/// `before` lines are before the text. Empty if the assembler doesn't refuse the text, or if it has no memory for it.
+/// of them and how many more there are, otherwise the fault of the second pass. A fault begins with the head and the number of its line;
+/// `before` lines are before the text.
+///
+/// The first is the fault for which the assembler refuses the text. Empty if the assembler doesn't refuse it. AllocError if out of
+/// memory.
+#[tactic(auto, using(crate::proofs::SaidFirst::said_all, crate::proofs::SaidFirst::said_none, crate::proofs::SaidFirst::first_said))]
 pub fn explain_text(
     alloc: Global,
     head: Head<'_>,
@@ -78,32 +28,45 @@ pub fn explain_text(
     text: &str,
 ) -> Result<String, AllocError>
     requires { origin ≤ 4096 }
+    ensures faults { IfOk result (λ said. AreExplained head.entry before (text_faults text.now origin) (string_bytes said)) }
+    ensures first { IfOk result (λ said. IsExplained head.entry before (meaning_of_text text.now origin) (string_bytes said)) }
+{
+    let found = faults_of(alloc, origin, text)?;
+    if found.count == 0 {
+        return explain_second(alloc, head, before, origin, text);
+    }
+    let mut said = explain_each(alloc, head, before, text, found.first.as_slice())?;
+    push_count(alloc, &mut said, found.count.saturating_sub(LIMIT))?;
+    Ok(said)
+}
+
+/// What is said of faults of the first pass, one after another.
+fn explain_each(
+    alloc: Global,
+    head: Head<'_>,
+    before: usize,
+    text: &str,
+    faults: &[AsmFault],
+) -> Result<String, AllocError>
+    ensures { IfOk result (λ said. AreSaid head.entry before faults.now (string_bytes said)) }
 {
     let mut said = String::new(alloc);
-    let mut pass = FirstPass::new(alloc, origin);
-    let mut count = 0_usize;
-    for (index, line) in text.lines().enumerate() {
-        if let Some(kind) = pass.refuse(line)? {
-            count = count.saturating_add(1);
-            if count <= LIMIT {
-                let fault = AsmFault {
-                    line: index.saturating_add(1),
-                    kind,
-                };
-                let reason = refused_line(alloc, line, kind)?;
-                push_fault(alloc, &mut said, head, before, fault, &reason)?;
-            }
-        }
-    }
-    if count == 0 {
-        push_second(alloc, &mut said, head, before, origin, text)?;
-    }
-    if count > LIMIT {
-        let more = count - LIMIT;
-        let rest = format!(in alloc; ".. and {more} more\n")?;
-        said.push_str(rest.as_str())?;
+    for fault in faults {
+        let reason = refused_line(alloc, numbered_line(text, fault.line), fault.kind)?;
+        push_fault(alloc, &mut said, head, before, *fault, &reason)?;
     }
     Ok(said)
+}
+
+/// Appends how many faults more there are.
+fn push_count(alloc: Global, said: &mut String, more: usize) -> Result<(), AllocError>
+    ensures { OnOk result (string_bytes said.new ≡ string_bytes said.old ++ count_said more) }
+{
+    if more == 0 {
+        return Ok(());
+    }
+    let rest = format!(in alloc; ".. and {more} more\n")?;
+    said.push_str(rest.as_str())
 }
 
 /// Appends a fault, and what is said of its line.
@@ -114,35 +77,58 @@ fn push_fault(
     before: usize,
     fault: AsmFault,
     reason: &String,
-) -> Result<(), AllocError> {
-    let head = LineHead {
-        head,
-        number: before.saturating_add(fault.line),
-    };
-    let first = format!(in alloc; "{head}: {fault}{reason}\n")?;
+) -> Result<(), AllocError>
+    ensures { OnOk result (string_bytes said.new ≡ string_bytes said.old ++ fault_said head.entry before fault (string_bytes reason.now)) }
+{
+    let number = before.saturating_add(fault.line);
+    let head = LineHead { head, number };
+    let kind = fault.kind.as_str();
+    let line = fault.line;
+    let reason = reason.as_str();
+    let first = format!(in alloc; "{head}: fault {kind} line {line}{reason}\n")?;
     said.push_str(first.as_str())
 }
 
-/// Appends the fault of the second pass, if there is one.
-fn push_second(
+/// What is said of a text in which the first pass finds no fault.
+#[tactic(auto, using(crate::proofs::SaidFirst::said_second))]
+fn explain_second(
     alloc: Global,
-    said: &mut String,
     head: Head<'_>,
     before: usize,
     origin: u16,
     text: &str,
-) -> Result<(), AllocError>
+) -> Result<String, AllocError>
+    requires { origin ≤ 4096 }
+    ensures { IfOk result (λ said. AreExplained head.entry before (fault_in (meaning_of_text text.now origin)) (string_bytes said)) }
+{
+    let mut said = String::new(alloc);
+    let Err(fault) = assemble(alloc, origin, text) else {
+        return Ok(said);
+    };
+    if let AsmFaultKind::OutOfMemory = fault.kind {
+        return Err(AllocError);
+    }
+    let reason = second_reason(alloc, origin, text, fault)?;
+    push_fault(alloc, &mut said, head, before, fault, &reason)?;
+    Ok(said)
+}
+
+/// What is wrong with the operand for which the second pass refuses a text.
+fn second_reason(
+    alloc: Global,
+    origin: u16,
+    text: &str,
+    fault: AsmFault,
+) -> Result<String, AllocError>
     requires { origin ≤ 4096 }
 {
-    let Err(fault) = assemble(alloc, origin, text) else {
-        return Ok(());
-    };
-    if let Some(faulty) = explain(alloc, origin, text)? {
-        let line = numbered_line(text, fault.line);
-        let reason = refused_operand(alloc, line, faulty, fault.kind)?;
-        push_fault(alloc, said, head, before, fault, &reason)?;
+    match explain(alloc, origin, text)? {
+        Some(faulty) => {
+            let line = numbered_line(text, fault.line);
+            refused_operand(alloc, line, faulty, fault.kind)
+        }
+        None => Ok(String::new(alloc)),
     }
-    Ok(())
 }
 
 /// The line with this number, from 1.

@@ -1,0 +1,3 @@
+-- What `--explain` says.
+pub mod Heads
+pub mod Said
