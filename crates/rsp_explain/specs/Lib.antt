@@ -1,0 +1,2 @@
+-- What a reply to a script answers.
+pub mod Places
