@@ -1,2 +1,3 @@
--- Lemmas on the lines of a script.
+-- Lemmas on the lines of a script, and on replies.
 pub mod ScriptLines
+pub mod LastNumbers

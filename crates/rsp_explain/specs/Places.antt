@@ -1,6 +1,7 @@
 -- Which line or block of a script a reply answers.
-use Rattle.std.specs.Prelude.{ℕ, ◌+◌, ◌-◌, ◌==◌, List, [], ◌∷◌, Bool, true, false, Option, Some, None, option_map, is_some, Result, Ok, Err, length, drop, slice_range}
-use Rattle.std.specs.List.{after_first}
+use Rattle.std.specs.Prelude.{◌≡◌, ℕ, ◌+◌, ◌-◌, ◌*◌, ◌^◌, ◌==◌, min, List, [], ◌∷◌, ◌++◌, Bool, true, false, Option, Some, None, option_map, is_some, Result, Ok, length, take, drop, slice_range, slice_index_or, if◌then◌else◌, decimal}
+use Rattle.std.specs.Char.{is_ascii_digit}
+use Rattle.std.specs.List.{after_first, fold}
 use Rattle.std.specs.Str.Lines.{lines}
 use Rattle.rsp_commands.specs.Line.{command_of}
 use Rattle.rsp_commands.specs.declared.command.Command.{Command}
@@ -83,3 +84,26 @@ next_of script (text ∷ more) p =
 -- what the next reply answers of a script of which so much was gone through
 abbrev pub next_place : List ℕ → Progress → Next
 next_place script p = next_of script (lines (drop p.bytes script)) p
+
+-- ---- the line that a reply names
+
+-- a reply without the newline at its end
+abbrev pub without_newline : List ℕ → List ℕ
+without_newline reply = if slice_index_or reply (length reply - 1) 0 == 10 then take (length reply - 1) reply else reply
+
+-- the number of the digits at the end of a text, if this byte follows it; at most 2 ^ 64 - 1
+abbrev pub number_after : ℕ → ℕ → ℕ
+number_after n b = if is_ascii_digit b then min (10 * n + (b - 48)) (2 ^ 64 - 1) else 0
+
+-- the number at the end of a reply; 0 if no digit is there
+abbrev pub last_number : List ℕ → ℕ
+last_number reply = fold number_after 0 (without_newline reply)
+
+-- a reply ends with a space and this number
+abbrev pub EndsWithNumber : ℕ → List ℕ → Type 0
+EndsWithNumber n reply = (front : List ℕ) × (reply ≡ front ++ 32 ∷ decimal n ++ 10 ∷ [])
+
+-- the line of the script in which the line of this number of a block is; a line that is answered is itself that line
+abbrev pub line_in : Answered → ℕ → ℕ
+line_in (line number text) n = number
+line_in (block number origin text is_closed) n = min (number + n) (2 ^ 64 - 1)

@@ -1,9 +1,9 @@
 // The lines of a script that have a reply.
 
-ghost use Rattle.std.specs.Prelude.{◌≡◌, ◌+◌, ◌<◌, ◌≤◌, ◌==◌, [], ◌∷◌, None, IfSome, option_map, length};
+ghost use Rattle.std.specs.Prelude.{◌≡◌, ℕ, ◌+◌, ◌^◌, ◌<◌, ◌≤◌, ◌==◌, [], ◌∷◌, None, IfSome, option_map, length};
 ghost use Rattle.std.specs.List.{after_first};
 ghost use Rattle.std.specs.Str.Lines.{lines};
-ghost use Rattle.rsp_explain.specs.Places.{answered_at, at_start, command_at, line_end, past_line, block_to, answered_by, next_place};
+ghost use Rattle.rsp_explain.specs.Places.{answered_at, at_start, command_at, line_end, past_line, block_to, answered_by, next_place, without_newline, number_after, last_number, EndsWithNumber, line_in};
 
 use rsp_commands::{Command, parse_line};
 use rsp_syntax::{Boundary, cut, without_return};
@@ -29,8 +29,12 @@ pub enum Place<'a> {
 }
 
 impl Place<'_> {
-    /// The number of the line in the script that has the fault of this reply: of a block that of the line which the reply names.
-    pub fn line(&self, reply: &[u8]) -> usize {
+    /// The number of the line in the script that has the fault of this reply: of a block that of the line which the reply names. It is
+    /// at most 2^64 - 1.
+    pub fn line(&self, reply: &[u8]) -> usize
+        ensures value { result ≡ line_in (answered_at self.now) (last_number reply.now) }
+        ensures named { (n : ℕ) → n < 2 ^ 64 → EndsWithNumber n reply.now → last_number reply.now ≡ n }
+    {
         match self {
             Place::Line(number, _) => *number,
             Place::Block { number, .. } => number.saturating_add(last_number(reply)),
@@ -38,18 +42,37 @@ impl Place<'_> {
     }
 }
 
-/// The number at the end of a reply; 0 if there is none.
-fn last_number(reply: &[u8]) -> usize {
+/// The number at the end of a reply; 0 if there is none, and at most 2^64 - 1.
+fn last_number(reply: &[u8]) -> usize
+    ensures { result ≡ last_number reply.now }
+{
     let mut number = 0_usize;
-    for byte in reply.trim_ascii_end() {
-        number = match byte {
-            b'0'..=b'9' => number
-                .saturating_mul(10)
-                .saturating_add(usize::from(byte - b'0')),
-            _ => 0,
-        };
+    for byte in without_newline(reply) {
+        number = number_after(number, *byte);
     }
     number
+}
+
+/// A reply without the LF at its end.
+fn without_newline(reply: &[u8]) -> &[u8]
+    ensures { result.now ≡ without_newline reply.now }
+{
+    match reply {
+        [text @ .., b'\n'] => text,
+        _ => reply,
+    }
+}
+
+/// The number of the digits at the end of a text, if this byte follows it.
+fn number_after(number: usize, byte: u8) -> usize
+    ensures { result ≡ number_after number byte }
+{
+    match byte {
+        b'0'..=b'9' => number
+            .saturating_mul(10)
+            .saturating_add(usize::from(byte - b'0')),
+        _ => 0,
+    }
 }
 
 /// A block that is open.

@@ -1,4 +1,4 @@
-use Rattle.std.proofs.Common.{◌≡◌, sym, ap, ◌∙◌, ◌<◌, ◌∷◌, ◌==◌, arith, length}
+use Rattle.std.proofs.Common.{sym, ap, ◌∙◌, ◌<◌, ◌∷◌, ◌==◌, arith, length}
 use Rattle.std.specs.Str.Lines.{lines}
 use Rattle.rsp_syntax.specs.declared.line_bytes.Boundary.TheVariants.{Newline}
 use Rattle.rsp_syntax.proofs.Cuts.{IsCut, cut_some, cut_nothing}
