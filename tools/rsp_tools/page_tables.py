@@ -4,6 +4,7 @@
 
   docs/SCRIPT.md, docs/FAULTS.md   the columns of a table of docs/data that the page's head names
   crates/rsp_advice/src/tables.rt  what `--explain` says, from the same tables
+  crates/rsp_advice/specs/Tables.antt  the names and the numbers in them
   docs/ARCHITECTURE.md             the list of crates, from crates.txt
   docs/SYSTEMS.md                  the table of systems, from the records in targets.py
 
@@ -22,7 +23,8 @@ from rsp_tools.targets import CROSS, NATIVE
 DATA = TOP / "docs/data"
 TABLES = {"commands": "docs/SCRIPT.md", "faults": "docs/FAULTS.md"}
 ANCHOR = re.compile(r'<a id="([\w-]+)"></a>')  # by which a link leads to a place that isn't a heading
-ADVICE = "crates/rsp_advice/src/tables.rt"
+ADVICE, KNOWN = "crates/rsp_advice/src/tables.rt", "crates/rsp_advice/specs/Tables.antt"
+MADE = "Made by `tools/python rsp_tools.page_tables` of docs/data."
 # The faults of replies, except those of assembly text.
 REPLIED = {*range(4, 7), *range(20, 28), *range(30, 34)}
 LAYERS, SYSTEMS = "docs/ARCHITECTURE.md", "docs/SYSTEMS.md"
@@ -112,11 +114,29 @@ def static(name: str, record: str, fields: Sequence[str], rows: Sequence[Tuple[A
 
 def advice() -> str:
     """The file of the program's tables."""
-    head = "// Made by `tools/python rsp_tools.page_tables` of docs/data.\n\n"
-    head += "use crate::commands::{CommandForm, FaultText};\n\n"
+    head = f"// {MADE}\n\nuse crate::commands::{{CommandForm, FaultText}};\n\n"
     forms = static("COMMANDS", "CommandForm", ("name", "form", "range"), command_forms())
     faults = static("FAULTS", "FaultText", ("number", "cause", "help"), fault_texts())
     return f"{head}{forms}\n{faults}"
+
+
+def known() -> str:
+    """The definitions of the names and of the numbers in the program's tables."""
+    texts = [f'codes "{name}"' for name, _, _ in command_forms()]
+    names = " ∷\n    ".join(" ∷ ".join(texts[k : k + 7]) for k in range(0, len(texts), 7))
+    numbers = " ∷ ".join(str(number) for number, _, _ in fault_texts())
+    return f"""-- {MADE}
+use Rattle.std.specs.Prelude.{{ℕ, List, [], ◌∷◌, codes}}
+
+-- the names of the commands of scripts, except `end`
+abbrev pub command_names : List (List ℕ)
+command_names =
+    {names} ∷ []
+
+-- the numbers of the faults of replies, except those of assembly text
+abbrev pub fault_numbers : List ℕ
+fault_numbers = {numbers} ∷ []
+"""
 
 
 def systems() -> str:
@@ -134,6 +154,7 @@ def made() -> Dict[str, str]:
         LAYERS: with_group(page(LAYERS), r"(?ms)^## Layers\n.*?^```text\n(.*?)^```$", layers),
         SYSTEMS: with_group(page(SYSTEMS), head_of_systems, systems()),
         ADVICE: advice(),
+        KNOWN: known(),
     }
 
 

@@ -1,6 +1,7 @@
 // What to write here in place of what a text of another assembler says. Each function returns an empty text if there is nothing to
 // say.
 
+use crate::names::is_same;
 use crate::nearest::is_instruction;
 use rsp_decode::Operand;
 
@@ -100,7 +101,7 @@ pub(crate) fn other_names() -> &'static [(&'static str, &'static str)] {
 /// What to write in place of a statement whose name is unknown. `operand` is its first operand.
 pub fn of_statement(name: &str, operand: &str) -> &'static str {
     for (other, written) in STATEMENTS {
-        if name.eq_ignore_ascii_case(other) {
+        if is_same(name, other) {
             return written;
         }
     }

@@ -1,5 +1,11 @@
 // What the tables of the pages say of the commands of scripts and of faults.
 
+ghost use Rattle.std.specs.Prelude.{◌≡◌, ◌==◌, map, option_map};
+ghost use Rattle.std.specs.List.{find};
+ghost use Rattle.std.specs.Str.{str_eq_ignore_ascii_case};
+ghost use Rattle.rsp_advice.specs.Tables.{command_names, fault_numbers};
+
+use crate::names::is_same;
 use crate::tables::{COMMANDS, FAULTS};
 
 /// A command of scripts.
@@ -24,10 +30,12 @@ pub struct FaultText {
     pub help: &'static str,
 }
 
-/// The command with this name, in either case.
-pub fn command_named(name: &str) -> Option<CommandForm> {
-    for command in COMMANDS {
-        if name.eq_ignore_ascii_case(command.name) {
+/// The command with this name, in either case. None if no command has it.
+pub fn command_named(name: &str) -> Option<CommandForm>
+    ensures { option_map (λ row. row.name.now) result ≡ find (str_eq_ignore_ascii_case name.now) command_names }
+{
+    for command in command_forms() {
+        if is_same(name, command.name) {
             return Some(*command);
         }
     }
@@ -35,13 +43,24 @@ pub fn command_named(name: &str) -> Option<CommandForm> {
 }
 
 /// The commands of scripts.
-pub fn command_forms() -> &'static [CommandForm] {
+pub fn command_forms() -> &'static [CommandForm]
+    ensures { map (λ row. row.name.now) result.now ≡ command_names }
+{
     COMMANDS
 }
 
-/// What is known of the fault with this number.
-pub fn fault_numbered(number: u32) -> Option<FaultText> {
-    for fault in FAULTS {
+/// What is known of faults.
+fn fault_texts() -> &'static [FaultText]
+    ensures { map (λ row. row.number) result.now ≡ fault_numbers }
+{
+    FAULTS
+}
+
+/// What is known of the fault with this number. None if nothing is.
+pub fn fault_numbered(number: u32) -> Option<FaultText>
+    ensures { option_map (λ row. row.number) result ≡ find (λ n. n == number) fault_numbers }
+{
+    for fault in fault_texts() {
         if fault.number == number {
             return Some(*fault);
         }

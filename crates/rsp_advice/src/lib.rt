@@ -7,6 +7,7 @@
 mod advice;
 mod allowed;
 mod commands;
+mod names;
 mod nearest;
 mod spelling;
 mod tables;

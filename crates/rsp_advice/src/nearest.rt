@@ -1,7 +1,13 @@
 // The name that was probably meant by one that is unknown.
 
+ghost use Rattle.std.specs.Prelude.{◌≡◌, map};
+ghost use Rattle.std.specs.List.{list_any};
+ghost use Rattle.std.specs.Str.{str_eq_ignore_ascii_case};
+ghost use Rattle.rsp_decode.specs.Table.{rows, entry_of};
+
 use crate::advice::other_names;
 use crate::commands::{CommandForm, command_forms, command_named};
+use crate::names::is_same;
 use rsp_decode::table;
 use std::alloc::{AllocError, Global};
 use strsim::osa_distance;
@@ -56,9 +62,11 @@ impl<'a> Search<'a> {
 }
 
 /// Whether an instruction has this name, in either case.
-pub fn is_instruction(name: &str) -> bool {
+pub fn is_instruction(name: &str) -> bool
+    ensures { result ≡ list_any (λ row. str_eq_ignore_ascii_case name.now row.name) (map entry_of rows) }
+{
     for row in table() {
-        if name.eq_ignore_ascii_case(row.name) {
+        if is_same(name, row.name) {
             return true;
         }
     }
@@ -66,7 +74,9 @@ pub fn is_instruction(name: &str) -> bool {
 }
 
 /// The name of an instruction, or one for which [`of_statement`](crate::of_statement) has something to say, that is nearest to an
-/// unknown one. None if none is near.
+/// unknown one. None if none is near: two edits away or less, of an unknown name of three or four bytes one edit, and of a shorter one
+/// none. An edit changes, adds or drops a character, or exchanges two that follow each other. AllocError if there is no memory for the
+/// name in lower case, or to compare it.
 pub fn nearest_statement(alloc: Global, name: &str) -> Result<Option<&'static str>, AllocError> {
     if name.len() > LONGEST {
         return Ok(None);
@@ -90,7 +100,7 @@ fn see_others(search: &mut Search<'_>) -> Result<(), AllocError> {
     Ok(())
 }
 
-/// The command whose name is nearest to an unknown one. None if none is near.
+/// The command whose name is nearest to an unknown one. None if none is near, and AllocError, as [`nearest_statement`] has them.
 pub fn nearest_command(alloc: Global, name: &str) -> Result<Option<CommandForm>, AllocError> {
     if name.len() > LONGEST {
         return Ok(None);

@@ -1,5 +1,6 @@
 // How an operand is written here that a text of another assembler writes otherwise.
 
+use crate::names::is_same;
 use rsp_decode::{ByteElements, Operand};
 use std::fmt::{self, Display, Formatter, Write};
 
@@ -141,7 +142,7 @@ pub fn respelled<'a>(
 /// The index of a name in a list, in either case.
 fn index_of(name: &str, names: &[&str]) -> Option<usize> {
     for (index, other) in names.iter().enumerate() {
-        if name.eq_ignore_ascii_case(other) {
+        if is_same(name, other) {
             return Some(index);
         }
     }

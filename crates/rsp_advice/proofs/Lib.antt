@@ -1,0 +1,2 @@
+-- Lemmas on lists of rows.
+pub mod Keys

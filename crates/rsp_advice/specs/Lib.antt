@@ -1,0 +1,2 @@
+-- What `--explain` knows of commands and faults.
+pub mod Tables
