@@ -1,4 +1,5 @@
 -- What is read of an accumulator: one third of its bits, or a clamp.
+-- Sources: Nintendo's RSP Programmer's Guide, chapter on vector unit instructions; the N64brew Wiki's page "Reality Signal Processor/CPU Core".
 use Rattle.std.specs.Prelude.{ℕ, ℤ, pos, negsuc, int_lt, if◌then◌else◌}
 use Rattle.rsp_numbers.specs.Numbers.{floor_div, sixteen_bits, clamp16, high, middle, low}
 use Rattle.rsp_acc.specs.declared.parts.Part.{Part}

@@ -1,4 +1,5 @@
 -- What the host does: it reads and writes SP registers, loads bytes, starts tasks and sets pc.
+-- Sources: Nintendo's RSP Programmer's Guide; the N64brew Wiki's page "Reality Signal Processor/Interface".
 use Rattle.std.specs.Prelude.{ℕ, ◌+◌, ◌*◌, ◌%◌, Bool, not, nat_le, nat_lt, ◌==◌, ◌&&◌, ◌||◌, if◌then◌else◌, List, length, Option, Some, None}
 use Rattle.rsp_memory.specs.Memory.{with_bytes}
 use Rattle.rsp_memory.specs.Image.{image_byte, with_image_bytes}

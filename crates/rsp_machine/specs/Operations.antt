@@ -1,4 +1,5 @@
 -- The operation of each vector instruction, in the crate of its group.
+-- Sources: Nintendo's RSP Programmer's Guide, chapter on vector unit instructions; the N64brew Wiki's page "Reality Signal Processor/CPU Core".
 use Rattle.rsp_decode.specs.declared.vector.VectorMultiplyOp.{VectorMultiplyOp}
 use Rattle.rsp_decode.specs.declared.vector.VectorMultiplyOp.TheVariants.{Vmulf, Vmulu, Vmudl, Vmudm, Vmudn, Vmudh, Vmacf, Vmacu, Vmadl, Vmadm, Vmadn, Vmadh}
 use Rattle.rsp_decode.specs.declared.vector.VectorRoundOp.{VectorRoundOp}

@@ -1,4 +1,5 @@
 -- The state of the machine, as plain numbers and lists.
+-- Sources: Nintendo's RSP Programmer's Guide; the N64brew Wiki's page "Reality Signal Processor/CPU Core".
 use Rattle.std.specs.Prelude.{ℕ, ℤ, pos, List, length, ◌≡◌, ◌<◌, ◌%◌}
 use Rattle.rsp_lanes.specs.Lanes.{each_lane}
 use Rattle.rsp_numbers.specs.Numbers.{AreNumbers}

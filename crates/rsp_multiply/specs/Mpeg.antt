@@ -1,5 +1,6 @@
 -- The instructions for MPEG coefficients: VRNDP and VRNDN round the accumulator by its sign, VMULQ and VMACQ are
 -- multiplies.
+-- Sources: Nintendo's RSP Programmer's Guide, chapter on vector unit instructions; the N64brew Wiki's page "Reality Signal Processor/CPU Core".
 use Rattle.std.specs.Prelude.{ℕ, ℤ, pos, negsuc, ◌*◌, ◌/◌, ◌+ℤ◌, ◌*ℤ◌, Bool, not, List, slice_index, nat_eq, int_lt, if◌then◌else◌}
 use Rattle.rsp_lanes.specs.Lanes.{each_lane}
 use Rattle.rsp_numbers.specs.Numbers.{s16, s48, number, low, floor_div, modulo, sixteen_bits, clamp16}

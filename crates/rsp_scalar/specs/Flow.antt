@@ -1,5 +1,6 @@
 -- What a branch or a jump does to npc, and to the register that it links. npc is the address of the instruction that is
 -- executed next: the delay slot. It is a multiple of 4 below 4096.
+-- Sources: Nintendo's RSP Programmer's Guide; the N64brew Wiki's page "Reality Signal Processor/CPU Core".
 use Rattle.std.specs.Prelude.{ℕ, ◌+◌, ◌%◌, if◌then◌else◌, List}
 use Rattle.rsp_decode.specs.declared.inst.Inst.{Inst}
 use Rattle.rsp_decode.specs.declared.inst.Inst.TheVariants.{JumpLinkRegister, BranchSign, Jump}

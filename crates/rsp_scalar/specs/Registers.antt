@@ -1,4 +1,5 @@
 -- The scalar registers: 32 numbers below 2^32; register 0 is always 0.
+-- Sources: Nintendo's RSP Programmer's Guide; the N64brew Wiki's page "Reality Signal Processor/CPU Core".
 use Rattle.std.specs.Prelude.{ℕ, ◌==◌, ◌≡◌, ◌<◌, ◌^◌, if◌then◌else◌, List, length, replicate, slice_index, slice_set}
 
 -- the registers' ranges

@@ -1,4 +1,5 @@
 -- The scalar instructions, on numbers modulo 2^32.
+-- Sources: Nintendo's RSP Programmer's Guide; the N64brew Wiki's page "Reality Signal Processor/CPU Core".
 use Rattle.std.specs.Prelude.{ℕ, ℤ, pos, ◌+◌, ◌-◌, ◌*◌, ◌/◌, ◌%◌, ◌^◌, ◌==◌, ◌+ℤ◌, ◌*ℤ◌, Bool, true, false, not, nat_lt, int_lt, if◌then◌else◌, bit_and, bit_or, bit_xor, List}
 use Rattle.std.specs.Int.{w8, w16}
 use Rattle.rsp_decode.specs.declared.inst.Inst.{Inst}
