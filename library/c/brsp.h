@@ -342,10 +342,13 @@ uint32_t brsp_run_until_move(brsp_machine *m, uint32_t n, uint32_t reads, uint32
  * only if fewer than n steps were made: after n steps the reason is BRSP_AT_LIMIT. So a caller that steps
  * over the event, by brsp_pass_move, brsp_pass_dma or brsp_step, has made `steps` + 1 of its n steps.
  *
- * With BRSP_STATUS_WRITES in `writes` it also stops after each MTC0 to SP_STATUS, whose step it makes: for
- * BRSP_AT_INTERRUPT if the interrupt flag was clear before that step and is set after it, otherwise for
- * BRSP_AT_STATUS. So a caller hears of an interrupt before the next instruction. (A BREAK that raises one
- * halts, and every run stops there.) Bit 4 of `writes` then makes no difference.
+ * With BRSP_STATUS_WRITES in `writes` it also stops after each MTC0 to SP_STATUS, whose step it makes, so
+ * that a caller hears of an interrupt before the next instruction. (A BREAK that raises one halts, and every
+ * run stops there.) If the machine is then halted, or the next word is reserved or has a breakpoint, that is
+ * the reason. Otherwise the reason is BRSP_AT_INTERRUPT if the interrupt flag was clear before that step and
+ * is set after it, and BRSP_AT_STATUS if not. So a caller that waits for an interrupt compares `interrupt`
+ * with its value before the call, because the reason can be another one. With BRSP_STATUS_WRITES bit 4 of
+ * `writes` makes no difference.
  *
  * Returns BRSP_OUT_OF_RANGE unless n is 1 to 1000000, `reads` is below 65536, and `writes` is too without
  * BRSP_STATUS_WRITES. */

@@ -365,7 +365,9 @@ export class Machine {
   /** Runs to the next event, for a caller that owns RDRAM. As `run_until_move`, but also stops before each DMA, with
    * Reason.DMA. A move or a DMA is an event only if a step is left. Stepping over it, by `pass_move`, `pass_dma` or
    * `step`, takes that step. With the bit STATUS_WRITES in `writes` it also stops after each MTC0 to SP_STATUS, whose step
-   * it makes: with Reason.INTERRUPT if that step raised the interrupt, otherwise with Reason.STATUS. */
+   * it makes. If the machine is then halted, or the next word is reserved or has a breakpoint, that is the reason.
+   * Otherwise the reason is Reason.INTERRUPT if that step raised the interrupt, and Reason.STATUS if not. So compare
+   * `interrupt` with its value before, because the reason can hide an interrupt. */
   event(steps: number, reads?: number, writes?: number): Event;
   /** As `run`, with an entry for each step that it made. */
   trace(steps: number): [Stop, Traced[]];

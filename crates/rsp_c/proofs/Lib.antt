@@ -6,3 +6,4 @@ pub mod Lines
 pub mod Walks
 pub mod Words
 pub mod Stores
+pub mod Events

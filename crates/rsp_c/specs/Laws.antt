@@ -1,10 +1,15 @@
--- What C gets it can set, and what it sets it gets.
-use Rattle.std.specs.Prelude.{◌≡◌, ◌<◌, ℕ, List, length, slice_index}
+-- What C gets it can set, and what it sets it gets. What C does at a DMA is a step.
+use Rattle.std.specs.Prelude.{◌≡◌, ◌<◌, ℕ, List, length, slice_index, IsOkAnd}
 use Rattle.rsp_machine.specs.State.{State, IsState}
 use Rattle.rsp_machine.specs.Registers.{registers_of, with_registers}
+use Rattle.rsp_machine.specs.Step.{step_of}
+use Rattle.rsp_machine.specs.Pass.{pass_dma_of}
+use Rattle.rsp_machine.specs.DescribedDmas.{moved_as_described}
+use Rattle.rsp_debug.specs.Debugging.{Debugging}
 use Rattle.rsp_c.specs.declared.c_structs.RspState.{RspState}
 use Rattle.rsp_c.specs.States.{c_state, registers_from_c}
 use Rattle.rsp_c.specs.Faults.{state_fault}
+use Rattle.rsp_c.specs.Events.{event_of, after_event}
 
 -- The registers of a machine, as brsp_get gives them, have no fault, and set again in it they leave it.
 abbrev pub SetAsGot : Type 0
@@ -32,3 +37,10 @@ pub record IsRspState (g : RspState) : Type 0 where
 abbrev pub GotAsSet : Type 0
 GotAsSet = (g : RspState) (s : State) → IsRspState g → state_fault g ≡ 0
     → c_state (registers_of (with_registers (registers_from_c g) s)) (with_registers (registers_from_c g) s).sp ≡ record g { zero = 0 }
+
+-- Where an event reports a DMA, passing over it is accepted; if the bytes are then copied as the event describes, the state is that after a
+-- step.
+abbrev pub EventsAreSteps : Type 0
+EventsAreSteps = (n reads writes : ℕ) (d : Debugging) →
+    let event = event_of n reads writes d in let s = (after_event n reads writes d).state in
+    IsState s → event.at.stop.reason ≡ 6 → IsOkAnd (pass_dma_of s) (λ t. moved_as_described event.dma t ≡ (step_of s).1)

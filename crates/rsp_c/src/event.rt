@@ -1,6 +1,7 @@
 // Runs to the next event, for a host that owns the RDRAM, and passes over a DMA whose bytes it moves.
 
-ghost use Rattle.std.specs.Prelude.{◌≡◌, ◌<◌, ◌≤◌, Some, IfSome, IfOk};
+ghost use Rattle.std.specs.Prelude.{◌≡◌, ◌<◌, ◌≤◌, ◌⊎◌, Some, IfSome, IfOk};
+ghost use Rattle.rsp_machine.specs.Laws.{steps_of};
 ghost use Rattle.rsp_machine.specs.Pass.{pass_dma_of};
 ghost use Rattle.rsp_debug.specs.Debugging.{after_run, set_by_host};
 ghost use Rattle.rsp_c.specs.Answers.{pass_status};
@@ -21,14 +22,14 @@ use std::alloc::Global;
 #[repr(C)]
 #[derive(Clone, Copy, Drop)]
 pub struct RspReached {
-    /// Where it stopped, with the move that is next, if one is. Before a DMA the reason is 6. After a write of SP_STATUS it is 7 if that step
-    /// raised the interrupt, else 8.
+    /// Where it stopped, with the move that is next, if one is. Before a DMA the reason is 6. After a write of SP_STATUS it is one of a run, such
+    /// as 1 if the machine is then halted; else 7 if that step raised the interrupt; else 8.
     pub at: RspMove,
     /// The DMA that is next; zeros if none is.
     pub dma: RspDma,
     /// SP_STATUS.
     pub status: u32,
-    /// 1 if the interrupt flag is set, else 0.
+    /// 1 if the interrupt flag is set, else 0, whatever the reason is.
     pub interrupt: u32,
 }
 
@@ -112,7 +113,8 @@ fn step_status<A: Acc>(debugger: &mut Debugger<A>, steps: u32) -> RspReached
 
 /// Runs as `brsp_run_until_move` does, also up to each DMA, and reports what is next. A move or a DMA is reported only if fewer than `n`
 /// steps are made: if all are, the end is at the limit. So passing over it is one of the `n` steps too. With bit 16 of `writes` a run also
-/// ends after each write of SP_STATUS, whose step it makes.
+/// ends after each write of SP_STATUS, whose step it makes and counts. OUT_OF_RANGE unless `n` is 1 to 1000000, `reads` is below 65536 and
+/// `writes` is below 131072.
 #[unsafe(no_mangle)]
 pub extern "C" fn brsp_event(
     handle: &mut Handle,
@@ -124,7 +126,9 @@ pub extern "C" fn brsp_event(
 ) -> u32
     ensures range { IsDoneIf (λ d. (1 ≤ n) × (n ≤ 1000000) × (reads < 65536) × (writes < 131072)) handle.old.debugger result }
     ensures event { IsFilled result (event_of n reads writes) handle.old.debugger out.old out.new }
-    ensures counted { result ≡ OK → writes < 65536 → 5 ≤ out.new.at.stop.reason → out.new.at.stop.steps < n }
+    ensures reached { result ≡ OK → IfSome handle.old.debugger (λ d. IfSome handle.new.debugger (λ e. e.state ≡ steps_of out.new.at.stop.steps d.state)) }
+    ensures within { result ≡ OK → out.new.at.stop.steps ≤ n }
+    ensures counted { result ≡ OK → (out.new.at.stop.reason ≡ 5) ⊎ (out.new.at.stop.reason ≡ 6) → out.new.at.stop.steps < n }
     ensures next { IsNext result (after_event n reads writes) handle.old.debugger handle.new.debugger }
 {
     with_held!(handle, alloc, |debugger| if reads <= 0xffff && writes <= 0x1_ffff => {

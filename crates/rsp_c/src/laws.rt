@@ -2,7 +2,7 @@
 
 ghost use Rattle.rsp_c.specs.Statuses.{AreNumbers};
 ghost use Rattle.rsp_c.specs.Changes.{ChangesShowStores};
-ghost use Rattle.rsp_c.specs.Laws.{SetAsGot, GotAsSet};
+ghost use Rattle.rsp_c.specs.Laws.{SetAsGot, GotAsSet, EventsAreSteps};
 
 /// What `brsp_get` gives, `brsp_set` takes, and the machine stays as it is.
 pub fn set_as_got()
@@ -24,4 +24,11 @@ pub fn numbers()
 #[tactic(auto, using(crate::proofs::Stores::stores_shown))]
 pub fn changes_show_stores()
     ensures { ChangesShowStores }
+{}
+
+/// Where `brsp_event` reports a DMA, a host that passes over it by `brsp_pass_dma`, and then copies the bytes as the event describes them, has
+/// made a step.
+#[tactic(auto, using(crate::proofs::Events::events))]
+pub fn events_are_steps()
+    ensures { EventsAreSteps }
 {}

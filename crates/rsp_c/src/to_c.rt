@@ -74,9 +74,9 @@ pub fn c_stop(stop: Stop, imem: &SpMem) -> RspStop
 const AT_MOVE: u32 = 5;
 /// The reason of a run that ends before a DMA.
 pub const AT_DMA: u32 = 6;
-/// The reason after a write of SP_STATUS that raised the interrupt.
+/// The reason after a write of SP_STATUS that raised the interrupt, unless a run of that step has another reason than its limit.
 pub const AT_INTERRUPT: u32 = 7;
-/// The reason after another write of SP_STATUS.
+/// The reason after another write of SP_STATUS, unless the same.
 pub const AT_STATUS: u32 = 8;
 
 /// The end of a run that also ends before moves, of a machine with this IMEM.

@@ -1,4 +1,5 @@
 -- The instruction table: what selects each row, its name, its operands, and its instruction.
+-- Sources: Nintendo's RSP Programmer's Guide; the N64brew Wiki's page "Reality Signal Processor/CPU Core".
 pub mod BitFields
 pub mod Operands
 pub mod Fields

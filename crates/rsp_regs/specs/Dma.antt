@@ -1,4 +1,5 @@
 -- A DMA as a list of pairs (address in a bank, address in the RDRAM), ordered by row, then byte.
+-- Sources: Nintendo's RSP Programmer's Guide; the N64brew Wiki's page "Reality Signal Processor/Interface".
 use Rattle.std.specs.Prelude.{ℕ, ◌+◌, ◌*◌, ◌%◌, ◌≡◌, ◌<◌, ◌≤◌, List, map}
 use Rattle.std.specs.List.{range_with_len, flat_map, fold}
 use Rattle.rsp_memory.specs.Memory.{byte_at, with_byte}

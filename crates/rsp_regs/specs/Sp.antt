@@ -1,4 +1,5 @@
 -- The SP registers: what a read returns, and what a write, a DMA and instructions change.
+-- Sources: Nintendo's RSP Programmer's Guide; the N64brew Wiki's page "Reality Signal Processor/Interface".
 use Rattle.std.specs.Prelude.{ℕ, ◌+◌, ◌*◌, ◌/◌, ◌%◌, ◌^◌, ◌<◌, ◌≡◌, Bool, true, false, ◌||◌, List, ◌∷◌, length, map, replicate, slice_index, slice_index_or, slice_set, nat_lt, if◌then◌else◌, ◌-◌, ◌==◌}
 use Rattle.std.specs.List.{range_with_len, sum_by}
 use Rattle.rsp_numbers.specs.Numbers.{bit_set}

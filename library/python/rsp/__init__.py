@@ -708,7 +708,9 @@ class Machine(_Owner):
         `step`, takes that step.
 
         With the bit STATUS_WRITES in `writes` it also stops after each MTC0 to SP_STATUS, whose step it
-        makes: with Reason.INTERRUPT if that step raised the interrupt, otherwise with Reason.STATUS.
+        makes. If the machine is then halted, or the next word is reserved or has a breakpoint, that is the
+        reason. Otherwise the reason is Reason.INTERRUPT if that step raised the interrupt, and Reason.STATUS
+        if not. So compare `interrupt` with its value before, because the reason can hide an interrupt.
         """
         out = self._fill_alone("event", _Reached(), steps, reads, writes)
         stop, dma = _move_stop_of(out.at), out.dma

@@ -161,8 +161,9 @@ impl Machine {
     /// or a DMA is an event only if a step is left. Stepping over it, by [`pass_move`](Machine::pass_move), [`pass_dma`](Machine::pass_dma) or
     /// [`step`](Machine::step), takes that step.
     ///
-    /// With the bit [`STATUS_WRITES`] in `writes` it also stops after each MTC0 to SP_STATUS, whose step it makes: with [`Reason::Interrupt`] if
-    /// that step raised the interrupt, otherwise with [`Reason::Status`].
+    /// With the bit [`STATUS_WRITES`] in `writes` it also stops after each MTC0 to SP_STATUS, whose step it makes. If the machine is then halted,
+    /// or the next word is reserved or has a breakpoint, that is the reason. Otherwise the reason is [`Reason::Interrupt`] if that step raised the
+    /// interrupt, and [`Reason::Status`] if not. So compare [`Event::interrupt`] with its value before, because the reason can hide an interrupt.
     pub fn event(&mut self, steps: u32, reads: u16, writes: u32) -> Result<Event, RspError> {
         let mut out = raw::Reached::default();
         done(unsafe { raw::brsp_event(self.at(), steps, reads.into(), writes, &mut out) }, "event", &[steps.into(), writes.into()])?;
