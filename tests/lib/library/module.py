@@ -38,9 +38,9 @@ def loaded(source: str, depth: int = 0) -> rsp.Rsp:
 
 
 def copy_of_package(folder: Path) -> Path:
-    """A copy of library/python, beside the library as in the repository."""
-    package, ignored = folder / "tree/python", shutil.ignore_patterns("__pycache__")
+    """A copy of library/python in a tree that is otherwise the repository."""
+    package, ignored = folder / "tree/library/python", shutil.ignore_patterns("__pycache__")
     shutil.copytree(TOP / "library/python", package, ignore=ignored)
-    (folder / "tree/c").mkdir()
-    shutil.copy(TOP / "library/c/libbrsp.so", folder / "tree/c")
+    for name in "tools", "library/c":
+        (folder / "tree" / name).symlink_to(TOP / name)
     return package
