@@ -4,7 +4,8 @@ for all other systems than Linux on x86-64 with glibc:
 {systems}
 
 Each is a folder library/systems/SYSTEM. wasm64 also makes library/systems/page, files that answer scripts in
-a browser. The libraries for C come with files for pkg-config and CMake, and with the Python wheel.
+a browser; both take compiled/rsp.wasm, in a second and without the kit. The libraries for C come with files
+for pkg-config and CMake, and with the Python wheel.
 
 It needs a clone whose library is built (library/c/build), for another Linux also the program (./rsp run), the
 kit, and packages of Debian that it names. Each system takes some minutes of processor. The same sources of
