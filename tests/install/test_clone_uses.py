@@ -218,8 +218,8 @@ def test_cargo(folder: Path, how: str) -> None:
 def test_page(stranger: User, home: Path) -> None:
     """Served below a path; otherwise only: that a file is missing, or named by an address that is right only
     at the top of a server, or that another library is served than that of compiled/."""
-    prints(stranger, "tools/systems wasm64")
-    top = stranger.at / "library/systems/page"
+    prints(stranger, "RSP_OUT=$HOME tools/systems wasm64")
+    top = home / "systems/page"
     handler = functools.partial(SimpleHTTPRequestHandler, directory=str(top.parent))
     server = ThreadingHTTPServer(("127.0.0.1", 0), handler)
     Thread(target=server.serve_forever, daemon=True).start()
@@ -233,7 +233,7 @@ def test_page(stranger: User, home: Path) -> None:
     server.shutdown()
     files = {f"{base}{it.relative_to(top)}": it.read_bytes() for it in top.rglob("*") if it.is_file()}
     assert fetched == files and (TOP / "compiled/rsp.wasm").read_bytes() in files.values()
-    shutil.rmtree(top.parent)
+    assert new_files(stranger) == set()
 
 
 @pytest.mark.needs("/usr/lib/python3/dist-packages/numpy")
