@@ -102,6 +102,9 @@ tell_machine() {
     case $machine in
         arm64-*[Ll]inux*) echo Linux-aarch64 ;;
         *-[Ll]inux*) echo "Linux-${machine%%-*}" ;;
+        *-w64-*) echo "Windows-${machine%%-*}" ;;
+        aarch64-apple-*) echo Darwin-arm64 ;;
+        *-apple-*) echo "Darwin-${machine%%-*}" ;;
         *) echo "$machine" ;;
     esac
 }

@@ -1,29 +1,29 @@
-"""What `pip install ./library/python` calls: it puts the module and library/c/libbrsp.so into a wheel.
+"""What `pip install ./library/python` calls: it puts the module, its library and the program into a wheel.
 
-library/c/build makes the library first, which needs a C compiler; an install needs no network and no
-setuptools. Two wheels of the same files and date have the same bytes. An editable install names this folder
-alone, so a change of the module or the library is there at the next import.
+cc makes both of compiled/, in a temporary folder; an install needs no network and no setuptools. Two wheels
+of the same files and date have the same bytes. An editable install names this folder alone, so a change of
+the module or the library is there at the next import.
 
-The wheel has the tags of glibc 2.17, manylinux2014: the library needs libc.so.6 alone, and no newer symbol,
-which tests/install sees.
+For glibc the wheel has the tags of version 2.17, manylinux2014: the library and the program need libc.so.6
+alone, and no newer symbol, which tests/install sees.
 """
 
 import base64
 import hashlib
 import re
 import stat
-import subprocess
+import sys
+import tempfile
 import time
 import zipfile
 from pathlib import Path
 from typing import Any, Dict, Sequence, Union
 
 HERE = Path(__file__).resolve().parent
-MADE = HERE.parent / "c/libbrsp.so"
+LIBRARY = "libbrsp.so"
 TEXT = (HERE / "pyproject.toml").read_text()
 PROJECT = dict(re.findall(r'(?m)^([a-z-]+) = (?:\{ text = )?"(.*)"(?: \})?$', TEXT))
 NAME = f"{PROJECT['name']}-{PROJECT['version']}"
-PLATFORMS = "manylinux_2_17_x86_64", "manylinux2014_x86_64"
 LISTS = {key: re.findall('"(.*?)"', items) for key, items in re.findall(r"(?ms)^(\w+) = \[(.*?)\]$", TEXT)}
 METADATA = "\n".join(
     [
@@ -43,11 +43,14 @@ METADATA = "\n".join(
 SCRIPTS = f"[console_scripts]\nrsp-gdb = {PROJECT['rsp-gdb']}\n"
 WHEEL = "Wheel-Version: 1.0\nGenerator: wheels\nRoot-Is-Purelib: false\n"
 FIRST = 315532800  # the first time that a wheel can have, 1980, in seconds since 1970
+COPIED = """this pip has copied library/python out of its clone, where the library is made. Upgrade pip first,
+by `python3 -m pip install --upgrade pip` (21.3 or newer), or name the clone as a repository of git:
+  pip install "git+file:///FOLDER/rsp#subdirectory=library/python\""""
 COMMANDS = f"{NAME}.data/scripts/"  # what pip installs to be run, by its name
 
 
 def write(
-    folder: Union[str, Path], files: Dict[str, bytes], platforms: Sequence[str] = PLATFORMS, date: int = FIRST
+    folder: Union[str, Path], files: Dict[str, bytes], platforms: Sequence[str], date: int = FIRST
 ) -> str:
     """Writes a wheel of these files to a folder, and returns its name. All files have the same date, in
     seconds since 1970, which a wheel keeps as that of UTC. A wheel for Linux has the command rsp-gdb."""
@@ -76,28 +79,43 @@ def with_library(library: Path, name: str) -> Dict[str, bytes]:
 
 
 def with_command(name: str, program: bytes) -> Dict[str, bytes]:
-    """The file by which an install has a program as a command.
-
-    Only the wheels of a release have one, because the program that a clone builds needs a newer glibc.
-    """
+    """The file by which an install has a program as a command."""
     return {f"{COMMANDS}{name}": program}
 
 
-def made() -> Path:
-    """The library, of the sources as they are."""
-    subprocess.run([MADE.with_name("build")], check=True)
-    return MADE
+def clone() -> Any:
+    """The module of the clone of this folder that makes the library and the program."""
+    tools = HERE.parents[1] / "tools"
+    if not (tools / "rsp_tools").is_dir():
+        raise RuntimeError(COPIED)
+    sys.path.insert(0, str(tools))
+    sys.dont_write_bytecode = True
+    from rsp_tools.packaging import link
+
+    return link
+
+
+def command(link: Any) -> Dict[str, bytes]:
+    """The program `rsp` as a command; nothing if the kit has to build it, of sources that are changed."""
+    program = link.linked_program()
+    return with_command("rsp", program) if program else {}
 
 
 def build_wheel(wheel_directory: str, config_settings: Any = None, metadata_directory: Any = None) -> str:
-    """The wheel of an install: the module with its library. That of the release has the program too."""
-    return write(wheel_directory, with_library(made(), MADE.name))
+    """The wheel of an install, as that of a release: the module with its library, and the program."""
+    link = clone()
+    tags = link.targets.here().wheel
+    with tempfile.TemporaryDirectory() as out:
+        files = with_library(link.library(RSP_OUT=out) / LIBRARY, LIBRARY)
+    return write(wheel_directory, {**files, **command(link)}, tags)
 
 
 def build_editable(wheel_directory: str, config_settings: Any = None, metadata_directory: Any = None) -> str:
     """The wheel of an editable install."""
-    made()
-    return write(wheel_directory, {f"{PROJECT['name']}.pth": f"{HERE}\n".encode()})
+    link = clone()
+    link.library()
+    files = {f"{PROJECT['name']}.pth": f"{HERE}\n".encode(), **command(link)}
+    return write(wheel_directory, files, link.targets.here().wheel)
 
 
 def build_sdist(sdist_directory: str, config_settings: Any = None) -> str:

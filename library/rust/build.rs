@@ -1,7 +1,7 @@
 //! Finds libbrsp.a, or for MSVC brsp_static.lib. The first of these that has it counts:
 //! - the folder that RSP_LIB_DIR names;
 //! - lib/TARGET/, where the release archives have the library, and for Linux on x86-64 also lib/;
-//! - for Linux, in the repository, ../c, where `library/c/build` makes it now;
+//! - in the repository, except for MSVC, a folder of cargo's, where `library/c/build` makes it by the C compiler for the target;
 //! - the folder that pkg-config names, where `library/c/install` has put it.
 
 use std::env;
@@ -9,9 +9,12 @@ use std::fs;
 use std::path::{Path, PathBuf};
 use std::process::Command;
 
-const READ: [&str; 3] = ["RSP_LIB_DIR", "PKG_CONFIG", "PKG_CONFIG_PATH"];
-/// The script that makes ../c/libbrsp.a for the system on which cargo runs.
+const READ: [&str; 4] = ["RSP_LIB_DIR", "PKG_CONFIG", "PKG_CONFIG_PATH", "CC"];
+/// The script that makes the library, and what says of which crates compiled/ is.
 const BUILD: &str = "../c/build";
+const MARK: &str = "../../compiled/rsp_c.made";
+/// What the targets of a system have in their names, and what C compilers have in theirs.
+const SYSTEMS: [(&str, &str); 3] = [("-linux-", "-linux"), ("-windows-gnu", "-w64-"), ("-apple-darwin", "-apple-")];
 
 /// The library folder of an installed rsp that is no older than this crate.
 fn installed() -> Option<PathBuf> {
@@ -31,12 +34,46 @@ fn names(target: &str) -> (&'static str, &'static str) {
     }
 }
 
+/// What a compiler calls the system for which it compiles, such as `aarch64-linux-gnu`. Empty if it doesn't say.
+fn machine(compiler: &str) -> String {
+    let mut words = compiler.split_whitespace();
+    let output = words.next().and_then(|name| Command::new(name).args(words).arg("-dumpmachine").output().ok());
+    output.map_or(String::new(), |it| String::from_utf8_lossy(&it.stdout).trim().to_string())
+}
+
+/// Whether a target of Rust is the system that a compiler calls so.
+fn is_for(target: &str, machine: &str) -> bool {
+    let processor = |name: &str| name.split('-').next().map(|it| it.replace("arm64", "aarch64"));
+    let system = SYSTEMS.iter().find(|it| target.contains(it.0));
+    processor(target) == processor(machine) && system.map_or(false, |it| machine.contains(it.1))
+}
+
+/// The folder with the library that library/c/build makes below cargo's own folder, of the sources as they are.
+fn built(target: &str) -> PathBuf {
+    let variable = format!("CC_{}", target.replace('-', "_"));
+    let compiler = env::var(&variable).or_else(|_| env::var("CC")).unwrap_or("cc".into());
+    let machine = machine(&compiler);
+    assert!(
+        is_for(target, &machine),
+        "`{compiler}` compiles for `{machine}`, not for {target}: name a C compiler for that by CC or {variable}"
+    );
+    let mark = fs::read_to_string(MARK).unwrap_or_default();
+    for name in mark.lines().nth(1).unwrap_or("").split(' ') {
+        ["src", "specs", "proofs"].iter().for_each(|part| println!("cargo:rerun-if-changed=../../crates/{name}/{part}"));
+    }
+    [MARK, "../../crates.txt", "../c/brsp.h"].iter().for_each(|name| println!("cargo:rerun-if-changed={name}"));
+    println!("cargo:rerun-if-env-changed={variable}");
+    let out = PathBuf::from(env::var_os("OUT_DIR").expect("cargo names a folder"));
+    let ended = Command::new("sh").arg(BUILD).env("CC", compiler).env("RSP_OUT", &out).status();
+    assert!(ended.map_or(false, |it| it.success()), "library/c/build has made no library");
+    out
+}
+
 fn folder(target: &str) -> Option<PathBuf> {
     if let Some(named) = env::var_os("RSP_LIB_DIR") {
         return Some(named.into());
     }
     let here = Path::new(env!("CARGO_MANIFEST_DIR"));
-    let is_host = target == env::var("HOST").unwrap_or_default();
     let mut beside = vec![here.join("lib").join(target)];
     if target.starts_with("x86_64-") && target.contains("-linux-") {
         beside.push(here.join("lib"));
@@ -44,13 +81,10 @@ fn folder(target: &str) -> Option<PathBuf> {
     if let Some(found) = beside.into_iter().find(|it| it.join(names(target).0).is_file()) {
         return Some(found);
     }
-    if is_host && target.contains("-linux-") && here.join(BUILD).is_file() {
-        println!("cargo:rerun-if-changed=../../compiled/rsp_c.made");
-        let ended = Command::new(here.join(BUILD)).status();
-        assert!(ended.map_or(false, |it| it.success()), "library/c/build has made no library");
-        return Some(here.join("../c"));
+    if SYSTEMS.iter().any(|it| target.contains(it.0)) && here.join(BUILD).is_file() {
+        return Some(built(target));
     }
-    is_host.then(installed).flatten()
+    (target == env::var("HOST").unwrap_or_default()).then(installed).flatten()
 }
 
 /// The calls of src/raw.rs that a library lacks, by the symbols that its archive lists first. None if it lists them in a way that isn't known here.

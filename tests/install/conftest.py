@@ -15,6 +15,7 @@ from lib import TOP
 from lib.install.unpacked import archive_for, unpacked
 from lib.packages import need
 from lib.processes import succeeds
+from lib.user import User
 
 
 def release(into: Path) -> None:
@@ -45,6 +46,18 @@ def released(request: pytest.FixtureRequest, tmp_path_factory: pytest.TempPathFa
                 release(Path(new))
                 shutil.copytree(new, folder)
     return folder
+
+
+@pytest.fixture(scope="module")
+def stranger() -> Iterator[User]:
+    """One who has a clone of HEAD, in a folder with a blank, and no kit. git may check out CRLF."""
+    with tempfile.TemporaryDirectory(prefix="rsp-stranger-") as name:
+        base = Path(name)
+        base.chmod(0o755)
+        succeeds("git", "clone", "-q", "-c", "core.autocrlf=true", TOP, base / "a b/rsp")
+        user = User(base / "a b/rsp", base / "home", base)
+        assert user.types("! command -v rt").returncode == 0
+        yield user
 
 
 @pytest.fixture(scope="session")

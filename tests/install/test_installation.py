@@ -215,27 +215,14 @@ def test_man_shows_the_page(prefix: Path) -> None:
     assert "warning" not in text and "rsp run [OPTIONS] [SCRIPT]" in text
 
 
-# A package in Rust that depends on the crate.
-DEPENDS = '[package]\nname = "uses"\nversion = "0.1.0"\nedition = "2021"\n\n[dependencies]\nrsp = {{ {} }}\n'
-COMMIT = "git init -q && git add -A && git -c user.name=a -c user.email=a@example.org commit -qm a"
-
-
-@pytest.mark.needs("cargo", "git", "pkg-config")
-@pytest.mark.parametrize("source", ["path", "git"])
-def test_crate(prefix: Path, folder: Path, source: str) -> None:
-    """By its path, the crate finds the library that is built; by git, the one that is installed."""
+@pytest.mark.needs("cargo", "pkg-config")
+def test_crate(prefix: Path, folder: Path) -> None:
+    """A copy of the crate alone finds the library that is installed."""
     where = {name: value for name, value in with_prefix(prefix).items() if name != "RSP_LIB_DIR"}
-    where["CARGO_TARGET_DIR"] = str(folder / "target")
-    if source == "git":
-        shutil.copytree(CRATE, folder / "git/rust", ignore=shutil.ignore_patterns("target", "Cargo.lock"))
-        succeeds("sh", "-c", COMMIT, cwd=folder / "git")
-        dependency = f'git = "file://{folder}/git"'
-    else:
-        dependency, where["PKG_CONFIG"] = f'path = "{CRATE}"', "false"
-    (folder / "uses/src").mkdir(parents=True)
-    (folder / "uses/Cargo.toml").write_text(DEPENDS.format(dependency))
-    shutil.copy(CRATE / "examples/lockstep.rs", folder / "uses/src/main.rs")
-    assert succeeds("cargo", "run", "-q", cwd=folder / "uses", env=where) == LOCKSTEP
+    ignored = shutil.ignore_patterns("target", "Cargo.lock", "lib")
+    crate = shutil.copytree(CRATE, folder / "rust", ignore=ignored)
+    words = ("cargo", "run", "--offline", "-q", "--example", "lockstep")
+    assert succeeds(*words, cwd=crate, env=where) == LOCKSTEP
 
 
 def test_install_under_a_strict_umask(library: Path, folder: Path) -> None:

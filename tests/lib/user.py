@@ -27,3 +27,10 @@ class User:
         """Runs a script of the shell, up to a command that fails."""
         words = (*self.prefix, "bash", "-e", "-u", "-c", script)
         return run(*words, cwd=self.at, env=self.env, stderr=subprocess.PIPE, timeout=LONGEST + 60)
+
+
+def prints(user: User, script: str) -> str:
+    """The output of a script that ends well."""
+    ended = user.types(script)
+    assert ended.returncode == 0, f"{script}: {ended.stdout[-3000:]}{ended.stderr[-3000:]}"
+    return ended.stdout

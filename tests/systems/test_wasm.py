@@ -143,7 +143,8 @@ def test_in_javascript(runner: Any, name: str) -> None:
 
 @on("wasm64")
 def test_little_memory(runner: Any) -> None:
-    wasm.folder(runner.at / "tight", runner.objects, f"--max-memory={MOST}")
+    wasm.write_scripts(runner.at / "tight")
+    wasm.link(runner.at / "tight/rsp.wasm", runner.objects, f"--max-memory={MOST}")
     assert_all_passed(runner.test("tight.js", library="/at/tight").decode())
 
 

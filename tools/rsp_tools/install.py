@@ -22,15 +22,13 @@ import argparse
 import os
 import re
 import signal
-import subprocess
 import sys
 from pathlib import Path
 from typing import NoReturn
 
-from rsp_tools import TOP
-from rsp_tools.packaging import install_tree
+from rsp_tools.packaging import install_tree, link
 from rsp_tools.packaging.install_tree import contents, put_all
-from rsp_tools.packaging.link import linked_program
+from rsp_tools.systems.toolchain import Refused
 
 NAME = "library/c/install"
 
@@ -72,15 +70,15 @@ def main() -> None:
         return
     if bad := re.findall(r"[^\w/.,:@%+=~ -]", prefix):
         fail(f"PREFIX has the character {bad[0]!r}, which pkg-config's words can't bring through a shell")
-    if subprocess.run([TOP / "library/c/build"]).returncode:
-        fail("library/c/build has built no library")
+    try:
+        library, program = link.library(), link.linked_program()
+    except (Refused, LookupError) as reason:
+        fail(str(reason))
     os.umask(0o022)  # what root installs others read, whatever the umask of root's shell
     rpath = "" if arguments.no_rpath else install_tree.RPATH
-    files = list(contents(prefix.replace(" ", "\\ "), linked_program(), rpath))
+    files = list(contents(library, prefix.replace(" ", "\\ "), program, rpath))
     put_all(to, files, fail)
-    more = (
-        "" if files[-1].name == "bin/rsp" else ", without the program, because compiled/ is of other sources"
-    )
+    more = "" if program else ", without the program, because compiled/ is of other sources"
     print(f"{NAME}: {len(files)} files in {to}{more}")
 
 

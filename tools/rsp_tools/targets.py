@@ -5,6 +5,7 @@ runs programs for them. A further Linux on one of these processors is a record h
 README tools/packaging/readme/NAME.md.
 """
 
+import platform
 from typing import Dict, FrozenSet, Mapping, NamedTuple, Tuple
 
 
@@ -67,11 +68,14 @@ NATIVE = Target(
     holds="everything in this repository",
     tested="natively: all tests of the repository",
     triples={"x86_64": "x86_64-unknown-linux-gnu"},
+    start="start_x86_64.c",
+    linked="-fPIE -pie -nostartfiles",
     shared="lib/libbrsp.so",
     program="bin/rsp",
     rust={"x86_64-unknown-linux-gnu": "libbrsp.a"},
     cmake=("Linux", "x86_64|AMD64|amd64"),
     python="linux",
+    wheel=("manylinux_2_17_x86_64", "manylinux2014_x86_64"),
     compiler="cc",
 )
 # Those that tools/systems makes.
@@ -164,6 +168,16 @@ PAGE = Target(
     name="page", title="a web server", holds="static files that answer scripts in a browser", ending="zip"
 )
 TARGETS: Dict[str, Target] = {it.name: it for it in (NATIVE, *CROSS, PAGE)}
+
+
+def here() -> Target:
+    """The Linux on which this runs, by the processor that `uname -m` names, and the C library of Python."""
+    system = platform.system().lower()
+    libc = "-musl" if system == "linux" and platform.libc_ver()[0] != "glibc" else ""
+    known = {it.name: it for it in TARGETS.values() if it.is_linux}
+    if (name := f"{system}-{platform.machine()}{libc}") not in known:
+        raise LookupError(f"this machine is {name}, and only these are known: {', '.join(known)}")
+    return known[name]
 
 
 def listed(*targets: Target) -> str:

@@ -21,6 +21,7 @@ from rsp_conformance.safe_files import FileFault, write_file
 from rsp_conformance.table import ROWS as INSTRUCTIONS
 
 from . import CampaignFault
+from .hashes import library
 from .output_folder import MOST, OutputFolder, settings_in
 from .report import html_table, results_in, text_table
 from .protocol import PROGRAM, VERSION, name_of, plural
@@ -219,9 +220,11 @@ def main() -> None:
     args = arguments()
     try:
         import numpy  # noqa: F401
+
+        library()
         import rsp  # noqa: F401
-    except ImportError as fault:
-        if fault.name == "numpy":
+    except (CampaignFault, ImportError) as fault:
+        if getattr(fault, "name", "") == "numpy":
             how = "apt-get install python3-numpy, and begin with PATH=/usr/bin:$PATH (or pip install numpy)"
             stop(f"{sys.executable} has no numpy: {how}")
         stop(fault)

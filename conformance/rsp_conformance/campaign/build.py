@@ -11,7 +11,7 @@ import rsp
 from rsp_conformance import bench
 
 from . import CampaignFault
-from .hashes import HEADER, LIBRARY, SOURCES, hash_of, sources
+from .hashes import HEADER, SOURCES, hash_of, library, sources
 
 FLAGS = ("-O2", "-march=x86-64-v2", "-shared", "-fPIC", f"-I{HEADER.parent}", f"-I{SOURCES}")
 
@@ -23,7 +23,7 @@ def built(name: str, flags: Sequence[str] = (), source: Optional[Path] = None) -
     if path.exists():
         return str(path)
     temporary = path.with_name(f"{path.name}.{os.urandom(8).hex()}")
-    command = ["cc", *FLAGS, *flags, str(source), str(LIBRARY), "-ldl", "-o", str(temporary)]
+    command = ["cc", *FLAGS, *flags, str(source), str(library()), "-ldl", "-o", str(temporary)]
     try:
         path.parent.mkdir(exist_ok=True)
         ended = subprocess.run(command, stderr=subprocess.PIPE, text=True)

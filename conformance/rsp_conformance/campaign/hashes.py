@@ -2,10 +2,12 @@
 with.
 """
 
+import functools
 import hashlib
 import importlib.util
 import os
 import shutil
+import subprocess
 import sys
 from importlib.machinery import ModuleSpec, PathFinder
 from pathlib import Path
@@ -17,9 +19,18 @@ from . import CampaignFault, words_of
 
 SOURCES = HERE / "campaigns"
 HEADER = TOP / "library/c/brsp.h"
-# The library of a release archive, else that of the repository.
-PACKED = TOP / "lib/libbrsp.a"
-LIBRARY = PACKED if PACKED.is_file() else TOP / "library/c/libbrsp.a"
+PACKED, BUILD = TOP / "lib/libbrsp.a", TOP / "library/c/build"
+
+
+@functools.lru_cache(None)
+def library() -> Path:
+    """The library of a release archive, otherwise the one that the repository makes of its sources."""
+    if PACKED.is_file() or not BUILD.exists():
+        return PACKED
+    made = subprocess.run([BUILD, "--folder"], stdout=subprocess.PIPE, text=True)
+    if made.returncode:
+        raise CampaignFault("library/c/build has made no library")
+    return Path(made.stdout.rstrip("\n"), PACKED.name)
 
 
 def find_module(name: str) -> Optional[ModuleSpec]:
@@ -50,7 +61,7 @@ def hash_of(paths: Iterable[object], more: str = "") -> str:
 def sources() -> List[Path]:
     """The sources of what a campaign compares with: our own files, and the library."""
     own = [*SOURCES.glob("*.[ch]"), *(HERE / "rsp_conformance").rglob("*.py"), *TOP.glob("plugin/*.[ch]")]
-    return [*sorted(own), HEADER, LIBRARY]
+    return [*sorted(own), HEADER, library()]
 
 
 def named_by(spec: str) -> List[str]:

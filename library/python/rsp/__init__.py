@@ -263,12 +263,19 @@ _NAME = {"win32": "brsp.dll", "darwin": "libbrsp.dylib"}.get(sys.platform, "libb
 
 def _library() -> str:
     """The library in the package; otherwise that of the release archive, or the one that library/c/build
-    has made."""
+    has made or makes."""
     here = os.path.dirname(os.path.abspath(__file__))
     for folder in ("", "../../../lib", "../../../bin", "../../c"):
         place = os.path.join(here, folder, _NAME)
         if os.path.exists(place):
             return place
+    build = os.path.join(here, "../../c/build")
+    if os.path.exists(build) and os.name == "posix":
+        import subprocess
+
+        made = subprocess.run([build, "--folder"], stdout=subprocess.PIPE, text=True)
+        if made.returncode == 0:  # also in a clone that this user can't write
+            return os.path.join(made.stdout.rstrip("\n"), _NAME)
     text = "the library isn't built: in a clone of rsp, library/c/build makes it, as library/c/libbrsp.so"
     raise ImportError(text)
 

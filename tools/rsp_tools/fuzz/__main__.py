@@ -35,6 +35,11 @@ OPTIONS = "-x ir -c -O1 -fPIC -fsanitize=address,fuzzer-no-link -Wno-override-mo
 def build_library(folder: Path) -> List[Path]:
     """Makes the library as two objects: the heap, and the kit's module, each of whose functions is
     instrumented. The module takes minutes, and is kept until a source of the library changes."""
+    if not shutil.which("rt"):
+        raise Refused(
+            "there is no `rt`, the command of the Rattle kit (README.md names its version), whose module of "
+            "the library gets coverage and sanitizers: what compiled/ has is compiled already"
+        )
     source, made, heap = module("x86_64").text, folder / "library.o", folder / "heap.o"
     made_of = f"{' '.join(OPTIONS)}\n{source.with_name('mark').read_text(errors='surrogateescape')}"
     if not is_kept(KEPT, made_of):

@@ -7,7 +7,7 @@ from typing import Callable, Iterable, Iterator, List, NamedTuple, NoReturn, Opt
 
 from rsp_tools import TOOLS, TOP
 from rsp_tools.systems import header
-from rsp_tools.targets import NATIVE, Target
+from rsp_tools.targets import Target, here
 
 # The script `rsp` of an archive. On another processor an emulator may run the program; if none does, what the
 # shell says of it doesn't name the processor.
@@ -117,21 +117,21 @@ def descriptions(
     finds its own folder, unless it names a prefix. By `rpath` a program finds the library."""
     kind, (system, processors) = "windows" if target.python == "win32" else "unix", target.cmake
     words = {"LIBRARY": library, "SONAME": soname, "SYSTEM": system, "PROCESSORS": processors}
+    words.update(INCLUDEDIR="${prefix}/include", LIBDIR="${prefix}/lib")  # elsewhere only by CMakeLists.txt
     for name, template in TEMPLATES.items():
         path = TOOLS / "packaging" / template.format(kind=kind)
         text = header.filled(path, PREFIX=prefix, RPATH=rpath, **words)
         yield File(name, text.encode(errors="surrogateescape"))
 
 
-def contents(prefix: str, program: Optional[bytes], rpath: str = RPATH) -> Iterator[File]:
-    """Each file. `prefix` and `rpath` are what brsp.pc says, and `program` the bytes of the program, if there
-    is one."""
-    library = TOP / "library/c"
+def contents(library: Path, prefix: str, program: Optional[bytes], rpath: str = RPATH) -> Iterator[File]:
+    """Each file, with the library of a folder. `prefix` and `rpath` are what brsp.pc says, and `program` the
+    bytes of the program, if there is one."""
     yield from headers()
     yield File("lib/libbrsp.a", (library / "libbrsp.a").read_bytes())
     yield File(f"lib/{soname()}", (library / soname()).read_bytes(), True)
     yield File("lib/libbrsp.so", soname())
-    yield from descriptions(NATIVE, soname(), soname(), prefix, rpath)
+    yield from descriptions(here(), soname(), soname(), prefix, rpath)
     yield from shared()
     if program:
         yield File("bin/rsp", program, True)

@@ -1,24 +1,36 @@
-"""The program for any Linux since 2014, which needs no newer glibc than start_x86_64.c says. The same input
-gives the same bytes."""
+"""What cc makes of compiled/ on this machine, to be installed or packed."""
 
+import os
+import shlex
+import subprocess
 import tempfile
 from pathlib import Path
 from typing import Optional
 
-from rsp_tools import TOP, build, hardening
+from rsp_tools import TOP, build, hardening, targets
 from rsp_tools.systems import places
-from rsp_tools.systems.toolchain import call
-from rsp_tools.targets import NATIVE
+from rsp_tools.systems.toolchain import Refused, call
 
-ASSEMBLY = TOP / "compiled/Linux-x86_64-rsp.s"
-WORDS = "-O2 -fPIE -pie -nostartfiles -Wl,-z,defs,--gc-sections".split()
+STALE = "compiled/ isn't made of the sources as they are: tools/assemble makes it"
 
 
 def linked_program() -> Optional[bytes]:
-    """The program of compiled/; None if that isn't made of the sources as they are."""
+    """The program for any Linux of this kind, which needs no newer C library than its start file says; None
+    if compiled/ isn't made of the sources as they are. The same input gives the same bytes."""
     if not build.is_made("compiled/rsp_main.made"):
         return None
+    target, compiler = targets.here(), shlex.split(os.environ.get("CC", "cc"))
     with tempfile.TemporaryDirectory() as folder:
-        words = [*WORDS, *hardening.words(NATIVE.name), "-o", f"{folder}/rsp"]
-        call("cc", *words, places.PARTS / "start_x86_64.c", ASSEMBLY)
+        words = ["-O2", *target.linked.split(), "-Wl,-z,defs,--gc-sections", *hardening.words(target.name)]
+        parts = places.PARTS / target.start, TOP / f"compiled/Linux-{target.processor}-rsp.s"
+        call(*compiler, *words, "-o", f"{folder}/rsp", *parts)
         return Path(folder, "rsp").read_bytes()
+
+
+def library(**environment: str) -> Path:
+    """The folder of the library, of the sources as they are, which library/c/build makes."""
+    command, env = [str(TOP / "library/c/build"), "--folder"], {**os.environ, **environment}
+    made = subprocess.run(command, env=env, stdout=subprocess.PIPE, text=True)
+    if made.returncode:
+        raise Refused("library/c/build has built no library")
+    return Path(made.stdout.rstrip("\n"))

@@ -10,8 +10,7 @@ from pathlib import Path
 from typing import Iterator, Mapping, Sequence
 
 import wheels
-from rsp_tools import TOP
-from rsp_tools.packaging import install_tree, repository
+from rsp_tools.packaging import install_tree, link, repository
 from rsp_tools.packaging.release_info import About
 from rsp_tools.packaging.install_tree import File
 from rsp_tools.targets import NATIVE, PROCESSORS, TARGETS
@@ -61,20 +60,21 @@ def cross_contents(system: str, folder: Path, about: About) -> Iterator[File]:
         yield install_tree.starter(about.lines(), target.processor)
 
 
-def wheel(program: bytes) -> File:
+def wheel(library: Path, program: bytes) -> File:
     """The Python package as a wheel, with the program as its command."""
-    files = {**wheels.with_library(wheels.made(), wheels.MADE.name), **wheels.with_command("rsp", program)}
+    files = {**wheels.with_library(library, library.name), **wheels.with_command("rsp", program)}
     with tempfile.TemporaryDirectory() as folder:
-        name = wheels.write(folder, files, date=repository.commit_time())
+        name = wheels.write(folder, files, NATIVE.wheel, repository.commit_time())
         return File(f"python/{name}", Path(folder, name).read_bytes())
 
 
 def native_contents(program: bytes, plugin: bytes, about: About) -> Iterator[File]:
     """Each of its files."""
+    made = link.library()
     yield install_tree.starter(about.lines(), NATIVE.processor)
-    yield from install_tree.contents("${pcfiledir}/../..", program)
-    yield wheel(program)
+    yield from install_tree.contents(made, "${pcfiledir}/../..", program)
+    yield wheel(made / "libbrsp.so", program)
     yield File("plugin/mupen64plus-rsp-proved.so", plugin, True)
     yield from repository.of_systems(*PARTS, "plugin", "tools/hardening")  # plugin/build needs both
     for target, name in NATIVE.rust.items():
-        yield File(f"library/rust/lib/{target}/{name}", (TOP / "library/c" / name).read_bytes())
+        yield File(f"library/rust/lib/{target}/{name}", (made / name).read_bytes())

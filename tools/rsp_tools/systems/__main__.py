@@ -4,7 +4,9 @@ for all other systems than Linux on x86-64 with glibc:
 {systems}
 
 Each is a folder library/systems/SYSTEM. wasm64 also makes library/systems/page, files that answer scripts in
-a browser. The libraries for C come with files for pkg-config and CMake, and with the Python wheel.
+a browser; both take compiled/rsp.wasm, in a second and without the kit. The libraries for C come with files
+for pkg-config and CMake, and with the Python wheel. RSP_OUT of the environment names another folder than
+library, by its whole path.
 
 It needs the kit, and packages of Debian that it names. It first proves the library, and for another Linux the
 program, if they aren't proved (tools/build). Each system takes some minutes of processor. The same sources of
@@ -13,6 +15,7 @@ hands to clang is kept until a source changes. The status is 0 if all are made, 
 are wrong. If a system isn't made, its folder stays as it was."""
 
 import argparse
+import os
 import signal
 import sys
 import tempfile
@@ -75,7 +78,7 @@ def report(name: str) -> None:
     for made in (name, *SYSTEMS[name].more):
         print(f"{made}:")
         for path in sorted(it for it in (places.MADE / made).rglob("*") if it.is_file()):
-            print(f"  {path.stat().st_size:>9} {path.relative_to(places.TOP)}")
+            print(f"  {path.stat().st_size:>9} {os.path.relpath(path, places.TOP)}")
 
 
 def main() -> int:

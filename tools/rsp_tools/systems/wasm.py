@@ -5,11 +5,14 @@ import shutil
 from pathlib import Path
 from typing import List
 
+from rsp_tools import build
+from rsp_tools.packaging.link import STALE
+
 from . import header, places
 from .modules import Source
 from .modules import module as module_of
 from .rewriting import PSHUFB, rewritten, with_swizzle, without_processor
-from .toolchain import llvm
+from .toolchain import Refused, llvm
 
 CLANG = ["--target=wasm64-unknown-unknown", "-msimd128", "-mbulk-memory", "-ffreestanding"]
 LINUX = ["--target=x86_64-unknown-linux-gnu", "-ffreestanding"]
@@ -47,14 +50,22 @@ def link(out: Path, files: List[Path], *words: str) -> None:
     llvm("wasm-ld", "-m", "wasm64", "--no-entry", "--strip-all", *stack, *exported, *words, "-o", out, *files)
 
 
-def folder(out: Path, files: List[Path], *words: str) -> None:
-    """Writes a folder with the ES module, and the library of these files beside it."""
+def write_scripts(out: Path) -> None:
+    """Writes a folder with the ES module, which looks for rsp.wasm beside itself."""
     out.mkdir(parents=True)
     for path in sorted(SCRIPTS.iterdir()):
         shutil.copyfile(path, out / path.name)
-    link(out / "rsp.wasm", files, *words)
 
 
 def make(out: Path, at: Path, source: Source = module_of) -> None:
-    """Writes the library's folder, from the module of a source. `at` is for files on the way."""
-    folder(out, objects(at, source))
+    """Writes the library's folder: compiled/ has what the kit's module gives, and of another source it is
+    compiled here. `at` is for files on the way."""
+    if source != module_of:
+        files = objects(at, source)
+        write_scripts(out)
+        link(out / "rsp.wasm", files)
+        return
+    if not build.is_made("compiled/rsp_c.made"):
+        raise Refused(STALE)
+    write_scripts(out)
+    shutil.copyfile(places.TOP / "compiled/rsp.wasm", out / "rsp.wasm")
