@@ -56,7 +56,8 @@ typedef struct brsp_machine {
 enum brsp_status {
     BRSP_OK = 0,              /* done; after a step: one instruction was executed */
     BRSP_NO_MACHINE = 101,    /* the handle holds no machine, or no session */
-    BRSP_NO_MEMORY = 102,     /* an allocation failed */
+    BRSP_NO_MEMORY = 102,     /* an allocation failed; brsp_new, brsp_session_new: or the processor is
+                                 an x86-64 that lacks x86-64-v2 */
     BRSP_OUT_OF_RANGE = 103,  /* a number, a length or a count is out of its range */
     BRSP_HALTED = 104,        /* brsp_step, brsp_pass_move, brsp_pass_dma: the machine is halted */
     BRSP_RESERVED = 105,      /* brsp_step: the word at pc is reserved */

@@ -12,7 +12,7 @@ pub const VERSION: u32 = 1;
 #[derive(Clone, Copy, Debug, PartialEq, Eq)]
 #[non_exhaustive]
 pub enum Status {
-    /// An allocation failed.
+    /// An allocation failed, or the processor is an x86-64 that lacks x86-64-v2.
     NoMemory,
     /// A number, a length or a count is out of its range.
     OutOfRange,

@@ -102,6 +102,17 @@ def test_threads_under_a_sanitizer(folder: Path) -> None:
     assert "WARNING" not in succeeds(built(folder, HERE / "threads.c", "-pthread", "-g", SANITIZER))
 
 
+@pytest.mark.needs("qemu-x86_64")
+@pytest.mark.parametrize("processor, status", [("core2duo", 102), ("Nehalem", 0)])
+def test_older_processor(processor: str, status: int, folder: Path) -> None:
+    """The calls that make a machine return a status on a processor without x86-64-v2, and raise no signal."""
+    handles = "static uint8_t image[64]; brsp_machine m = BRSP_NONE; brsp_session b = BRSP_NONE;"
+    calls = "brsp_new(&m, image, 64, 0), brsp_session_new(&b, image, 64)"
+    (folder / "older.c").write_text(main_of(f'{handles}\nprintf("%u %u", {calls});'))
+    made = built(folder, folder / "older.c")
+    assert succeeds("qemu-x86_64", "-cpu", processor, made) == f"{status} {status}"
+
+
 @pytest.mark.needs("nm")
 @pytest.mark.parametrize("source", (EXAMPLE, HERE / "script.c"), ids=lambda it: it.stem)
 def test_a_program_pays_for_its_calls_alone(source: Path, folder: Path) -> None:
