@@ -15,7 +15,8 @@ from .rewriting import PSHUFB, rewritten, with_swizzle, without_processor
 from .toolchain import Refused, llvm
 
 CLANG = ["--target=wasm64-unknown-unknown", "-msimd128", "-mbulk-memory", "-ffreestanding"]
-LINUX = ["--target=x86_64-unknown-linux-gnu", "-ffreestanding"]
+# Without the name of the processor, because heap.c would ask it for its instruction sets.
+LINUX = ["--target=x86_64-unknown-linux-gnu", "-ffreestanding", "-U__x86_64__"]
 CHANGES = [without_processor, with_swizzle]
 SCRIPTS = places.TOP / "library" / "js"
 # The library, the kit's functions of the heap, and what these need.
