@@ -87632,15 +87632,52 @@ LJTI141_0:
 _rattle_alloc:
 	pushq	%rbp
 	movq	%rsp, %rbp
+	pushq	%rbx
+	pushq	%rax
+	movl	_is_able.known(%rip), %eax
+	testl	%eax, %eax
+	je	LBB142_1
+	cmpl	$1, %eax
+	jne	LBB142_5
+LBB142_6:
 	testq	%rdi, %rdi
-	cmoveq	%rsi, %rdi
+	cmovneq	%rdi, %rsi
+	movq	%rsi, %rdi
 	callq	_malloc
+	jmp	LBB142_7
+LBB142_1:
+	movl	$1, %eax
+	xorl	%ecx, %ecx
+	## InlineAsm Start
+	cpuid
+	## InlineAsm End
+	notl	%ecx
+	movl	$2, %eax
+	testl	$9970177, %ecx
+	jne	LBB142_3
+	xorl	%ecx, %ecx
+	movl	$-2147483647, %eax
+	## InlineAsm Start
+	cpuid
+	## InlineAsm End
+	andl	$1, %ecx
+	movl	$2, %eax
+	subl	%ecx, %eax
+LBB142_3:
+	movl	%eax, _is_able.known(%rip)
+	cmpl	$1, %eax
+	je	LBB142_6
+LBB142_5:
+	xorl	%eax, %eax
+LBB142_7:
 	xorl	%ecx, %ecx
 	testq	%rax, %rax
 	setne	%cl
 	leaq	_nothing(%rip), %rdx
 	cmovneq	%rax, %rdx
 	movq	%rcx, %rax
+	addq	$8, %rsp
+	popq	%rbx
 	popq	%rbp
 	retq
 
@@ -88580,6 +88617,7 @@ l_static.132:
 	.ascii	"33 NotText"
 
 .zerofill __DATA,__bss,_nothing,1,0
+.zerofill __DATA,__bss,_is_able.known,4,2
 	.p2align	2, 0x0
 "l_switch.table.rsp_dis::text::text_of":
 	.long	0

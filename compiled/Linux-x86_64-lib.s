@@ -88145,17 +88145,50 @@ brsp_write:
 	.p2align	4
 	.type	rattle_alloc,@function
 rattle_alloc:
-	pushq	%rax
+	pushq	%rbx
+	movl	is_able.known(%rip), %eax
+	testl	%eax, %eax
+	je	.Lheap_BB0_1
+	cmpl	$1, %eax
+	jne	.Lheap_BB0_5
+.Lheap_BB0_6:
 	testq	%rdi, %rdi
-	cmoveq	%rsi, %rdi
+	cmovneq	%rdi, %rsi
+	movq	%rsi, %rdi
 	callq	malloc@PLT
+	jmp	.Lheap_BB0_7
+.Lheap_BB0_1:
+	movl	$1, %eax
+	xorl	%ecx, %ecx
+	#APP
+	cpuid
+	#NO_APP
+	notl	%ecx
+	movl	$2, %eax
+	testl	$9970177, %ecx
+	jne	.Lheap_BB0_3
+	xorl	%ecx, %ecx
+	movl	$-2147483647, %eax
+	#APP
+	cpuid
+	#NO_APP
+	andl	$1, %ecx
+	movl	$2, %eax
+	subl	%ecx, %eax
+.Lheap_BB0_3:
+	movl	%eax, is_able.known(%rip)
+	cmpl	$1, %eax
+	je	.Lheap_BB0_6
+.Lheap_BB0_5:
+	xorl	%eax, %eax
+.Lheap_BB0_7:
 	xorl	%ecx, %ecx
 	testq	%rax, %rax
 	setne	%cl
 	leaq	nothing(%rip), %rdx
 	cmovneq	%rax, %rdx
 	movq	%rcx, %rax
-	popq	%rcx
+	popq	%rbx
 	retq
 .Lheap_func_end0:
 	.size	rattle_alloc, .Lheap_func_end0-rattle_alloc
@@ -88189,4 +88222,7 @@ rattle_dealloc:
 	.type	nothing,@object
 	.local	nothing
 	.comm	nothing,1,1
+	.type	is_able.known,@object
+	.local	is_able.known
+	.comm	is_able.known,4,4
 	.section	".note.GNU-stack","",@progbits

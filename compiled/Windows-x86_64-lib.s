@@ -88042,17 +88042,54 @@ brsp_write:
 	.endef
 	.p2align	4
 rattle_alloc:
-	subq	$40, %rsp
-	testq	%rcx, %rcx
-	cmoveq	%rdx, %rcx
+	pushq	%rbx
+	subq	$32, %rsp
+	movq	%rdx, %r8
+	movq	%rcx, %r9
+	movl	is_able.known(%rip), %eax
+	testl	%eax, %eax
+	je	.LBB142_1
+	cmpl	$1, %eax
+	jne	.LBB142_5
+.LBB142_6:
+	testq	%r9, %r9
+	cmovneq	%r9, %r8
+	movq	%r8, %rcx
 	callq	malloc
+	jmp	.LBB142_7
+.LBB142_1:
+	movl	$1, %eax
+	xorl	%ecx, %ecx
+	#APP
+	cpuid
+	#NO_APP
+	notl	%ecx
+	movl	$2, %eax
+	testl	$9970177, %ecx
+	jne	.LBB142_3
+	xorl	%ecx, %ecx
+	movl	$-2147483647, %eax
+	#APP
+	cpuid
+	#NO_APP
+	andl	$1, %ecx
+	movl	$2, %eax
+	subl	%ecx, %eax
+.LBB142_3:
+	movl	%eax, is_able.known(%rip)
+	cmpl	$1, %eax
+	je	.LBB142_6
+.LBB142_5:
+	xorl	%eax, %eax
+.LBB142_7:
 	xorl	%ecx, %ecx
 	testq	%rax, %rax
 	setne	%cl
 	leaq	nothing(%rip), %rdx
 	cmovneq	%rax, %rdx
 	movq	%rcx, %rax
-	addq	$40, %rsp
+	addq	$32, %rsp
+	popq	%rbx
 	retq
 
 	.def	rattle_realloc;
@@ -88976,6 +89013,7 @@ rattle_dealloc:
 	.ascii	"33 NotText"
 
 	.lcomm	nothing,1
+	.lcomm	is_able.known,4,4
 	.p2align	2, 0x0
 ".Lswitch.table.rsp_dis::text::text_of":
 	.long	0
