@@ -94,8 +94,12 @@ class Copy:
     def check(self, only: Iterable[str]) -> str:
         """Checks these modules, and returns the output. `rt ci` leaves all libraries, but without stamps."""
         command, libraries = ["rt", "check"], [*map(crates.library, crates.with_below("rsp_routines")[:-1])]
-        is_of_gate = not any((path / "stamp").exists() for path in libraries)
-        if is_of_gate and all((path / f"{path.parent.parent.name}.rlib").exists() for path in libraries):
+        is_built = all((path / f"{path.parent.parent.name}.rlib").exists() for path in libraries)
+        if not is_built and "CI" not in os.environ:
+            pytest.skip(
+                "the crates below rsp_routines aren't proved here: `rt all check` takes some half an hour"
+            )
+        if is_built and not any((path / "stamp").exists() for path in libraries):
             command = [*build.over_libraries("check", "rsp_routines"), "src/lib.rt", "--jobs", "1"]
         words = [word for name in only for word in ("--only", name)]
         return run(*command, *words, cwd=self.crate, timeout=LONGEST).stdout
