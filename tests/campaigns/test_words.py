@@ -1,6 +1,7 @@
 """Wrong arguments of the commands of conformance/ (wrong_words.tsv), each of which one sentence answers."""
 
 import json
+import shutil
 from pathlib import Path
 
 import pytest
@@ -49,12 +50,17 @@ def test_vectors(words: str, sentence: str, files: Path, program: Path, library:
 
 @pytest.mark.parametrize("tool", ["generate", "run"])
 def test_no_program(tool: str, folder: Path) -> None:
-    """In a clone whose program isn't made they say in a line why it can't be."""
+    """In a repository without its assembly they say in a line why there is no program."""
+    for name in "conformance/rsp_conformance", "library/python", "tools":
+        shutil.copytree(TOP / name, folder / name, ignore=shutil.ignore_patterns("out", "__pycache__"))
+    for name in "rsp", f"conformance/{tool}":
+        shutil.copy(TOP / name, folder / name)
+    (folder / "conformance/vectors").symlink_to(TOP / "conformance/vectors")
+    (folder / "compiled").mkdir()
     words = [folder / "new"] if tool == "generate" else []
-    env = {"PATH": "/usr/bin:/bin", "CC": "none", "RSP_OUT": str(folder)}
-    ended = run(TOP / "conformance" / tool, *words, cwd=folder, env=env)
+    ended = run(folder / "conformance" / tool, *words, cwd=folder, env={"PATH": "/usr/bin:/bin"})
     assert (ended.returncode, ended.stdout.count("\n")) == (1, 1), ended.stdout
-    assert "there is no none" in ended.stdout
+    assert "compiled/ has no assembly" in ended.stdout
 
 
 @pytest.mark.needs("cc", "python:numpy")

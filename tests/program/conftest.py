@@ -8,7 +8,6 @@ import pytest
 from rsp_tools.targets import CROSS
 
 THROUGH_LINKS = "on Linux, where it is only tested, it writes through links"
-NOT_KILLED = "it ignores the signal of the limit, which the program that rt links can't"
 LIMITED = "a limit of the size of files stops wine's own server"
 NO_TEXT = "wine makes UTF-16 of any bytes; half of a pair is tested by itself"
 FOREIGN_CALLS = "the calls that are made to fail are those of shared libraries of Linux on x86-64"
@@ -16,15 +15,14 @@ LINUX = [it.name for it in CROSS if it.is_linux]
 # The tests of each system that must fail, by the beginning of their names.
 LEFT_OUT: Dict[str, Dict[str, str]] = {
     "native": {
-        "saves.py::test_killed_by_the_limit": NOT_KILLED,
         "saves.py::test_link_no_room": THROUGH_LINKS,
         "saves.py::test_calls_of_the_system_fail": THROUGH_LINKS,
     },
-    **{it: {"saves.py::test_killed_by_the_limit": NOT_KILLED} for it in ("archive", *LINUX)},
+    **{it: {} for it in ("archive", *LINUX)},
     "windows-x86_64": {
         "scripts.py::test_refused[run --save \\": NO_TEXT,
         "saves.py::test_no_room[": LIMITED,
-        "saves.py::test_killed_by_the_limit": LIMITED,
+        "saves.py::test_left_by_a_killed_run": LIMITED,
         "saves.py::test_limit": LIMITED,
         "saves.py::test_link_no_room": LIMITED,
         "saves.py::test_link_to_nothing": "wine shows no link that leads to nothing",

@@ -53,7 +53,7 @@ class Cluster(Threads):
             from distributed import Client
 
             with warnings.catch_warnings(record=True):  # check_versions says it in a sentence
-                self.client = Client(address)
+                self.client: Any = Client(address)
         except ImportError:
             how = "apt-get install python3-distributed (or pip install distributed)"
             raise CampaignFault(f"{sys.executable} has no Dask: {how}") from None
@@ -78,8 +78,8 @@ class Cluster(Threads):
                     raise CampaignFault(f"{worker} has {name} {other}, and the campaign has {ours[name]}")
 
     def start(self, *call: Any) -> "Future[Any]":
-        how = {"input": json.dumps([os.getcwd(), *call]), "check": True, "capture_output": True, "text": True}
-        return self.executor.submit(subprocess.run, COMMAND, **how)
+        how: Any = {"input": json.dumps([os.getcwd(), *call]), "check": True, "capture_output": True}
+        return self.executor.submit(subprocess.run, COMMAND, text=True, **how)
 
     def result_of(self, ended: "Future[Any]") -> Union[Result, str]:
         """The result of a task, or why the cluster has lost it. A fault of a worker that all its tasks would
