@@ -23,7 +23,7 @@ from lib.script_cases import ScriptCase, all_cases, faults_in
 LONGEST_IMAGE = 8388608
 LONGEST_SCRIPT = 1048576
 STEP, STEPPED = b"step\n", b"step Done pc 004\n"
-LACKS = b"rsp: this processor lacks a feature of x86-64-v2"
+LACKS = b"rsp: this processor lacks a feature of x86-64-v2, such as SSE4.2 or POPCNT"
 
 
 @contextmanager
@@ -301,5 +301,7 @@ def test_older_processor(program: Path) -> None:
     """A Core 2 has no SSE4.2 and no POPCNT."""
     if program.read_bytes()[:4] != b"\x7fELF":
         pytest.skip("the program is no binary")
+    if program.name.startswith("rsp_main"):
+        pytest.skip("the kit links this program, with a sentence of its own")
     result = run_program("qemu-x86_64", ["-cpu", "core2duo", program, "run"], STEP)
-    assert result == (127, b"", LACKS + b", such as SSE4.2 or POPCNT, without which rsp can't run\n")
+    assert result == (127, b"", LACKS + b", without which rsp can't run\n")
