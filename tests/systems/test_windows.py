@@ -64,11 +64,11 @@ def test_needs(made: Path, name: str) -> None:
 
 
 @pytest.mark.needs(TARGET.compiler)
-def test_program_checks_its_buffers(folder: Path) -> None:
-    """By the words that rsp.exe is compiled with, a file of it calls what checks buffers."""
-    words = [*hardening.words(TARGET.name, "compile"), "-O2", f"-I{places.HEADER.parent}"]
-    succeeds(TARGET.compiler, *words, "-c", "-o", folder / "made.o", places.PROGRAM / "messages.c")
-    assert re.search(r"(?m) U __\w+_chk$", succeeds("x86_64-w64-mingw32-nm", folder / "made.o"))
+def test_program_checks_its_stack(folder: Path) -> None:
+    """By the words that rsp.exe is compiled with, its C checks its stack."""
+    words = [*hardening.words(TARGET.name, "compile"), "-O2"]
+    succeeds(TARGET.compiler, *words, "-c", "-o", folder / "made.o", places.PARTS / TARGET.start)
+    assert re.search(r"(?m) U __stack_chk_fail$", succeeds("x86_64-w64-mingw32-nm", folder / "made.o"))
 
 
 @on("windows-x86_64")

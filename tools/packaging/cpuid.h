@@ -5,6 +5,15 @@
 #include <string.h>
 #include <unistd.h>
 
+#ifdef _WIN32 /* a program shows no names there, and posix_windows.c writes */
+#define HIDDEN
+#define write_bytes posix_write
+ssize_t posix_write(int file, const void *from, size_t len);
+#else
+#define HIDDEN __attribute__((visibility("hidden")))
+#define write_bytes write
+#endif
+
 /* glibc's struct cpuid_feature: eax, ebx, ecx and edx of a leaf, as the processor says them, and what of them can be used. */
 struct features {
     unsigned said[4], usable[4];
@@ -12,7 +21,7 @@ struct features {
 
 /* main asks for leaf 1 (number 0) and leaf 0x80000001 (number 2). What it tests of them, SSE3 to SSE4.2, CMPXCHG16B, POPCNT and LAHF, can be used where
  * the processor has it. Nothing is said to be usable of other leaves, which may need the system too. */
-__attribute__((visibility("hidden"))) const struct features *__x86_get_cpuid_feature_leaf(unsigned number)
+HIDDEN const struct features *__x86_get_cpuid_feature_leaf(unsigned number)
 {
     static struct features found[3];
     static const unsigned leaves[3] = {1, 0, 0x80000001};
@@ -25,10 +34,10 @@ __attribute__((visibility("hidden"))) const struct features *__x86_get_cpuid_fea
 
 /* glibc's other name of write, by which main says that the processor is too old. Its sentence goes on with an option of the kit, which who runs the
  * program doesn't have. */
-__attribute__((visibility("hidden"))) ssize_t __write(int file, const void *from, size_t len)
+HIDDEN ssize_t __write(int file, const void *from, size_t len)
 {
     static const char theirs[] = "this machine lacks a feature of x86-64-v2";
     static const char ours[] = "rsp: this processor lacks a feature of x86-64-v2, such as SSE4.2 or POPCNT, without which rsp can't run\n";
-    if (len < sizeof theirs || memcmp(from, theirs, sizeof theirs - 1) != 0) return write(file, from, len);
-    return write(file, ours, sizeof ours - 1);
+    if (len < sizeof theirs || memcmp(from, theirs, sizeof theirs - 1) != 0) return write_bytes(file, from, len);
+    return write_bytes(file, ours, sizeof ours - 1);
 }

@@ -30,7 +30,7 @@ from rsp_tools.record import made_of, record
 from rsp_tools.systems import places, wasm
 from rsp_tools.systems.modules import LIBRARY, PROGRAM, Crate, Module, module
 from rsp_tools.systems.objects import common, compiled, for_linux
-from rsp_tools.systems.rewriting import with_unwind_tables, without_stack_probes
+from rsp_tools.systems.rewriting import with_own_calls, with_unwind_tables, without_stack_probes
 from rsp_tools.systems.toolchain import Refused
 from rsp_tools.systems.windows import GNU
 from rsp_tools.targets import PROCESSORS, TARGETS
@@ -38,27 +38,28 @@ from rsp_tools.targets import PROCESSORS, TARGETS
 NAME = "tools/assemble"
 COMPILED = TOP / "compiled"
 CRATES = (PROGRAM, LIBRARY)
+ASSEMBLED = ("linux-x86_64", "linux-aarch64", "windows-x86_64", "macos")
 TOPS = [crate.name for crate in CRATES]
 Files = Dict[str, bytes]  # by their names in compiled/
 
 
 def triples(crate: Crate) -> Dict[str, Tuple[str, str]]:
     """The processor and clang's triple of each file of a crate, by the file's name."""
-    targets = [TARGETS[name] for name in crate.targets.split()]
     return {
         f"{target.cmake[0]}-{triple.partition('-')[0]}-{crate.end}.s": (processor, triple)
-        for target in targets
+        for target in map(TARGETS.__getitem__, ASSEMBLED)
         for processor, triple in target.triples.items()
     }
 
 
-def for_other(made: Module, processor: str, triple: str, at: Path) -> str:
+def for_other(made: Module, crate: Crate, processor: str, triple: str, at: Path) -> str:
     """For a system that the kit doesn't know. For Windows GNU's assembler can't read a section for each
     function."""
-    flags, changes = [*made.flags, "-fno-verbose-asm"], []
+    flags = [*made.flags, "-fno-verbose-asm"]
+    changes = [with_own_calls] if crate == PROGRAM else []
     if triple == GNU:
         flags = [it for it in flags if not it.endswith("-sections")]
-        changes = [without_stack_probes, with_unwind_tables]
+        changes += [without_stack_probes, with_unwind_tables]
     return common(compiled(made._replace(flags=flags), processor, triple, at, changes, kind="-S"))
 
 
@@ -68,7 +69,7 @@ def assembly(crate: Crate, processor: str, triple: str) -> bytes:
     with tempfile.TemporaryDirectory() as at:
         if triple == PROCESSORS[processor].triple:
             return for_linux(made, triple, Path(at)).encode()
-        return for_other(made, processor, triple, Path(at)).encode()
+        return for_other(made, crate, processor, triple, Path(at)).encode()
 
 
 def web() -> bytes:

@@ -36,7 +36,7 @@ class Target(NamedTuple):
     tested: str = ""  # where its tests were run
     ending: str = "tar.gz"  # of the archive's file
     triples: Mapping[str, str] = {}  # what clang calls the system, for each processor
-    # Of a Linux: the file of rsp_tools/systems by which the program begins, and the words that link it.
+    # The file of rsp_tools/systems by which the program begins, and the words that link it.
     start: str = ""
     linked: str = ""
     # Below the system's folder:
@@ -127,6 +127,9 @@ CROSS: Tuple[Target, ...] = (
         tested="under wine, not on Windows",
         ending="zip",
         triples={"x86_64": "x86_64-w64-windows-gnu"},
+        start="posix_windows.c",
+        # With as much stack as on Linux, and without the time of the link.
+        linked="-municode -static -Wl,--stack,8388608,--no-insert-timestamp",
         shared="bin/brsp.dll",
         program="bin/rsp.exe",
         rust={"x86_64-pc-windows-gnu": "libbrsp.a", "x86_64-pc-windows-msvc": "brsp_static.lib"},
@@ -144,11 +147,12 @@ CROSS: Tuple[Target, ...] = (
     Target(
         name="macos",
         title="macOS 11 on ARM and x86-64-v2",
-        holds="`libbrsp.dylib` and `libbrsp.a` for both processors; no program",
-        tested="on Linux, never on a Mac: the code was taken out of the dylib, and the code for ARM ran in "
-        "qemu-aarch64",
+        holds="`rsp`, `libbrsp.dylib` and `libbrsp.a`, each for both processors",
+        tested="on Linux, never on a Mac: their code was taken out, and the code for ARM ran in qemu-aarch64",
         triples={"x86_64": "x86_64-apple-macosx11.0.0", "aarch64": "arm64-apple-macosx11.0.0"},
+        start="posix_macos.c",
         shared="lib/libbrsp.dylib",
+        program="bin/rsp",
         rust={"aarch64-apple-darwin": "libbrsp.a", "x86_64-apple-darwin": "libbrsp.a"},
         cmake=("Darwin", "x86_64|arm64"),
         python="darwin",

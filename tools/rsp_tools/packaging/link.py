@@ -9,22 +9,27 @@ from typing import Optional
 
 from rsp_tools import TOP, build, hardening, targets
 from rsp_tools.systems import places
-from rsp_tools.systems.toolchain import Refused, call
+from rsp_tools.systems.toolchain import Refused, Word, call
+from rsp_tools.targets import Target
 
 STALE = "compiled/ isn't made of the sources as they are: tools/assemble makes it"
 
 
-def linked_program() -> Optional[bytes]:
-    """The program for any Linux of this kind, which needs no newer C library than its start file says; None
-    if compiled/ isn't made of the sources as they are. The same input gives the same bytes."""
+def linked_program(target: Optional[Target] = None, *more: Word) -> Optional[bytes]:
+    """The program for a Linux or Windows, or for any Linux of the kind of this one, which needs no newer C
+    library than its start file says; None if compiled/ isn't made of the sources as they are. The same input
+    gives the same bytes."""
     if not build.is_made("compiled/rsp_main.made"):
         return None
-    target, compiler = targets.here(), shlex.split(os.environ.get("CC", "cc"))
+    compiler = [target.compiler] if target else shlex.split(os.environ.get("CC", "cc"))
+    target = target or targets.here()
     with tempfile.TemporaryDirectory() as folder:
-        words = ["-O2", *target.linked.split(), "-Wl,-z,defs,--gc-sections", *hardening.words(target.name)]
-        parts = places.PARTS / target.start, TOP / f"compiled/Linux-{target.processor}-rsp.s"
-        call(*compiler, *words, "-o", f"{folder}/rsp", *parts)
-        return Path(folder, "rsp").read_bytes()
+        made = Path(folder, Path(target.program).name)
+        words = ["-O2", *target.linked.split(), "-Wl,--gc-sections", *["-Wl,-z,defs"] * target.is_linux]
+        words += hardening.words(target.name)
+        parts = places.PARTS / target.start, TOP / f"compiled/{target.cmake[0]}-{target.processor}-rsp.s"
+        call(*compiler, *words, "-o", made, *parts, *more)
+        return made.read_bytes()
 
 
 def library(**environment: str) -> Path:

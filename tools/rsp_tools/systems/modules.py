@@ -34,12 +34,11 @@ Source = Callable[[str], Module]
 
 class Crate(NamedTuple):
     """A crate of which there are modules, with the words of `rattle build` for it; and of its files in
-    compiled/ how their names end, for which targets there are some, and the C in them."""
+    compiled/ how their names end, and the C in them."""
 
     name: str
     words: str
     end: str
-    targets: str
     parts: str
 
     @property
@@ -49,14 +48,8 @@ class Crate(NamedTuple):
 
 # git looks for the version before among files whose names have the same last letters, so no two files may
 # have those (tests/install/test_assembled.py).
-PROGRAM = Crate("rsp_main", "src/main.rt", "rsp", "linux-x86_64 linux-aarch64", "heap.c")
-LIBRARY = Crate(
-    "rsp_c",
-    "src/lib.rt --crate-type staticlib",
-    "lib",
-    "linux-x86_64 linux-aarch64 windows-x86_64 macos",
-    "heap.c allocator.c memory_wasm.c",
-)
+PROGRAM = Crate("rsp_main", "src/main.rt", "rsp", "heap.c")
+LIBRARY = Crate("rsp_c", "src/lib.rt --crate-type staticlib", "lib", "heap.c allocator.c memory_wasm.c")
 
 
 def mark(crate: Crate) -> str:

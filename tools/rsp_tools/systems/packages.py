@@ -5,15 +5,28 @@ from pathlib import Path
 from typing import Iterable, Sequence
 
 import wheels
-from rsp_tools.packaging import install_tree, repository
+from rsp_tools.packaging import install_tree, link, repository
 from rsp_tools.packaging.install_tree import File
 from rsp_tools.targets import Target
+
+from .toolchain import Refused, Word
 
 
 def write(out: Path, files: Iterable[File]) -> None:
     """Writes files below a folder."""
     for file in files:
         file.write(out / file.name)
+
+
+def program(out: Path, target: Target, *more: Word) -> Path:
+    """Writes the proved program for a Linux or Windows, of compiled/, by the compiler of its target."""
+    made, path = link.linked_program(target, "-s", *more), out / target.program
+    if not made:
+        raise Refused(link.STALE)
+    path.parent.mkdir(exist_ok=True)
+    path.write_bytes(made)
+    path.chmod(0o755)
+    return path
 
 
 def describe(

@@ -48,6 +48,14 @@ def with_swizzle(text: str) -> str:
     return text.replace(f"@{PSHUFB}(", "@rsp.shuffled(") + SHUFFLED
 
 
+def with_own_calls(text: str) -> str:
+    """The program calls what Linux has, with Linux's numbers, and other systems call other things by these
+    names. So here each has a name of its own, as main has, which the system's C defines or calls."""
+    names = {*re.findall(r"(?m)^declare .*@([a-z]\w+)\(", text)} - {"memcpy", "memmove", "memset"}
+    names = {it for it in names if not it.startswith("rattle_")} | {"main"}
+    return re.sub(rf"@({'|'.join(sorted(names))})\(", r"@posix_\1(", text)
+
+
 def rewritten(text: str, known: AbstractSet[str], changes: Iterable[Change] = ()) -> str:
     """A module after the changes. Refused if it has an intrinsic of a processor that no rule names."""
     intrinsics = {*re.findall(r"@(llvm\.(?:x86|aarch64|arm|wasm)\.[\w.]+)", text)}

@@ -1,13 +1,13 @@
 """The library for Windows on x86-64: the module of Linux on the same processor, compiled for mingw and for
 MSVC. One brsp.dll is for both, because no call takes or returns what belongs to a C library, such as a FILE;
-each has an import library and a static one. Then the program over it."""
+each has an import library and a static one. Then the proved program, of compiled/."""
 
 from pathlib import Path
 
 from rsp_tools import hardening
 from rsp_tools.targets import TARGETS
 
-from . import header, packages, places, program
+from . import header, packages, places
 from .modules import Source, module
 from .objects import compiled
 from .rewriting import with_unwind_tables, without_stack_probes
@@ -43,13 +43,6 @@ def link_dll(to: Path, at: Path, made: Path, exports: Path) -> None:
     call(TARGET.compiler, *words, "-o", to, made, properties, exports)
 
 
-def link_program(to: Path, at: Path, library: Path) -> None:
-    """Links rsp.exe over the static library."""
-    properties = resources(at, to.name, "VFT_APP")
-    words = ["-municode", "-static", SAME, SMALL, *hardening.words(TARGET.name)]
-    program.link(TARGET.compiler, "windows.c", to, library, properties, *words)
-
-
 def make(out: Path, at: Path, source: Source = module) -> None:
     """Writes the library's folder, from the modules of a source. `at` is for files on the way."""
     made = source("x86_64")
@@ -65,6 +58,6 @@ def make(out: Path, at: Path, source: Source = module) -> None:
     llvm("llvm-lib", "/machine:x64", f"/def:{exports}", f"/out:{out}/lib/brsp.lib")
     llvm("llvm-ar", "rcsD", out / "lib" / "libbrsp.a", gnu)
     llvm("llvm-ar", "rcsD", "--format=coff", out / "lib" / "brsp_static.lib", msvc)
-    link_program(out / "bin" / "rsp.exe", at, out / "lib" / "libbrsp.a")
+    program = packages.program(out, TARGET, resources(at, "rsp.exe", "VFT_APP"))
     packages.describe(out, TARGET, rpath="")
-    packages.wheel(out, out / "bin" / "brsp.dll", "brsp.dll", TARGET.wheel, out / "bin" / "rsp.exe")
+    packages.wheel(out, out / "bin" / "brsp.dll", "brsp.dll", TARGET.wheel, program)
