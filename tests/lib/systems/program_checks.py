@@ -29,11 +29,12 @@ LINES = 400
 GIVEN = {"a": b"x: j x\nnop\n", "b": bytes(64)}
 
 
-def started(runner: Runner, folder: Path) -> Path:
-    """A script of the shell that runs a system's program as if it were one of this system."""
+def started(runner: Runner, folder: Path, program: Optional[Path] = None) -> Path:
+    """A script of the shell that runs a program of a system as if it were one of this system."""
+    runner.hold()
     unset = [f"-u{name}" for name in os.environ if name not in runner.env]
     changed = [f"{name}={value}" for name, value in runner.env.items() if os.environ.get(name) != value]
-    command = ["env", *unset, *changed, *runner.start, f"{runner.folder}/bin/rsp{runner.ending}"]
+    command = ["env", *unset, *changed, *runner.start, str(program or runner.rsp)]
     to = folder / "rsp"
     to.write_text(f'#!/bin/sh\nexec {shlex.join(command)} "$@"\n')
     to.chmod(0o755)

@@ -3,14 +3,17 @@
 import os
 import re
 import shutil
+import subprocess
 from pathlib import Path
-from typing import Dict, List, Optional, Tuple
+from typing import Any, Dict, List, Optional, Tuple
 
-from lib import cmake
+from lib import TESTS, TOP, cmake
 from lib.library import LOCKSTEP
 from lib.packages import need
 from lib.processes import Ended, run, succeeds
 from lib.systems import macho
+from rsp_tools.systems import macos, places
+from rsp_tools.systems.toolchain import llvm
 from rsp_tools.targets import CROSS, NATIVE, PROCESSORS, TARGETS, Target
 
 STRICT = ("-std=c99", "-O2", "-Wall", "-Wextra", "-Werror")
@@ -95,6 +98,21 @@ class Runner:
         succeeds(self.compiler, *options, *(self.static() if library is None else library))
         return made
 
+    @property
+    def rsp(self) -> Path:
+        """The proved program."""
+        return self.folder / self.target.program
+
+    def assembly(self) -> Path:
+        """That of the proved program."""
+        return TOP / f"compiled/{self.target.cmake[0]}-{self.target.processor}-rsp.s"
+
+    def hold(self) -> None:
+        """Keeps what is started anew for each run of a program, and takes more time than the run."""
+
+    def release(self) -> None:
+        """Ends what is kept."""
+
     def run(self, program: Path, *words: object) -> "Ended[str]":
         """Runs a program in the folder of the tests."""
         return run(*self.start, program, *words, cwd=self.at, env=self.env, timeout=LONGEST)
@@ -113,13 +131,35 @@ class Windows(Runner):
     """Windows on x86-64, under wine, whose files are in a folder of their own."""
 
     threads = ("-pthread", "-static")
+    waiting: "Optional[subprocess.Popen[bytes]]" = None
 
     def __init__(self, name: str, folder: Path, at: Path) -> None:
         super().__init__(name, folder, at)
         self.env.pop("DISPLAY", None)
         without = "mscoree,mshtml,winemenubuilder.exe="
         self.env.update(WINEPREFIX=str(at / "wine"), WINEDEBUG="-all", WINEDLLOVERRIDES=without)
-        run("wineboot", "--init", env=self.env)
+        run("wineboot", "--init", env=self.env, stdout=subprocess.DEVNULL)
+
+    def hold(self) -> None:
+        """Keeps wine's server, and what belongs to it, by a program that waits for its input. What belongs to
+        the server has the streams of the run that starts it."""
+        if not self.waiting:
+            command, none = [*self.start, str(self.rsp)], subprocess.DEVNULL
+            streams: Dict[str, Any] = {"stdout": none, "stderr": none, "env": self.env}
+            self.waiting = subprocess.Popen([*command, "run"], stdin=subprocess.PIPE, **streams)
+            subprocess.run([*command, "--version"], stdin=none, check=True, **streams)
+
+    def release(self) -> None:
+        if self.waiting:
+            self.waiting.communicate()
+            self.waiting = None
+        run("wineserver", "-w", env=self.env)
+
+    def linked(self, name: str, *parts: Path) -> Path:
+        """A program of posix_windows.c and these parts."""
+        made, words = self.at / f"{name}.exe", ["-O2", *self.target.linked.split()]
+        succeeds(self.compiler, *words, "-o", made, places.PARTS / self.target.start, *parts)
+        return made
 
     def shared(self) -> List[str]:
         # Windows looks for a library beside the program.
@@ -127,16 +167,41 @@ class Windows(Runner):
         return [f"-L{self.folder}/lib", "-lbrsp"]
 
     def stop(self) -> None:
+        self.release()
         run("wineserver", "-k", env=self.env)
 
 
 class MacOS(Runner):
-    """The code of libbrsp.dylib for a processor, which ends the name, on Linux. Nothing here runs programs of
-    macOS."""
+    """The code of libbrsp.dylib and of the program for a processor, which ends the name, on Linux. Nothing
+    here runs programs of macOS."""
 
     def __init__(self, name: str, folder: Path, at: Path) -> None:
         super().__init__(name, folder, at)
-        self.code = macho.taken_out(folder / self.target.shared, name.partition("-")[2], at)
+        self.architecture = name.partition("-")[2]
+        self.code = macho.taken_out(folder / self.target.shared, self.architecture, at)
+
+    def for_linux(self, program: Path, to: Path) -> Path:
+        """The code of a program over libsystem_on_linux.c."""
+        at = to.with_suffix(".parts")
+        at.mkdir(exist_ok=True)
+        words = macho.taken_out(program, self.architecture, at)
+        succeeds(self.compiler, "-O1", "-o", to, *words, TESTS / "systems/libsystem_on_linux.c")
+        return to
+
+    def assembly(self) -> Path:
+        return TOP / f"compiled/{self.target.cmake[0]}-{self.architecture}-rsp.s"
+
+    @property
+    def rsp(self) -> Path:
+        made = self.at / "rsp"
+        return made if made.exists() else self.for_linux(self.folder / self.target.program, made)
+
+    def linked(self, name: str, *parts: Path) -> Path:
+        """A program of posix_macos.c and these parts."""
+        triple = next(it for it in self.target.triples.values() if it.startswith(self.architecture))
+        made = macos.link_program(self.at / f"{name}.macho", triple, *parts)
+        llvm("llvm-lipo", "-create", made, "-output", made.with_suffix(".fat"))
+        return self.for_linux(made.with_suffix(".fat"), self.at / name)
 
     @property
     def host(self) -> Target:
