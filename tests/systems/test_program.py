@@ -6,6 +6,9 @@ from typing import Any
 
 import pytest
 
+from lib import TOP, cmake
+from lib.processes import succeeds
+from lib.program import run_program
 from lib.systems.program_checks import check_by_tests, check_command_lines, started
 from lib.systems.target_params import COMPILED, MACOS, on
 
@@ -32,3 +35,15 @@ def test_mounts(runner: Any, folder: Path) -> None:
 def test_command_lines(runner: Any, program: Path, folder: Path) -> None:
     (folder / "lines").mkdir()
     check_command_lines(started(runner, folder), program, folder / "lines")
+
+
+@pytest.mark.needs("cmake")
+@on("windows-x86_64")
+def test_by_cmake(runner: Any, folder: Path) -> None:
+    """CMake makes rsp.exe of a clone. It answers the first example."""
+    words = [*cmake.system("Windows", "x86_64"), f"-DCMAKE_C_COMPILER={runner.compiler}"]
+    succeeds("cmake", "-S", TOP, "-B", folder / "out", *words)
+    succeeds("cmake", "--build", folder / "out", "--target", "rsp")
+    program = started(runner, folder, folder / "out/rsp.exe")
+    expected = (0, (TOP / "examples/first.out").read_bytes(), b"")
+    assert run_program(program, ["run", TOP / "examples/first.rsp"]) == expected

@@ -3,7 +3,7 @@ pages, files that are open elsewhere, and disks without room. test_posix.py ends
 
 import os
 from pathlib import Path
-from typing import Any, List
+from typing import Any, Dict, List, Optional
 
 import pytest
 
@@ -136,24 +136,17 @@ def test_full_disk(runner: Any, own: Path, folder: Path) -> None:
     assert ended.stdout == "rsp: cannot write file\n1\nfile\n"
 
 
-@ON_WINDOWS
-def test_code_page(rsp_exe: Any, runner: Any, own: Path) -> None:
-    """Names are Windows' own, in UTF-16, whichever code page the system has."""
-    env = {**os.environ, "LC_ALL": "ja_JP.UTF-8"}
-    name = "\u00fc\u8868\U0001f600.bin"
-    assert rsp_exe("asm", "source", name, env=env) == SAVED
-    assert rsp_exe("dis", f"no{name}", env=env) == (1, b"", f"rsp: cannot read no{name}\n".encode())
-    assert (own / name).read_bytes() == NEW
-
-
 @pytest.fixture
 def by_line(runner: Any, own: Path) -> Any:
     """Starts rsp.exe by a command line, as Windows passes it on, with a file that is open meanwhile."""
+    helper = runner.at / "started_windows.exe"
+    if not helper.exists():
+        runner.compile(TESTS / "systems/started_windows.c", library=[])
+    program = started(runner, own.parent, helper)
 
-    def run_line(line: str, *words: str) -> Result:
-        helper = runner.compile(TESTS / "systems/started_windows.c", library=[])
+    def run_line(line: str, *words: str, env: Optional[Dict[str, str]] = None) -> Result:
         script = line.encode("utf-16-le", "surrogatepass")
-        return run_program(started(runner, own.parent, helper), [runner.rsp, *words], script, cwd=own)
+        return run_program(program, [runner.rsp, *words], script, cwd=own, env=env)
 
     return run_line
 
@@ -175,6 +168,14 @@ LINES = {
 def test_quoting(line: str, by_line: Any) -> None:
     """The words are those that Microsoft's rules make of a line. `*` names no files."""
     assert by_line(line) == (1, b"", f"rsp: cannot read {LINES[line]}\n".encode())
+
+
+@ON_WINDOWS
+def test_code_page(by_line: Any) -> None:
+    """Arguments are Windows' own, in UTF-16, whichever code page the system has: here the Japanese one, which
+    has `\\` in the second byte of one of these. (Without that locale on Linux wine makes no such files.)"""
+    env, name = {**os.environ, "LC_ALL": "ja_JP.UTF-8"}, "\u00fc\u8868\U0001f600"
+    assert by_line(f"rsp dis {name}", env=env) == (1, b"", f"rsp: cannot read {name}\n".encode())
 
 
 @ON_WINDOWS
