@@ -229,12 +229,11 @@ static inline void brsp_compare_keep(brsp_compare_seen *to, const brsp_compare_s
     memcpy(to->bytes, from->bytes, BRSP_COMPARE_SP);
 }
 
-/* Internal: brings both sides to what was kept. */
+/* Internal: brings both sides to what was kept. A stretch has no DMA, so the machine's IMEM is as it was. */
 static inline uint32_t brsp_compare_put_both(brsp_compare_sides *s)
 {
     uint32_t status = brsp_set(s->m, &s->before.state);
-    for (uint32_t bank = 0; bank < 2 && status == BRSP_OK; bank++)
-        status = brsp_load(s->m, bank, 0, s->before.bytes + bank * 4096, 4096);
+    if (status == BRSP_OK) status = brsp_load(s->m, BRSP_DMEM, 0, s->before.bytes, 4096);
     brsp_compare_put_its(s, BRSP_COMPARE_SP, &s->before);
     brsp_compare_keep(&s->mine, &s->before);
     return status;

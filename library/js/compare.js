@@ -20,13 +20,13 @@ class FirstDifference {
   }
 }
 
-/** Copies all registers of a side, DMEM, IMEM and so many bytes of RDRAM. */
-function copy_of(side, rdram = 0) {
+/** All registers of a side, DMEM, IMEM and so many bytes of RDRAM. Those of an emulator may be its own, not copies. */
+function seen(side, rdram = 0) {
   const lengths = rdram ? [4096, 4096, rdram] : [4096, 4096];
-  return { state: side.get().copy(), memories: lengths.map((length, bank) => side.memory(bank, 0, length).slice()) };
+  return { state: side.get(), memories: lengths.map((length, bank) => side.memory(bank, 0, length)) };
 }
 
-/** Sets a side to a copy. */
+/** Sets a side to copies of what was seen. */
 function restore(side, { state, memories }) {
   side.set(state.copy());
   memories.forEach((data, bank) => side.load(bank, 0, data.slice()));
@@ -65,7 +65,7 @@ function step(machine, emulator, number, rdram = 0) {
   const before = machine.get(), [line] = machine.listing(before.pc, 1);
   if (machine.step() !== 0) return null;
   emulator.run(1);
-  const ours = copy_of(machine, rdram), theirs = copy_of(emulator, rdram);
+  const ours = seen(machine, rdram), theirs = seen(emulator, rdram);
   return is_same(ours, theirs) ? undefined : new FirstDifference(number, line, before, parts_of(ours, theirs));
 }
 
@@ -83,9 +83,9 @@ function narrowed(machine, emulator, before, first, steps, parts) {
 
 /** What both begin with, and the difference if the emulator hasn't kept it. */
 function begun(machine, emulator) {
-  const ours = copy_of(machine, machine.image_length);
+  const ours = seen(machine, machine.image_length);
   restore(emulator, ours);
-  const theirs = copy_of(emulator, machine.image_length);
+  const theirs = seen(emulator, machine.image_length);
   theirs.memories.forEach((other, bank) => {
     const { length } = ours.memories[bank];
     if (other.length === length) return;
@@ -103,13 +103,13 @@ export function first_difference(machine, emulator, every = 64, limit = 1000000)
     const made = machine.run_until_move(Math.min(every, limit - steps), 0, LENGTHS).steps;
     if (made) {
       emulator.run(made);
-      const ours = copy_of(machine), theirs = copy_of(emulator);
+      const ours = seen(machine), theirs = seen(emulator);
       if (!is_same(ours, theirs)) return narrowed(machine, emulator, before, steps + 1, made, parts_of(ours, theirs));
       before = ours;
     } else { // it is before a DMA, or can't go on
       found = step(machine, emulator, steps + 1, machine.image_length);
       if (found === null) return null;
-      before = copy_of(machine);
+      before = seen(machine);
     }
     steps += made || 1;
   }

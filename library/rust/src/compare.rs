@@ -112,11 +112,6 @@ impl Seen {
         Seen { state: emulator.get(), memories }
     }
 
-    /// The memories that were read.
-    fn read(&self) -> impl Iterator<Item = (Bank, &Vec<u8>)> {
-        BANKS.into_iter().zip(&self.memories).filter(|(_, bytes)| !bytes.is_empty())
-    }
-
     /// The quadwords in which they differ.
     fn quadwords(&self, other: &Seen) -> Vec<Quadword> {
         let mut found = Vec::new();
@@ -163,7 +158,7 @@ fn step(machine: &mut Machine, emulator: &mut impl Emulator, number: u64, rdram:
 /// Sets an emulator to what was seen.
 fn put(emulator: &mut impl Emulator, seen: &Seen) {
     emulator.set(&seen.state);
-    seen.read().for_each(|(bank, bytes)| emulator.load(bank, bytes));
+    BANKS.into_iter().zip(&seen.memories).filter(|(_, bytes)| !bytes.is_empty()).for_each(|(bank, bytes)| emulator.load(bank, bytes));
 }
 
 /// The instruction at pc.
@@ -179,10 +174,9 @@ fn narrowed(
     steps: RangeInclusive<u64>,
     stretch: FirstDifference,
 ) -> Result<FirstDifference, RspError> {
+    // A stretch has no DMA, so the machine's IMEM is as it was.
     machine.set(&before.state)?;
-    for (bank, bytes) in before.read() {
-        machine.load(bank, 0, bytes)?;
-    }
+    machine.load(Bank::Dmem, 0, &before.memories[0])?;
     put(emulator, before);
     for number in steps.clone() {
         if let Both::Differ(found) = step(machine, emulator, number, 0)? {

@@ -60,6 +60,7 @@ impl Emulator for Faulty {
     }
 
     fn load(&mut self, bank: Bank, bytes: &[u8]) {
+        assert!(!bytes.is_empty(), "{bank}");
         self.machine.load(bank, 0, bytes).unwrap();
     }
 }
@@ -72,6 +73,10 @@ fn lane(machine: &mut Machine) {
 
 fn byte(machine: &mut Machine) {
     machine.load(Bank::Dmem, 0x3f7, &[0x80]).unwrap();
+}
+
+fn byte_of_imem(machine: &mut Machine) {
+    machine.load(Bank::Imem, 0x804, &[0x80]).unwrap();
 }
 
 fn byte_of_rdram(machine: &mut Machine) {
@@ -104,6 +109,9 @@ fn a_fault_is_found_at_its_step() {
         let found = first_difference(&mut machine, &mut emulator, every, 1000).unwrap().unwrap();
         let sentence = "DMEM 3f0 is 00000000000000000000000000000000 on the machine and 00000000000000800000000000000000 in the emulator";
         assert_eq!(found.to_string(), format!("step {}, 028: addiu $2, $2, -1\n  {sentence}", step + 1));
+        let (mut machine, mut emulator) = pair(40, 17, byte_of_imem);
+        let found = first_difference(&mut machine, &mut emulator, every, 1000).unwrap().unwrap();
+        assert_eq!((found.step, found.memories.len(), found.memories[0].bank), (step + 1, 1, Bank::Imem));
     }
 }
 

@@ -90,6 +90,10 @@ fn refusals() {
     assert_eq!(refused.to_string(), "back: the history holds fewer states than 1");
     assert!(refused.source().is_none());
     assert_eq!(machine.add_break(2).unwrap_err().to_string(), "add_break: address is 2, not a multiple of 4 below 4096");
+    let refused = machine.load(Bank::Imem, 4095, &[1, 2]).unwrap_err();
+    assert_eq!(refused.to_string(), "load: the bytes from 4095 on pass the end of IMEM");
+    let refused = assemble("\x1b\u{202e}x", 0).unwrap_err().to_string();
+    assert!(refused.ends_with(r": \u{1b}\u{202e}x"), "what a terminal would obey is shown as an escape: {refused:?}");
     assert_eq!(machine.run(5).unwrap().to_string(), "5 steps to pc 014: all steps are made");
 }
 

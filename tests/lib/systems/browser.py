@@ -8,6 +8,7 @@ from http.server import SimpleHTTPRequestHandler, ThreadingHTTPServer
 from pathlib import Path
 from typing import Any, Dict, List, Optional, Tuple
 
+from lib.packages import need
 from lib.processes import Ended
 from lib.systems.runners import Runner
 from rsp_tools.systems import places, wasm
@@ -93,7 +94,7 @@ class Chromium(Runner):
     """WebAssembly in a browser. `folder` is the library's, with rsp.js. Programs in C are linked with the
     objects of which the library was linked: those of the folder `way`, or else they are made again."""
 
-    programs = ("rt", *PROGRAMS)
+    programs = PROGRAMS
 
     def __init__(self, name: str, folder: Path, at: Path) -> None:
         super().__init__(name, folder, at)
@@ -115,6 +116,7 @@ class Chromium(Runner):
         """What the library was linked of."""
         if self.way:
             return [self.way / f"{it}.o" for it in wasm.PARTS]
+        need("rt")
         (self.at / "way").mkdir()
         return wasm.objects(self.at / "way")
 

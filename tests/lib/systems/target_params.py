@@ -20,7 +20,6 @@ RUNNERS: Dict[str, Type[Runner]] = {
 LINUX = tuple(it.name for it in CROSS if it.is_linux)
 COMPILED = tuple(it.name for it in CROSS if it.compiler)  # those with a compiler, an emulator and a program
 MACOS = tuple(it for it, kind in RUNNERS.items() if kind is MacOS)
-JAVASCRIPT = ("wasm64", "wasm64-node")  # those on which the ES module runs
 OF_C = tuple(it for it in RUNNERS if it != "wasm64-node")  # those on which programs in C run
 
 

@@ -182,7 +182,7 @@ static void test_texts()
 {
     refuses(BRSP_NO_MEANING, "assemble: fault 11 UnknownName line 2: foo", [] { static_cast<void>(brsp::assemble("nop\n foo\t\nnop\n")); });
     refuses(BRSP_NO_MEANING, "assemble: fault 33 NotText", [] { static_cast<void>(brsp::assemble("\xff")); });
-    refuses(BRSP_NO_MEANING, "assemble: fault 10 BadLine line 1: \\x1b\\xc3\\xa9", [] { static_cast<void>(brsp::assemble("\x1b\xc3\xa9")); });
+    refuses(BRSP_NO_MEANING, "assemble: fault 10 BadLine line 1: \\x1b\\x7f\\xc3\\xa9", [] { static_cast<void>(brsp::assemble("\x1b\x7f\xc3\xa9")); });
     refuses(BRSP_NO_MEANING, "assemble: fault 12 BadOperand line 1: lw $1, $2; operand 2 may be a number or a label, -32768 to 65535, and a scalar register in parentheses", [] { static_cast<void>(brsp::assemble("lw $1, $2\n")); });
     refuses(BRSP_NO_MEANING, "assemble: fault 13 OutOfRange line 2: lqv $v1[0], 0x460($0); operand 2 may be -1024 to 1008, a multiple of 16", [] { static_cast<void>(brsp::labels("nop\nlqv $v1[0], 0x460($0)\n")); });
     refuses(BRSP_NO_MEANING, "assemble: fault 15 LabelMissing line 1: j nowhere; operand 1 may be the label of a line, or 0 to 4092, a multiple of 4", [] { static_cast<void>(brsp::assemble("j nowhere\n")); });
@@ -212,13 +212,13 @@ static void test_sessions()
     refuses(BRSP_NO_MACHINE, "end: the session is gone: it was moved from", [&] { static_cast<void>(session.end()); });
 }
 
-// An emulator whose SRA shifts zeros in, or that throws.
+// An emulator whose SRA shifts zeros in, or that throws. It gives more bytes than it is asked for.
 struct emulator {
     machine m{ bytes(64) };
-    bool throws = false;
+    uint32_t throws = 0;
     void run(uint32_t steps)
     {
-        if (throws) throw std::string("lost");
+        if (throws) throw std::string(throws++ > 1 ? "lost again" : "lost");
         while (steps--) {
             brsp_state before = m.get();
             const uint32_t word = m.memory_words(BRSP_IMEM, before.pc, 1)[0], rt = word >> 16 & 31, rd = word >> 11 & 31;
@@ -228,8 +228,27 @@ struct emulator {
     }
     brsp_state get() const { return m.get(); }
     void set(const brsp_state &state) { m.set(state); }
-    bytes memory(uint32_t bank, uint32_t address, size_t length) const { return m.memory(bank, address, length); }
+    bytes memory(uint32_t bank, uint32_t address, size_t length) const
+    {
+        bytes out = m.memory(bank, address, length);
+        out.resize(length + 100000);
+        return out;
+    }
     void load(uint32_t bank, uint32_t address, const bytes &data) { m.load(bank, address, data); }
+};
+
+// One that changes a byte of a memory in the step at an address.
+struct spoiler : emulator {
+    uint32_t pc, bank, address;
+    spoiler(uint32_t at, uint32_t of, uint32_t byte) : pc(at), bank(of), address(byte) { m = machine(bytes(72)); }
+    void run(uint32_t steps)
+    {
+        while (steps--) {
+            const bool is_here = m.get().pc == pc;
+            m.step();
+            if (is_here) m.load(bank, address, { 0xee });
+        }
+    }
 };
 
 static void test_compare()
@@ -243,7 +262,7 @@ static void test_compare()
     see("a difference", found && found->step == 2 && found->parts.size() == 1);
     see("as text", found && brsp::to_string(*found) == "step 2, 004: sra $2, $1, 4\n  $2 is f8000000 on the machine and 08000000 in the emulator");
     refuses(BRSP_OUT_OF_RANGE, "first_difference: every is 0, not 1 to 1000000", [&] { static_cast<void>(brsp::first_difference(m, same, 0)); });
-    other.throws = true;
+    other.throws = 1;
     m = made(text);
     try {
         static_cast<void>(brsp::first_difference(m, other));
@@ -251,6 +270,28 @@ static void test_compare()
     } catch (const std::string &thrown) {
         see("what an emulator throws", thrown == "lost");
     }
+}
+
+// The guilty step amid others of its stretch, each of which changes parts that the step before it didn't; and all that differs after it.
+static void test_guilty_step()
+{
+    const auto finds = [](const std::string &text, const spoiler &given, uint32_t step, const std::string &part, uint32_t status) {
+        machine m(bytes(72));
+        m.load_words(BRSP_IMEM, 0, brsp::assemble(text));
+        m.load(BRSP_DMEM, 0, bytes(16, 0x85));
+        m.write(4, status);
+        spoiler other(given.pc, given.bank, given.address);
+        const auto found = brsp::first_difference(m, other);
+        see(part.c_str(), found && found->step == step && found->parts.size() == 1 && brsp::to_string(found->parts[0]) == part);
+    };
+    const std::string zeros = "00000000000000000000000000000000", text = "ltv $v8[0], 0($0)\nvch $v1, $v8, $v9\nsw $0, 0xffe($0)\nsra $2, $1, 4\nbreak\n";
+    finds(text, { 12, BRSP_IMEM, 0x800 }, 4, "IMEM 800 is " + zeros + " here and ee" + zeros.substr(2) + " in the other", 0);
+    finds(text, { 12, BRSP_DMEM, 0x80f }, 4, "DMEM 800 is " + zeros + " here and " + zeros.substr(2) + "ee in the other", 0);
+    finds("nop\n", { 0, BRSP_DMEM, 0x80f }, 1, "DMEM 800 is " + zeros + " here and " + zeros.substr(2) + "ee in the other", 1 << 6);
+    const std::string last = "RDRAM 040 is " + zeros + " here and 000000000000000000000000000000ee in the other";
+    finds("ori $1, $0, 7\nmtc0 $1, $c3\nbreak\n", { 4, BRSP_RDRAM, 71 }, 2, last, 0);
+    machine m = made(text), same(bytes(64));
+    see("a limit", !brsp::first_difference(m, same, 64, 3) && m.get().pc == 12);
 }
 
 int main()
@@ -265,6 +306,7 @@ int main()
     test_texts();
     test_sessions();
     test_compare();
+    test_guilty_step();
     std::printf("%d passed, %d failed\n", passed, failed);
     return failed != 0;
 }

@@ -101,8 +101,12 @@ static void refused(void)
         given[wrong[i].at] = wrong[i].byte;
         see("a fault", fault_of(given, LENGTH) == wrong[i].fault);
     }
-    for (size_t i = 0; i < sizeof lengths / sizeof *lengths; i++)
-        see("a length", fault_of(bytes, lengths[i]) == (lengths[i] < 4 ? BRSP_SAVESTATE_MAGIC : BRSP_SAVESTATE_LENGTH));
+    for (size_t i = 0; i < sizeof lengths / sizeof *lengths; i++) { /* whose next byte a sanitizer doesn't let anybody read */
+        uint8_t *cut = (uint8_t *)malloc(lengths[i] + 1) + 1;
+        memcpy(cut, bytes, lengths[i]);
+        see("a length", fault_of(cut, lengths[i]) == (lengths[i] < 4 ? BRSP_SAVESTATE_MAGIC : BRSP_SAVESTATE_LENGTH));
+        free(cut - 1);
+    }
     memcpy(given, bytes, LENGTH);
     given[10] = (IMAGE + 8) >> 8, given[11] = 8;
     see("another image", fault_of(given, LENGTH + 8) == BRSP_SAVESTATE_IMAGE);

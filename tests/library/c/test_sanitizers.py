@@ -29,7 +29,7 @@ def words() -> Tuple[str, ...]:
     return sanitizers()
 
 
-@pytest.mark.parametrize("name", ("calls", "owner", "threads"))
+@pytest.mark.parametrize("name", ("calls", "owner", "savestates", "threads"))
 def test_program(name: str, words: Tuple[str, ...], folder: Path) -> None:
     assert_passes(built(folder, HERE / f"{name}.c", "-pthread", *words))
 

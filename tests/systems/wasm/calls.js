@@ -166,6 +166,7 @@ function interrupts() {
 
 function savestates() {
   const machine = loaded(TRACED, 4), other = new Machine(new Uint8Array(4096), 4);
+  machine.load(rsp.RDRAM, 4088, bytes("RDRAMend"));
   machine.run(9);
   const saved = machine.save_state();
   other.add_break(8);
@@ -173,6 +174,8 @@ function savestates() {
   same("a savestate", other.save_state(), saved);
   see("its registers", other.get().equals(machine.get()));
   same("no history", other.history(), 0);
+  other.load_state(Uint8Array.of(1, 2, 3, ...saved).subarray(3));
+  same("one in longer bytes", other.save_state(), saved);
   other.drop_break(8);
   const changed = (at, it) => saved.map((byte, n) => n === at ? it : byte);
   refused(OUT, () => other.load_state(changed(713, 1)), "load_state: pc is");
@@ -468,6 +471,38 @@ function differences() {
   const short = { ...bare, memory: () => new Uint8Array(5) };
   refused(RangeError, () => rsp.first_difference(begun(), short), "memory(0, 0, 4096) has 5 bytes");
   refused(OUT, () => rsp.first_difference(begun(), bare, 0), "every is 0, not 1 to 1000000");
+  const limited = begun();
+  same("a limit", [rsp.first_difference(limited, new Machine(new Uint8Array(4096)), 64, 5), limited.regs().pc], [null, 4]);
+}
+
+/** An emulator that changes a byte in the step at an address. It keeps what it is given, and gives just that. */
+function keeping(pc, bank, address) {
+  const machine = new Machine(new Uint8Array(4096)), memories = [];
+  let state;
+  const step = () => {
+    const is_here = machine.regs().pc === pc;
+    machine.step();
+    if (is_here) machine.load(bank, address, Uint8Array.of(0xee));
+  };
+  return {
+    get: () => state, set: (it) => { state = it; }, memory: (n) => memories[n], load: (n, _, it) => { memories[n] = it; },
+    run(steps) {
+      machine.set(state);
+      memories.forEach((it, n) => machine.load(n, 0, it));
+      for (let n = 0; n < steps; n++) step();
+      state.bytes.set(machine.get().bytes);
+      memories.forEach((it, n) => it.set(machine.memory(n, 0, it.length)));
+    },
+  };
+}
+
+/** The guilty step amid those of its stretch, and a DMA. */
+function guilty_steps() {
+  for (const [pc, bank, name] of [[8, rsp.DMEM, "DMEM 800"], [8, rsp.IMEM, "IMEM 800"], [12, rsp.RDRAM, "RDRAM 800"]]) {
+    const machine = loaded("ori $1, $0, 7\nnop\nnop\nmtc0 $1, $c3\nnop\nbreak\n");
+    const found = rsp.first_difference(machine, keeping(pc, bank, 0x800));
+    same(name, [found.step, found.steps, found.parts.map((it) => it.name)], [pc / 4 + 1, 1, [name]]);
+  }
 }
 
 export async function run(library) {
@@ -480,7 +515,7 @@ export async function run(library) {
   refused = report.refused.bind(report);
   const parts = [lives, copies, runs, stops, passes, moves, events, interrupts, savestates, traces, changes, sessions, strict_scripts,
     single_registers, sp_registers, states, memories,
-    texts, differences];
+    texts, differences, guilty_steps];
   parts.forEach((part) => part());
   return report.end();
 }

@@ -20,6 +20,18 @@ function thousand({ Machine, assemble }, wasm, report) {
   report.same("the memory after a thousand machines", wasm.memory.buffer.byteLength, after_ten);
 }
 
+/** A refused machine leaves nothing: the next bytes that are asked for are where they were before. */
+function refused({ Machine, Status }, wasm, report) {
+  const next = () => {
+    const at = wasm.malloc(8n);
+    wasm.free(at);
+    return at;
+  };
+  const before = next();
+  report.refused(Status.OUT_OF_RANGE, () => new Machine(new Uint8Array(64), 5000));
+  report.same("the place of the next bytes", next(), before);
+}
+
 function drop({ Machine }, count) {
   for (let n = 0; n < count; n++) new Machine(new Uint8Array(IMAGE));
 }
@@ -50,6 +62,7 @@ async function stack(library, wasm, report, bytes) {
 export async function run(library, bytes) {
   const report = new Report(), { rsp, wasm } = await watched(library);
   thousand(rsp, wasm, report);
+  refused(rsp, wasm, report);
   await dropped(rsp, wasm, report);
   const used = await stack(library, wasm, report, Number(bytes));
   return `the calls use ${used} bytes of stack\n${report.end()}`;
