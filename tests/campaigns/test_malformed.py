@@ -13,7 +13,7 @@ from typing import Any, Callable, Dict, List
 
 import pytest
 
-from rsp_conformance import bench, generate, steps
+from rsp_conformance import bench, flat, generate, run_programs, steps
 from rsp_conformance.campaign.report import html_table, text_table
 from rsp_conformance.campaign.supervise import nothing
 from rsp_conformance.safe_files import FileFault, read_file, write_file
@@ -203,6 +203,23 @@ PROGRAM: Dict[str, Any] = {
     "layouts": {"L0": [["register rd", 0, 4]]},
     "cases": [PROGRAM_CASE],
 }
+ADD = "ADD-000 (add $3, $0, $11)"
+
+
+def test_each_difference() -> None:
+    """Both flags of a lane, a word that isn't at 0, and bytes of a program, also one that no case stores."""
+    found = steps.complaints({**CASE, "after": {"vco": "8001", "r3": "03030304"}}, dict(bench.DEFAULT))
+    flags = [f"{ADD}, lane 0: carry: expected 1", f"{ADD}, lane 7: not-equal: expected 1"]
+    assert sorted(found) == [f"{ADD}, $3: expected 03030304, got 03030303", *flags]
+    assert flat.CASE.unpack_from(flat.case_bytes({**CASE, "choice": "ours"}))[2] == 1
+    lines = ["00" * 16, CASE["word"] + "00" * 12, *["00" * 16] * 254]
+    assert steps.memory_complaints({**CASE, "before": {"pc": "010"}}, "imem", lines) == []
+    got = b"\1" + bytes(0x1FF) + b"\1\1" + bytes(0xDFE)
+    where = ("ADD-1: DMEM 000, which no case stores to", *(f"{ADD}, register rd, DMEM 20{n}" for n in (0, 1)))
+    expected = [f"{it}: expected 00, got 01" for it in where]
+    assert run_programs.complaints(PROGRAM, bytes(4096), got) == expected
+
+
 NO_FIELDS: List[Any] = [
     [["x", 0, 4097]], [["x", 0, 0]], [["x", 0, 0.5]], [["x", 0, math.inf]], [["x", math.nan, 1]], [[5, 0, 1]],
     [["x", "0", 1]], [["x", 0]], [5], 5, [["x", 0, 4096], ["y", 0, 1]], [["x" * 101, 0, 1]],

@@ -16,6 +16,7 @@ from rsp_tools import assemble, record
 from rsp_tools.crates import LINES, uses, with_below
 from rsp_tools.systems import modules, objects
 from rsp_tools.systems.modules import LIBRARY, PROGRAM, Crate
+from rsp_tools.systems.toolchain import Refused
 from rsp_tools.targets import PROCESSORS
 
 ARM = PROCESSORS["aarch64"].triple
@@ -48,6 +49,8 @@ def test_labels() -> None:
     one, other = (FUNCTION.format(name="other", number=it) for it in (0, 1))
     text = objects.with_stable_labels(FUNCTION.format(name="new", number=0) + other)
     assert text.endswith(objects.with_stable_labels(one)) and not re.search(r"\.L[A-Za-z_]+[01]\b", text)
+    with pytest.raises(Refused, match="two functions have the same sum"):
+        objects.with_stable_labels(one + other)
 
 
 @pytest.mark.needs("rt")

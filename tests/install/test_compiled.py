@@ -108,6 +108,7 @@ def test_other_processor(stranger: User) -> None:
     run = "qemu-aarch64 -L /usr/aarch64-linux-gnu ~/out/rsp run examples/first.rsp"
     assert prints(stranger, f"{cross}; {run}; {FIRST}") == f"{stranger.env['HOME']}/out\n{REPLIES * 2}"
     assert prints(stranger, "git status --porcelain --ignored") == ""
+    prints(stranger, f"{FIRST}; sleep 2.1; {FIRST}")  # which need not read the sources then
     prints(stranger, "printf '#!/bin/sh\\necho riscv64-linux-gnu\\n' >~/riscv && chmod +x ~/riscv")
     known = "compiled/ has no assembly for Linux-riscv64, only for Linux-aarch64 Linux-x86_64\n"
     refuses(stranger, f"CC=~/riscv {FIRST}", known)

@@ -5,13 +5,16 @@ It fails if a word of tools/hardening doesn't reach a file.
 """
 
 import os
+import re
 from pathlib import Path
 from typing import Dict
 
 import pytest
 
+from lib import TOP
 from lib.hardening import PLUGIN_CALLS, check_elf, checks, first_instructions
 from lib.packages import need
+from lib.pages import page
 from lib.processes import succeeds
 from rsp_tools.packaging.link import linked_program
 
@@ -58,3 +61,6 @@ def test_program(compiler: Dict[str, str]) -> None:
 def test_released_program(folder: Path) -> None:
     (folder / "rsp").write_bytes(linked_program() or b"")
     check_program(folder / "rsp")
+    assert not re.search(r"GLIBC_2\.[23]\d", succeeds("objdump", "-T", folder / "rsp"))
+    (folder / "rsp").chmod(0o755)
+    assert succeeds(folder / "rsp", "run", TOP / "examples/first.rsp") == page("examples/first.out")

@@ -107,10 +107,15 @@ def test_python(machine: rsp.Machine) -> None:
         (lambda it: b"RSPT" + it[4:], "the bytes begin with b'RSPT', not b'RSPS'"),
         (lambda it: it[:7] + b"\2" + it[8:], "the savestate has version 2, not 1"),
         (lambda it: it[:-1], "there are 9231 bytes, not 8976 and those of the image"),
+        (lambda it: it + b"\0", "there are 9233 bytes, not 8976 and those of the image"),
         (lambda it: it[:10], "there are 10 bytes, not 8976 and those of the image"),
         (
             lambda it: it[:10] + b"\1\x08" + it[12:] + bytes(8),
             "its image has 264 bytes, and that of the machine 256",
+        ),
+        (
+            lambda it: it[:10] + b"\0\xf8" + it[12:-8],
+            "its image has 248 bytes, and that of the machine 256",
         ),
         (lambda it: it[:712] + b"\0\2" + it[714:], "pc is 2, not a multiple of 4 below 4096"),
         (lambda it: it[:705] + b"\1" + it[706:], "byte 705 isn't 0"),

@@ -97,8 +97,10 @@ def test_report_that_is_there(bench: Bench, folder: Path) -> None:
 
 
 def test_wrong_lane(bench: Bench, folder: Path) -> None:
-    """VMUDM sets the lowest bit of lane 5, which shows when the lane is stored, in step 8 of task 2."""
-    messages = check_tasks(bench, folder, bench.faulty(1), [["put imem 0 0000000d"], products(bench)])
+    """VMUDM sets the lowest bit of lane 5, which shows when the lane is stored, in step 8 of task 2. Task 1
+    leaves an accumulator whose middle part begins with 1."""
+    words = bench.words("addiu $1, $0, -1\nmtc2 $1, $v1[0]\nvmudn $v2, $v1, $v1\nbreak")
+    messages = check_tasks(bench, folder, bench.faulty(1), [[f"put imem 0 {words}"], products(bench)])
     difference = "DMEM 000028 is 00020002 here and 00020003 there"
     step = f"task 2, step 8, 01c: {bench.words('sqv $v3[0], 32($0)')} sqv $v3[0], 32($0): {difference}"
     files = [f"{folder}/rsp-task-2.{suffix}" for suffix in ("txt", "script")]

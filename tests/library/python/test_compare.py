@@ -156,6 +156,15 @@ def test_stretch_that_single_steps_do_not_show() -> None:
     assert str(machine.listing(0, 1)[0]) == "000 34010007 ori $1, $0, 0x0007"
 
 
+def test_state_that_is_kept() -> None:
+    """An emulator may keep the state that it gets, and change it."""
+    keeps = {"set": lambda it, state: (setattr(it, "kept", state), rsp.Rsp.set(it, state))}
+    spoils = {"run": lambda it, steps: (it.kept.words.__setitem__(7, 9), Faulty.run(it, steps))}
+    emulator: Any = emulator_with(Faulty, fault=(0, 0, Faulty.lane), **keeps, **spoils)
+    found = rsp.first_difference(machines()[0], emulator)
+    assert found and (found.step, found.before) == (1, alone(0))
+
+
 SHORT = {"memory": lambda it, *place: rsp.Rsp.memory(it, *place)[:8]}
 SHORT_IMEM = {"memory": lambda it, bank, *place: rsp.Rsp.memory(it, bank, *place)[: 8 if bank else 4096]}
 WRONG: Dict[str, Tuple[Dict[str, Any], Type[Exception]]] = {

@@ -103,8 +103,8 @@ tbreak check; reverse-continue; backtrace; next; next; next; next; up; tbreak 10
     "conditions, until, reverse steps and finishes": """
 break scale if $r16 == 0x20; continue; until 17; reverse-step; reverse-next; reverse-finish; info breakpoints
     scale () at text.s:11 | scale () at text.s:17 | 16\t | 15\t | 16\t | breakpoint already hit 1 time
-tbreak inner; continue; reverse-finish; disassemble /s start,+8; detach
-    inner () | check () at text.s:22 | text.s: | 1\tstart: | ori $16, $0, 0 | 2\tori | detached
+tbreak inner; continue; reverse-finish; disassemble /s start,+8; x/i 0x04001008; detach
+    inner () | check () at text.s:22 | text.s: | 1\tstart: | ori $16, $0, 0 | 2\tori | jal 0x028 <scale> | detached
 """,
     "registers and memories": """
 tbreak last; continue; set $v01.s[3] = -5; info registers v01 vcc $acc sp_status npc; x/2xh 0x04000080
@@ -154,6 +154,13 @@ def test_page(folder: Path) -> None:
     words = "sh", "-ec", block_with(name, "python3 examples/python/make_elf.py")
     output = succeeds(*words, cwd=folder, env={**ENV, "PATH": path}, input=typed)
     assert_parts(output, [it for it in session.splitlines() if it and not it.startswith("(gdb)")])
+
+
+@with_gdb
+def test_without_an_elf(folder: Path) -> None:
+    """Registers have the right order of their bytes, though no ELF names it."""
+    *words, _, _ = (it for it in made(folder) if it != "text.elf")
+    assert "= 0x7\n" in run(*words, "-batch", "-ex", "p/x $r11", cwd=folder, env=ENV).stdout
 
 
 @contextmanager

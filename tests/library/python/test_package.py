@@ -102,6 +102,11 @@ def test_counts_of_a_task(folder: Path) -> None:
     output = by_python("-m", "rsp.counts", TOP / "examples/task.rsp")
     assert re.findall(r"(?m)^(\w+):\n +1 +2.9 %  (\w+) mfc0", output) == [("wait", "034"), ("sent", "0b0")]
     assert "\n      35 steps\n" in output
+    begin, task, end = page("examples/task.rsp").partition("\ntask ")
+    (folder / "image").write_bytes(rsp.run_script(f"{begin}\n", bytes(0x2000)).image)
+    (folder / "script").write_text(task + end)
+    more = by_python("-m", "rsp.counts", folder / "script", "--rdram", folder / "image")
+    assert "\n      35 steps\n" in more
 
 
 def suite(by: str, changed: str, site: Path, folder: Path) -> str:

@@ -60,11 +60,13 @@ def both(chance: random.Random) -> Tuple[rsp.Timeline, List[Seen]]:
     while machine.step() is rsp.Status.OK:
         if len(steps) == at:
             assert line.run_to(at) == (Reason.LIMIT, at, None)
+            assert line.run_to(EVER).step > at and line.goto(at) == at  # what comes then is forgotten
             for one in machine, line.machine:
                 change(one, task_starts)
             line.changed()
         steps.append(seen(machine))
     assert line.run_to(EVER) == (Reason.HALT, len(steps) - 1, None)
+    assert line.counts() == Counter(pc for _, pc, _ in steps[:-1])  # over the change
     return line, steps
 
 

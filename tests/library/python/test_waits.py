@@ -90,8 +90,8 @@ ONE_BUFFER = (
 
 
 def overlay(waits: str) -> str:
-    """A program that brings 64 bytes to 100 in IMEM, where only `break` is, and jumps there."""
-    lines = f"ori $2, $0, 0x1100\nori $1, $0, 0x800\nori $3, $0, 63\n{GET}{waits}j 0x100\nnop\n"
+    """A program that brings 64 bytes to 100 in IMEM, where only `break` is, and jumps to the last word."""
+    lines = f"ori $2, $0, 0x1100\nori $1, $0, 0x800\nori $3, $0, 63\n{GET}{waits}j 0x13c\nnop\n"
     return lines + "break\n" * (0x144 // 4 - len(lines.splitlines()))
 
 
@@ -100,6 +100,7 @@ RIGHT = {
     "other moves beside it": BEGIN + "mfc0 $5, $c7\n" + GET + "mfc0 $5, $c7\nmtc0 $0, $c7\n" + wait() + LOAD,
     "a branch that leaves the loop": BEGIN + GET + LEAVES + LOAD,
     "busy of SP_STATUS": BEGIN + GET + STATUS.format(4) + LOAD,
+    "full of SP_STATUS": BEGIN + GET + SECOND + GET + STATUS.format(8) + BEFORE,
     "busy and full of SP_STATUS": BEGIN + GET + SECOND + GET + STATUS.format(12) + LOAD,
     "two transfers": BEGIN + GET + SECOND + GET + wait() + LOAD + BEFORE,
     "the first of two": BEGIN + GET + SECOND + GET + wait(5) + BEFORE,
