@@ -158,10 +158,19 @@ def test_stretch_that_single_steps_do_not_show() -> None:
 
 def test_state_that_is_kept() -> None:
     """An emulator may keep the state that it gets, and change it."""
-    keeps = {"set": lambda it, state: (setattr(it, "kept", state), rsp.Rsp.set(it, state))}
-    spoils = {"run": lambda it, steps: (it.kept.words.__setitem__(7, 9), Faulty.run(it, steps))}
-    emulator: Any = emulator_with(Faulty, fault=(0, 0, Faulty.lane), **keeps, **spoils)
-    found = rsp.first_difference(machines()[0], emulator)
+
+    class Keeps(Faulty):
+        fault = 0, 0, Faulty.lane
+
+        def set(self, state: rsp.State) -> None:
+            self.kept = state
+            super().set(state)
+
+        def run(self, steps: int) -> Any:
+            self.kept.words[7] = 9
+            super().run(steps)
+
+    found = rsp.first_difference(machines()[0], Keeps(IMAGE))
     assert found and (found.step, found.before) == (1, alone(0))
 
 
