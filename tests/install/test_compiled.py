@@ -32,6 +32,7 @@ def test_program(stranger: User) -> None:
     assert prints(stranger, f'PATH="$HOME/no:$PATH" {FIRST}') == REPLIES
     assert "\nproved and built by rattle-kit-" in prints(stranger, "./rsp --version")
     assert prints(stranger, f"CC=false {FIRST}") == REPLIES
+    refuses(stranger, "RSP_OUT=out tools/link rsp_main", "RSP_OUT isn't a whole path: out")
 
 
 @pytest.mark.needs("clang")

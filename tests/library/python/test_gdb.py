@@ -104,8 +104,8 @@ tbreak check; reverse-continue; backtrace; next; next; next; next; up; tbreak 10
 break scale if $r16 == 0x20; continue; until 17; reverse-step; reverse-next; reverse-finish; info breakpoints
     scale () at text.s:11 | scale () at text.s:17 | 16\t | 15\t | 16\t | breakpoint already hit 1 time
 tbreak inner; continue; reverse-finish; disassemble /s start,+8; x/i 0x04001008; detach
-    inner () | check () at text.s:22 | text.s: | 1\tstart: | ori $16, $0, 0 | 2\tori
-    jal 0x028 <scale> | detached
+    inner () | check () at text.s:22 | text.s: | 1\tstart: | ori $16, $0, 0 | 2\tori | jal 0x028 <scale>
+    detached
 """,
     "registers and memories": """
 tbreak last; continue; set $v01.s[3] = -5; info registers v01 vcc $acc sp_status npc; x/2xh 0x04000080
