@@ -18,7 +18,7 @@ int work(char **words)
 {
     brsp_operand found;
     if (!__builtin_cpu_supports("sse4.2") || !__builtin_cpu_supports("popcnt"))
-        say("this processor lacks a feature of x86-64-v2, such as SSE4.2 or POPCNT, without which rsp can't run", "\n", ""), exit(LACKING);
+        say("rsp: this processor lacks a feature of x86-64-v2, such as SSE4.2 or POPCNT, without which rsp can't run", "\n", ""), exit(LACKING);
     /* A call that reads texts says whether a word is UTF-8. */
     for (char **it = words; *it; it++)
         if (brsp_explain(0, (const uint8_t *)*it, strlen(*it), &found) == BRSP_NO_MEANING) say("error: an argument isn't UTF-8", "\n", ""), exit(REFUSED);
