@@ -1,5 +1,5 @@
 ghost use Rattle.std.specs.Prelude.{◌≡◌, ◌<◌, ◌≤◌, ◌+◌, ◌-◌, ◌^◌, length, IfSome};
-ghost use Rattle.std.specs.Io.KnownBytes.{append_known};
+ghost use Rattle.std.specs.Io.KnownBytes.{Appends};
 ghost use Rattle.rsp_script_io.specs.Faults.{failed_reads, failed_writes};
 ghost use Rattle.rsp_script_io.specs.EarlyEnd.{TakesAtMost, Takes, LeavesWritten};
 ghost use Rattle.rsp_script_io.specs.Feeds.{script_limit};
@@ -45,7 +45,7 @@ pub fn run_bench<R: Source, W: Sink>(
     // A finished run wrote the replies to the whole script, which is within the limit, and left its session.
     ensures fits { IfSome (R.rest source.old) (λ script. IfFinished result (λ _. length script ≤ script_limit)) }
     ensures finished { IfSome (R.rest source.old) (λ script. IfFinished result (λ session.
-        (W.written sink.new ≡ append_known (W.written sink.old) (out_of script image))
+        Appends (W.written sink.old) (W.written sink.new) (out_of script image)
         × (session ≡ session_of script image))) }
 
     // Each other end has its cause. A read or a write that failed is not tried again, so a finished run had none.

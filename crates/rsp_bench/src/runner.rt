@@ -1,5 +1,5 @@
 ghost use Rattle.std.specs.Prelude.{◌≡◌, ◌<◌, ◌≤◌, ◌+◌, ◌-◌, ◌^◌, length, IfSome, IfOk, OnOk, IsErrOf};
-ghost use Rattle.std.specs.Io.KnownBytes.{append_known};
+ghost use Rattle.std.specs.Io.KnownBytes.{Appends};
 ghost use Rattle.rsp_script_io.specs.Faults.{failed_reads, failed_writes};
 ghost use Rattle.rsp_script_io.specs.EarlyEnd.{TakesAtMost, Takes, LeavesWritten};
 ghost use Rattle.rsp_script_io.specs.Feeds.{script_limit};
@@ -31,7 +31,7 @@ impl ScriptRunner for MachineRunner {
         requires sink { W.fault_count sink.old < 2 ^ 64 - 1 }
         ensures fits { IfSome (R.rest source.old) (λ script. OnOk result (length script ≤ script_limit)) }
         ensures finished { IfSome (R.rest source.old) (λ script. IfOk result (λ rdram.
-            (W.written sink.new ≡ append_known (W.written sink.old) (out_of script image))
+            Appends (W.written sink.old) (W.written sink.new) (out_of script image)
             × (rdram ≡ (session_of script image).debugging.state.rdram))) }
         ensures reads { R.fault_count source.new ≡ R.fault_count source.old + failed_reads result }
         ensures writes { W.fault_count sink.new ≡ W.fault_count sink.old + failed_writes result }

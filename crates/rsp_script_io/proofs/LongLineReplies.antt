@@ -7,7 +7,6 @@ use Rattle.std.specs.Prelude.{cond}
 use Rattle.std.specs.Str.Lines.{strip_carriage_return}
 use Rattle.rsp_script_io.specs.Lines.{is_newline, ended_after, last_line, kept, IsSameOrLong}
 use Rattle.rsp_script_io.specs.Replies.{Answer, LongLinesAlike, LongLinesLackAlike, OfFirst, replies, final}
-use Rattle.rsp_script_io.proofs.KnownEnds.{append_known-nil}
 use Rattle.rsp_script_io.proofs.Kept.{kept-more, like-strips, same_or_full}
 
 pub answered-like : {S : Type 0} (answer_to : List ℕ → S → Answer S) (line other : List ℕ) (s : S) → LongLinesAlike answer_to → IsSameOrLong line other
@@ -47,7 +46,7 @@ pub replies-last : {S : Type 0} (answer_to : List ℕ → S → Answer S) (line 
     → (answer_to line s).reply ≡ replies answer_to (last_line line) s
 replies-last answer_to line s h = rw (last_line-some line h) (sym (append-nil (answer_to line s).reply))
 
-pub ruleset last_lines = (last_line-some, last_line-none, append-nil, append_known-nil)
+pub ruleset last_lines = (last_line-some, last_line-none, append-nil)
 
 -- two lists of lines that are answered alike
 pub record SameReplies {S : Type 0} (answer_to : List ℕ → S → Answer S) (ls ms : List (List ℕ)) (s : S) : Type 0 where

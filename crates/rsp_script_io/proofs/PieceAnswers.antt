@@ -2,7 +2,8 @@
 use Rattle.std.proofs.Common.{◌≡◌, ℕ, ◌+◌, List, [], ◌∷◌, ◌++◌, Option, ◌<◌, length, take, drop, refl, sym, ◌∙◌, ap, arith, append_assoc, subst, length-append, length-take}
 use Rattle.std.proofs.lemmas.List.{append-nil, take_all, take_at, take-append-drop}
 use Rattle.std.specs.List.{position_or_len, before_first, after_first}
-use Rattle.std.specs.Io.KnownBytes.{append_known}
+use Rattle.std.proofs.KnownBytes.{Appends-nil, Appends-trans}
+use Rattle.std.specs.Io.KnownBytes.{Appends}
 use Rattle.std.specs.Str.Lines.{strip_carriage_return}
 use Rattle.rsp_script_io.specs.Pieces.{PieceAnswered, NoMemoryIn}
 use Rattle.rsp_script_io.specs.EarlyEnd.{WritesPrefix}
@@ -10,7 +11,6 @@ use Rattle.rsp_script_io.specs.Lines.{is_newline, ended_after, open_after, kept,
 use Rattle.rsp_script_io.specs.Replies.{Answer, LongLinesAlike, LongLinesLackAlike, OfFirst, replies, final}
 use Rattle.rsp_script_io.proofs.LongLineReplies.{answered-like, replies-kept, final-kept, lacks-like, lacks-append, lacks-kept}
 use Rattle.rsp_script_io.proofs.Kept.{kept-kept, open-kept, like-strips}
-use Rattle.rsp_script_io.proofs.KnownEnds.{append_known-nil, append_known-append}
 use Rattle.rsp_script_io.proofs.Prefixes.{Leaves, leaves-less, prefix-along, prefix-first, prefix-then}
 use Rattle.rsp_script_io.proofs.Pieces.{ended-append, open-append, ended-line, open-line, cut_at_newline}
 use Rattle.rsp_script_io.proofs.Replies.{replies-append, final-append}
@@ -46,7 +46,7 @@ open-none line bytes lt = ap (take 258) (sym (open-line line bytes (10 ∷ [])) 
 
 module _ {S : Type 0} (answer_to : List ℕ → S → Answer S) (alike : LongLinesAlike answer_to) where
   pub answers-none : (w : Option (List ℕ)) (line : List ℕ) (s : S) → PieceAnswered answer_to w w line line s s []
-  answers-none w line s = record { written = sym (append_known-nil w); session = refl; last = refl }
+  answers-none w line s = record { written = Appends-nil w; session = refl; last = refl }
 
   -- the replies to the lines of two pieces
   pub replies-pieces : (line mid a b : List ℕ) (s t : S) → kept mid ≡ kept (open_after line a) → t ≡ final answer_to (ended_after line a) s
@@ -68,11 +68,9 @@ module _ {S : Type 0} (answer_to : List ℕ → S → Answer S) (alike : LongLin
 
   pub answers-then : {old now new : Option (List ℕ)} {line mid after : List ℕ} {s t u : S} (a b : List ℕ)
       → PieceAnswered answer_to old now line mid s t a → PieceAnswered answer_to now new mid after t u b → PieceAnswered answer_to old new line after s u (a ++ b)
-  answers-then {old = old} {line = line} {mid = mid} {s = s} {t = t} a b h g = record {
-    written =
-        g.written ∙ ap (λ w. append_known w (replies answer_to (ended_after mid b) t)) h.written
-        ∙ append_known-append old (replies answer_to (ended_after line a) s) (replies answer_to (ended_after mid b) t)
-        ∙ ap (append_known old) (replies-pieces line mid a b s t h.last h.session);
+  answers-then {old = old} {now = now} {new = new} {line = line} {mid = mid} {s = s} {t = t} a b h g = record {
+    written = subst (Appends old new) (replies-pieces line mid a b s t h.last h.session)
+        (Appends-trans old now new (replies answer_to (ended_after line a) s) (replies answer_to (ended_after mid b) t) h.written g.written);
     session = g.session ∙ final-pieces line mid a b s t h.last h.session;
     last =
         g.last ∙ open-kept mid (open_after line a) b h.last
@@ -94,7 +92,7 @@ module _ {S : Type 0} (answer_to : List ℕ → S → Answer S) (alike : LongLin
 
   pub leads-none : (w : Option (List ℕ)) (line piece : List ℕ) (s : S) → Leads w w line line s s piece piece
   leads-none w line piece s = record {
-    written = record { prefix = []; grows = sym (append_known-nil w); whole = refl };
+    written = record { prefix = []; grows = Appends-nil w; whole = refl };
     session = refl;
     last = refl;
   }
@@ -132,7 +130,7 @@ module _ {S : Type 0} (answer_to : List ℕ → S → Answer S) (alike : LongLin
 
   -- the front of the rest was answered
   pub leads-more : {old now new : Option (List ℕ)} {line mid after : List ℕ} {s t u : S} (n : ℕ) (piece rest : List ℕ) → Leads old now line mid s t piece rest
-      → new ≡ append_known now (replies answer_to (ended_after mid (take n rest)) t) → u ≡ final answer_to (ended_after mid (take n rest)) t
+      → Appends now new (replies answer_to (ended_after mid (take n rest)) t) → u ≡ final answer_to (ended_after mid (take n rest)) t
       → after ≡ kept (open_after mid (take n rest)) → Leads old new line after s u piece (drop n rest)
   leads-more {mid = mid} {after = after} {t = t} {u = u} n piece rest h w next e =
       let same : kept after ≡ kept (open_after mid (take n rest)) = ap kept e ∙ kept-kept (open_after mid (take n rest)) in
@@ -163,7 +161,7 @@ module _ {S : Type 0} (answer_to : List ℕ → S → Answer S) (alike : LongLin
   done-none w line piece s = record { front = []; whole = refl; answers = answers-none w line s }
 
   pub done-more : {old now new : Option (List ℕ)} {line mid after : List ℕ} {s t u : S} (n : ℕ) (piece rest : List ℕ) → Done old now line mid s t piece rest
-      → new ≡ append_known now (replies answer_to (ended_after mid (take n rest)) t) → u ≡ final answer_to (ended_after mid (take n rest)) t
+      → Appends now new (replies answer_to (ended_after mid (take n rest)) t) → u ≡ final answer_to (ended_after mid (take n rest)) t
       → after ≡ kept (open_after mid (take n rest)) → Done old new line after s u piece (drop n rest)
   done-more {mid = mid} {after = after} n piece rest h w next e = record {
     front = h.front ++ take n rest;
@@ -186,7 +184,7 @@ module _ {S : Type 0} (answer_to : List ℕ → S → Answer S) (alike : LongLin
   pub done-short : {old now new : Option (List ℕ)} {line mid : List ℕ} {s t : S} {piece rest : List ℕ} (p : List ℕ → S → Type 0) (n : ℕ)
       → LongLinesLackAlike p → Done old now line mid s t piece rest
       → new ≡ now → OfFirst p (ended_after mid (take n rest)) t → NoMemoryIn answer_to p old new line s piece
-  done-short {line = line} {mid = mid} {t = t} {rest = rest} p n same h w lacks =
+  done-short {old = old} {line = line} {mid = mid} {s = s} {t = t} {rest = rest} p n same h w lacks =
       let all : OfFirst p (ended_after mid rest) t =
       subst (λ text. OfFirst p (ended_after mid text) t) (take-append-drop n rest)
       (rw (ended-append mid (take n rest) (drop n rest)) (lacks-append p (ended_after mid (take n rest)) _ t lacks)) in
@@ -194,7 +192,7 @@ module _ {S : Type 0} (answer_to : List ℕ → S → Answer S) (alike : LongLin
         front = h.front;
         back = rest;
         whole = h.whole;
-        written = w ∙ h.answers.written;
+        written = subst (λ now. Appends old now (replies answer_to (ended_after line h.front) s)) (sym w) h.answers.written;
         lacks = rw (← h.answers.session) (lacks-kept p same mid (open_after line h.front) rest t h.answers.last all);
       }
 
@@ -202,16 +200,14 @@ module _ {S : Type 0} (answer_to : List ℕ → S → Answer S) (alike : LongLin
   pub short-then : {old now new : Option (List ℕ)} {line mid : List ℕ} {s t : S} (a b : List ℕ) (p : List ℕ → S → Type 0)
       → LongLinesLackAlike p → PieceAnswered answer_to old now line mid s t a
       → NoMemoryIn answer_to p now new mid t b → NoMemoryIn answer_to p old new line s (a ++ b)
-  short-then {old = old} {line = line} {mid = mid} {s = s} {t = t} a b p same h f =
+  short-then {old = old} {now = now} {new = new} {line = line} {mid = mid} {s = s} {t = t} a b p same h f =
       let ends : final answer_to (ended_after mid f.front) t ≡ final answer_to (ended_after line (a ++ f.front)) s = final-pieces line mid a f.front s t h.last h.session in
       record {
         front = a ++ f.front;
         back = f.back;
         whole = append_assoc a f.front f.back ∙ ap (λ r. a ++ r) f.whole;
-        written =
-            f.written ∙ ap (λ w. append_known w (replies answer_to (ended_after mid f.front) t)) h.written
-            ∙ append_known-append old (replies answer_to (ended_after line a) s) (replies answer_to (ended_after mid f.front) t)
-            ∙ ap (append_known old) (replies-pieces line mid a f.front s t h.last h.session);
+        written = subst (Appends old new) (replies-pieces line mid a f.front s t h.last h.session)
+            (Appends-trans old now new (replies answer_to (ended_after line a) s) (replies answer_to (ended_after mid f.front) t) h.written f.written);
         lacks = rw (← ends)
             (lacks-kept p same (open_after mid f.front) (open_after line (a ++ f.front)) f.back _
             (open-kept mid (open_after line a) f.front h.last ∙ ap kept (sym (open-append line a f.front))) f.lacks);

@@ -4,7 +4,8 @@ use Rattle.std.proofs.Math.Seq.{take-append-add, drop-append_seam}
 use Rattle.std.proofs.lemmas.List.{append-nil, take_all, take-append-le, take-append-drop, take-take}
 use Rattle.std.proofs.lemmas.Bool.{cases_lt}
 use Rattle.std.proofs.lemmas.Option.{none-some}
-use Rattle.std.specs.Io.KnownBytes.{append_known, prepend_known, IsAtEnd}
+use Rattle.std.proofs.KnownBytes.{Appends-trans, Consumes-nil, Consumes-trans}
+use Rattle.std.specs.Io.KnownBytes.{Appends, Consumes, IsAtEnd}
 use Rattle.std.specs.Str.Lines.{lines}
 use Rattle.rsp_script_io.specs.Feeds.{script_limit}
 use Rattle.rsp_script_io.specs.declared.run.RunFault.{RunFault}
@@ -16,7 +17,7 @@ use Rattle.rsp_script_io.specs.Lines.{ended_lines, ended_after, open_after, last
 use Rattle.rsp_script_io.specs.Replies.{Answer, LongLinesAlike, LongLinesLackAlike, OfFirst, replies, final, written_of}
 use Rattle.rsp_script_io.proofs.LongLineReplies.{SameReplies, alike-last, lacks-last}
 use Rattle.rsp_script_io.proofs.PieceAnswers.{answers-none, answers-then, answers-front, short-then}
-use Rattle.rsp_script_io.proofs.KnownEnds.{append_known-append, prepend_known-append, prepend_known-nil}
+use Rattle.rsp_script_io.proofs.KnownEnds.{consumes-none}
 use Rattle.rsp_script_io.proofs.Prefixes.{prefix-along, prefix-then}
 use Rattle.rsp_script_io.proofs.Pieces.{ended_lines-after, ended-append, lines-ended}
 use Rattle.rsp_script_io.proofs.Replies.{replies-append, final-append}
@@ -33,19 +34,17 @@ left_answer r ScriptTooLong cause prefix = absurd cause
 left_answer r OutOfMemory cause prefix = prefix
 
 -- what a source gave that is at its end is all that it had
-told_all : (rest after : Option (List ℕ)) (taken script : List ℕ) → rest ≡ prepend_known taken after → IsAtEnd after → rest ≡ Some script → taken ≡ script
-told_all rest None taken script e d h = absurd (none-some script (sym e ∙ h))
-told_all rest (Some ys) taken script e d h =
-    let same : Some (taken ++ ys) ≡ Some script = sym e ∙ h in
-    sym (append-nil taken) ∙ ap (λ l. taken ++ l) (sym d) ∙ (cc)
+told_all : (rest after : Option (List ℕ)) (taken script : List ℕ) → Consumes rest after taken → IsAtEnd after → rest ≡ Some script → taken ≡ script
+told_all None after taken script e d h = absurd (none-some script h)
+told_all (Some xs) None taken script e d h = absurd e
+told_all (Some xs) (Some ys) taken script e d h = sym (append-nil taken) ∙ ap (λ l. taken ++ l) (sym d) ∙ (cc)
 
 -- what a source gave is the front of what it had
-told_front : (rest after : Option (List ℕ)) (taken script : List ℕ) → rest ≡ prepend_known taken after → rest ≡ Some script
+told_front : (rest after : Option (List ℕ)) (taken script : List ℕ) → Consumes rest after taken → rest ≡ Some script
     → (more : List ℕ) × (taken ++ more ≡ script)
-told_front rest None taken script e h = absurd (none-some script (sym e ∙ h))
-told_front rest (Some ys) taken script e h =
-    let same : Some (taken ++ ys) ≡ Some script = sym e ∙ h in
-    (ys, cc)
+told_front None after taken script e h = absurd (none-some script h)
+told_front (Some xs) None taken script e h = absurd e
+told_front (Some xs) (Some ys) taken script e h = (ys, cc)
 
 limit_all : (taken : List ℕ) → length taken ≤ script_limit → take script_limit taken ≡ taken
 limit_all taken h = take_all script_limit taken h
@@ -88,20 +87,20 @@ next_last p text s t same h =
 -- the bytes that the reads of a run gave, and what came of them
 pub record Progress {S : Type 0} (answer_to : List ℕ → S → Answer S) (rest unread old now : Option (List ℕ)) (line : List ℕ) (s t : S) (total : ℕ) : Type 0 where
   pub taken : List ℕ
-  pub told : rest ≡ prepend_known taken unread
+  pub told : Consumes rest unread taken
   pub count : length taken ≡ total
   pub answers : PieceAnswered answer_to old now [] line s t (take script_limit taken)
 
 module _ {S : Type 0} (answer_to : List ℕ → S → Answer S) (end_reply : S → List ℕ) (alike : LongLinesAlike answer_to) where
   pub progress-none : (r w : Option (List ℕ)) (s : S) → Progress answer_to r r w w [] s s 0
-  progress-none r w s = record { taken = []; told = sym (prepend_known-nil r); count = refl; answers = answers-none answer_to alike w [] s }
+  progress-none r w s = record { taken = []; told = Consumes-nil r; count = refl; answers = answers-none answer_to alike w [] s }
 
   pub progress-more : {r u v w x y : Option (List ℕ)} {l m : List ℕ} {s t o : S} {total next : ℕ} (piece within : List ℕ) → Progress answer_to r u w x l s t total
-      → u ≡ prepend_known piece v → next ≡ total + length piece → total ≤ script_limit → within ≡ take (script_limit - total) piece → PieceAnswered answer_to x y l m t o within
+      → Consumes u v piece → next ≡ total + length piece → total ≤ script_limit → within ≡ take (script_limit - total) piece → PieceAnswered answer_to x y l m t o within
       → Progress answer_to r v w y m s o next
-  progress-more {w = w} {y = y} {m = m} {s = s} {o = o} {total = total} piece within h e len few cut a = record {
+  progress-more {r = r} {u = u} {v = v} {w = w} {y = y} {m = m} {s = s} {o = o} {total = total} piece within h e len few cut a = record {
     taken = h.taken ++ piece;
-    told = h.told ∙ ap (prepend_known h.taken) e ∙ prepend_known-append _ h.taken piece;
+    told = Consumes-trans r u v h.taken piece h.told e;
     count = omega (arith, length-append h.taken piece, h.count, len);
     answers = rw (← limit_more h.taken piece within total h.count few cut)
         (answers-then answer_to alike (take script_limit h.taken) within h.answers a);
@@ -109,29 +108,31 @@ module _ {S : Type 0} (answer_to : List ℕ → S → Answer S) (end_reply : S �
 
   -- all of a piece was within the limit
   pub progress-within : {r u v w x y : Option (List ℕ)} {l m : List ℕ} {s t o : S} {total next : ℕ} (piece within : List ℕ) → Progress answer_to r u w x l s t total
-      → u ≡ prepend_known piece v → length piece ≤ script_limit - total → total ≤ script_limit → within ≡ take (script_limit - total) piece → next ≡ total + length within
+      → Consumes u v piece → length piece ≤ script_limit - total → total ≤ script_limit → within ≡ take (script_limit - total) piece → next ≡ total + length within
       → PieceAnswered answer_to x y l m t o within → Progress answer_to r v w y m s o next
   progress-within {total = total} piece within h e all few cut n a =
       progress-more piece within h e (omega (arith, n, ap length cut, length-take (script_limit - total) piece, all)) few cut a
 
   -- a read failed
   pub progress-ended : {r u v w x : Option (List ℕ)} {l : List ℕ} {s t : S} {total : ℕ} → Progress answer_to r u w x l s t total
-      → u ≡ prepend_known [] v → total ≤ script_limit → EndedLinesWritten (record { answer_to = answer_to; end_reply = end_reply; session = s; script = r; unread = v; before = w; written = x })
-  progress-ended {w = w} {s = s} {total = total} h e few = record {
+      → Consumes u v [] → total ≤ script_limit → EndedLinesWritten (record { answer_to = answer_to; end_reply = end_reply; session = s; script = r; unread = v; before = w; written = x })
+  progress-ended {r = r} {u = u} {v = v} {w = w} {x = x} {s = s} {total = total} h e few = record {
     taken = h.taken;
-    told = h.told ∙ ap (prepend_known h.taken) (e ∙ prepend_known-nil _);
+    told = consumes-none r u v h.taken h.told e;
     few = omega (arith, h.count);
-    written = h.answers.written ∙ ap (λ text. append_known w (replies answer_to (ended_after [] text) s)) (limit_all h.taken (omega (arith, h.count)))
-        ∙ ap (λ ls. append_known w (replies answer_to ls s)) (sym (ended_lines-after h.taken));
+    written = subst (Appends w x)
+        (ap (λ text. replies answer_to (ended_after [] text) s) (limit_all h.taken (omega (arith, h.count)))
+        ∙ ap (λ ls. replies answer_to ls s) (sym (ended_lines-after h.taken)))
+        h.answers.written;
   }
 
   -- a piece was not answered to its end
   pub progress-front : {r u v w x y : Option (List ℕ)} {l : List ℕ} {s t : S} {total : ℕ} (piece within : List ℕ) → Progress answer_to r u w x l s t total
-      → u ≡ prepend_known piece v → total ≤ script_limit → within ≡ take (script_limit - total) piece
+      → Consumes u v piece → total ≤ script_limit → within ≡ take (script_limit - total) piece
       → WritesPrefix x y (replies answer_to (ended_after l within) t) → PrefixWritten (record { answer_to = answer_to; end_reply = end_reply; session = s; script = r; unread = v; before = w; written = y })
-  progress-front {s = s} {total = total} piece within h e few cut f = record {
+  progress-front {r = r} {u = u} {v = v} {s = s} {total = total} piece within h e few cut f = record {
     taken = h.taken ++ piece;
-    told = h.told ∙ ap (prepend_known h.taken) e ∙ prepend_known-append _ h.taken piece;
+    told = Consumes-trans r u v h.taken piece h.told e;
     prefix = inl (prefix-along
         (ap (λ text. replies answer_to (ended_after [] text) s) (limit_more h.taken piece within total h.count few cut)
         ∙ ap (λ ls. replies answer_to ls s) (sym (ended_lines-after (take script_limit (h.taken ++ piece)))))
@@ -140,31 +141,39 @@ module _ {S : Type 0} (answer_to : List ℕ → S → Answer S) (end_reply : S �
 
   -- at most one byte past the limit was taken
   pub progress-few : {r u w x : Option (List ℕ)} {l : List ℕ} {s t : S} {total : ℕ} (v : Option (List ℕ)) (piece : List ℕ) → Progress answer_to r u w x l s t total
-      → u ≡ prepend_known piece v → total + length piece ≤ script_limit + 1 → TakesAtMost (script_limit + 1) r v
-  progress-few v piece h e few = (
+      → Consumes u v piece → total + length piece ≤ script_limit + 1 → TakesAtMost (script_limit + 1) r v
+  progress-few {r = r} {u = u} v piece h e few = (
     h.taken ++ piece,
-    h.told ∙ ap (prepend_known h.taken) e ∙ prepend_known-append _ h.taken piece,
+    Consumes-trans r u v h.taken piece h.told e,
     omega (arith, h.count, length-append h.taken piece),
   )
 
   -- the byte past the limit was taken
   pub progress-past : {r u w x : Option (List ℕ)} {l : List ℕ} {s t : S} {total : ℕ} (v : Option (List ℕ)) (piece : List ℕ) → Progress answer_to r u w x l s t total
-      → u ≡ prepend_known piece v → total + length piece ≡ script_limit + 1 → Takes (script_limit + 1) r v
-  progress-past v piece h e all = (
+      → Consumes u v piece → total + length piece ≡ script_limit + 1 → Takes (script_limit + 1) r v
+  progress-past {r = r} {u = u} v piece h e all = (
     h.taken ++ piece,
-    h.told ∙ ap (prepend_known h.taken) e ∙ prepend_known-append _ h.taken piece,
+    Consumes-trans r u v h.taken piece h.told e,
     omega (arith, h.count, all, length-append h.taken piece),
   )
 
+  -- the script has all that was taken
+  pub progress-over : {r u w x : Option (List ℕ)} {l : List ℕ} {s t : S} {total : ℕ} (v : Option (List ℕ)) (piece : List ℕ) (P : Type 0) → Progress answer_to r u w x l s t total
+      → Consumes u v piece → script_limit < total + length piece → IfSome r (λ script. P → script_limit < length script)
+  progress-over {r = r} {u = u} v piece P h e long = if_some r _ (λ script d (p : P).
+      let there : (more : List ℕ) × ((h.taken ++ piece) ++ more ≡ script) = told_front r v (h.taken ++ piece) script (Consumes-trans r u v h.taken piece h.told e) d in
+      omega (arith, h.count, long, length-append h.taken piece, length-append (h.taken ++ piece) there.0, ap length there.1))
+
   -- a script that goes on past the limit
   pub progress-long : {r u w x : Option (List ℕ)} {l : List ℕ} {s t : S} {total : ℕ} → Progress answer_to r u w x l s t total
-      → script_limit < total → IfSome r (λ script. x ≡ append_known w (replies answer_to (ended_lines (take script_limit script)) s))
-  progress-long {r = r} {u = u} {w = w} {s = s} h long = if_some r _ (λ script e.
+      → script_limit < total → IfSome r (λ script. Appends w x (replies answer_to (ended_lines (take script_limit script)) s))
+  progress-long {r = r} {u = u} {w = w} {x = x} {s = s} h long = if_some r _ (λ script e.
       let there : (more : List ℕ) × (h.taken ++ more ≡ script) = told_front r u h.taken script h.told e in
       let same : take script_limit h.taken ≡ take script_limit script =
       sym (take-append-le script_limit h.taken there.0 (omega (arith, h.count))) ∙ ap (take script_limit) there.1 in
-      h.answers.written ∙ ap (λ text. append_known w (replies answer_to (ended_after [] text) s)) same
-      ∙ ap (λ ls. append_known w (replies answer_to ls s)) (sym (ended_lines-after (take script_limit script))))
+      subst (Appends w x)
+      (ap (λ text. replies answer_to (ended_after [] text) s) same ∙ ap (λ ls. replies answer_to ls s) (sym (ended_lines-after (take script_limit script))))
+      h.answers.written)
 
   -- the replies to the lines that a newline ended, and what is left to answer and to say
   pub out-pieces : (taken line : List ℕ) (s t : S) → kept line ≡ kept (open_after [] taken) → t ≡ final answer_to (ended_after [] taken) s
@@ -189,38 +198,38 @@ module _ {S : Type 0} (answer_to : List ℕ → S → Answer S) (end_reply : S �
       rw (lines-ended taken, final-append answer_to (ended_after [] taken) (last_line (open_after [] taken)) s, ← n) same.next
 
   -- where the end of input was met and answered
-  pub progress-end : {r u w x y : Option (List ℕ)} {l : List ℕ} {s t o : S} {total : ℕ} (v : Option (List ℕ)) (script : List ℕ) → Progress answer_to r u w x l s t total
-      → u ≡ prepend_known [] v → IsAtEnd v → total ≤ script_limit → r ≡ Some script
-      → y ≡ append_known x (replies answer_to (last_line l) t ++ end_reply (final answer_to (last_line l) t)) → o ≡ final answer_to (last_line l) t
-      → (length script ≤ script_limit) × (y ≡ append_known w (written_of answer_to end_reply script s)) × (o ≡ final answer_to (lines script) s)
-  progress-end {r = r} {w = w} {x = x} {l = l} {s = s} {t = t} v script h e d few k written next =
-      let all : h.taken ≡ script = told_all r v h.taken script (h.told ∙ ap (prepend_known h.taken) (e ∙ prepend_known-nil _)) d k in
+  pub progress-end : {r u w x : Option (List ℕ)} {l : List ℕ} {s t o : S} {total : ℕ} (v y : Option (List ℕ)) (script : List ℕ) → Progress answer_to r u w x l s t total
+      → Consumes u v [] → IsAtEnd v → total ≤ script_limit → r ≡ Some script
+      → Appends x y (replies answer_to (last_line l) t ++ end_reply (final answer_to (last_line l) t)) → o ≡ final answer_to (last_line l) t
+      → (length script ≤ script_limit) × Appends w y (written_of answer_to end_reply script s) × (o ≡ final answer_to (lines script) s)
+  progress-end {r = r} {u = u} {w = w} {x = x} {l = l} {s = s} {t = t} v y script h e d few k written next =
+      let all : h.taken ≡ script = told_all r v h.taken script (consumes-none r u v h.taken h.told e) d k in
       let part : take script_limit h.taken ≡ script = limit_all h.taken (omega (arith, h.count)) ∙ all in
       let a : PieceAnswered answer_to w x [] l s t script = rw (← part) h.answers in (
         omega (arith, h.count, ap length all),
-        written ∙ ap (λ b. append_known b (replies answer_to (last_line l) t ++ end_reply (final answer_to (last_line l) t))) a.written
-            ∙ append_known-append w (replies answer_to (ended_after [] script) s) _ ∙ ap (append_known w) (out-pieces script l s t a.last a.session),
+        subst (Appends w y) (out-pieces script l s t a.last a.session)
+            (Appends-trans w x y (replies answer_to (ended_after [] script) s) (replies answer_to (last_line l) t ++ end_reply (final answer_to (last_line l) t)) a.written written),
         next ∙ final-pieces script l s t a.last a.session,
       )
 
   -- where the end of input was met and not answered
   pub progress-end_front : {r u v w x y : Option (List ℕ)} {l : List ℕ} {s t : S} {total : ℕ} → Progress answer_to r u w x l s t total
-      → u ≡ prepend_known [] v → IsAtEnd v → total ≤ script_limit
+      → Consumes u v [] → IsAtEnd v → total ≤ script_limit
       → WritesPrefix x y (replies answer_to (last_line l) t ++ end_reply (final answer_to (last_line l) t)) → PrefixWritten (record { answer_to = answer_to; end_reply = end_reply; session = s; script = r; unread = v; before = w; written = y })
-  progress-end_front {w = w} {x = x} {l = l} {s = s} {t = t} h e d few f =
+  progress-end_front {r = r} {u = u} {v = v} {w = w} {x = x} {l = l} {s = s} {t = t} h e d few f =
       let a : PieceAnswered answer_to w x [] l s t h.taken = rw (← limit_all h.taken (omega (arith, h.count))) h.answers in
       record {
         taken = h.taken;
-        told = h.told ∙ ap (prepend_known h.taken) (e ∙ prepend_known-nil _);
+        told = consumes-none r u v h.taken h.told e;
         prefix = inr (d, prefix-along (out-pieces h.taken l s t a.last a.session) (prefix-then (replies answer_to (ended_after [] h.taken) s) a.written f));
       }
 
   -- there was no memory for a line that ended in a piece
   pub progress-short : {r u v w x y : Option (List ℕ)} {l : List ℕ} {s t : S} {total : ℕ} (p : List ℕ → S → Type 0) (piece within : List ℕ) → LongLinesLackAlike p → Progress answer_to r u w x l s t total
-      → u ≡ prepend_known piece v → total ≤ script_limit → within ≡ take (script_limit - total) piece
+      → Consumes u v piece → total ≤ script_limit → within ≡ take (script_limit - total) piece
       → NoMemoryIn answer_to p x y l t within
       → NoMemoryLeft p (record { answer_to = answer_to; end_reply = end_reply; session = s; script = r; unread = v; before = w; written = y })
-  progress-short {v = v} {w = w} {y = y} {s = s} {total = total} p piece within also h e few cut f =
+  progress-short {r = r} {u = u} {v = v} {w = w} {y = y} {s = s} {total = total} p piece within also h e few cut f =
       let first : List ℕ = take script_limit h.taken in
       let same : first ≡ h.taken = limit_all h.taken (omega (arith, h.count)) in
       let k : NoMemoryIn answer_to p w y [] s (first ++ within) = short-then answer_to alike first within p also h.answers f in
@@ -233,9 +242,9 @@ module _ {S : Type 0} (answer_to : List ℕ → S → Answer S) (end_reply : S �
       record {
         front = k.front;
         back = k.back ++ rest;
-        told = h.told ∙ ap (prepend_known h.taken) e ∙ prepend_known-append _ h.taken piece ∙ ap (λ b. prepend_known b v) (sym whole);
+        told = subst (Consumes r v) (sym whole) (Consumes-trans r u v h.taken piece h.told e);
         few = omega (arith, h.count, ap length k.whole, length-append k.front k.back, length-append first within, ap length cut, length-take (script_limit - total) piece, ap length same);
-        written = k.written ∙ ap (λ ls. append_known w (replies answer_to ls s)) (sym (ended_lines-after k.front));
+        written = subst (Appends w y) (ap (λ ls. replies answer_to ls s) (sym (ended_lines-after k.front))) k.written;
         lacks = inl (subst (λ text. OfFirst p (drop (length (ended_lines k.front)) (ended_lines text)) (final answer_to (ended_lines k.front) s)) (sym limited)
             (next_ended p k.front k.back (final answer_to (ended_after [] k.front) s) (final answer_to (ended_lines k.front) s)
             (ap (λ ls. final answer_to ls s) (sym (ended_lines-after k.front))) k.lacks));
@@ -243,16 +252,16 @@ module _ {S : Type 0} (answer_to : List ℕ → S → Answer S) (end_reply : S �
 
   -- or for the last line, which no newline ended
   pub progress-end_short : {r u v w x y : Option (List ℕ)} {l : List ℕ} {s t : S} {total : ℕ} (p : List ℕ → S → Type 0) → LongLinesLackAlike p → Progress answer_to r u w x l s t total
-      → u ≡ prepend_known [] v → IsAtEnd v → total ≤ script_limit → (y ≡ x) × OfFirst p (last_line l) t
+      → Consumes u v [] → IsAtEnd v → total ≤ script_limit → (y ≡ x) × OfFirst p (last_line l) t
       → NoMemoryLeft p (record { answer_to = answer_to; end_reply = end_reply; session = s; script = r; unread = v; before = w; written = y })
-  progress-end_short {v = v} {w = w} {x = x} {l = l} {s = s} {t = t} p also h e d few f =
+  progress-end_short {r = r} {u = u} {v = v} {w = w} {x = x} {l = l} {s = s} {t = t} p also h e d few f =
       let a : PieceAnswered answer_to w x [] l s t h.taken = rw (← limit_all h.taken (omega (arith, h.count))) h.answers in
       record {
         front = h.taken;
         back = [];
-        told = h.told ∙ ap (prepend_known h.taken) (e ∙ prepend_known-nil _) ∙ ap (λ b. prepend_known b v) (sym (append-nil h.taken));
+        told = rw (append-nil h.taken) (consumes-none r u v h.taken h.told e);
         few = omega (arith, h.count);
-        written = f.0 ∙ a.written ∙ ap (λ ls. append_known w (replies answer_to ls s)) (sym (ended_lines-after h.taken));
+        written = rw f.0 (subst (Appends w x) (ap (λ ls. replies answer_to ls s) (sym (ended_lines-after h.taken))) a.written);
         lacks = inr (
           d,
           rw (append-nil h.taken) (next_last p h.taken t (final answer_to (ended_lines h.taken) s) (a.session ∙ ap (λ ls. final answer_to ls s) (sym (ended_lines-after h.taken)))

@@ -1,12 +1,12 @@
 -- One piece of a script.
 use Rattle.std.specs.Prelude.{◌≡◌, ℕ, List, ◌++◌, Option}
-use Rattle.std.specs.Io.KnownBytes.{append_known}
+use Rattle.std.specs.Io.KnownBytes.{Appends}
 use Rattle.rsp_script_io.specs.Lines.{ended_after, open_after, kept}
 use Rattle.rsp_script_io.specs.Replies.{Answer, OfFirst, replies, final}
 
 -- each line that ends in a piece was answered; the first of them began with `line`, and `after` is kept of what no newline ended
 pub record PieceAnswered {S : Type 0} (answer_to : List ℕ → S → Answer S) (old new : Option (List ℕ)) (line after : List ℕ) (s t : S) (piece : List ℕ) : Type 0 where
-  pub written : new ≡ append_known old (replies answer_to (ended_after line piece) s)
+  pub written : Appends old new (replies answer_to (ended_after line piece) s)
   pub session : t ≡ final answer_to (ended_after line piece) s
   pub last : kept after ≡ kept (open_after line piece)
 
@@ -16,5 +16,5 @@ pub record NoMemoryIn {S : Type 0} (answer_to : List ℕ → S → Answer S) (la
   pub front : List ℕ
   pub back : List ℕ
   pub whole : front ++ back ≡ piece
-  pub written : new ≡ append_known old (replies answer_to (ended_after line front) s)
+  pub written : Appends old new (replies answer_to (ended_after line front) s)
   pub lacks : OfFirst lacks_memory (ended_after (open_after line front) back) (final answer_to (ended_after line front) s)

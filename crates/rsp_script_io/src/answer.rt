@@ -1,5 +1,5 @@
 ghost use Rattle.std.specs.Prelude.{◌≡◌, ℕ, ◌+◌, ◌-◌, ◌<◌, ◌≤◌, ◌^◌, ◌++◌, length, OnOk, OnErr, IfErr, IsErrOf};
-ghost use Rattle.std.specs.Io.KnownBytes.{append_known};
+ghost use Rattle.std.specs.Io.KnownBytes.{Appends};
 ghost use Rattle.rsp_script_io.specs.Pieces.{PieceAnswered, NoMemoryIn};
 ghost use Rattle.rsp_script_io.specs.Faults.{failed_writes, IsAnswerFault};
 ghost use Rattle.rsp_script_io.specs.EarlyEnd.{WritesPrefix};
@@ -18,7 +18,7 @@ use std::alloc::Global;
 /// Writes all bytes. A write that fails, or takes nothing, is not tried again.
 fn write_all<W: Sink>(sink: &mut W, bytes: &[u8]) -> Result<(), EndFault>
     requires { W.fault_count sink.old < 2 ^ 64 - 1 }
-    ensures written { OnOk result (W.written sink.new ≡ append_known (W.written sink.old) bytes.now) }
+    ensures written { OnOk result (Appends (W.written sink.old) (W.written sink.new) bytes.now) }
     ensures prefix { OnErr result (WritesPrefix (W.written sink.old) (W.written sink.new) bytes.now) }
     ensures same { OnOk result (W.fault_count sink.new ≡ W.fault_count sink.old) }
     ensures failed { OnErr result (W.fault_count sink.new ≡ W.fault_count sink.old + 1) }
@@ -75,7 +75,7 @@ pub(crate) fn answer_end<S: LineHandler, W: Sink>(
     sink: &mut W,
 ) -> Result<(), RunFault>
     requires { W.fault_count sink.old < 2 ^ 64 - 1 }
-    ensures written { OnOk result (W.written sink.new ≡ append_known (W.written sink.old)
+    ensures written { OnOk result (Appends (W.written sink.old) (W.written sink.new)
         (replies S.answer_to (last_line feed.now.line) session.old ++ S.end_reply (final S.answer_to (last_line feed.now.line) session.old))) }
     ensures session { OnOk result (session.new ≡ final S.answer_to (last_line feed.now.line) session.old) }
     ensures prefix { OnErr result (WritesPrefix (W.written sink.old) (W.written sink.new)

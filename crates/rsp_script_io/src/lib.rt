@@ -8,7 +8,7 @@
 //!
 //! A script comes from a [`Source`] and the replies go to a [`Sink`]. Their contracts name the bytes that are left and the bytes
 //! that were written. [`MemSource`] and [`MemSink`] name them; [`FromRead`] and [`ToWrite`], over a reader and a writer of the
-//! standard library, name none. A [`Reply`] is the text of one reply.
+//! standard library, name those that the reader or writer names. A [`Reply`] is the text of one reply.
 //!
 //! It answers a script for whatever answers a line, and knows no command: `rsp_commands` is a crate of its own beside
 //! it.

@@ -1,5 +1,5 @@
 ghost use Rattle.std.specs.Prelude.{◌≡◌, ℕ, ◌+◌, ◌-◌, ◌<◌, ◌≤◌, ◌^◌, List, length, OnOk, IfSome, IsErrOf};
-ghost use Rattle.std.specs.Io.KnownBytes.{append_known};
+ghost use Rattle.std.specs.Io.KnownBytes.{Appends};
 ghost use Rattle.std.specs.Str.Lines.{lines};
 ghost use Rattle.rsp_script_io.specs.Faults.{failed_reads, failed_writes};
 ghost use Rattle.rsp_script_io.specs.EarlyEnd.{TakesAtMost, Takes, LeavesWritten, NoMemoryLeft};
@@ -47,7 +47,7 @@ pub fn answer_script<S: LineHandler, R: Source, W: Sink>(
     // A run that ends well has answered the whole script.
     ensures fits { IfSome (R.rest source.old) (λ script. OnOk result (length script ≤ script_limit)) }
     ensures written { IfSome (R.rest source.old) (λ script. OnOk result (
-        W.written sink.new ≡ append_known (W.written sink.old) (written_of S.answer_to S.end_reply script session.old))) }
+        Appends (W.written sink.old) (W.written sink.new) (written_of S.answer_to S.end_reply script session.old))) }
     ensures session { IfSome (R.rest source.old) (λ script. OnOk result (session.new ≡ final S.answer_to (lines script) session.old)) }
 
     // A fault has its cause, and a read or a write that failed is not tried again.

@@ -1,5 +1,5 @@
 ghost use Rattle.std.specs.Prelude.{◌≡◌, ℕ, ◌+◌, ◌-◌, ◌<◌, ◌^◌, List, length, IfSome, IfOk, IsErrOf};
-ghost use Rattle.std.specs.Io.KnownBytes.{append_known};
+ghost use Rattle.std.specs.Io.KnownBytes.{Appends};
 ghost use Rattle.rsp_script_io.specs.Faults.{failed_reads, failed_writes};
 ghost use Rattle.rsp_script_io.specs.EarlyEnd.{TakesAtMost, Takes};
 ghost use Rattle.rsp_script_io.specs.Feeds.{script_limit};
@@ -31,7 +31,7 @@ pub trait ScriptRunner {
         requires source { R.fault_count source.old < 2 ^ 64 - 1 }
         requires sink { W.fault_count sink.old < 2 ^ 64 - 1 }
         ensures finished { IfSome (R.rest source.old) (λ script. IfOk result (λ rdram.
-            (W.written sink.new ≡ append_known (W.written sink.old) (out_of script image))
+            Appends (W.written sink.old) (W.written sink.new) (out_of script image)
             × (rdram ≡ image_of script image))) }
         ensures reads { R.fault_count source.new ≡ R.fault_count source.old + failed_reads result }
         ensures writes { W.fault_count sink.new ≡ W.fault_count sink.old + failed_writes result }

@@ -1,5 +1,5 @@
-ghost use Rattle.std.specs.Prelude.{◌≡◌, ℕ, ◌+◌, ◌-◌, ◌<◌, ◌≤◌, ◌^◌, List, [], ◌++◌, Option, Some, None, length, IfOk, min};
-ghost use Rattle.std.specs.Io.KnownBytes.{append_known, WriteAppends};
+ghost use Rattle.std.specs.Prelude.{◌≡◌, ℕ, ◌+◌, ◌-◌, ◌<◌, ◌≤◌, ◌^◌, List, [], ◌++◌, Option, Some, length, IfOk, IsErr, min};
+ghost use Rattle.std.specs.Io.KnownBytes.{Appends};
 ghost use Rattle.rsp_script_io.specs.Ends.{write_failures, taken};
 
 use crate::source::EndFault;
@@ -20,7 +20,7 @@ pub trait Sink {
     fn write(&mut self, piece: &[u8]) -> Result<usize, EndFault>
         requires { fault_count self.old < 2 ^ 64 - 1 }
         ensures bound { IfOk result (λ n. n ≤ length piece.now) }
-        ensures told { written self.new ≡ append_known (written self.old) (taken result piece.now) }
+        ensures told { Appends (written self.old) (written self.new) (taken result piece.now) }
         ensures counted { fault_count self.new ≡ fault_count self.old + write_failures result piece.now };
 
     /// How many writes failed so far, or took nothing of a piece that isn't empty.
@@ -99,7 +99,8 @@ impl Sink for MemSink {
     }
 }
 
-/// A sink over a writer of the standard library. It names no bytes, and counts the writes that failed or took nothing.
+/// A sink over a writer of the standard library. It names the bytes that the writer names, and counts the writes that failed or took
+/// nothing. After a failure it leaves the writer alone: each further write is refused, and counted as one more failure.
 #[derive(Drop)]
 pub struct ToWrite<W> {
     writer: W,
@@ -127,20 +128,33 @@ impl<W: Write> ToWrite<W> {
             failures: 0,
         }
     }
+
+    /// The writer.
+    pub fn into_inner(self) -> W
+        ensures { result ≡ self.inner }
+    {
+        self.writer
+    }
 }
 
 impl<W: Write> Sink for ToWrite<W> {
-    ghost written = { λ _. None };
+    ghost written = { λ s. W.contents s.inner };
 
     ghost fault_count = { λ s. s.failures };
 
-    /// Writes once to the writer, and never again after a fault.
+    /// Writes once to the writer, or not at all if a write has failed before.
     fn write(&mut self, piece: &[u8]) -> Result<usize, EndFault>
         requires { self.old.failures < 2 ^ 64 - 1 }
         ensures bound { IfOk result (λ n. n ≤ length piece.now) }
+        ensures told { Appends (W.contents self.old.inner) (W.contents self.new.inner) (taken result piece.now) }
         ensures counted { self.new.failures ≡ self.old.failures + write_failures result piece.now }
-        ensures bytes { WriteAppends (W.contents self.old.inner) (W.contents self.new.inner) result piece.now }
+        ensures refused { 0 < self.old.failures → IsErr result }
+        ensures alone { 0 < self.old.failures → self.new.inner ≡ self.old.inner }
     {
+        if self.failures > 0 {
+            self.failures += 1;
+            return Err(EndFault);
+        }
         match self.writer.write(piece) {
             Ok(n) => {
                 if n == 0 && !piece.is_empty() {

@@ -1,5 +1,5 @@
-ghost use Rattle.std.specs.Prelude.{◌≡◌, ℕ, ◌+◌, ◌-◌, ◌<◌, ◌≤◌, ◌^◌, List, Option, Some, None, ◌++◌, length, IfOk, min};
-ghost use Rattle.std.specs.Io.KnownBytes.{prepend_known, ReadConsumes};
+ghost use Rattle.std.specs.Prelude.{◌≡◌, ℕ, ◌+◌, ◌-◌, ◌<◌, ◌≤◌, ◌^◌, List, Option, Some, ◌++◌, length, IfOk, IsErr, min};
+ghost use Rattle.std.specs.Io.KnownBytes.{Consumes};
 ghost use Rattle.rsp_script_io.specs.Ends.{read_failures, given, EndsAt};
 
 use std::io::Read;
@@ -22,7 +22,7 @@ pub trait Source {
     fn read(&mut self, buf: &mut [u8]) -> Result<usize, EndFault>
         requires { fault_count self.old < 2 ^ 64 - 1 }
         ensures bound { IfOk result (λ n. n ≤ length buf.old) }
-        ensures told { rest self.old ≡ prepend_known (given result buf.new) (rest self.new) }
+        ensures told { Consumes (rest self.old) (rest self.new) (given result buf.new) }
         ensures end { EndsAt result buf.new (rest self.new) }
         ensures counted { fault_count self.new ≡ fault_count self.old + read_failures result };
 
@@ -78,7 +78,8 @@ impl Source for MemSource<'_> {
     }
 }
 
-/// A source over a reader of the standard library. It names no bytes, and counts the reads that failed.
+/// A source over a reader of the standard library. It names the bytes that the reader names, and counts the reads that failed. After
+/// a failure it leaves the reader alone: each further read is refused, and counted as one more failure.
 #[derive(Drop)]
 pub struct FromRead<R> {
     reader: R,
@@ -109,17 +110,24 @@ impl<R: Read> FromRead<R> {
 }
 
 impl<R: Read> Source for FromRead<R> {
-    ghost rest = { λ _. None };
+    ghost rest = { λ s. R.remaining s.inner };
 
     ghost fault_count = { λ s. s.failures };
 
-    /// Reads once from the reader, and never again after a fault.
+    /// Reads once from the reader, or not at all if a read has failed before.
     fn read(&mut self, buf: &mut [u8]) -> Result<usize, EndFault>
         requires { self.old.failures < 2 ^ 64 - 1 }
         ensures bound { IfOk result (λ n. n ≤ length buf.old) }
+        ensures told { Consumes (R.remaining self.old.inner) (R.remaining self.new.inner) (given result buf.new) }
+        ensures end { EndsAt result buf.new (R.remaining self.new.inner) }
         ensures counted { self.new.failures ≡ self.old.failures + read_failures result }
-        ensures bytes { ReadConsumes (R.remaining self.old.inner) (R.remaining self.new.inner) result buf.new }
+        ensures refused { 0 < self.old.failures → IsErr result }
+        ensures alone { 0 < self.old.failures → self.new.inner ≡ self.old.inner }
     {
+        if self.failures > 0 {
+            self.failures += 1;
+            return Err(EndFault);
+        }
         match self.reader.read(buf) {
             Ok(n) => Ok(n),
             Err(_) => {
