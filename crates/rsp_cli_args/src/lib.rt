@@ -24,7 +24,7 @@ pub struct RunFiles<'a> {
     pub save: Option<&'a str>,
     /// Whether a fault in a reply makes the run end with status 1.
     pub is_strict: bool,
-    /// Whether each fault in a reply is explained.
+    /// Whether each fault is explained, in a reply or of the run.
     pub with_explanation: bool,
 }
 
@@ -39,7 +39,7 @@ pub struct AssembleFiles<'a> {
     pub at: Option<&'a str>,
     /// Whether each word is listed, with its address and its source line.
     pub with_listing: bool,
-    /// Whether a fault of the text is explained.
+    /// Whether a fault is explained.
     pub with_explanation: bool,
 }
 
@@ -50,10 +50,12 @@ pub struct DisassembleFiles<'a> {
     pub words: &'a str,
     /// The address of the first word in IMEM, as it was written; without it 0.
     pub at: Option<&'a str>,
-    /// Whether each line begins with the address and the word.
-    pub with_addresses: bool,
+    /// Whether each word is listed, with its address before its text.
+    pub with_listing: bool,
     /// Whether the targets among the words are labels.
     pub with_labels: bool,
+    /// Whether a fault is explained.
+    pub with_explanation: bool,
 }
 
 /// What the command line requests.
@@ -67,6 +69,17 @@ pub enum Request<'a> {
     Disassemble(DisassembleFiles<'a>),
 }
 
+impl Request<'_> {
+    /// Whether faults are explained.
+    pub fn with_explanation(&self) -> bool {
+        match self {
+            Request::Run(asked) => asked.with_explanation,
+            Request::Assemble(asked) => asked.with_explanation,
+            Request::Disassemble(asked) => asked.with_explanation,
+        }
+    }
+}
+
 /// What an argument of a subcommand is.
 #[derive(Clone, Copy)]
 enum Kind {
@@ -78,6 +91,8 @@ enum Kind {
     Value(&'static str),
     /// An option without a value.
     Flag,
+    /// The same, with another name that the help doesn't show.
+    FlagOrAlias(&'static str),
 }
 
 /// An argument of a subcommand: its name, its kind, and what the help says of it.
@@ -87,6 +102,8 @@ struct SubcommandForm {
     name: &'static str,
     about: &'static str,
     arguments: &'static [ArgumentForm],
+    /// What the help ends with.
+    after: &'static str,
 }
 
 const SUBCOMMANDS: [SubcommandForm; 3] = [
@@ -94,16 +111,19 @@ const SUBCOMMANDS: [SubcommandForm; 3] = [
         name: "run",
         about: "Reads a script, and prints a reply to each command",
         arguments: &RUN,
+        after: SCRIPTS,
     },
     SubcommandForm {
         name: "asm",
-        about: "Assembles source text into a file of words, each with the high byte first",
+        about: "Assembles source text into a file of words, high byte first",
         arguments: &ASM,
+        after: "",
     },
     SubcommandForm {
         name: "dis",
-        about: "Prints a file of words, each with the high byte first, as assembly text",
+        about: "Prints a file of words, high byte first, as assembly text",
         arguments: &DIS,
+        after: "",
     },
 ];
 
@@ -111,17 +131,17 @@ const RUN: [ArgumentForm; 5] = [
     (
         "SCRIPT",
         Kind::OptionalFile,
-        "The script; without it standard input",
+        "The script [default: standard input]",
     ),
     (
         "rdram",
         Kind::Value("FILE"),
-        "The contents of RDRAM before the run; without it 4194304 zero bytes",
+        "RDRAM before the run [default: 4194304 zero bytes]",
     ),
     (
         "save",
         Kind::Value("FILE"),
-        "Where the contents of RDRAM are written after the run",
+        "The file for RDRAM after the run, which is overwritten",
     ),
     (
         "strict",
@@ -131,56 +151,79 @@ const RUN: [ArgumentForm; 5] = [
     (
         "explain",
         Kind::Flag,
-        "Shows the line of each fault, and what may be there",
+        "Explains faults; always on if you type at a terminal",
     ),
 ];
 
+/// What the help of `run` ends with.
+const SCRIPTS: &str = "\
+Commands of a script:
+  Fill memory   load BANK ADDR HEX, asm ADDR (then lines of source text), end
+  Run           task ADDR, step, run N, back N
+  Stop a run    break ADDR, unbreak ADDR, watch ADDR LEN, unwatch K
+  Inspect       regs, vregs, acc, flags, sp, mem BANK ADDR LEN, dis ADDR N
+  Change        pc ADDR, read N, write N VALUE
+BANK is dmem, imem or rdram. Numbers are decimal, or 0x and hexadecimal digits.
+
+Example of a script:
+  asm 0
+    addiu $1, $0, 5
+    break
+  end
+  run 10
+  regs
+";
+
 const ASM: [ArgumentForm; 5] = [
     ("SRC", Kind::File, "The source text"),
-    ("OUT", Kind::File, "The file that the words are written to"),
+    (
+        "OUT",
+        Kind::File,
+        "The file for the words, which is overwritten",
+    ),
     ADDRESS,
     (
         "listing",
         Kind::Flag,
-        "Prints the labels, and the address, the word and the source line of each word",
+        "Prints each word with its address and its source line",
     ),
-    (
-        "explain",
-        Kind::Flag,
-        "Shows the line of each fault, its operands, and what they may be",
-    ),
+    EXPLANATION,
 ];
 
-const DIS: [ArgumentForm; 4] = [
+const DIS: [ArgumentForm; 5] = [
     ("FILE", Kind::File, "The words, at most 1024"),
     ADDRESS,
     (
-        "places",
-        Kind::Flag,
-        "Shows the address and the word before each text",
+        "listing",
+        Kind::FlagOrAlias("places"),
+        "Prints each word with its address before its text",
     ),
     (
         "labels",
         Kind::Flag,
         "Gives labels to the words that jumps and branches lead to",
     ),
+    EXPLANATION,
 ];
 
 /// The address of the first word, as text. It is read and refused where it is used.
 const ADDRESS: ArgumentForm = (
     "at",
     Kind::Value("ADDR"),
-    "The address of the first word in IMEM, a multiple of 4 up to 4092; without it 0",
+    "The address of the first word: 0, 4, .. 4092 [default: 0]",
 );
 
-fn argument<'a>(alloc: Global, form: ArgumentForm) -> Arg<'a> {
+const EXPLANATION: ArgumentForm = ("explain", Kind::Flag, "Explains faults");
+
+fn argument<'a>(alloc: Global, form: ArgumentForm) -> Result<Arg<'a>, AllocError> {
     let (name, kind, about) = form;
     let argument = Arg::new(alloc, name).help(about);
     match kind {
-        Kind::File => with_value(argument.required(true)),
-        Kind::OptionalFile => with_value(argument),
-        Kind::Value(value) => with_value(argument.long(name).value_name(value)),
-        Kind::Flag => argument.long(name).action(ArgAction::SetTrue),
+        Kind::File => Ok(with_value(argument.required(true))),
+        Kind::OptionalFile => Ok(with_value(argument)),
+        Kind::Value(value) => Ok(with_value(argument.long(name).value_name(value))),
+        Kind::Flag => Ok(argument.long(name).action(ArgAction::SetTrue)),
+        Kind::FlagOrAlias(other) => argument.long(name).action(ArgAction::SetTrue).alias(other),
     }
 }
 
@@ -190,9 +233,11 @@ fn with_value(argument: Arg<'_>) -> Arg<'_> {
 }
 
 fn subcommand<'a>(alloc: Global, given: &SubcommandForm) -> Result<Command<'a>, AllocError> {
-    let mut command = Command::new(alloc, given.name).about(given.about);
+    let mut command = Command::new(alloc, given.name)
+        .about(given.about)
+        .after_help(given.after);
     for &form in given.arguments {
-        command = command.arg(argument(alloc, form))?;
+        command = command.arg(argument(alloc, form)?)?;
     }
     Ok(command)
 }
@@ -232,8 +277,9 @@ fn disassembly<'a>(given: &ArgMatches<'a>) -> Option<Request<'a>> {
     Some(Request::Disassemble(DisassembleFiles {
         words: given.get_str("FILE")?,
         at: given.get_str("at"),
-        with_addresses: given.get_flag("places"),
+        with_listing: given.get_flag("listing"),
         with_labels: given.get_flag("labels"),
+        with_explanation: given.get_flag("explain"),
     }))
 }
 
@@ -267,7 +313,42 @@ fn nothing_asked(alloc: Global) -> Result<Error, AllocError> {
 }
 
 fn matches_of<'a>(alloc: Global, words: &'a [String]) -> Result<ArgMatches<'a>, Error> {
-    command(alloc)?.try_get_matches_from(words)
+    match command(alloc)?.try_get_matches_from(words) {
+        Ok(matches) => Ok(matches),
+        Err(error) => Err(with_tip(alloc, words, error)?),
+    }
+}
+
+/// The error, with a tip if a file is where a subcommand has to be.
+fn with_tip(alloc: Global, words: &[String], error: Error) -> Result<Error, AllocError> {
+    if error.kind() == ErrorKind::InvalidSubcommand {
+        if let Some(file) = file_first(words) {
+            return subcommand_before(alloc, file);
+        }
+    }
+    Ok(error)
+}
+
+/// The first argument, if it looks like the name of a file.
+fn file_first(words: &[String]) -> Option<&str> {
+    let word = words.get(1)?.as_str();
+    if word.contains(['.', '/']) {
+        Some(word)
+    } else {
+        None
+    }
+}
+
+/// The error of arguments that begin with a file, and not with a subcommand.
+fn subcommand_before(alloc: Global, file: &str) -> Result<Error, AllocError> {
+    let message = format!(in alloc;
+        "\
+unrecognized subcommand '{file}'
+
+  tip: to answer a script, use 'rsp run {file}'
+  tip: to assemble a source text, use 'rsp asm {file} <OUT>'"
+    )?;
+    command(alloc)?.error(ErrorKind::InvalidSubcommand, message.as_str())
 }
 
 fn read_words<'a>(alloc: Global, words: &'a [String]) -> Result<Request<'a>, Error> {

@@ -7,7 +7,7 @@ use std::io::{self, Write};
 use std::str;
 
 /// Prints the listing of a text that was assembled: for each label its address and its name, and for each word its address, the
-/// word, and the source line of the word.
+/// word, and the source line of the word without its label.
 pub(crate) fn print_listing<W: Write>(
     alloc: Global,
     origin: u16,
@@ -27,11 +27,24 @@ pub(crate) fn print_listing<W: Write>(
             print_label(output, address, str::from_utf8(name).unwrap_or(""), true)?;
         }
         let (given, more) = rest.split_at(usize::from(found.size).min(rest.len()));
-        print_words(output, address, given, line.trim())?;
+        print_words(
+            output,
+            address,
+            given,
+            without_label(line, found.label.is_some()),
+        )?;
         address += 4 * found.size;
         rest = more;
     }
     Ok(())
+}
+
+/// What follows the label of a line, if it has one.
+fn without_label(line: &str, has_label: bool) -> &str {
+    match line.split_once(':') {
+        Some((_, statement)) if has_label => statement.trim(),
+        _ => line.trim(),
+    }
 }
 
 fn print_words<W: Write>(output: &mut W, first: u16, words: &[u32], line: &str) -> io::Result<()> {
