@@ -1,90 +1,33 @@
-// What to write here in place of what a text of another assembler says. Each function returns an empty text if there is nothing to
-// say.
+// What helps with a text of another assembler. Each function returns an empty text if there is nothing to say.
 
-use crate::names::is_same;
 use crate::nearest::is_instruction;
 use rsp_decode::Operand;
 
-const COMMENT: &str = "a comment, after # or ;";
-
-const DATA: &str = ".word in IMEM; data goes to DMEM by load or by a DMA";
+const COMMENT: &str = "a comment begins with # or ;";
 
 const ELEMENT: &str =
-    "the name without what follows its dot; an element follows a register, as $v3[0]";
+    "leave out what follows the dot of the name; an element follows a register, as $v3[0]";
 
-const END: &str = "end alone on its line: so it closes a block of a script";
+const LABEL: &str = "a label has letters, digits and _, no digit first, and at most 32 bytes";
 
-const ITSELF: &str = "the number or the register itself";
+const LINE: &str = "a line has at most 256 bytes, each a tab or 20 to 7e hexadecimal";
 
-const LABEL: &str = "a label of letters, digits and _, with no digit first and at most 32 bytes";
+const MEMORY: &str = "write a number, a label, or a label + or - a number, and ($r) after it";
 
-const LINE: &str = "a line of at most 256 bytes, each a tab or 20 to 7e hexadecimal";
+/// What helps with a byte-order mark.
+pub const NO_MARK: &str = "save the file without a byte-order mark";
 
-const MEMORY: &str = "a number, a label, or a label + or - a number, and ($r) after it";
+const ITSELF: &str =
+    "write the number or the register itself, or let a preprocessor such as m4 replace the name";
 
-const LEFT_OUT: &str = "nothing: leave it out";
-
-const NO_MARK: &str = "no byte-order mark before the first line";
-
-const ORIGIN: &str = "nothing: leave it out, and type rsp asm SRC OUT --at 0x080";
-
-const ONE_LABEL: &str = "one label a line";
+const ONE_LABEL: &str = "write one label a line";
 
 const REGISTERS: &str =
-    "each operand, here a register; addiu, andi, ori and xori take a number last";
+    "write each operand, here a register; addiu, andi, ori and xori take a number last";
 
-const SUM: &str = "a number, a label, or a label + or - a number";
+const SUM: &str = "write a number, a label, or a label + or - a number";
 
-/// The names of other assemblers' statements, with what to write.
-const STATEMENTS: &[(&str, &str)] = &[
-    (
-        "li",
-        "addiu $1, $0, 100, or ori $1, $0, 0xffff from 32768 on, or lui and ori from 65536 on",
-    ),
-    (
-        "la",
-        "addiu $1, $0, x; of data, the number of its address in DMEM",
-    ),
-    ("move", "addu $1, $2, $0"),
-    ("not", "nor $1, $2, $0"),
-    ("neg", "subu $1, $0, $2"),
-    ("b", "beq $0, $0, x"),
-    ("bal", "bgezal $0, x"),
-    ("beqz", "beq $1, $0, x"),
-    ("bnez", "bne $1, $0, x"),
-    ("vzero", "vxor $v1, $v1, $v1"),
-    ("vcopy", "vor $v1, $v2, $v2"),
-    (
-        "vsll",
-        "vmudn $v1, $v2, $v3[0], with 8 in lane 0 of $v3 for 3",
-    ),
-    (
-        "vsll8",
-        "vmudn $v1, $v2, $v3[0], with 2048 in lane 0 of $v3 for 11",
-    ),
-    ("jal_and_j", "j x, and addiu $31, $0, y in its delay slot"),
-    ("constant", ITSELF),
-    (".definelabel", ITSELF),
-    ("end", END),
-    (".org", ORIGIN),
-    ("origin", ORIGIN),
-    (".data", DATA),
-    (".bss", DATA),
-    (".ds.b", DATA),
-    (".ds.h", DATA),
-    (".ds.w", DATA),
-    (".half", DATA),
-    (".byte", DATA),
-    (".dh", DATA),
-    (".db", DATA),
-    (".dw", DATA),
-    ("dw", DATA),
-    (".set", LEFT_OUT),
-    (".text", LEFT_OUT),
-    (".align", LEFT_OUT),
-];
-
-/// What to write in place of another assembler's comment; empty if the text has none.
+/// What helps with another assembler's comment; empty if the text has none.
 pub fn of_comment(text: &str) -> &'static str {
     if text.contains("//") || text.contains("/*") {
         COMMENT
@@ -93,26 +36,16 @@ pub fn of_comment(text: &str) -> &'static str {
     }
 }
 
-/// The names of other assemblers' statements for which there is something to say.
-pub(crate) fn other_names() -> &'static [(&'static str, &'static str)] {
-    STATEMENTS
-}
-
-/// What to write in place of a statement whose name is unknown. `operand` is its first operand.
-pub fn of_statement(name: &str, operand: &str) -> &'static str {
-    for (other, written) in STATEMENTS {
-        if is_same(name, other) {
-            return written;
-        }
-    }
+/// What helps where the name of a statement is unknown, and none of another assembler's. `operand` is its first operand.
+pub fn of_name(name: &str, operand: &str) -> &'static str {
     let comment = of_comment(name);
     if !comment.is_empty() {
         comment
     } else if name.ends_with(':') {
         ONE_LABEL
     } else if name.starts_with("emux_") || name.starts_with("assert") {
-        LEFT_OUT
-    } else if operand.starts_with("equ ") {
+        "leave the line out"
+    } else if operand.starts_with("equ ") || operand.starts_with('=') {
         ITSELF
     } else if has_element(name) {
         ELEMENT
@@ -129,7 +62,7 @@ fn has_element(name: &str) -> bool {
     }
 }
 
-/// What to write in place of a line that is none.
+/// What helps with a line that is none.
 pub fn of_line(line: &str) -> &'static str {
     if line.starts_with('\u{feff}') {
         NO_MARK
@@ -143,7 +76,7 @@ pub fn of_line(line: &str) -> &'static str {
     }
 }
 
-/// What to write in place of an operand of this kind that can't be read.
+/// What helps with an operand of this kind that can't be read.
 pub fn of_operand(kind: Operand, text: &str) -> &'static str {
     let comment = of_comment(text);
     if !comment.is_empty() {
@@ -151,7 +84,6 @@ pub fn of_operand(kind: Operand, text: &str) -> &'static str {
     }
     match kind {
         Operand::Scalar(_) => REGISTERS,
-        Operand::Vector(_) | Operand::VectorElement => of_accumulator(text),
         Operand::ShiftAmount | Operand::Signed | Operand::Unsigned => SUM,
         Operand::JumpTarget | Operand::BranchTarget => of_target(text),
         Operand::ScalarMemory | Operand::VectorMemory(_) => MEMORY,
@@ -168,7 +100,7 @@ fn of_target(text: &str) -> &'static str {
 }
 
 /// The operands of `vsar` in place of a part of the accumulator.
-fn of_accumulator(text: &str) -> &'static str {
+pub fn of_accumulator(text: &str) -> &'static str {
     match text.strip_prefix("COP2_ACC_") {
         Some("HI") => "$v0, $v0[0]",
         Some("MD") => "$v0, $v0[1]",

@@ -7,15 +7,21 @@
 mod advice;
 mod allowed;
 mod commands;
+mod fits;
 mod names;
 mod nearest;
+mod readings;
 mod spelling;
+mod statements;
 mod tables;
 mod visible;
 
-pub use advice::{of_comment, of_line, of_operand, of_statement};
+pub use advice::{NO_MARK, of_accumulator, of_comment, of_line, of_name, of_operand};
 pub use allowed::form_of;
 pub use commands::{CommandForm, FaultText, command_forms, command_named, fault_numbered};
+pub use fits::{Filled, Operands};
 pub use nearest::{is_instruction, nearest_command, nearest_statement};
+pub use readings::{Apart, Readings, of_apart, of_extra};
 pub use spelling::{Spelling, respelled, respelled_in_range};
-pub use visible::{Advice, Visible};
+pub use statements::{Statement, is_other, of_other};
+pub use visible::{Label, Labelled, Visible};

@@ -5,9 +5,9 @@ ghost use Rattle.std.specs.List.{list_any};
 ghost use Rattle.std.specs.Str.{str_eq_ignore_ascii_case};
 ghost use Rattle.rsp_decode.specs.Table.{rows, entry_of};
 
-use crate::advice::other_names;
 use crate::commands::{CommandForm, command_forms, command_named};
 use crate::names::is_same;
+use crate::statements::other_names;
 use rsp_decode::table;
 use std::alloc::{AllocError, Global};
 use strsim::osa_distance;
@@ -43,9 +43,12 @@ impl<'a> Search<'a> {
         }
     }
 
-    /// Takes another name if it is nearer. Of two with as few edits the one of the same length is, and else the first in the order of the
+    /// Takes another name if it begins with the same letter, and is nearer. Of two with as few edits the one of the same length is, and else the first in the order of the
     /// alphabet.
     fn see(&mut self, other: &'static str) -> Result<(), AllocError> {
+        if self.name.as_bytes().first() != other.as_bytes().first() {
+            return Ok(());
+        }
         let edits = osa_distance(self.alloc, self.name, other)?;
         let is_longer = usize::from(other.len() != self.name.len());
         let distance = edits.saturating_mul(2).saturating_add(is_longer);
@@ -73,8 +76,8 @@ pub fn is_instruction(name: &str) -> bool
     false
 }
 
-/// The name of an instruction, or one for which [`of_statement`](crate::of_statement) has something to say, that is nearest to an
-/// unknown one. None if none is near: two edits away or less, of an unknown name of three or four bytes one edit, and of a shorter one
+/// The name of an instruction, or one for which [`of_other`](crate::of_other) has something to say, that is nearest to an unknown one.
+/// None if none that begins with the same letter is near: two edits away or less, of an unknown name of three or four bytes one edit, and of a shorter one
 /// none. An edit changes, adds or drops a character, or exchanges two that follow each other. AllocError if there is no memory for the
 /// name in lower case, or to compare it.
 pub fn nearest_statement(alloc: Global, name: &str) -> Result<Option<&'static str>, AllocError> {
@@ -94,8 +97,10 @@ pub fn nearest_statement(alloc: Global, name: &str) -> Result<Option<&'static st
 fn see_others(search: &mut Search<'_>) -> Result<(), AllocError> {
     search.see("nop")?;
     search.see(".word")?;
-    for (other, _) in other_names() {
-        search.see(other)?;
+    for (names, _, _, _) in other_names() {
+        for other in names.split(' ') {
+            search.see(other)?;
+        }
     }
     Ok(())
 }

@@ -60,13 +60,13 @@ const SP_NUMBERS: [&str; 16] = [
 const CONTROLS: [&str; 3] = ["vco", "vcc", "vce"];
 
 /// The elements of computing instructions, by their codes.
-const ELEMENTS: [&str; 16] = [
+pub(crate) const ELEMENTS: [&str; 16] = [
     "", "[v]", "[0q]", "[1q]", "[0h]", "[1h]", "[2h]", "[3h]", "[0]", "[1]", "[2]", "[3]", "[4]",
     "[5]", "[6]", "[7]",
 ];
 
 /// The bytes of a vector register, and its lanes.
-const BYTES: [&str; 16] = [
+pub(crate) const BYTES: [&str; 16] = [
     "[0]", "[1]", "[2]", "[3]", "[4]", "[5]", "[6]", "[7]", "[8]", "[9]", "[10]", "[11]", "[12]",
     "[13]", "[14]", "[15]",
 ];
@@ -76,6 +76,8 @@ const BYTES: [&str; 16] = [
 pub enum Spelling<'a> {
     /// A register of one number, by its name without `$`.
     Register(&'a str),
+    /// The same of a scalar register, if a text means that one and no vector register.
+    Scalar(&'static str, &'a str),
     /// A vector register by its number, and the text after it.
     Vector(u8, &'static str),
     /// An offset, and the name of a base register without `$`.
@@ -95,10 +97,18 @@ pub enum Spelling<'a> {
     },
 }
 
+impl Spelling<'_> {
+    /// Whether the text of the other assembler has no other meaning.
+    pub fn is_sure(&self) -> bool {
+        !matches!(self, Spelling::Scalar(..) | Spelling::Steps { .. })
+    }
+}
+
 impl Display for Spelling<'_> {
     fn fmt<W: Write>(&self, f: &mut Formatter<W>) -> fmt::Result {
         match self {
             Spelling::Register(name) => write!(f, "${name}"),
+            Spelling::Scalar(name, text) => write!(f, "${name} if {text} is a scalar register"),
             Spelling::Vector(number, element) => write!(f, "$v{number}{element}"),
             Spelling::Memory(offset, base) => write!(f, "{offset}(${base})"),
             Spelling::Address(digits) => write!(f, "0x{digits}"),
@@ -123,18 +133,16 @@ enum Element {
     Bracketed(u8, u8),
 }
 
-/// How an operand of this kind is written here, if its text is one of another assembler's. `apart` has the offset and the base of a
-/// load or a store that has no parentheses.
-pub fn respelled<'a>(
-    kind: Operand,
-    text: &'a str,
-    apart: Option<(&'a str, &'a str)>,
-) -> Option<Spelling<'a>> {
+/// How an operand of this kind is written here, if its text is one of another assembler's.
+pub fn respelled(kind: Operand, text: &str) -> Option<Spelling<'_>> {
     match kind {
-        Operand::Scalar(_) => scalar(text).map(Spelling::Register),
+        Operand::Scalar(_) => match first_scalar(text) {
+            Some(name) => Some(Spelling::Scalar(name, text)),
+            None => scalar(text).map(Spelling::Register),
+        },
         Operand::SpRegister => sp_register(text).map(Spelling::Register),
         Operand::ControlRegister => control(text).map(Spelling::Register),
-        Operand::ScalarMemory | Operand::VectorMemory(_) => memory_operand(text, apart),
+        Operand::ScalarMemory | Operand::VectorMemory(_) => memory_operand(text),
         _ => vector(kind, text.as_bytes()),
     }
 }
@@ -150,7 +158,7 @@ fn index_of(name: &str, names: &[&str]) -> Option<usize> {
 }
 
 /// The number at the start of a text, of one or two digits, and what follows it.
-fn leading_number(text: &[u8]) -> Option<(u8, &[u8])> {
+pub(crate) fn leading_number(text: &[u8]) -> Option<(u8, &[u8])> {
     match text {
         [a @ b'0'..=b'9', b @ b'0'..=b'9', rest @ ..] => {
             Some(((*a - b'0') * 10 + (*b - b'0'), rest))
@@ -174,7 +182,7 @@ fn scalar_number(text: &str) -> Option<usize> {
 }
 
 /// A scalar register without `$`, by its name: `t0`, `r8`, `$08`, and `$v0` for `$2`. A number without a letter before it is none.
-fn scalar(text: &str) -> Option<&str> {
+pub(crate) fn scalar(text: &str) -> Option<&str> {
     let name = text.strip_prefix('$').unwrap_or(text);
     if index_of(name, &SCALARS).is_some() {
         return Some(name);
@@ -188,16 +196,22 @@ fn scalar(text: &str) -> Option<&str> {
     numbered_scalar(number)
 }
 
-fn numbered_scalar(number: usize) -> Option<&'static str> {
+/// The number of `v0` or `v1`, which are vector registers here.
+fn first_scalar(text: &str) -> Option<&'static str> {
+    match index_of(text.strip_prefix('$').unwrap_or(text), &["v0", "v1"])? {
+        0 => Some("2"),
+        _ => Some("3"),
+    }
+}
+
+pub(crate) fn numbered_scalar(number: usize) -> Option<&'static str> {
     SCALAR_NUMBERS.get(number).copied()
 }
 
-/// An offset and a base register: with blanks, with a base that is written otherwise, or as two operands.
-fn memory_operand<'a>(text: &'a str, apart: Option<(&'a str, &'a str)>) -> Option<Spelling<'a>> {
-    let (offset, base) = match text.split_once('(') {
-        Some((offset, rest)) => (offset.trim(), rest.trim().strip_suffix(')')?.trim()),
-        None => apart?,
-    };
+/// An offset and a base register: with blanks, or with a base that is written otherwise.
+fn memory_operand(text: &str) -> Option<Spelling<'_>> {
+    let (offset, rest) = text.split_once('(')?;
+    let (offset, base) = (offset.trim(), rest.trim().strip_suffix(')')?.trim());
     Some(Spelling::Memory(offset, scalar(base)?))
 }
 
@@ -230,7 +244,7 @@ fn vector<'a>(kind: Operand, text: &[u8]) -> Option<Spelling<'a>> {
 }
 
 /// The number of a vector register, with or without `$`, and what follows it.
-fn vector_register(text: &[u8]) -> Option<(u8, &[u8])> {
+pub(crate) fn vector_register(text: &[u8]) -> Option<(u8, &[u8])> {
     let digits = match text {
         [b'$', b'v' | b'V', rest @ ..] => rest,
         [b'v' | b'V', rest @ ..] => rest,

@@ -129,7 +129,7 @@ pub(crate) static FAULTS: &[FaultText] = &[
     FaultText {
         number: 21,
         cause: "the address has a breakpoint",
-        help: "nothing: it is set",
+        help: "leave the line out: it is set",
     },
     FaultText {
         number: 22,
@@ -149,17 +149,17 @@ pub(crate) static FAULTS: &[FaultText] = &[
     FaultText {
         number: 25,
         cause: "LEN isn't 1 to 64, or the bytes aren't all inside DMEM",
-        help: "use several watches",
+        help: "for more than 64 bytes use several watches",
     },
     FaultText {
         number: 26,
         cause: "N isn't 1 to 1,000,000",
-        help: "for more steps use several run lines; back undoes 256 at most",
+        help: "for more than 1,000,000 steps use several run lines; back undoes 256 at most",
     },
     FaultText {
         number: 27,
         cause: "the history holds fewer than N steps",
-        help: "see what empties it, or run the script again",
+        help: "load, task, pc, write, end, read 7 and a step that starts a DMA empty it; to go back further, run the script again",
     },
     FaultText {
         number: 30,

@@ -23,15 +23,39 @@ impl Display for Visible<'_> {
     }
 }
 
-/// The line that says what to write, if there is something to say.
+/// What a line of an explanation is.
 #[derive(Clone, Copy)]
-pub struct Advice<'a>(pub &'a str);
+pub enum Label {
+    /// What means the same as the line.
+    Try,
+    /// What helps.
+    Help,
+}
 
-impl Display for Advice<'_> {
+impl Label {
+    fn text(self) -> &'static str {
+        match self {
+            Label::Try => "try: ",
+            Label::Help => "help: ",
+        }
+    }
+}
+
+/// A text of an explanation after its label, if it has one: a line, or several, of which the others begin below the first.
+#[derive(Clone, Copy)]
+pub struct Labelled<'a>(pub Label, pub &'a str);
+
+impl Display for Labelled<'_> {
     fn fmt<W: Write>(&self, f: &mut Formatter<W>) -> fmt::Result {
-        if self.0.is_empty() {
+        if self.1.is_empty() {
             return Ok(());
         }
-        write!(f, "\n  write: {}", Visible(self.0))
+        let mut is_first = true;
+        for line in self.1.split('\n') {
+            let before = if is_first { self.0.text() } else { "     " };
+            write!(f, "\n  {before}{}", Visible(line))?;
+            is_first = false;
+        }
+        Ok(())
     }
 }
