@@ -2,3 +2,4 @@
 pub mod Heads
 pub mod Said
 pub mod Places
+pub mod Replies

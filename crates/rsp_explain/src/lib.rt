@@ -13,5 +13,5 @@ mod texts;
 
 pub use head::Head;
 pub use places::{Place, Places};
-pub use replies::explain_reply;
+pub use replies::{explain_lines, explain_reply};
 pub use texts::explain_text;

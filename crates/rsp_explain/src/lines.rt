@@ -2,22 +2,25 @@
 
 use crate::allowed::{Allowed, kind_of};
 use rsp_advice::{
-    Advice, Visible, nearest_statement, of_comment, of_line, of_operand, of_statement, respelled,
+    Label, Labelled, Operands, Visible, is_instruction, nearest_statement, of_accumulator,
+    of_apart, of_comment, of_extra, of_line, of_name, of_operand, of_other, respelled,
     respelled_in_range,
 };
 use rsp_asm::{
     AsmFaultKind, Expected, FaultyOperand, OperandFault, operand_fault, operand_text,
     statement_name,
 };
+use rsp_decode::Operand;
 use std::alloc::{AllocError, Global};
+use std::fmt::Display;
 use std::str;
 
 /// More operands than a line of 256 bytes has.
 const OPERANDS: usize = 260;
 
 /// What `--explain` says of a line that the first pass refuses: its text, and what is wrong in it. For an operand that is its number,
-/// its text, and what may be there, each time; for a statement whose name is unknown, the name. Then what to write, where the text is
-/// one of another assembler.
+/// its text, and what may be there, each time; for a statement whose name is unknown, the name. Then what to write or what helps, where
+/// the text is one of another assembler.
 pub(crate) fn refused_line(
     alloc: Global,
     line: &str,
@@ -48,7 +51,7 @@ pub(crate) fn refused_operand(
 /// The text of a line.
 pub(crate) fn line_text(alloc: Global, line: &str) -> Result<String, AllocError> {
     let shown = Visible(line.trim());
-    format!(in alloc; "\n  line: {shown}")
+    format!(in alloc; "\n  | {shown}")
 }
 
 /// The operand of a line with this number, from 1. None if the line has fewer.
@@ -67,33 +70,90 @@ fn name_of(line: &str) -> &str {
     str::from_utf8(statement_name(line.as_bytes())).unwrap_or("")
 }
 
-/// The name of a statement that is unknown, and what to write in its place or in that of a line that is none.
+/// The operands of a line's statement.
+fn operands_of(line: &str) -> Operands<'_> {
+    let mut count = 0;
+    for index in 0..OPERANDS {
+        if operand_text(line.as_bytes(), index).is_none() {
+            break;
+        }
+        count = index + 1;
+    }
+    Operands {
+        first: [
+            operand(line, 1),
+            operand(line, 2),
+            operand(line, 3),
+            operand(line, 4),
+        ],
+        count,
+    }
+}
+
+/// The name of a statement that is unknown, and what to write in its place; what helps with a line that is none.
 fn statement_reason(alloc: Global, line: &str, fault: AsmFaultKind) -> Result<String, AllocError> {
-    let name = name_of(line);
     match fault {
         AsmFaultKind::UnknownName => {
-            let written = meant(alloc, name, operand(line, 1))?;
-            let advice = Advice(written.as_str());
-            format!(in alloc; "\n  name: {}{advice}", Visible(name))
+            let name = Visible(name_of(line));
+            let (label, text) = meant(alloc, line)?;
+            let advice = Labelled(label, text.as_str());
+            format!(in alloc; "\n  name: {name}{advice}")
         }
-        AsmFaultKind::BadLine => format!(in alloc; "{}", Advice(of_line(line))),
+        AsmFaultKind::BadLine => {
+            let advice = Labelled(Label::Help, of_line(line));
+            format!(in alloc; "{advice}")
+        }
         _ => Ok(String::new(alloc)),
     }
 }
 
-/// What to write in place of a statement whose name is unknown: what is known of the name, else the nearest name.
-fn meant(alloc: Global, name: &str, operand: &str) -> Result<String, AllocError> {
-    let advice = of_statement(name, operand);
-    if !advice.is_empty() {
-        return String::from_str(alloc, advice);
+/// What to write in place of a statement whose name is unknown: what is known of the name, otherwise the nearest name as a question.
+fn meant(alloc: Global, line: &str) -> Result<(Label, String), AllocError> {
+    let name = name_of(line);
+    if let Some(statement) = of_other(name, &operands_of(line)) {
+        return Ok((statement.label(), format!(in alloc; "{statement}")?));
     }
-    let Some(nearest) = nearest_statement(alloc, name)? else {
-        return Ok(String::new(alloc));
+    let known = of_name(name, operand(line, 1));
+    if !known.is_empty() {
+        return Ok((Label::Help, String::from_str(alloc, known)?));
+    }
+    let text = match nearest_statement(alloc, name)? {
+        Some(nearest) if has_form(alloc, nearest, line)? => {
+            format!(in alloc; "is `{nearest}` meant?")?
+        }
+        _ => String::new(alloc),
     };
-    match of_statement(nearest, operand) {
-        "" => format!(in alloc; "{nearest}, the nearest name"),
-        advice => format!(in alloc; "{advice}, if {nearest} is meant"),
+    Ok((Label::Help, text))
+}
+
+/// Whether the operands of a line are those of the statement with this name.
+fn has_form(alloc: Global, name: &str, line: &str) -> Result<bool, AllocError> {
+    let operands = operands_of(line);
+    if !is_instruction(name) && name != ".word" && name != "nop" {
+        return Ok(match of_other(name, &operands) {
+            Some(statement) => statement.is_sure(),
+            None => false,
+        });
     }
+    let mut statement = String::from_str(alloc, name)?;
+    for index in 0..operands.count {
+        statement.push_str(if index == 0 { " " } else { ", " })?;
+        statement.push_str(operand(line, index + 1))?;
+    }
+    Ok(!has_faulty_operand(statement.as_str()))
+}
+
+/// Whether the first pass refuses an operand of a line, or the line lacks one.
+fn has_faulty_operand(line: &str) -> bool {
+    for index in 0..OPERANDS {
+        if operand_fault(line.as_bytes(), index).is_some() {
+            return true;
+        }
+        if operand_text(line.as_bytes(), index).is_none() {
+            return false;
+        }
+    }
+    true
 }
 
 /// What is wrong with each operand of a line that is refused. One too many is said only if no other is wrong: an operand that is written
@@ -127,9 +187,9 @@ fn operand_reason(
     let FaultyOperand { number, expected } = faulty;
     let shown = Visible(found_operand(line, number).unwrap_or("(none)"));
     let allowed = Allowed { expected, fault };
-    let written = written(alloc, line, faulty, fault)?;
-    let advice = Advice(written.as_str());
-    format!(in alloc; "\n  operand {number}: {shown}\n  may be: {allowed}{advice}")
+    let (label, text) = written(alloc, line, faulty, fault)?;
+    let advice = Labelled(label, text.as_str());
+    format!(in alloc; "\n  operand {number}: {shown}\n  expected: {allowed}{advice}")
 }
 
 /// What to write in place of an operand; empty if there is nothing to say.
@@ -138,48 +198,62 @@ fn written(
     line: &str,
     faulty: FaultyOperand,
     fault: AsmFaultKind,
-) -> Result<String, AllocError> {
+) -> Result<(Label, String), AllocError> {
     let FaultyOperand { number, expected } = faulty;
     let text = operand(line, number);
-    let Some(kind) = kind_of(expected) else {
-        return match of_comment(text) {
-            "" => without(alloc, line, number),
-            comment => String::from_str(alloc, comment),
-        };
-    };
-    let (found, advice) = match fault {
-        AsmFaultKind::BadOperand => (
-            respelled(kind, text, apart(line, number)),
-            of_operand(kind, text),
-        ),
-        AsmFaultKind::OutOfRange => (respelled_in_range(kind, text), ""),
-        _ => (None, ""),
-    };
-    match found {
-        Some(spelling) => format!(in alloc; "{spelling}"),
-        None => String::from_str(alloc, advice),
+    match (fault, kind_of(expected)) {
+        (AsmFaultKind::BadOperand, Some(kind)) => unread(alloc, line, kind, text),
+        (AsmFaultKind::OutOfRange, Some(kind)) => match respelled_in_range(kind, text) {
+            Some(spelling) => labelled(alloc, spelling.is_sure(), spelling),
+            None => nothing(alloc),
+        },
+        (_, Some(_)) => nothing(alloc),
+        (_, None) => extra(alloc, line, number),
     }
 }
 
-/// The offset and the base of a load or a store as two operands, the first of them at this number, or after an element there.
-fn apart(line: &str, number: usize) -> Option<(&str, &str)> {
-    let next = operand(line, number.saturating_add(1));
-    let last = operand(line, number.saturating_add(2));
-    if next.is_empty() {
-        None
-    } else if last.is_empty() {
-        Some((operand(line, number), next))
-    } else {
-        Some((next, last))
+/// What to write in place of an operand that can't be read.
+fn unread(
+    alloc: Global,
+    line: &str,
+    kind: Operand,
+    text: &str,
+) -> Result<(Label, String), AllocError> {
+    if let Some(spelling) = respelled(kind, text) {
+        return labelled(alloc, spelling.is_sure(), spelling);
+    }
+    if let Operand::ScalarMemory | Operand::VectorMemory(_) = kind {
+        if let Some(apart) = of_apart(kind, &operands_of(line)) {
+            return labelled(alloc, apart.is_sure(), apart);
+        }
+    }
+    match of_accumulator(text) {
+        "" => labelled(alloc, false, of_operand(kind, text)),
+        operands => labelled(alloc, true, operands),
     }
 }
 
-/// The statement of a line without its operands from this number on.
-fn without(alloc: Global, line: &str, number: usize) -> Result<String, AllocError> {
-    let mut statement = String::from_str(alloc, name_of(line))?;
-    for before in 1..number {
-        statement.push_str(if before == 1 { " " } else { ", " })?;
-        statement.push_str(operand(line, before))?;
+/// What an operand too many may mean.
+fn extra(alloc: Global, line: &str, number: usize) -> Result<(Label, String), AllocError> {
+    let text = operand(line, number);
+    let before = operand(line, number.saturating_sub(1));
+    match of_extra(name_of(line), before, text) {
+        Some(readings) => labelled(alloc, false, readings),
+        None => labelled(alloc, false, of_comment(text)),
     }
-    Ok(statement)
+}
+
+/// A text with its label.
+fn labelled<T: Display + Drop>(
+    alloc: Global,
+    is_sure: bool,
+    text: T,
+) -> Result<(Label, String), AllocError> {
+    let label = if is_sure { Label::Try } else { Label::Help };
+    Ok((label, format!(in alloc; "{text}")?))
+}
+
+/// Nothing to say.
+fn nothing(alloc: Global) -> Result<(Label, String), AllocError> {
+    Ok((Label::Help, String::new(alloc)))
 }

@@ -4,6 +4,7 @@ ghost use Rattle.std.specs.Prelude.{◌≡◌, ℕ, ◌+◌, ◌^◌, ◌<◌, �
 ghost use Rattle.std.specs.List.{after_first};
 ghost use Rattle.std.specs.Str.Lines.{lines};
 ghost use Rattle.rsp_explain.specs.Places.{answered_at, at_start, command_at, line_end, past_line, block_to, answered_by, next_place, without_newline, number_after, last_number, EndsWithNumber, line_in};
+ghost use Rattle.rsp_explain.specs.Replies.{answered_after};
 
 use rsp_commands::{Command, parse_line};
 use rsp_syntax::{Boundary, cut, without_return};
@@ -26,6 +27,28 @@ pub enum Place<'a> {
         /// Whether `end` closes it.
         is_closed: bool,
     },
+}
+
+impl<'a> Place<'a> {
+    /// The same in a script that has so many lines more before it. Its number is at most 2^64 - 1.
+    pub fn after(self, before: usize) -> Place<'a>
+        ensures { answered_at result ≡ answered_after before (answered_at self.entry) }
+    {
+        match self {
+            Place::Line(number, line) => Place::Line(before.saturating_add(number), line),
+            Place::Block {
+                number,
+                origin,
+                text,
+                is_closed,
+            } => Place::Block {
+                number: before.saturating_add(number),
+                origin,
+                text,
+                is_closed,
+            },
+        }
+    }
 }
 
 impl Place<'_> {
@@ -54,7 +77,7 @@ fn last_number(reply: &[u8]) -> usize
 }
 
 /// A reply without the LF at its end.
-fn without_newline(reply: &[u8]) -> &[u8]
+pub(crate) fn without_newline(reply: &[u8]) -> &[u8]
     ensures { result.now ≡ without_newline reply.now }
 {
     match reply {

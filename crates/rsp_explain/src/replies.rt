@@ -1,14 +1,23 @@
 // The replies to a script that are faults.
 
+ghost use Rattle.std.specs.Prelude.{◌≡◌, ◌<◌, ◌^◌, ℕ, List, [], ◌∷◌, IfOk, length};
+ghost use Rattle.std.specs.String.{string_bytes};
+ghost use Rattle.std.specs.Str.Lines.{lines};
+ghost use Rattle.rsp_explain.specs.Places.{answered_at};
+ghost use Rattle.rsp_explain.specs.Said.{AreExplained};
+ghost use Rattle.rsp_explain.specs.Replies.{readable, line_said, reply_said, open_fault, block_faults, IsFaultExplained, IsReplyExplained, AreLinesExplained};
+
 use crate::head::{Head, LineHead};
 use crate::lines::line_text;
-use crate::places::Place;
-use crate::texts::explain_text;
+use crate::places::{Place, Places, without_newline};
+use crate::texts::{explain_text, push_fault};
 use rsp_advice::{
-    CommandForm, Visible, command_forms, command_named, fault_numbered, is_instruction,
-    nearest_command,
+    CommandForm, FaultText, Label, Labelled, NO_MARK, Visible, command_forms, command_named,
+    fault_numbered, is_instruction, is_other, nearest_command,
 };
+use rsp_asm::{AsmFault, AsmFaultKind};
 use std::alloc::{AllocError, Global};
+use std::str;
 
 /// The fault of a line that is no command.
 const BAD_COMMAND: u32 = 30;
@@ -16,50 +25,99 @@ const BAD_COMMAND: u32 = 30;
 /// The fault of a number that is none, or out of its range.
 const BAD_NUMBER: u32 = 31;
 
-/// What `--explain` says of a reply that is a fault, and of what it answers. It begins with the head and the number of the line, which
-/// is the line of the block that is at fault if the reply answers a block. Empty if there is nothing to say.
+/// U+FEFF in UTF-8.
+const BYTE_ORDER_MARK: &[u8] = b"\xef\xbb\xbf";
+
+/// The fault of a watch of no bytes, among others.
+const WATCH_RANGE: u32 = 25;
+
+/// The fault of a number of steps that is 0 or too high.
+const COUNT: u32 = 26;
+
+/// What `--explain` says of a reply, and of what it answers; nothing if the reply is no fault. It begins with the head and the number of
+/// the line, which is the line of the block that is at fault if the reply answers a block. AllocError if out of memory.
 pub fn explain_reply(
     alloc: Global,
     head: Head<'_>,
     place: Place<'_>,
     reply: &[u8],
-) -> Result<String, AllocError> {
+) -> Result<String, AllocError>
+    ensures { IfOk result (λ said. IsReplyExplained head.entry (answered_at place.entry) reply.now (string_bytes said)) }
+{
+    if !reply.starts_with(b"fault ") {
+        return Ok(String::new(alloc));
+    }
+    let said = explain_fault(alloc, head, place, reply)?;
+    Ok(said)
+}
+
+/// What is said of a reply that is a fault.
+fn explain_fault(
+    alloc: Global,
+    head: Head<'_>,
+    place: Place<'_>,
+    reply: &[u8],
+) -> Result<String, AllocError>
+    ensures { IfOk result (λ said. IsFaultExplained head.entry (answered_at place.entry) reply.now (string_bytes said)) }
+{
     match place {
-        Place::Line(number, line) => {
-            let line = readable(alloc, line)?;
-            let reply = String::from_utf8_lossy(alloc, reply.trim_ascii_end())?;
-            explain_line(
-                alloc,
-                LineHead { head, number },
-                line.as_str(),
-                reply.as_str(),
-            )
-        }
+        Place::Line(number, line) => explain_line(alloc, LineHead { head, number }, line, reply),
         Place::Block {
             number,
             origin,
             text,
             is_closed,
-        } => {
-            let text = readable(alloc, text)?;
-            if is_closed {
-                explain_text(alloc, head, number, origin.min(4092), text.as_str())
-            } else {
-                explain_open(alloc, head, number, text.as_str())
-            }
+        } => explain_block(alloc, head, number, origin, text, is_closed),
+    }
+}
+
+/// What is said of a block that has a fault, after the `asm` in the line of this number.
+fn explain_block(
+    alloc: Global,
+    head: Head<'_>,
+    number: usize,
+    origin: u16,
+    text: &[u8],
+    is_closed: bool,
+) -> Result<String, AllocError>
+    ensures { IfOk result (λ said. AreExplained head.entry number (block_faults origin text.now is_closed) (string_bytes said)) }
+{
+    let text = readable(alloc, text)?;
+    if is_closed {
+        explain_text(alloc, head, number, origin.min(4092), text.as_str())
+    } else {
+        explain_open(alloc, head, number, text.as_str())
+    }
+}
+
+/// What `--explain` says of a reply to these lines of a script, of which so many lines are before them: a line with a command, or a block
+/// from its `asm` on. Nothing if the reply is no fault, or no line has a reply. AllocError if out of memory.
+pub fn explain_lines(
+    alloc: Global,
+    head: Head<'_>,
+    before: usize,
+    lines: &[u8],
+    reply: &[u8],
+) -> Result<String, AllocError>
+    ensures { IfOk result (λ said. AreLinesExplained head.entry before lines.now reply.now (string_bytes said)) }
+{
+    match Places::new().next(lines) {
+        Some(place) => {
+            let said = explain_reply(alloc, head, place.after(before), reply)?;
+            Ok(said)
         }
+        None => Ok(String::new(alloc)),
     }
 }
 
 /// Bytes as a text: in place of each that isn't ASCII another one that no line may have.
-fn readable(alloc: Global, bytes: &[u8]) -> Result<String, AllocError> {
+fn readable(alloc: Global, bytes: &[u8]) -> Result<String, AllocError>
+    ensures { IfOk result (λ text. string_bytes text ≡ readable bytes.now) }
+{
     let mut text = String::new(alloc);
-    for &byte in bytes {
-        text.push(if byte.is_ascii() {
-            char::from(byte)
-        } else {
-            '\u{1}'
-        })?;
+    for byte in bytes {
+        let shown = if byte.is_ascii() { *byte } else { 1 };
+        text.push(char::from(shown))?;
     }
     Ok(text)
 }
@@ -68,22 +126,52 @@ fn readable(alloc: Global, bytes: &[u8]) -> Result<String, AllocError> {
 fn explain_line(
     alloc: Global,
     head: LineHead<'_>,
-    line: &str,
-    reply: &str,
-) -> Result<String, AllocError> {
-    let shown = line_text(alloc, line)?;
-    let (words, _) = line.split_once('#').unwrap_or((line, ""));
-    let number = fault_number(reply);
-    let reason = match number {
-        BAD_COMMAND => command_reason(alloc, first_word(words))?,
-        BAD_NUMBER => number_reason(alloc, first_word(words))?,
-        _ => fault_reason(alloc, number)?,
+    bytes: &[u8],
+    reply: &[u8],
+) -> Result<String, AllocError>
+    ensures { IfOk result (λ said. (reason : List ℕ) × (string_bytes said ≡ reply_said head.entry.head head.entry.number reply.now reason)) }
+{
+    let line = readable(alloc, bytes)?;
+    let mut reason = line_text(alloc, line.as_str())?;
+    let cause = if bytes.starts_with(BYTE_ORDER_MARK) {
+        labelled(alloc, Label::Help, NO_MARK)?
+    } else {
+        line_reason(alloc, line.as_str(), reply)?
     };
-    format!(in alloc; "{head}: {reply}{shown}{reason}\n")
+    reason.push_str(cause.as_str())?;
+    let shown = readable(alloc, without_newline(reply))?;
+    let text = shown.as_str();
+    let why = reason.as_str();
+    let said = said_of_line(alloc, head, text, why)?;
+    Ok(said)
+}
+
+/// The line that gets a reply, the reply, and what is wrong there.
+fn said_of_line(
+    alloc: Global,
+    head: LineHead<'_>,
+    reply: &str,
+    reason: &str,
+) -> Result<String, AllocError>
+    ensures { IfOk result (λ said. string_bytes said ≡ line_said head.entry.head head.entry.number reply.now reason.now) }
+{
+    let said = format!(in alloc; "{head}: {reply}{reason}\n")?;
+    Ok(said)
+}
+
+/// What is wrong with a line that gets this fault.
+fn line_reason(alloc: Global, line: &str, reply: &[u8]) -> Result<String, AllocError> {
+    let (words, _) = line.split_once('#').unwrap_or((line, ""));
+    match fault_number(reply) {
+        BAD_COMMAND => command_reason(alloc, first_word(words)),
+        BAD_NUMBER => number_reason(alloc, words),
+        number => fault_reason(alloc, number, words),
+    }
 }
 
 /// The number of a fault in its reply; 0 if it has none.
-fn fault_number(reply: &str) -> u32 {
+fn fault_number(reply: &[u8]) -> u32 {
+    let reply = str::from_utf8(reply).unwrap_or("");
     match reply.split_ascii_whitespace().nth(1) {
         Some(number) => number.parse::<u32>().unwrap_or(0),
         None => 0,
@@ -94,30 +182,48 @@ fn first_word(line: &str) -> &str {
     line.split_ascii_whitespace().next().unwrap_or("")
 }
 
-/// What is wrong with a line that is no command: of a known name its form, else what was probably meant.
+/// What is wrong with a line that is no command: of a known name its form, otherwise what was probably meant.
 fn command_reason(alloc: Global, name: &str) -> Result<String, AllocError> {
-    if name == "end" {
-        return String::from_str(
-            alloc,
-            "\n  write: end only after asm ADDR and the lines of its block",
-        );
+    if let Some(help) = help_of(name) {
+        return labelled(alloc, Label::Help, help);
     }
     if let Some(command) = command_named(name) {
         return form_reason(alloc, command);
     }
-    if is_instruction(name) || name.ends_with(':') {
-        return String::from_str(
+    if is_statement(name) {
+        return labelled(
             alloc,
-            "\n  write: asm ADDR, then lines of assembly text, then end",
+            Label::Help,
+            "write asm ADDR, then lines of assembly text, then end",
         );
     }
     match nearest_command(alloc, name)? {
         Some(command) => {
             let form = command.form;
-            format!(in alloc; "\n  write: {form}, the nearest command")
+            format!(in alloc; "\n  help: is `{form}` meant?")
         }
-        None => all_names(alloc),
+        None => all_names(alloc, name),
     }
+}
+
+/// What helps with a name that is no command, but is known.
+fn help_of(name: &str) -> Option<&'static str> {
+    match name {
+        "end" => Some("end comes only after asm ADDR and the lines of its block"),
+        "quit" | "exit" | "q" | "bye" => Some("Ctrl-D ends the script"),
+        _ => None,
+    }
+}
+
+/// Whether a line that begins with this name is one of assembly text.
+fn is_statement(name: &str) -> bool {
+    is_instruction(name) || is_other(name) || matches!(name, "nop" | ".word") || name.ends_with(':')
+}
+
+/// A text after its label.
+fn labelled(alloc: Global, label: Label, text: &str) -> Result<String, AllocError> {
+    let line = Labelled(label, text);
+    format!(in alloc; "{line}")
 }
 
 /// The form of a command.
@@ -128,70 +234,110 @@ fn form_reason(alloc: Global, command: CommandForm) -> Result<String, AllocError
     } else {
         ""
     };
-    format!(in alloc; "\n  may be: {form}{banks}")
+    format!(in alloc; "\n  expected: {form}{banks}")
 }
 
-/// The names of all commands.
-fn all_names(alloc: Global) -> Result<String, AllocError> {
-    let mut said = String::from_str(alloc, "\n  may be:")?;
+/// The names of all commands, in lines of at most 80 characters.
+fn all_names(alloc: Global, name: &str) -> Result<String, AllocError> {
+    let mut said = String::from_str(alloc, "\n  expected:")?;
+    let mut column = 11_usize;
     for command in command_forms() {
+        let width = command.name.len().saturating_add(1);
+        if column.saturating_add(width) > 80 {
+            said.push_str("\n           ")?;
+            column = 11;
+        }
         said.push(' ')?;
         said.push_str(command.name)?;
+        column = column.saturating_add(width);
+    }
+    if matches!(name, "help" | "?") {
+        said.push_str("\n  help: Ctrl-D ends the script")?;
     }
     Ok(said)
 }
 
-/// What is wrong with a number: the range of the command's.
-fn number_reason(alloc: Global, name: &str) -> Result<String, AllocError> {
+/// What is wrong with a number: the range of the command's, and that a number with zeros before it isn't octal.
+fn number_reason(alloc: Global, words: &str) -> Result<String, AllocError> {
+    let Some(CommandForm { form, range, .. }) = command_named(first_word(words)) else {
+        return Ok(String::new(alloc));
+    };
+    if let Some((word, number)) = with_zeros(words) {
+        return format!(in alloc;
+            "\n  expected: {form}: {range}\n  help: {word} is {number} in decimal; hexadecimal numbers begin with 0x"
+        );
+    }
     let help = match fault_numbered(BAD_NUMBER) {
         Some(fault) => fault.help,
         None => "",
     };
-    match command_named(name) {
-        Some(CommandForm { form, range, .. }) => {
-            format!(in alloc; "\n  may be: {form}: {range}\n  help: {help}")
+    format!(in alloc; "\n  expected: {form}: {range}\n  help: {help}")
+}
+
+/// The first word that is a decimal number with a zero before it, and the number.
+fn with_zeros(words: &str) -> Option<(&str, u64)> {
+    for word in words.split_ascii_whitespace() {
+        if word.len() > 1 && word.starts_with('0') {
+            if let Ok(number) = word.parse::<u64>() {
+                return Some((word, number));
+            }
         }
-        None => Ok(String::new(alloc)),
     }
+    None
 }
 
 /// What is known of another fault.
-fn fault_reason(alloc: Global, number: u32) -> Result<String, AllocError> {
-    match fault_numbered(number) {
-        Some(fault) => {
-            let cause = fault.cause;
-            let help = fault.help;
-            format!(in alloc; "\n  because: {cause}\n  help: {help}")
-        }
-        None => Ok(String::new(alloc)),
+fn fault_reason(alloc: Global, number: u32, words: &str) -> Result<String, AllocError> {
+    let Some(FaultText { cause, help, .. }) = fault_numbered(number) else {
+        return Ok(String::new(alloc));
+    };
+    let last = words.split_ascii_whitespace().last().unwrap_or("");
+    let is_too_few = matches!(number, WATCH_RANGE | COUNT) && last.parse::<u64>() == Ok(0);
+    if is_too_few {
+        return format!(in alloc; "\n  note: {cause}");
     }
+    format!(in alloc; "\n  note: {cause}\n  help: {help}")
 }
 
-/// What is said of a block that the end of the script leaves open: its line behind the last one lacks `end`, which a line of the block
+/// What is said of a block that the end of the script leaves open: its line after the last one lacks `end`, which a line of the block
 /// may have been meant to be.
 fn explain_open(
     alloc: Global,
     head: Head<'_>,
     number: usize,
     text: &str,
-) -> Result<String, AllocError> {
-    let mut count = 1_usize;
-    let mut meant = String::new(alloc);
-    for line in text.lines() {
-        if first_word(line) == "end" && meant.is_empty() {
-            let at = number.saturating_add(count);
-            meant = format!(in alloc;
-                "\n  write: end alone in line {at}, which is: {}",
-                Visible(line)
-            )?;
-        }
-        count = count.saturating_add(1);
-    }
-    let head = LineHead {
-        head,
-        number: number.saturating_add(count),
+) -> Result<String, AllocError>
+    ensures { IfOk result (λ said. AreExplained head.entry number (open_fault text.now ∷ []) (string_bytes said)) }
+{
+    let fault = AsmFault {
+        line: line_count(text) + 1,
+        kind: AsmFaultKind::BadLine,
     };
-    format!(in alloc;
-        "{head}: fault 10 BadLine line {count}\n  line: (none)\n  may be: end, for the block of line {number}{meant}\n"
-    )
+    let reason = open_reason(alloc, number, text)?;
+    let mut said = String::new(alloc);
+    push_fault(alloc, &mut said, head, number, fault, &reason)?;
+    Ok(said)
+}
+
+/// How many lines a text has.
+fn line_count(text: &str) -> usize
+    ensures value { result ≡ length (lines text.now) }
+    ensures range { result < 2 ^ 63 }
+{
+    text.lines().count()
+}
+
+/// What closes the open block after the `asm` in the line of this number: `end`, or the line in which it has more words.
+fn open_reason(alloc: Global, number: usize, text: &str) -> Result<String, AllocError> {
+    let mut at = number;
+    for line in text.lines() {
+        at = at.saturating_add(1);
+        if first_word(line) == "end" {
+            return format!(in alloc;
+                "\n  | (none)\n  expected: end, for the block of line {number}\n  help: write end alone in line {at}, which is: {}",
+                Visible(line)
+            );
+        }
+    }
+    format!(in alloc; "\n  | (none)\n  expected: end, for the block of line {number}")
 }

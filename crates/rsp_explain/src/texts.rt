@@ -70,7 +70,7 @@ fn push_count(alloc: Global, said: &mut String, more: usize) -> Result<(), Alloc
 }
 
 /// Appends a fault, and what is said of its line.
-fn push_fault(
+pub(crate) fn push_fault(
     alloc: Global,
     said: &mut String,
     head: Head<'_>,

@@ -1,0 +1,6 @@
+use Rattle.std.proofs.lemmas.Iterator.Consumers.{count_from_yields_List}
+use Rattle.std.proofs.lemmas.Iterator.Splits.{YieldsList-from_lines}
+use Rattle.rsp_explain.proofs.replies.line_count.Goals as goal
+
+pub returns-clause-value : goal.returns-clause-value
+returns-clause-value c = count_from_yields_List _ _ c.count.ensures.ran (YieldsList-from_lines c.args.text.now c.lines.ensures.rest)
