@@ -8,6 +8,7 @@ mod c_structs;
 mod changes;
 mod event;
 mod explain;
+mod explanations;
 mod fault;
 mod handle;
 mod held_bench;
