@@ -1,3 +1,7 @@
--- What a strict run counts.
+-- What a run reads and leaves, what a strict run counts, and how the program ends.
+pub mod Ends
 pub mod Faults
+pub mod Inputs
+pub mod Runs
 pub mod Scripts
+pub mod Watching

@@ -88,6 +88,7 @@ impl<W> CountingWriter<W> {
     pub(crate) fn new(writer: W) -> CountingWriter<W>
         ensures faults { result.faults ≡ record { count = 0; first = [] } }
         ensures start { result.is_line_start ≡ true }
+        ensures writer { result.writer ≡ writer }
     {
         CountingWriter {
             writer,

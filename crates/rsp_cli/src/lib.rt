@@ -5,13 +5,19 @@
 //! It is apart from `rsp_main` since its tests are a crate above it, and a crate of tests can't use a program.
 #![tactic(auto)]
 
+mod explaining;
 mod faults;
+mod greeting;
+mod inputs;
 mod program;
 mod run;
+mod save;
 mod script;
 mod status;
 mod watch;
+mod wrapped;
 
 pub use program::{refuse_arguments, work};
-pub use rsp_cli_files::{FileFault, FileStore, SystemFiles};
+pub use rsp_cli_files::{FileFault, FileStore, SystemFiles, Terminals};
+pub use run::run_request;
 pub use status::Status;

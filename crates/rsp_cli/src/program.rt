@@ -1,15 +1,26 @@
-use crate::run::run;
+ghost use Rattle.std.specs.Prelude.{◌≡◌, ◌≢◌, false, None, IfSome, IfOk, MatchResult, OnOk, option_map};
+ghost use Rattle.rsp_cli_files.specs.Files.{SameFiles};
+ghost use Rattle.rsp_cli_files.specs.Overwriting.{overwrites};
+ghost use Rattle.rsp_cli_files.specs.Words.{origin_of};
+ghost use Rattle.rsp_cli.specs.Ends.{at_of, ended_status};
+ghost use Rattle.rsp_cli.specs.Inputs.{IsScriptFault};
+ghost use Rattle.rsp_cli.specs.Runs.{IfRun, IsAnswered, IsUnfit};
+
+use crate::run::run_request;
 use crate::status::Status;
 use clap::Error;
 use clap::error::ErrorKind;
 use rsp_cli_args::{Request, read_arguments};
-use rsp_cli_files::{Fault, FileStore, assemble_file, disassemble_file};
+use rsp_cli_files::{
+    Cause, Fault, FileStore, assemble_file, disassemble_file, origin_of, refuse_overwriting,
+};
 use rsp_script_io::ScriptRunner;
 use std::alloc::Global;
 use std::io::{self, Read, Write};
 
 /// Does what the arguments ask for; the first of them is the program's name. `runner` answers the script of a run, which is `input`
-/// if no file is named, `output` takes replies and listings. A fault, or why the arguments are refused, is written to `errors`.
+/// if no file is named, `output` takes replies and listings. A fault, or why the arguments are refused, is written to `errors`. If they are
+/// refused, no file was read or written.
 pub fn work<S: ScriptRunner, F: FileStore, R: Read + Drop, W: Write + Drop, E: Write>(
     alloc: Global,
     args: &[String],
@@ -18,47 +29,83 @@ pub fn work<S: ScriptRunner, F: FileStore, R: Read + Drop, W: Write + Drop, E: W
     input: R,
     output: W,
     errors: &mut E,
-) -> Status {
-    match read_arguments(alloc, args) {
-        Ok(asked) => match answer_request(
-            alloc,
-            &asked,
-            runner,
-            files,
-            input,
-            output,
-            &mut *errors,
-        ) {
-            Ok(()) => Status::Done,
-            Err(fault) => faulted(fault, errors),
-        },
-        Err(error) => answer_words(&error, output, errors),
+) -> Status
+    ensures refused { result ≡ Status.Refused → files.new ≡ files.old }
+{
+    let asked = match read_arguments(alloc, args) {
+        Ok(asked) => asked,
+        Err(error) => return answer_words(&error, output, errors),
+    };
+    if let Err(fault) = check_request(files, &asked) {
+        return refuse(&fault, errors);
+    }
+    let (ended, _) = answer_request(alloc, &asked, runner, files, input, output, &mut *errors);
+    status_after(ended, asked.with_explanation(), errors)
+}
+
+/// Refuses what the forms of the command line allow: a wrong address, or a file that is read and would be overwritten.
+fn check_request<'a, F: FileStore>(files: &F, asked: &Request<'a>) -> Result<(), Fault<'a>>
+    ensures address { OnOk result (origin_of (at_of asked.now) ≢ None) }
+    ensures inputs { IfSome (overwrites (F.same files.now) asked.now) (λ does. IfOk result (λ _. does ≡ false)) }
+{
+    let at = match asked {
+        Request::Run(_) => None,
+        Request::Assemble(named) => named.at,
+        Request::Disassemble(named) => named.at,
+    };
+    origin_of(at)?;
+    refuse_overwriting(files, asked)
+}
+
+/// The status after work that was requested. A fault is written to `errors`, and its cause if that is asked for.
+fn status_after<E: Write>(
+    ended: Result<(), Fault>,
+    with_explanation: bool,
+    errors: &mut E,
+) -> Status
+    ensures { result ≡ ended_status ended.entry }
+{
+    match ended {
+        Ok(()) => Status::Done,
+        Err(fault) => faulted(&fault, with_explanation, errors),
     }
 }
 
+/// Does the work that is requested. Returns the writer, too, which has the replies or the listing.
 fn answer_request<'a, S: ScriptRunner, F: FileStore, R: Read + Drop, W: Write + Drop, E: Write>(
     alloc: Global,
     asked: &Request<'a>,
     runner: &S,
     files: &mut F,
     input: R,
-    output: W,
+    mut output: W,
     errors: &mut E,
-) -> Result<(), Fault<'a>> {
+) -> (Result<(), Fault<'a>>, W)
+    ensures answered { IfRun asked.now (λ named. OnOk result.0 (IsAnswered S.out_of S.image_of named (F.content files.old) (F.content files.new) (R.remaining input) (W.contents output) (W.contents result.1))) }
+    ensures unfit { IfRun asked.now (λ named. IfSome (option_map (λ t. t.now) named.script) (λ name. IsUnfit (F.content files.old name) →
+        MatchResult result.0 (λ _. ⊥) (IsScriptFault name (F.content files.old name))
+        × (result.1 ≡ output) × SameFiles (F.content files.old) (F.content files.new))) }
+{
     match asked {
-        Request::Run(named) => run(alloc, named, runner, files, input, output, errors),
-        Request::Assemble(named) => assemble_file(alloc, files, named, output),
-        Request::Disassemble(named) => disassemble_file(alloc, files, named, output),
+        Request::Run(named) => run_request(alloc, named, runner, files, input, output, errors),
+        Request::Assemble(named) => {
+            let ended = assemble_file(alloc, files, named, &mut output);
+            (ended, output)
+        }
+        Request::Disassemble(named) => {
+            let ended = disassemble_file(alloc, files, named, &mut output);
+            (ended, output)
+        }
     }
 }
 
 /// Answers arguments that ask for no work: prints the version if they ask for it, else why they are refused.
 fn answer_words<W: Write + Drop, E: Write>(error: &Error, mut output: W, errors: &mut E) -> Status {
     match error.kind() {
-        ErrorKind::OutOfMemory => faulted(Fault::OutOfMemory, errors),
+        ErrorKind::OutOfMemory => faulted(&Fault::OutOfMemory, false, errors),
         ErrorKind::DisplayVersion => match write!(output, "{error}") {
             Ok(()) => Status::Done,
-            Err(_) => faulted(Fault::RunWrite, errors),
+            Err(_) => faulted(&Fault::RunWrite, false, errors),
         },
         _ => {
             let _ = write!(errors, "{error}");
@@ -68,31 +115,39 @@ fn answer_words<W: Write + Drop, E: Write>(error: &Error, mut output: W, errors:
 }
 
 /// Reports why the arguments could not be read.
-pub fn refuse_arguments<E: Write>(error: &io::Error, errors: &mut E) -> Status {
+pub fn refuse_arguments<E: Write>(error: &io::Error, errors: &mut E) -> Status
+    ensures { result ≢ Status.Done }
+{
     if error.kind() == io::ErrorKind::OutOfMemory {
-        return faulted(Fault::OutOfMemory, errors);
+        return faulted(&Fault::OutOfMemory, false, errors);
     }
     let _ = writeln!(errors, "error: an argument isn't UTF-8");
     Status::Refused
 }
 
-/// Writes a fault to `errors`, on a line of its own; a fault of the command line in the form of the other refusals, and what explains
-/// the faults of a text as it is. If the line can't be written, the status still reports the fault.
-fn faulted<E: Write>(fault: Fault, errors: &mut E) -> Status {
-    match &fault {
-        Fault::NoAddress(_) => {
-            let _ = writeln!(
-                errors,
-                "error: {fault}\n\nFor more information, try '--help'."
-            );
-            return Status::Refused;
-        }
-        Fault::Explained(said) => {
-            let _ = errors.write_all(said.as_str().as_bytes());
-        }
-        _ => {
-            let _ = writeln!(errors, "rsp: {fault}");
-        }
+/// Writes to `errors` why a command line is refused, in the form of the refusals of `clap`.
+fn refuse<E: Write>(fault: &Fault, errors: &mut E) -> Status
+    ensures { result ≡ Status.Refused }
+{
+    let _ = writeln!(
+        errors,
+        "error: {fault}\n\nFor more information, try '--help'."
+    );
+    Status::Refused
+}
+
+/// Writes a fault to `errors`, on a line of its own, and its cause after it if that is asked for; what explains the faults of a text, as it is.
+/// If the line can't be written, the status still reports the fault.
+fn faulted<E: Write>(fault: &Fault, with_explanation: bool, errors: &mut E) -> Status
+    ensures { result ≡ Status.Faulted }
+{
+    if let Fault::Explained(said) = fault {
+        let _ = errors.write_all(said.as_str().as_bytes());
+        return Status::Faulted;
+    }
+    let _ = writeln!(errors, "rsp: {fault}");
+    if with_explanation {
+        let _ = write!(errors, "{}", Cause(fault));
     }
     Status::Faulted
 }

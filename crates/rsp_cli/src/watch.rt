@@ -1,12 +1,14 @@
 // What a run says of its replies on standard error.
 
+ghost use Rattle.std.specs.Prelude.{◌≡◌, IfSome};
+ghost use Rattle.rsp_explain.specs.Places.{next_place};
+ghost use Rattle.rsp_cli.specs.Watching.{whole_text, reply_at_work, first_line};
+
+use crate::explaining::Explainer;
 use rsp_explain::{Head, Place, Places, explain_reply};
 use std::alloc::Global;
 use std::cell::RefCell;
 use std::io::{self, Read, Write};
-
-/// The most replies that are explained. Of a block twenty faults are.
-const EXPLAINED: u64 = 20;
 
 /// The bytes of a script that were read so far.
 #[derive(Drop)]
@@ -38,7 +40,10 @@ pub(crate) struct Listener<'a, R> {
 }
 
 impl<'a, R> Listener<'a, R> {
-    pub(crate) fn new(reader: R, heard: &'a RefCell<Heard>) -> Listener<'a, R> {
+    /// A reader of what this reader gives.
+    pub(crate) fn new(reader: R, heard: &'a RefCell<Heard>) -> Listener<'a, R>
+        ensures { result.reader ≡ reader }
+    {
         Listener { reader, heard }
     }
 }
@@ -83,8 +88,8 @@ pub(crate) struct Watch<'a, E> {
     first: Option<usize>,
     /// How a line is named.
     head: Head<'a>,
-    /// Where the explanations go, if they are asked for.
-    errors: Option<E>,
+    /// What explains the faults, if something does.
+    explainer: Option<Explainer<E>>,
     /// How many replies were to be explained.
     count: u64,
 }
@@ -95,7 +100,7 @@ impl<'a, E: Write> Watch<'a, E> {
         alloc: Global,
         text: Text<'a>,
         head: Head<'a>,
-        errors: Option<E>,
+        explainer: Option<Explainer<E>>,
     ) -> Watch<'a, E> {
         Watch {
             alloc,
@@ -106,18 +111,22 @@ impl<'a, E: Write> Watch<'a, E> {
             left: 0,
             first: None,
             head,
-            errors,
+            explainer,
             count: 0,
         }
     }
 
     /// The line of the first fault, if it is known.
-    pub(crate) fn first(&self) -> Option<usize> {
+    pub(crate) fn first(&self) -> Option<usize>
+        ensures { result ≡ self.now.first }
+    {
         self.first
     }
 
     /// How the reply at work begins.
-    fn reply(&self) -> &[u8] {
+    fn reply(&self) -> &[u8]
+        ensures { result.now ≡ reply_at_work self.now }
+    {
         &self.reply[..self.length.min(LONGEST)]
     }
 
@@ -135,7 +144,10 @@ impl<'a, E: Write> Watch<'a, E> {
     }
 
     /// Takes note of what a reply answers that is written, and explains a fault.
-    fn settle(&mut self) {
+    fn settle(&mut self)
+        ensures { IfSome (whole_text self.old.text) (λ script.
+            self.new.first ≡ first_line self.old.first (next_place script self.old.places).place (reply_at_work self.old)) }
+    {
         match self.text {
             Text::Whole(script) => self.place(script),
             Text::Heard(cell) => {
@@ -149,7 +161,9 @@ impl<'a, E: Write> Watch<'a, E> {
     }
 
     /// The same, of a script that was read so far.
-    fn place(&mut self, script: &[u8]) {
+    fn place(&mut self, script: &[u8])
+        ensures { self.new.first ≡ first_line self.old.first (next_place script.now self.old.places).place (reply_at_work self.old) }
+    {
         let Some(place) = self.places.next(script) else {
             return;
         };
@@ -163,29 +177,29 @@ impl<'a, E: Write> Watch<'a, E> {
     }
 
     /// Explains a fault, if that is asked for.
-    fn explain(&mut self, place: Place<'_>) {
-        if self.errors.is_none() {
-            return;
-        }
+    fn explain(&mut self, place: Place<'_>)
+        ensures { self.new.first ≡ self.old.first }
+    {
+        let style = match &self.explainer {
+            Some(explainer) => explainer.style,
+            None => return,
+        };
         self.count = self.count.saturating_add(1);
-        if self.count > EXPLAINED {
+        if style.more(self.count) > 0 {
             return;
         }
         let Ok(said) = explain_reply(self.alloc, self.head, place, self.reply()) else {
             return;
         };
-        if let Some(errors) = &mut self.errors {
-            let _ = errors.write_all(said.as_str().as_bytes());
+        if let Some(explainer) = &mut self.explainer {
+            explainer.show(place, said.as_str());
         }
     }
 
     /// Says how many replies aren't explained.
     fn end(&mut self) {
-        let more = self.count.saturating_sub(EXPLAINED);
-        if let Some(errors) = &mut self.errors {
-            if more > 0 {
-                let _ = writeln!(errors, ".. and {more} more");
-            }
+        if let Some(explainer) = &mut self.explainer {
+            explainer.end(self.count);
         }
     }
 }
@@ -199,18 +213,33 @@ pub(crate) struct Watcher<'a, W, E> {
 
 impl<'a, W: Write, E: Write> Watcher<'a, W, E> {
     /// A writer before its first reply.
-    pub(crate) fn new(writer: W, watch: Watch<'a, E>) -> Watcher<'a, W, E> {
+    pub(crate) fn new(writer: W, watch: Watch<'a, E>) -> Watcher<'a, W, E>
+        ensures { result.writer ≡ writer }
+    {
         Watcher { writer, watch }
     }
 
     /// The line of the first fault, if it is known.
-    pub(crate) fn first(&self) -> Option<usize> {
+    pub(crate) fn first(&self) -> Option<usize>
+        ensures { result ≡ self.now.watch.first }
+    {
         self.watch.first()
     }
 
     /// Says how many replies aren't explained, after the last one.
-    pub(crate) fn end(&mut self) {
+    pub(crate) fn end(&mut self)
+        ensures { self.new.writer ≡ self.old.writer }
+    {
         self.watch.end();
+    }
+}
+
+impl<'a, W, E: Drop> Watcher<'a, W, E> {
+    /// The other writer, when all is written.
+    pub(crate) fn into_writer(self) -> W
+        ensures { result ≡ self.entry.writer }
+    {
+        self.writer
     }
 }
 

@@ -2,12 +2,21 @@
 #![tactic(auto)]
 
 use rsp_bench::MachineRunner;
-use rsp_cli::{SystemFiles, refuse_arguments, work};
+use rsp_cli::{SystemFiles, Terminals, refuse_arguments, work};
+use std::io::IsTerminal;
 use std::process::ExitCode;
 use std::{env, io};
 
 fn words(rt: &HostRuntime) -> io::Result<Vec<String>> {
     Ok(env::args(rt)?.collect(rt.alloc())?)
+}
+
+fn terminals(rt: &HostRuntime) -> Terminals {
+    Terminals {
+        input: rt.stdin().is_terminal(),
+        output: rt.stdout().is_terminal(),
+        errors: rt.stderr().is_terminal(),
+    }
 }
 
 fn main(rt: HostRuntime) -> ExitCode {
@@ -17,7 +26,7 @@ fn main(rt: HostRuntime) -> ExitCode {
             rt.alloc(),
             words.as_slice(),
             &MachineRunner,
-            &mut SystemFiles::new(&rt, rt.stdin()),
+            &mut SystemFiles::new(&rt, terminals(&rt)),
             rt.reader(),
             io::writer(&rt),
             &mut errors,
