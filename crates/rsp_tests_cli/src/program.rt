@@ -21,7 +21,7 @@ const REFUSED: Case = Case {
     ..RUN
 };
 
-static REFUSALS: [Case; 6] = [
+static REFUSALS: [Case; 10] = [
     Case {
         line: "rsp",
         ..REFUSED
@@ -44,6 +44,22 @@ static REFUSALS: [Case; 6] = [
     },
     Case {
         line: "rsp run --help",
+        ..REFUSED
+    },
+    Case {
+        line: "rsp asm image words --at 2",
+        ..REFUSED
+    },
+    Case {
+        line: "rsp asm image image",
+        ..REFUSED
+    },
+    Case {
+        line: "rsp run image --save image",
+        ..REFUSED
+    },
+    Case {
+        line: "rsp run --save /dev/stdin",
         ..REFUSED
     },
 ];

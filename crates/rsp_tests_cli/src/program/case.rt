@@ -1,6 +1,6 @@
 use super::fakes::{AfterBytes, FakeFiles, FakeReader, FakeWriter};
 use rsp_bench::MachineRunner;
-use rsp_cli::{FileFault, Status, work};
+use rsp_cli::{FileFault, Status, Terminals, work};
 use std::alloc::AllocError;
 use std::test::Fail;
 
@@ -19,8 +19,8 @@ pub(super) struct Case {
     pub(super) read_fault: Option<FileFault>,
     /// What each write of a file ends with.
     pub(super) write_fault: Option<FileFault>,
-    /// Whether standard input is a terminal.
-    pub(super) is_typed: bool,
+    /// Which standard streams are terminals.
+    pub(super) terminals: Terminals,
     pub(super) script: &'static [u8],
     pub(super) after_script: AfterBytes,
     /// How many bytes standard output has room for.
@@ -41,13 +41,19 @@ pub(super) struct Case {
     pub(super) saved: Option<&'static [u8]>,
 }
 
+pub(super) const NO_TERMINALS: Terminals = Terminals {
+    input: false,
+    output: false,
+    errors: false,
+};
+
 /// A run without files of a script without lines. The other cases say how they differ from this one.
 pub(super) const RUN: Case = Case {
     line: "rsp run",
     image: b"",
     read_fault: None,
     write_fault: None,
-    is_typed: false,
+    terminals: NO_TERMINALS,
     script: b"",
     after_script: AfterBytes::End,
     room: ROOM,
@@ -102,7 +108,7 @@ impl Case {
             image,
             self.read_fault,
             self.write_fault,
-            self.is_typed,
+            self.terminals,
         );
         let mut script = FakeReader::new(self.script, self.after_script);
         let status = work(

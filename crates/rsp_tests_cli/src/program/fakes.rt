@@ -1,72 +1,124 @@
-use rsp_cli::{FileFault, FileStore};
+ghost use Rattle.std.specs.Prelude.{Some, Ok, Err, IfOk, IfErr, option_map, string_bytes, ◌≡◌};
+ghost use Rattle.std.specs.Str.{bytes_eq};
+ghost use Rattle.rsp_tests_cli.specs.Files.{may_save, file_of};
+
+use rsp_cli::{FileFault, FileStore, Terminals};
 use std::alloc::Global;
 use std::io::{self, ErrorKind, Read, Write};
 
 /// Files in memory: one with the name `image` can be read, and one can be written.
 #[derive(Drop)]
 pub(super) struct FakeFiles<'a> {
+    alloc: Global,
     image: &'a [u8],
     read_fault: Option<FileFault>,
     write_fault: Option<FileFault>,
-    /// Whether standard input is a terminal.
-    is_typed: bool,
+    terminals: Terminals,
     /// How many bytes the last read asked for.
     pub(super) limit: u64,
     /// How many files were written.
     pub(super) written: u64,
-    /// The bytes of the last file that was written.
+    /// The name of the file that was written.
+    saved_name: Option<String>,
+    /// Its bytes.
     pub(super) saved: Vec<u8>,
 }
 
 impl<'a> FakeFiles<'a> {
-    /// Files of which `image` has these bytes. If a fault is given, each read, or each write, ends with it.
+    /// Files of which `image` has these bytes. If a fault is given, each read of a file that wasn't written, or each write, ends with it.
     pub(super) fn new(
         alloc: Global,
         image: &'a [u8],
         read_fault: Option<FileFault>,
         write_fault: Option<FileFault>,
-        is_typed: bool,
+        terminals: Terminals,
     ) -> FakeFiles<'a> {
         FakeFiles {
+            alloc,
             image,
             read_fault,
             write_fault,
-            is_typed,
+            terminals,
             limit: 0,
             written: 0,
+            saved_name: None,
             saved: Vec::new(alloc),
+        }
+    }
+
+    /// Whether a file with this name may be written. There is room for one.
+    fn may_save(&self, name: &str) -> bool
+        ensures { result ≡ may_save (option_map string_bytes self.now.saved_name) name.now }
+    {
+        match &self.saved_name {
+            Some(saved) => saved.as_str() == name,
+            None => true,
+        }
+    }
+
+    /// The bytes of the file with this name, or why it can't be read.
+    fn held(&self, name: &str) -> Result<&[u8], FileFault>
+        ensures ok { IfOk result (λ held. file_of (option_map string_bytes self.now.saved_name) self.now.saved.items self.now.read_fault self.now.image.now name.now ≡ Ok held.now) }
+        ensures err { IfErr result (λ fault. file_of (option_map string_bytes self.now.saved_name) self.now.saved.items self.now.read_fault self.now.image.now name.now ≡ Err fault) }
+    {
+        if let Some(saved) = &self.saved_name {
+            if saved.as_str() == name {
+                return Ok(&self.saved);
+            }
+        }
+        if let Some(fault) = self.read_fault {
+            return Err(fault);
+        }
+        if name == "image" {
+            Ok(self.image)
+        } else {
+            Err(FileFault::Refused(ErrorKind::NotFound))
         }
     }
 }
 
 impl FileStore for FakeFiles<'_> {
+    /// It tells of each name what a file with it holds.
+    ghost content = { λ s name. Some (file_of (option_map string_bytes s.saved_name) s.saved.items s.read_fault s.image.now name) };
+
+    /// Each name leads to a file of its own.
+    ghost same = { λ s one other. Some (bytes_eq one other) };
+
     fn read(&mut self, alloc: Global, name: &str, limit: u64) -> Result<Vec<u8>, FileFault> {
         self.limit = limit;
-        if let Some(fault) = self.read_fault {
-            return Err(fault);
+        let held = self.held(name)?;
+        let end = (limit as usize).min(held.len());
+        match Vec::from_slice(alloc, &held[..end]) {
+            Ok(bytes) => Ok(bytes),
+            Err(_) => Err(FileFault::OutOfMemory),
         }
-        if name != "image" {
-            return Err(FileFault::Refused);
-        }
-        let end = usize::try_from(limit)
-            .unwrap_or(usize::MAX)
-            .min(self.image.len());
-        Vec::from_slice(alloc, &self.image[..end]).map_err(|_| FileFault::OutOfMemory)
     }
 
-    fn write(&mut self, _name: &str, bytes: &[u8]) -> Result<(), FileFault> {
+    fn write(&mut self, name: &str, bytes: &[u8]) -> Result<(), FileFault> {
         if let Some(fault) = self.write_fault {
             return Err(fault);
         }
+        if !self.may_save(name) {
+            return Err(FileFault::Refused(ErrorKind::StorageFull));
+        }
+        let (Ok(name), Ok(saved)) = (
+            String::from_str(self.alloc, name),
+            Vec::from_slice(self.alloc, bytes),
+        ) else {
+            return Err(FileFault::OutOfMemory);
+        };
         self.written = self.written.saturating_add(1);
-        self.saved.clear();
-        self.saved
-            .extend_from_slice(bytes)
-            .map_err(|_| FileFault::OutOfMemory)
+        self.saved_name = Some(name);
+        self.saved = saved;
+        Ok(())
     }
 
-    fn is_typed(&self) -> bool {
-        self.is_typed
+    fn is_same(&self, one: &str, other: &str) -> bool {
+        one == other
+    }
+
+    fn terminals(&self) -> Terminals {
+        self.terminals
     }
 }
 

@@ -1,7 +1,7 @@
 // Calls that allocate. `tests/program/test_failing_allocations.py` runs these tests many times, and each time another allocation fails: a test then
 // prints the answer on standard output, and calls again. When memory is there, the answers must be the usual ones.
 
-use super::case::{ASSEMBLY, Case, LISTING, RUN, separated};
+use super::case::{ASSEMBLY, Case, LISTING, NO_TERMINALS, RUN, separated};
 use super::fakes::FakeWriter;
 use super::run::IMAGE_LIMIT;
 use clap::error::ErrorKind;
@@ -84,7 +84,7 @@ fn work_is_done_when_memory_is_there(rt: HostRuntime) -> Result<(), Fail> {
 
 #[test]
 fn arguments_are_read_when_memory_is_there(rt: HostRuntime) -> Result<(), Fail> {
-    let words = words(&rt, "rsp dis image --places")?;
+    let words = words(&rt, "rsp dis image --listing")?;
     for _ in 0..2 {
         match read_arguments(rt.alloc(), &words) {
             Ok(Request::Disassemble(named)) => assert!(rt; named.words == "image"),
@@ -101,7 +101,7 @@ fn arguments_are_read_when_memory_is_there(rt: HostRuntime) -> Result<(), Fail> 
 #[test]
 fn a_file_is_read_when_memory_is_there(rt: HostRuntime) -> Result<(), Fail> {
     for _ in 0..2 {
-        match SystemFiles::new(&rt, rt.stdin()).read(rt.alloc(), "/dev/zero", 100) {
+        match SystemFiles::new(&rt, NO_TERMINALS).read(rt.alloc(), "/dev/zero", 100) {
             Ok(bytes) => assert!(rt; bytes.as_slice() == [0u8; 100].as_slice()),
             Err(fault) => {
                 assert!(rt; matches!(fault, FileFault::OutOfMemory));

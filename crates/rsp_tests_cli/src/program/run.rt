@@ -1,6 +1,7 @@
-use super::case::{Case, RUN, check};
+use super::case::{Case, NO_TERMINALS, RUN, check};
 use super::fakes::AfterBytes;
-use rsp_cli::{FileFault, Status};
+use rsp_cli::{FileFault, Status, Terminals};
+use std::io::ErrorKind;
 use std::test::Fail;
 
 /// The most bytes of an image that the program reads: one more than the longest has.
@@ -55,6 +56,12 @@ const STRICT: Case = Case {
     written: 1,
     saved: None,
     ..RUN
+};
+
+/// A script that is typed, of which standard error is in a file.
+const TYPED: Terminals = Terminals {
+    input: true,
+    ..NO_TERMINALS
 };
 
 static CASES: [Case; 26] = [
@@ -117,7 +124,7 @@ static CASES: [Case; 26] = [
     // An image may not be saved.
     Case {
         script: b"step",
-        write_fault: Some(FileFault::Refused),
+        write_fault: Some(FileFault::Refused(ErrorKind::PermissionDenied)),
         message: Some(b"rsp: cannot write saved\n"),
         ..BROKEN_OFF
     },
@@ -161,18 +168,18 @@ static CASES: [Case; 26] = [
     },
     // Whoever types a script is greeted, but not if the script is in a file, or if the run doesn't begin.
     Case {
-        is_typed: true,
+        terminals: TYPED,
         script: b"step\n",
         output: Some(b"step Done pc 004\n"),
         message: None,
         ..RUN
     },
     Case {
-        is_typed: true,
+        terminals: TYPED,
         ..FILE
     },
     Case {
-        is_typed: true,
+        terminals: TYPED,
         message: Some(b"rsp: fault 7 SizeFault\n"),
         ..UNREAD
     },
@@ -181,7 +188,7 @@ static CASES: [Case; 26] = [
         line: "rsp run --explain",
         script: b"step\nregs 1\n",
         width: 7,
-        message: Some(b"line 2: fault 30 BadCommand\n  line: regs 1\n  may be: regs\n"),
+        message: Some(b"line 2: fault 30 BadCommand\n  | regs 1\n  expected: regs\n"),
         output: Some(b"step Done pc 004\nfault 30 BadCommand\n"),
         ..RUN
     },
@@ -189,7 +196,7 @@ static CASES: [Case; 26] = [
         line: "rsp run --explain image",
         image: b"asm 0\n# nothing\n  nop 1\n end",
         message: Some(
-            b"image:3: fault 12 BadOperand line 2\n  line: nop 1\n  operand 1: 1\n  may be: nothing\n  write: nop\n",
+            b"image:3: fault 12 BadOperand line 2\n  | nop 1\n  operand 1: 1\n  expected: nothing\n",
         ),
         output: Some(b"fault 12 BadOperand line 2\n"),
         ..FILE
@@ -199,7 +206,7 @@ static CASES: [Case; 26] = [
         image: b"asm 0\nend 1",
         status: Status::Faulted,
         message: Some(
-            b"image:3: fault 10 BadLine line 2\n  line: (none)\n  may be: end, for the block of line 1\n  write: end alone in line 2, which is: end 1\nrsp: faults in replies: 1, the first in line 3: fault 10 BadLine line 2\n",
+            b"image:3: fault 10 BadLine line 2\n  | (none)\n  expected: end, for the block of line 1\n  help: write end alone in line 2, which is: end 1\nrsp: faults in replies: 1, the first in line 3: fault 10 BadLine line 2\n",
         ),
         output: Some(b"fault 10 BadLine line 2\n"),
         ..FILE

@@ -1,0 +1,2 @@
+-- What the fakes of the tests hold.
+pub mod Files
