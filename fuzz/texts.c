@@ -40,7 +40,22 @@ static void see_labels(uint32_t origin, const uint8_t *text, size_t len, uint32_
     for (size_t i = 0; status == BRSP_OK && i < count; i++) MUST(labels[i].address >= origin && labels[i].address <= 4096);
 }
 
-static void see_text(uint32_t origin, const uint8_t *text, size_t len, size_t capacity)
+/* What is said of a text: nothing if it has no fault, and no byte is filled if there is no room for all. */
+static void see_said(uint32_t origin, const uint8_t *text, size_t len, uint32_t assembled, uint32_t fault)
+{
+    static const uint8_t reply[] = "fault 30 BadCommand";
+    uint8_t said[256] = { 0 };
+    size_t count = 0, capacity = len % (sizeof said + 1);
+    uint32_t status = brsp_explain_text(origin, text, len, said, capacity, &count);
+    if (assembled == BRSP_OUT_OF_RANGE || fault == 33) MUST(status == assembled && !count);
+    else MUST(status == (count > capacity ? BRSP_NO_ROOM : BRSP_OK) && (count > 0) == (assembled == BRSP_NO_MEANING));
+    for (size_t i = status == BRSP_OK ? count : 0; i < sizeof said; i++) MUST(!said[i]);
+    status = brsp_explain_reply(origin, text, len, reply, sizeof reply - 1, said, capacity, &count);
+    MUST(status == (count > capacity ? BRSP_NO_ROOM : BRSP_OK));
+}
+
+/* `text` isn't const, because gcc 12 would then warn that the bytes of malloc are uninitialized. */
+static void see_text(uint32_t origin, uint8_t *text, size_t len, size_t capacity)
 {
     uint32_t *words = room(4 * capacity);
     for (size_t i = 0; i < capacity; i++) words[i] = FRESH;
@@ -53,6 +68,7 @@ static void see_text(uint32_t origin, const uint8_t *text, size_t len, size_t ca
     if (status == BRSP_NO_MEANING) see_fault(&made, explained, &operand);
     if (status == BRSP_NO_ROOM || status == BRSP_OK) MUST((made.count > capacity) == (status == BRSP_NO_ROOM) && !made.fault && !made.line && !operand.number);
     see_labels(origin, text, len, status);
+    see_said(origin, text, len, status, status == BRSP_NO_MEANING ? made.fault : 0);
     size_t count = status == BRSP_OK ? made.count : 0;
     for (size_t i = 0; i < count; i++) see_round_trip(words[i], origin + 4 * (uint32_t)i);
     for (size_t i = count; i < capacity; i++) MUST(words[i] == FRESH);

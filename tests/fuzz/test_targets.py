@@ -34,7 +34,7 @@ class Edit(NamedTuple):
     new: str
 
 
-MEMORIES, RUNNER, PROGRAM = "plugin/memories.c", "conformance/runner.c", "library/c/program"
+MEMORIES, RUNNER = "plugin/memories.c", "conformance/runner.c"
 # The faults of each target: numbers of faults.c, or edits of the sources in C.
 FAULTS_OF: Dict[str, List[int]] = {"calls": [1, 2, 3], "scripts": [4, 5, 6], "texts": [7, 8, 9]}
 EDITS_OF: Dict[str, List[Edit]] = {
@@ -47,11 +47,6 @@ EDITS_OF: Dict[str, List[Edit]] = {
         Edit(RUNNER, "p.bank > 3 || ", ""),
         Edit(RUNNER, " || p.length > length_of(p.bank) - p.address", ""),
         Edit(RUNNER, " || h.size > (size_t)(file->end - file->at)", ""),
-    ],
-    "program": [
-        Edit(f"{PROGRAM}/run.c", "(session, script.at + from,", "(session, script.at,"),
-        Edit(f"{PROGRAM}/disassemble.c", "if (len > 4096 - origin || len % 4)", "if (len > 4096 - origin)"),
-        Edit(f"{PROGRAM}/arguments.c", "char missing[64]", "char missing[16]"),
     ],
 }
 
@@ -126,7 +121,7 @@ def test_dictionary() -> None:
     """Each line is a word that libFuzzer reads."""
     lines = dictionary().splitlines()
     assert [line for line in lines if not re.fullmatch(r'"(?:[^"\\]|\\x[0-9a-f]{2})+"', line)] == []
-    assert len({*lines}) == len(lines) > 120 and {'"vmadh"', '"unwatch"', '"--explain"'} <= {*lines}
+    assert len({*lines}) == len(lines) > 120 and {'"vmadh"', '"unwatch"', '"rdram"'} <= {*lines}
 
 
 @pytest.fixture(scope="module")

@@ -7,17 +7,12 @@ import pytest
 
 from rsp_tools.targets import CROSS
 
-THROUGH_LINKS = "on Linux, where it is only tested, it writes through links"
 NO_TEXT = "wine makes UTF-16 of any bytes; half of a pair is tested by itself"
 FOREIGN_CALLS = "the calls that are made to fail are those of shared libraries of Linux on x86-64"
 TRACED = "strace sees no call of this program, and failing_posix.c ends it at each"
 LINUX = [it.name for it in CROSS if it.is_linux]
 # The tests of each system that must fail, by the beginning of their names.
 LEFT_OUT: Dict[str, Dict[str, str]] = {
-    "native": {
-        "saves.py::test_link_no_room": THROUGH_LINKS,
-        "saves.py::test_calls_of_the_system_fail": THROUGH_LINKS,
-    },
     **{it: {} for it in ("archive", "macos", *LINUX)},
     "windows-x86_64": {
         "scripts.py::test_refused[run --save \\": NO_TEXT,

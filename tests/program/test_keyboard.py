@@ -9,7 +9,7 @@ import pty
 import re
 import subprocess
 from pathlib import Path
-from typing import Any, List
+from typing import Any, Dict, List
 
 import pytest
 
@@ -18,27 +18,60 @@ from lib.program import Result, run_program
 
 STEP, STEPPED = b"step\n", b"step Done pc 004\n"
 COMMANDS = [row["Command"] for row in data("commands")]
-PIPES = {"stdout": subprocess.PIPE, "stderr": subprocess.PIPE}
+PIPES: Dict[str, Any] = {"stdout": subprocess.PIPE, "stderr": subprocess.PIPE}
 
 
-def type_step(program: Path, *words: str, **streams: Any) -> Result:
-    """Runs the program in a terminal, which is the streams that aren't named; `step` and Ctrl-D are typed."""
+def type_step(program: Path, *words: str, script: bytes = STEP, **streams: Any) -> Result:
+    """Runs the program in a terminal, which is the streams that aren't named; `step` and Ctrl-D are typed.
+
+    The errors are what the terminal shows after what was typed, if standard error is there.
+    """
     terminal, inside = pty.openpty()
-    os.write(terminal, STEP + b"\4")
+    os.write(terminal, script + b"\4")
     streams = {name: streams.get(name, inside) for name in ("stdin", "stdout", "stderr")}
     result = run_program(program, words, **streams)
     os.close(inside)
+    if streams["stderr"] == inside:
+        shown = os.read(terminal, 65536).replace(b"\r\n", b"\n")
+        result = result._replace(errors=shown.rpartition(b"\b\b")[2])
     os.close(terminal)
     return result
 
 
+def after_greeting(errors: bytes) -> List[str]:
+    """The lines after the greeting, which has each command's name. All of them fit a terminal."""
+    greeting, _, rest = errors.decode().partition("Ctrl-D ends the script.\n")
+    assert {*re.findall(r"\w+", greeting.partition(":")[2])} == {command.split()[0] for command in COMMANDS}
+    assert max(map(len, errors.splitlines())) <= 80
+    return rest.splitlines()
+
+
 def test_greeting(program: Path) -> None:
-    """A terminal that is standard input gets two lines, with each command's name, and the end by Ctrl-D."""
+    """A terminal that is standard input is greeted, and told of `--explain` if that isn't on."""
     status, output, errors = type_step(program, "run", **PIPES)
-    assert (status, output) == (0, STEPPED)
-    first, second = errors.decode().splitlines()
-    assert {*re.findall(r"\w+", first.partition(":")[2])} == {command.split()[0] for command in COMMANDS}
-    assert "Ctrl-D" in second and "--explain" in second
+    assert (status, output) == (0, STEPPED) and "--explain" in after_greeting(errors)[0]
+    assert after_greeting(type_step(program, "run", "--explain", **PIPES).errors) == []
+
+
+SESSION = b"help\nstep 5\nasm 0\n  lqv $v1, 4 ($2)\n  foo\nend\n"
+
+
+def test_session(program: Path) -> None:
+    """If standard error is a terminal, too, faults are explained, without what replies have said there."""
+    lines = after_greeting(type_step(program, "run", script=SESSION).errors)
+    heads = [line for line in lines if re.match(r"fault|line|  (line:|\|) ", line)]
+    assert heads[:2] == ["fault 30 BadCommand"] * 2 and lines[-1] not in heads
+    assert heads[2] == "fault 12 BadOperand line 1" and heads[3].endswith(" lqv $v1, 4 ($2)")
+    assert heads[4] == "line 5: fault 11 UnknownName line 2" and heads[5].endswith(" foo") and not heads[6:]
+    apart = type_step(program, "run", script=SESSION, stdout=subprocess.PIPE)
+    assert apart.output == run_program(program, ["run"], SESSION).output
+    assert after_greeting(apart.errors)[0] == "line 1: fault 30 BadCommand"
+
+
+def test_long_session(program: Path) -> None:
+    """There is no most number of faults that are explained, as there is for a file."""
+    lines = after_greeting(type_step(program, "run", script=b"step 5\n" * 25).errors)
+    assert lines[::2] == ["fault 30 BadCommand"] * 25 and {*lines[1::2]} == {lines[1]} != {lines[0]}
 
 
 def test_no_greeting(program: Path, folder: Path) -> None:
@@ -57,24 +90,30 @@ def test_greeting_that_fails(program: Path) -> None:
         assert type_step(program, "run", stdout=subprocess.PIPE, stderr=full)[:2] == (0, STEPPED)
 
 
+NAMES = """expected: load asm step run break unbreak watch unwatch back pc read write
+            task regs vregs acc flags sp mem dis"""
 # Lines that are refused, with the advice after the text of the line.
 REFUSED = {
-    "mem dmem 0x200": "may be: mem BANK ADDR LEN, and BANK is dmem, imem or rdram",
-    "mem rom 0 4": "may be: mem BANK ADDR LEN, and BANK is dmem, imem or rdram",
-    "step 5  # five": "may be: step",
-    "STEP": "may be: step",
-    "stpe": "write: step, the nearest command",
-    "unwacth 0": "write: unwatch K, the nearest command",
-    "end": "write: end only after asm ADDR and the lines of its block",
-    "addiu $1, $0, 1": "write: asm ADDR, then lines of assembly text, then end",
-    "loop: nop": "write: asm ADDR, then lines of assembly text, then end",
-    "help": "may be: " + " ".join(it.split()[0] for it in COMMANDS if it != "end"),
+    "mem dmem 0x200": "expected: mem BANK ADDR LEN, and BANK is dmem, imem or rdram",
+    "mem rom 0 4": "expected: mem BANK ADDR LEN, and BANK is dmem, imem or rdram",
+    "step 5  # five": "expected: step",
+    "STEP": "expected: step",
+    "stpe": "help: is `step` meant?",
+    "unwacth 0": "help: is `unwatch K` meant?",
+    "end": "help: end comes only after asm ADDR and the lines of its block",
+    **dict.fromkeys(
+        ("addiu $1, $0, 1", "li $1, 5", ".half 1", "nop", "loop: nop"),
+        "help: write asm ADDR, then lines of assembly text, then end",
+    ),
+    **dict.fromkeys(("quit", "exit", "q"), "help: Ctrl-D ends the script"),
+    **dict.fromkeys(("help", "?"), f"{NAMES}\n  help: Ctrl-D ends the script"),
+    "xyzzy": NAMES,
 }
 
 
 @pytest.mark.parametrize("line", REFUSED)
 def test_refused_command(line: str, rsp: Any) -> None:
-    errors = f"line 2: fault 30 BadCommand\n  line: {line}\n  {REFUSED[line]}\n".encode()
+    errors = f"line 2: fault 30 BadCommand\n  | {line}\n  {REFUSED[line]}\n".encode()
     result = rsp("run", "--explain", script=f"step\n{line}\n".encode())
     assert result == (0, STEPPED + b"fault 30 BadCommand\n", errors)
 
@@ -86,9 +125,16 @@ def test_refused_number(command: str, rsp: Any) -> None:
     errors = rsp("run", "--explain", script=line.encode()).errors.decode()
     ranges = {row["Command"].split()[0]: row["Range of its numbers"] for row in data("commands")}
     range_ = ranges[command.split()[0].replace("unbreak", "break")]
-    assert errors.startswith(f"line 1: fault 31 BadNumber\n  line: {line}\n  may be: {command}: {range_}\n")
+    assert errors.startswith(f"line 1: fault 31 BadNumber\n  | {line}\n  expected: {command}: {range_}\n")
 
 
+# Lines with the last line that is said of them.
+LAST = {
+    "break 010": "help: 010 is 10 in decimal; hexadecimal numbers begin with 0x",
+    "run 0": "note: N isn't 1 to 1,000,000",
+    "watch 0 0": "note: LEN isn't 1 to 64, or the bytes aren't all inside DMEM",
+    "\ufeffstep": "help: save the file without a byte-order mark",
+}
 FAULTS = [it for it in data("faults") if re.match(r"([456]|2\d) ", it["Fault"]) and it["Example"][0] != "$"]
 
 
@@ -97,12 +143,18 @@ def test_other_fault(fault: Any, rsp: Any) -> None:
     """It is explained by the words of the table, without the marks of its page."""
     lines = fault["Example"].split(" / ")
     errors = rsp("run", "--explain", script="\n".join(lines).encode()).errors.decode()
-    head = f"line {len(lines)}: fault {fault['Fault']}\n  line: {lines[-1]}\n  because: "
+    head = f"line {len(lines)}: fault {fault['Fault']}\n  | {lines[-1]}\n  note: "
     assert errors.startswith(head) and errors.count("\n") == 4
     cells = (re.sub(r"\[([^]]*)\]\([^)]*\)", r"\1", fault[it]) for it in ("Cause", "What helps"))
     cause, what_helps = (cell.replace("`", "") for cell in cells)
-    because, help_ = re.findall(r"(?m)^  (?:because|help): (.*)$", errors)
-    assert cause.endswith(because) and help_ == what_helps
+    note, help_ = re.findall(r"(?m)^  (?:note|help): (.*)$", errors)
+    assert cause.endswith(note) and help_ == what_helps
+
+
+@pytest.mark.parametrize("line, advice", LAST.items())
+def test_last_advice(line: str, advice: str, rsp: Any) -> None:
+    errors = rsp("run", "--explain", script=f"{line}\n".encode()).errors.decode()
+    assert errors.splitlines()[-1] == f"  {advice}"
 
 
 BLOCKS = b"""step
@@ -120,21 +172,21 @@ regs
 """
 IN_BLOCKS = """\
 script:3: fault 12 BadOperand line 1
-  line: lw $1, 4 ($2)
+  | lw $1, 4 ($2)
   operand 2: 4 ($2)
-  may be: a number or a label, -32768 to 65535, and a scalar register in parentheses
-  write: 4($2)
+  expected: a number or a label, -32768 to 65535, and a scalar register in parentheses
+  try: 4($2)
 script:4: fault 11 UnknownName line 2
-  line: foo
+  | foo
   name: foo
 script:7: fault 15 LabelMissing line 1
-  line: j x
+  | j x
   operand 1: x
-  may be: the label of a line, or 0 to 4092, a multiple of 4
+  expected: the label of a line, or 0 to 4092, a multiple of 4
 script:13: fault 10 BadLine line 4
-  line: (none)
-  may be: end, for the block of line 9
-  write: end alone in line 11, which is: end # done
+  | (none)
+  expected: end, for the block of line 9
+  help: write end alone in line 11, which is: end # done
 """
 
 
@@ -146,7 +198,7 @@ def test_blocks(rsp: Any, folder: Path) -> None:
 
 def test_more_than_twenty(rsp: Any) -> None:
     result = rsp("run", "--explain", "--strict", script=b"foo\n" * 23)
-    assert result.status == 1 and result.errors.count(b": fault 30 BadCommand\n  line: foo\n") == 20
+    assert result.status == 1 and result.errors.count(b": fault 30 BadCommand\n  | foo\n") == 20
     ending = b".. and 3 more\nrsp: faults in replies: 23, the first in line 1: fault 30 BadCommand\n"
     assert result.errors.endswith(ending)
 

@@ -105,6 +105,7 @@ FILES = {
     "empty": b"",
     "half": bytes(6),
     "many": bytes(4100),
+    "latin": b"nop # \xc3\xbc\n \xc3\xbc \xfc\n",
     "branch": bytes.fromhex("1000fffe00000000"),
     "script": b"load rdram 0x3ffffe 0102\nfoo\nunbreak 0",
     "long": b"step\n" + b"#" * (LONGEST_SCRIPT - 4),
@@ -113,7 +114,7 @@ FILES = {
 }
 LISTING = b"""ok 5 words
 080 go:
-080 08000022 go: j x # there
+080 08000022 j x # there
 084 00000000 nop
 088 x:
 088 00000001 .word 1, x
@@ -121,8 +122,8 @@ LISTING = b"""ok 5 words
 090 0000000d break
 """
 CODE_LISTED = b".word 0x1000fffe\nbeq $0, $0, 0x000\n.word 0x00200048\njr $1\nnop\n"
-PLACES = b"000 1000fffe .word 0x1000fffe\n004 00000000 nop\n"
-PLACES_AT_FF8 = b"ff8 1000fffe beq $0, $0, 0xff4\nffc 00000000 nop\n"
+WORDS_LISTED = b"000 1000fffe .word 0x1000fffe\n004 00000000 nop\n"
+LISTED_AT_FF8 = b"ff8 1000fffe beq $0, $0, 0xff4\nffc 00000000 nop\n"
 AT_80 = {"words": bytes.fromhex("08000022000000000000000d")}
 SAVED = {"saved": bytes(4194302) + b"\1\2"}
 ENDS = b"mem rdram 8388607 1\nmem rdram 8388608 1\n"
@@ -134,6 +135,10 @@ LINES_ALONE, LINE_ALONE = b"\n" * (LONGEST_SCRIPT + 1), b"x" * (LONGEST_SCRIPT +
 TOO_LONG = b"step\n" + b"#" * (LONGEST_SCRIPT - 4)
 NO_SCRIPT = b"rsp: fault 42 ScriptTooLong\n"
 NOBODY_HEARS = b"rsp: fault 41 WriteFault\n"
+MISSING = b"\n  note: there is no such file or folder"
+IMAGES = b" bytes\n  expected: a multiple of 8 bytes, from 64 to 8388608"
+NO_UTF8 = b" is not UTF-8"
+WORDS_AT_0 = b" bytes or more\n  expected: a multiple of 4 bytes, at most 4096"
 
 
 def strict(count: int, line: int, first: bytes) -> bytes:
@@ -215,12 +220,26 @@ CASES = {
     "a word too many": fails("dis many", b"bad size"),
     "words at 080": Case("dis branch --at 0x80", b"beq $0, $0, 0x07c\nnop\n"),
     "words at ff8": Case("dis branch --at 4088", b"beq $0, $0, 0xff4\nnop\n"),
-    "words with places": Case("dis branch --places", PLACES),
-    "words at ff8 with places": Case("dis branch --at 0x0ff8 --places", PLACES_AT_FF8),
+    "words listed with addresses": Case("dis branch --listing", WORDS_LISTED),
+    "words at ff8 listed": Case("dis branch --at 0x0ff8 --listing", LISTED_AT_FF8),
+    "words listed by the other name": Case("dis branch --places", WORDS_LISTED),
     "words past the end": fails("dis branch --at 4092", b"bad size"),
-    "words past the end with places": fails("dis branch --at 0xffc --places", b"bad size"),
+    "words past the end aren't listed": fails("dis branch --at 0xffc --listing", b"bad size"),
     "words without end": fails("dis /dev/zero", b"bad size"),
     "missing words": fails("dis none", b"cannot read none"),
+    # Causes, in lines after that of the fault.
+    "missing image, explained": fails("run --explain --rdram no", b"cannot read no" + MISSING),
+    "no folder, explained": fails("asm text no/words --explain", b"cannot write no/words" + MISSING),
+    "folder, explained": fails("dis . --explain", b"cannot read .\n  note: it is a folder"),
+    "half, explained": fails("run --rdram half --explain", b"fault 7 SizeFault\n  note: half has 6" + IMAGES),
+    "too long, explained": fails("dis many --explain", b"bad size\n  note: many has 4097" + WORDS_AT_0),
+    "no text, explained": fails(
+        "asm latin words --explain", b"fault 33 NotText\n  note: line 2, column 4" + NO_UTF8
+    ),
+    # Devices that are read and written: nothing is overwritten.
+    "words to the device of the text": Case("asm /dev/null /dev/null", b"ok 0 words\n"),
+    "image to the device of the script": Case("run /dev/null --save /dev/null"),
+    "words to a stream": Case("asm /dev/stdin /dev/stdout", b"\0\0\0\rok 1 words\n", b"break\n"),
 }
 
 
@@ -278,7 +297,7 @@ run a b|run a --strict b|run -x|run --fast|run --rdram|run --rdram=|run --rdram 
 run --save a --save b|run --at 0|run --explain --explain|run --explain=yes
 run --version|run --help|--help|help|help run|run --labels|run --strict --strict|run --strict=yes
 asm a b --strict|dis a --strict|asm a b --labels|asm a b --explain --explain|asm a b --explain=yes
-dis a --labels --labels|dis a --labels=1|dis a --explain
+dis a --labels --labels|dis a --labels=1|dis a --explain=yes|dis a --listing --places
 """
 NO_ADDRESSES = "3 4096 0xffe 0X10 x -4 +4 0x 0x000000004 00000000004 4#".split()
 REFUSED: List[str] = ["", *NO_COMMANDS.strip().replace("\n", "|").split("|")]
@@ -294,6 +313,32 @@ def test_refused(line: bytes, rsp: Any) -> None:
     result = rsp(*[word.replace(b"''", b"") for word in line.split()], script=STEP)
     assert (result.status, result.output) == (2, b"") and result.errors
     assert result.errors.startswith(b"error: ") == (b"help" not in line)
+
+
+def test_tip(rsp: Any) -> None:
+    """A file in the place of a subcommand: the subcommands that take it. For another word there is none."""
+    assert re.findall(rb"'rsp (\w+) a/b.s", rsp("a/b.s").errors) == [b"run", b"asm"]
+    assert b"tip" not in rsp("walk").errors
+
+
+KEPT = """
+asm text text|asm text ./text|asm text soft|asm soft text|asm text hard|asm text hard --explain
+run text --save text|run soft --save hard|run --save text|run --save soft --rdram text --strict
+"""
+
+
+@pytest.mark.parametrize("words", KEPT.strip().replace("\n", "|").split("|"))
+def test_input_is_kept(words: str, rsp: Any, folder: Path) -> None:
+    """What would overwrite the text or the script that it reads, by any name, reads and writes nothing."""
+    (folder / "text").write_bytes(TEXT)
+    (folder / "soft").symlink_to("text")
+    os.link(folder / "text", folder / "hard")
+    with open(folder / "text", "rb") as script:
+        result = rsp(*words.split(), stdin=script)
+        assert os.lseek(script.fileno(), 0, os.SEEK_CUR) == 0
+    assert (result.status, result.output) == (2, b"")
+    assert re.match(rb"error: invalid value '(\./)?\w+' for '[^']*': it would overwrite", result.errors)
+    assert content(folder / "text") == TEXT and {*os.listdir(folder)} == {"text", "soft", "hard"}
 
 
 @pytest.mark.needs("qemu-x86_64")

@@ -7,6 +7,7 @@ import re
 import struct
 import subprocess
 import sys
+from operator import ge, gt, le, lt
 from pathlib import Path
 from random import Random
 from typing import Any, Callable, Dict, List, Optional, Sequence
@@ -105,14 +106,14 @@ def comment_of(word: int) -> str:
     return f" # executes as {name} {4 * (word & 1023):#05x}, which would be the word {plain:#010x}"
 
 
-def labelled(words: Sequence[int], plain: List[str], origin: int, has_places: bool) -> List[str]:
+def labelled(words: Sequence[int], plain: List[str], origin: int, is_listed: bool) -> List[str]:
     """The lines of `--labels`, by the lines without it and by the targets of the words."""
     addresses = [origin + 4 * i for i in range(len(words))]
     targets = [target_of(word, at) for word, at in zip(words, addresses)]
     lines = []
     for word, at, line, target in zip(words, addresses, plain, targets):
         if at in targets:
-            lines.append(f"{at:03x} " * has_places + f"L{at:03x}:")
+            lines.append(f"{at:03x} " * is_listed + f"L{at:03x}:")
         if target is not None and target in addresses:
             line = line.replace(f"0x{target:03x}", f"L{target:03x}")
         lines.append(line + comment_of(word))
@@ -121,8 +122,8 @@ def labelled(words: Sequence[int], plain: List[str], origin: int, has_places: bo
 
 def check_labels(files: Files, words: List[int], origin: int) -> None:
     at = ["--at", hex(origin)]
-    for options in (at, [*at, "--places"]):
-        expected = labelled(words, files.disassemble(words, *options), origin, "--places" in options)
+    for options in (at, [*at, "--listing"]):
+        expected = labelled(words, files.disassemble(words, *options), origin, "--listing" in options)
         assert files.disassemble(words, *options, "--labels") == expected
     assert files.assemble(files.disassemble(words, *at, "--labels"), *at) == words
 
@@ -221,10 +222,11 @@ def test_linked_elsewhere(base: int, at: int, files: Files) -> None:
 
 
 # `asm --explain`: lines that are refused, their faults, and the number and text of the first operand with
-# what may be there and what to write, as docs/ASSEMBLY.md says. Of an unknown name, the text; `-` is nothing.
+# what is expected and advised, as docs/ASSEMBLY.md says. Of an unknown name, the text; `-` is nothing, and
+# ` / ` is between two lines of an advice.
 REFUSED = [line.split("\t") for line in page("tests/program/explanations.tsv").splitlines()[1:]]
 # The explanations of a line's other operands that are at fault, too.
-OTHER_OPERANDS = r"(  operand \d: .*\n  may be: .*\n(  write: .*\n)?)*"
+OTHER_OPERANDS = r"(  operand \d: .*\n  expected: .*\n(  (try|help): .*\n)?)*"
 SCALES = {
     1: "lbv sbv",
     2: "lsv ssv",
@@ -240,22 +242,22 @@ for scale, names in SCALES.items():
     for offset in (-65 * scale, 64 * scale, *[scale + 1] * (scale > 1)):
         advice = "-"
         if scale > 1 and -64 <= offset <= 63:
-            advice = f"{offset * scale}($2) if {offset} counts steps of {scale} bytes"
+            advice = f"help: {offset * scale}($2) if {offset} counts steps of {scale} bytes"
         operand = ["13 OutOfRange", "2", f"{offset}($2)", allowed, advice]
         REFUSED += [[f"{name} $v1[0], {offset}($2)", *operand] for name in names.split()]
 
 
 @pytest.mark.parametrize("refusal", REFUSED, ids=lambda it: it[0][:40])
 def test_explanation(refusal: List[str], rsp: Any, folder: Path) -> None:
-    line, fault, number, text, allowed, written = refusal
+    line, fault, number, text, allowed, advice = refusal
     first = "x: nop\n" if fault.startswith("14") else "nop # a comment\n"
     (folder / "text").write_text(first + f"\t{line}  # why not\r\n" + "nop\n")
     at = ["--at", "4000"] if fault.startswith("16") else []
     assert rsp("asm", "text", "made", *at) == (1, b"", f"rsp: fault {fault} line 2\n".encode())
-    expected = f"text:2: fault {fault} line 2\n  line: {line}  # why not\n"
-    expected += f"  operand {number}: {text}\n  may be: {allowed}\n" if number != "-" else ""
+    expected = f"text:2: fault {fault} line 2\n  | {line}  # why not\n"
+    expected += f"  operand {number}: {text}\n  expected: {allowed}\n" if number != "-" else ""
     expected += f"  name: {text}\n" if number == "-" != text else ""
-    expected += f"  write: {written}\n" if written != "-" else ""
+    expected += f"  {advice}\n".replace(" / ", "\n       ") if advice != "-" else ""
     result = rsp("asm", "text", "made", *at, "--explain")
     assert result[:2] == (1, b"") and result.errors.startswith(expected.encode())
     assert re.fullmatch(OTHER_OPERANDS, result.errors[len(expected) :].decode())
@@ -278,12 +280,12 @@ j nowhere
 """
 EXPLAINED: tuple[tuple[str, list[int], list[str]], ...] = (
     ("2: fault 12 BadOperand line 2", [2, 3], ["$v3"]),
-    ("4: fault 12 BadOperand line 4", [1, 2], ["a number, a label, or a label + or - a number"]),
+    ("4: fault 12 BadOperand line 4", [1, 2], ["write a number, a label, or a label + or - a number"]),
     ("5: fault 14 LabelTwice line 5", [], []),
     ("6: fault 12 BadOperand line 6", [2], ["4($2)"]),
-    ("7: fault 12 BadOperand line 7", [1], ["nop"]),
+    ("7: fault 12 BadOperand line 7", [1], []),
     ("8: fault 12 BadOperand line 8", [1], [mock.ANY]),
-    ("9: fault 11 UnknownName line 9", [], ["nothing: leave it out"]),
+    ("9: fault 11 UnknownName line 9", [], ["leave the line out"]),
     ("10: fault 10 BadLine line 10", [], [mock.ANY]),
     ("11: fault 12 BadOperand line 11", [1, 2, 3], [mock.ANY] * 3),
 )
@@ -293,7 +295,7 @@ def test_several_faults(files: Files) -> None:
     """All faults of the first pass are explained, those of the second only without them."""
     found = []
     for head, rest in re.findall(r"(?m)^text:(.*)\n((?:  .*\n)+)", files.explain(SEVERAL)):
-        numbers, advice = (re.findall(form, rest) for form in (r"operand (\d+):", r"write: (.*)"))
+        numbers, advice = (re.findall(form, rest) for form in (r"operand (\d+):", r"(?:try|help): (.*)"))
         found.append((head, [*map(int, numbers)], advice))
     assert found == [*EXPLAINED] and not (files.folder / "made").exists()
 
@@ -337,22 +339,72 @@ def test_sp_names(files: Files) -> None:
     rows = tables("docs/MACHINE.md", "## SP registers")
     assert len(names) == 16 and names == [name for row in rows for name in row[1].split(", ")]
     for number, name in enumerate(names):
-        assert files.explain(f"mfc0 $1, {name}\n").endswith(f"\n  write: $c{number}\n")
+        assert files.explain(f"mfc0 $1, {name}\n").endswith(f"\n  try: $c{number}\n")
 
 
-def test_advised_statements(files: Files) -> None:
-    """The advice in the place of a whole line is a statement, or begins with one."""
-    wholes = [re.match(r"[a-z]+ \$[^, ]+(, [^,; ]+(?=[,;]|$))*", it[5]) for it in REFUSED if it[2] == "-"]
-    statements = [match[0] for match in wholes if match]
-    assert len(statements) > 10
-    assert len(files.assemble(["x: nop", *statements])) == len(statements) + 1
+def advised(files: Files, line: str) -> List[str]:
+    """The statements that mean the same as a line, as `--explain` says."""
+    (found,) = re.findall(r"\n  try: (.*(?:\n {7}.*)*)\n", files.explain(f"{line}\n"))
+    return str(found).split("\n       ")
+
+
+ORDERS = [it for it in REFUSED if it[5].startswith("try: ")]
+
+
+def test_orders_assemble(files: Files) -> None:
+    """What is advised as an order is a statement, or an operand with which the line has no fault there."""
+    count = 0
+    for line, _, number, text, _, advice in ORDERS:
+        statements = advice[len("try: ") :].split(" / ")
+        if number == "-" and not statements[0].startswith("leave the line out"):
+            count += len(files.assemble(["x: nop", "y: nop", *statements]))
+        elif number != "-":
+            name, _, operands = line.partition(" ")
+            parts = [it.strip() for it in operands.partition("//")[0].split(",")]
+            parts[int(number) - 1 :] = [statements[0], *([] if "ACC" in text else parts[int(number) :])]
+            fault = files.explain(f"{name} {', '.join(parts)}\n")
+            assert f"  operand {number}:" not in fault or "($" in statements[0], (line, fault)
+    assert count > 60
+
+
+def ends(files: Files, values: Sequence[int], statements: Sequence[str], register: int) -> int:
+    """The value of a register after statements that begin with values in $t0 and $t1."""
+    given = [
+        f"lui $t{i}, {it >> 16 & 0xFFFF}\nori $t{i}, $t{i}, {it & 0xFFFF}" for i, it in enumerate(values)
+    ]
+    lines = ["asm 0", *given, *statements, "nop", "addiu $s0, $0, 1", "x: break", "end", "run 99", "regs"]
+    row = re.findall(rf"(?m)^r{register // 8 * 8:02} (.*)$", files.run("\n".join(lines)))[0]
+    return int(row.split()[register % 8], 16)
+
+
+PAIRS = ((0, 0), (5, 5), (1, -1), (-1, 1), (1, 2), (0x7FFFFFFF, -0x80000000), (-0x80000000, 0x7FFFFFFF))
+COMPARED: Dict[str, Callable[[int, int], bool]] = {"ge": ge, "gt": gt, "le": le, "lt": lt}
+
+
+@pytest.mark.parametrize("name", COMPARED)
+@pytest.mark.parametrize("modulus", (0, 1 << 32), ids=("signed", "unsigned"))
+def test_meaning_of_branches(name: str, modulus: int, files: Files) -> None:
+    """The advice branches if the comparison holds, by which $s0 stays 0."""
+    statements = advised(files, f"b{name}{'u' * (modulus > 0)} $t0, $t1, x")
+    for pair in PAIRS:
+        a, b = (it % modulus if modulus else it for it in pair)
+        assert ends(files, pair, statements, 16) == (not COMPARED[name](a, b)), pair
+
+
+@pytest.mark.parametrize(
+    "number", (0, 5, -32768, 32767, 32768, 65535, 65536, -32769, 0xFFFFFFFF, -0x80000000)
+)
+def test_meaning_of_numbers(number: int, files: Files) -> None:
+    assert ends(files, (3, 4), advised(files, f"li $t1, {number}"), 9) == number % (1 << 32)
+    if -32768 < number <= 32768:
+        assert ends(files, (3, 4), advised(files, f"subi $t1, $t0, {number}"), 9) == (3 - number) % (1 << 32)
 
 
 def test_nothing_to_explain(files: Files) -> None:
     assert files.explain("nop\n") == ""
 
 
-BAD_LINE = "a line of at most 256 bytes, each a tab or 20 to 7e hexadecimal"
+BAD_LINE = "a line has at most 256 bytes, each a tab or 20 to 7e hexadecimal"
 
 
 @pytest.mark.parametrize(
@@ -360,12 +412,12 @@ BAD_LINE = "a line of at most 256 bytes, each a tab or 20 to 7e hexadecimal"
     (
         (b"\x01bad \xc3\xbc\x1b[0m", ".bad ...[0m", BAD_LINE),
         (b"#" * 257, "#" * 256 + " ..", BAD_LINE),
-        (b"\xef\xbb\xbfnop", "...nop", "no byte-order mark before the first line"),
+        (b"\xef\xbb\xbfnop", "...nop", "save the file without a byte-order mark"),
     ),
 )
 def test_explanation_of_no_line(line: bytes, shown: str, advice: str, rsp: Any, folder: Path) -> None:
     (folder / "text").write_bytes(line + b"\n")
-    expected = f"text:1: fault 10 BadLine line 1\n  line: {shown}\n  write: {advice}\n"
+    expected = f"text:1: fault 10 BadLine line 1\n  | {shown}\n  help: {advice}\n"
     assert rsp("asm", "text", "made", "--explain").errors == expected.encode()
 
 
@@ -373,7 +425,7 @@ def test_explanation_of_size(rsp: Any, folder: Path) -> None:
     """Only so much of a text is read as shows that it is too long. The longest text has no such fault."""
     limit = 1_048_576
     (folder / "text").write_bytes(b"\n" * (limit + 1))
-    errors = f"rsp: fault 42 ScriptTooLong\n  size: {limit + 1} bytes or more\n  may be: 0 to {limit} bytes\n"
+    errors = f"rsp: fault 42 ScriptTooLong\n  expected: at most {limit} bytes\n"
     assert rsp("asm", "text", "made", "--explain") == (1, b"", errors.encode())
     (folder / "text").write_bytes(b"\n" * limit)
     assert rsp("asm", "text", "made", "--explain") == (0, b"ok 0 words\n", b"")

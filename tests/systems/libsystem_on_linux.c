@@ -39,12 +39,13 @@ int their_open(const char *path, int flags, int mode) __asm__("open");
 int their_open(const char *path, int flags, int mode)
 {
 #endif
-    int ours = flags & 3, known = 3 | 0x200 | 0x800 | 0x400 | 0x20000 | 0x1000000;
-    if (flags & ~known) return errno = EINVAL, -1;
-    ours |= flags & 0x200 ? O_CREAT : 0;
-    ours |= flags & 0x800 ? O_EXCL : 0;
-    ours |= flags & 0x400 ? O_TRUNC : 0;
-    ours |= flags & 0x1000000 ? O_CLOEXEC : 0;
+    static const int same[][2] = { { 0x200, O_CREAT }, { 0x400, O_TRUNC }, { 0x800, O_EXCL }, { 0x20000, 0 }, { 0x1000000, O_CLOEXEC } };
+    int ours = flags & 3, left = flags & ~3;
+    for (size_t i = 0; i < sizeof same / sizeof *same; i++) {
+        ours |= left & same[i][0] ? same[i][1] : 0;
+        left &= ~same[i][0];
+    }
+    if (left) return errno = EINVAL, -1;
     return (int)syscall(SYS_openat, AT_FDCWD, path, ours, mode);
 }
 
@@ -57,11 +58,13 @@ int their_fcntl(int file, int command)
     return S_ISDIR(it.st_mode) ? (errno = ENOTTY, -1) : fsync(file);
 }
 
-static int put(int status, const struct stat *it, struct theirs *to)
+static int found(int file, const char *path, int flags, struct theirs *to)
 {
+    struct stat it;
+    int status = fstatat(file, path, &it, flags);
     memset(to, 0xff, sizeof *to);
-    to->device = (int32_t)it->st_dev, to->mode = (uint16_t)it->st_mode, to->links = (uint16_t)it->st_nlink, to->inode = it->st_ino;
-    to->user = it->st_uid, to->group = it->st_gid, to->size = it->st_size;
+    to->device = (int32_t)it.st_dev, to->mode = (uint16_t)it.st_mode, to->links = (uint16_t)it.st_nlink, to->inode = it.st_ino;
+    to->user = it.st_uid, to->group = it.st_gid, to->size = it.st_size;
     return status;
 }
 
@@ -74,20 +77,6 @@ int their_fstat(int file, struct theirs *to) NAMED("fstat");
 int their_lstat(const char *path, struct theirs *to) NAMED("lstat");
 int their_stat(const char *path, struct theirs *to) NAMED("stat");
 
-int their_fstat(int file, struct theirs *to)
-{
-    struct stat it;
-    return put(fstatat(file, "", &it, AT_EMPTY_PATH), &it, to);
-}
-
-int their_lstat(const char *path, struct theirs *to)
-{
-    struct stat it;
-    return put(fstatat(AT_FDCWD, path, &it, AT_SYMLINK_NOFOLLOW), &it, to);
-}
-
-int their_stat(const char *path, struct theirs *to)
-{
-    struct stat it;
-    return put(fstatat(AT_FDCWD, path, &it, 0), &it, to);
-}
+int their_fstat(int file, struct theirs *to) { return found(file, "", AT_EMPTY_PATH, to); }
+int their_lstat(const char *path, struct theirs *to) { return found(AT_FDCWD, path, AT_SYMLINK_NOFOLLOW, to); }
+int their_stat(const char *path, struct theirs *to) { return found(AT_FDCWD, path, 0, to); }

@@ -1,6 +1,5 @@
-/* posix_calls.c: tests of what the proved program asks of its system, call by call, also where it is refused. It is linked with posix_windows.c, with
- * posix_macos.c, and on Linux with Linux's own calls, by which these expectations are tested. It needs a folder without files, but with the links "link" to
- * "target" and "bare" to nothing, and the arguments "", `two words` and `q"u\o`. */
+/* posix_calls.c: makes the calls that posix_calls.txt lists, and prints what each returns. It is linked with posix_windows.c, with posix_macos.c, and on Linux
+ * with Linux's own calls. Each line of standard input is a call and its arguments, with a tab after each. */
 typedef __SIZE_TYPE__ size_t;
 typedef __INTPTR_TYPE__ ssize;
 struct statx {
@@ -12,291 +11,156 @@ struct statx {
     unsigned char between[88];
     unsigned device_major, device_minor, more[30];
 };
-int posix_open(const char *, int, ...), posix_close(int), posix_fsync(int), posix_fchmod(int, unsigned), posix_isatty(int), posix_unlink(const char *);
-int posix_statx(int, const char *, int, unsigned, struct statx *), posix_rename(const char *, const char *), posix_flock(int, int);
-int posix_ftruncate(int, long long), posix_fdatasync(int), posix_chown(const char *, unsigned, unsigned);
-ssize posix_read(int, void *, size_t), posix_write(int, const void *, size_t), posix_readlink(const char *, char *, size_t), posix_lseek(int, long long, int);
+
+/* The calls, and the arguments that a line gives to each. */
+#define CALLS(CALL)                                                               \
+    CALL(int, close, (int), (file))                                               \
+    CALL(ssize, read, (int, void *, size_t), (file, bytes, (size_t)n))            \
+    CALL(ssize, write, (int, const void *, size_t), (file, text, length(text)))   \
+    CALL(int, isatty, (int), (file))                                              \
+    CALL(int, fsync, (int), (file))                                               \
+    CALL(int, fdatasync, (int), (file))                                           \
+    CALL(int, fchmod, (int, unsigned), (file, (unsigned)n))                       \
+    CALL(int, flock, (int, int), (file, (int)n))                                  \
+    CALL(int, ftruncate, (int, long long), (file, n))                             \
+    CALL(ssize, lseek, (int, long long, int), (file, n, (int)number(word[3])))    \
+    CALL(int, unlink, (const char *), (path))                                     \
+    CALL(int, rename, (const char *, const char *), (path, text))                 \
+    CALL(int, chown, (const char *, unsigned, unsigned), (path, (unsigned)n, ~0u)) \
+    CALL(ssize, readlink, (const char *, char *, size_t), (path, bytes, (size_t)n))
+#define DECLARED(type, name, parameters, given) type posix_##name parameters;
+CALLS(DECLARED)
+int posix_open(const char *, int, ...), posix_statx(int, const char *, int, unsigned, struct statx *), rattle_errno(void), posix_main(void);
 ssize rattle_arg(size_t, char *, size_t);
-int rattle_errno(void);
 void rattle_set_errno(int);
-int posix_main(void);
 
-enum { READ, WRITE, CREATE = 0100, NEW = 0200, EMPTY = 01000 };
-enum { MISSING = 2, NO_ACCESS = 13, EXISTS = 17, NOT_VALID = 22, TOO_LONG = 36, NOT_HERE = 38 };
-enum { HERE = -100, FOLLOW = 0, LINK_ITSELF = 0x100, OPEN_FILE = 0x1000, REGULAR = 0100000, LINK = 0120000, KINDS = 0170000 };
-static int passed, failed;
+static char bytes[100000], *word[4];
+static int files[10] = { 0, 1, 2 };
 
-static size_t length(const char *text)
+static int same(const char *one, const char *other)
 {
-    size_t n = 0;
-    while (text[n]) n++;
-    return n;
+    while (*one && *one == *other) one++, other++;
+    return *one == *other;
 }
 
-static int same(const char *one, const char *other, size_t n)
+static size_t length(const char *of)
 {
-    while (n && one[n - 1] == other[n - 1]) n--;
-    return !n;
+    size_t len = 0;
+    while (of[len]) len++;
+    return len;
 }
 
-static void print(const char *text)
+/* A number, octal after a 0. */
+static long number(const char *at)
 {
-    posix_write(1, text, length(text));
+    long n = 0, base = *at == '0' ? 8 : 10, sign = *at == '-' ? -1 : 1;
+    for (at += sign < 0; *at >= '0' && *at <= '9'; at++) n = n * base + *at - '0';
+    return n * sign;
 }
 
-static void print_number(int number)
+static void print_number(ssize n)
 {
-    char digit = (char)('0' + number % 10);
-    if (number > 9) print_number(number / 10);
+    char digit = (char)('0' + n % 10);
+    if (n > 9) print_number(n / 10);
     posix_write(1, &digit, 1);
 }
 
-/* Counts, and names the line of what isn't so. */
-static void check(int is_right, int line)
+/* The flags of open, by the letters that posix_calls.txt explains. */
+static int flags(const char *letter)
 {
-    passed += is_right;
-    failed += !is_right;
-    if (is_right) return;
-    print("posix_calls.c:");
-    print_number(line);
-    print(" fails\n");
-}
-#define IS(right) check(right, __LINE__)
-/* That a call answers -1, with this number. */
-#define REFUSED(call, number) (rattle_set_errno(0), check((call) == -1 && rattle_errno() == (number), __LINE__))
-/* That a call answers -1, with any number. */
-#define FAILS(call) (rattle_set_errno(0), check((call) == -1 && rattle_errno(), __LINE__))
-
-/* Makes a file of these bytes anew. */
-static void make(const char *name, const char *text)
-{
-    int file = posix_open(name, WRITE | CREATE | EMPTY, 0644);
-    IS(file > 2 && posix_write(file, text, length(text)) == (ssize)length(text) && !posix_close(file));
+    static const int of[128] = { ['a'] = 02000, ['c'] = 0100, ['e'] = 02000000, ['t'] = 01000, ['w'] = 1, ['x'] = 0200, ['y'] = 0400 };
+    int all = 0;
+    for (; *letter; letter++) all |= of[*letter & 127];
+    return all;
 }
 
-/* Whether a file has these bytes. */
-static int has(const char *name, const char *text)
+/* Reads or writes until nothing is left, and returns how many bytes that were. */
+static ssize repeated(int file, char *at, size_t room, int is_read)
 {
-    char found[64];
-    int file = posix_open(name, READ);
-    ssize n = posix_read(file, found, sizeof found);
-    posix_close(file);
-    return n == (ssize)length(text) && same(found, text, length(text));
+    size_t len = 0;
+    for (ssize n; len < room && (n = is_read ? posix_read(file, at + len, room - len) : posix_write(file, at + len, room - len)) > 0;) len += (size_t)n;
+    return (ssize)len;
 }
 
-static struct statx about(int file, const char *path, int flags)
+/* A field of what a path or an open file is, or whether that is the open file of a digit. */
+static ssize status(int file, const char *path, int flag, const char *field)
 {
-    static struct statx found;
-    IS(!posix_statx(file, path, flags, 0x7ff, &found));
-    return found;
-}
-
-static void test_open(void)
-{
-    char to[8];
-    REFUSED(posix_open("none", READ), MISSING);
-    REFUSED(posix_open("none", WRITE), MISSING);
-    FAILS(posix_open("none/none", WRITE | CREATE, 0644));
-    IS(rattle_errno() != EXISTS);
-    int file = posix_open("new", WRITE | CREATE | NEW | 0400 | 02000000, 0644);
-    IS(file > 2);
-    IS(posix_write(file, "abcd", 3) == 3 && !posix_write(file, "", 0));
-    FAILS(posix_read(file, to, 1));
-    IS(!posix_close(file));
-    FAILS(posix_close(file));
-    FAILS(posix_write(file, "a", 1));
-    FAILS(posix_fsync(file));
-    REFUSED(posix_open("new", WRITE | CREATE | NEW, 0644), EXISTS);
-    file = posix_open("new", READ);
-    IS(posix_read(file, to, 2) == 2 && same(to, "ab", 2));
-    IS(posix_read(file, to, 8) == 1 && *to == 'c' && !posix_read(file, to, 8));
-    FAILS(posix_write(file, "a", 1));
-    IS(!posix_close(file));
-    file = posix_open("new", WRITE | CREATE, 0644);
-    IS(posix_write(file, "x", 1) == 1 && !posix_close(file) && has("new", "xbc"));
-    make("new", "y");
-    IS(has("new", "y"));
-    FAILS(posix_open(".", WRITE));
-}
-
-static void test_lengths(void)
-{
-    static char name[300], many[100000];
-    struct statx found;
-    for (int i = 0; i < 255; i++) name[i] = 'n';
-    make(name, "long");
-    IS(has(name, "long") && !posix_unlink(name));
-    name[255] = 'n';
-    REFUSED(posix_open(name, WRITE | CREATE, 0644), TOO_LONG);
-    REFUSED(posix_statx(HERE, name, LINK_ITSELF, 0x7ff, &found), TOO_LONG);
-    int file = posix_open("new", WRITE | CREATE | EMPTY, 0644);
-    size_t put = 0;
-    for (ssize n; put < sizeof many && (n = posix_write(file, many + put, sizeof many - put)) > 0;) put += (size_t)n;
-    IS(put == sizeof many && !posix_fsync(file) && about(file, "", OPEN_FILE).size == sizeof many && !posix_close(file));
-    file = posix_open("new", READ);
-    size_t got = 0;
-    for (ssize n; (n = posix_read(file, many, sizeof many)) > 0;) got += (size_t)n;
-    IS(got == sizeof many && !posix_close(file));
-}
-
-static void test_statx(void)
-{
-    struct statx found;
-    make("a", "one");
-    make("b", "other");
-    int file = posix_open("a", READ);
-    struct statx of_path = about(HERE, "a", FOLLOW), of_file = about(file, "", OPEN_FILE), of_other = about(HERE, "b", FOLLOW);
-    IS((of_path.mode & KINDS) == REGULAR && of_path.links == 1 && of_path.size == 3 && of_other.size == 5);
-    IS(of_path.inode == of_file.inode && of_path.device_minor == of_file.device_minor && of_path.device_major == of_file.device_major);
-    IS(of_path.mode == of_file.mode && of_path.user == of_file.user && of_path.group == of_file.group);
-    IS(of_path.inode != of_other.inode && of_path.device_minor == of_other.device_minor);
-    IS(!(0x307 & ~of_path.mask));
-    IS((about(HERE, ".", FOLLOW).mode & KINDS) != REGULAR);
-    IS((about(0, "", OPEN_FILE).mode & KINDS) != REGULAR);
-    REFUSED(posix_statx(HERE, "none", LINK_ITSELF, 0x7ff, &found), MISSING);
-    FAILS(posix_statx(HERE, "a/none", LINK_ITSELF, 0x7ff, &found));
-    IS(!posix_close(file) && !posix_isatty(file));
-}
-
-static void test_names(void)
-{
-    make("a", "one");
-    make("b", "other");
-    IS(!posix_rename("a", "b") && has("b", "one"));
-    REFUSED(posix_rename("a", "b"), MISSING);
-    IS(has("b", "one"));
-    FAILS(posix_rename("b", "none/b"));
-    FAILS(posix_rename("b", "."));
-    IS(has("b", "one") && !posix_unlink("b"));
-    REFUSED(posix_unlink("b"), MISSING);
-    FAILS(posix_unlink("."));
-}
-
-static void test_arguments(void)
-{
-#ifdef _WIN32 /* where it is for the program what separates names */
-#define SEPARATOR "/"
-#else
-#define SEPARATOR "\\"
-#endif
-    static const char *const expected[] = { "", "two words", "q\"u" SEPARATOR "o" };
-    char to[16];
-    for (size_t i = 0; i < 3; i++) {
-        size_t n = length(expected[i]);
-        IS(rattle_arg(i + 1, to, sizeof to) == (ssize)n && same(to, expected[i], n));
-        IS(rattle_arg(i + 1, to, n) == (ssize)n);
-        IS(!n || rattle_arg(i + 1, to, n - 1) == -2);
-        IS(!n || rattle_arg(i + 1, to, 0) == -2);
-    }
-    IS(rattle_arg(0, to, 0) == -2 && rattle_arg(4, to, sizeof to) == -1 && rattle_arg((size_t)-1, to, sizeof to) == -1);
-    rattle_set_errno(TOO_LONG);
-    IS(rattle_errno() == TOO_LONG);
+    struct statx it, of_file;
+    if (posix_statx(file, path, flag, 0x7ff, &it)) return -1;
+    if (same(field, "kind")) return it.mode >> 12 == 8 ? 1 : it.mode >> 12 == 10 ? 2 : 0;
+    if (same(field, "known")) return (it.mask & 0x307) == 0x307;
+    if (same(field, "links")) return (ssize)it.links;
+    if (same(field, "mode")) return (it.mode >> 9 & 7) * 1000 + (it.mode >> 6 & 7) * 100 + (it.mode >> 3 & 7) * 10 + (it.mode & 7);
+    if (same(field, "hidden")) return it.mode >> 1 & 1;
+    if (same(field, "size")) return (ssize)it.size;
+    if (same(field, "user")) return (ssize)it.user;
+    if (posix_statx(files[number(field)], "", 0x1000, 0x7ff, &of_file) || it.device_minor != of_file.device_minor) return -1;
+    return it.inode == of_file.inode && it.device_major == of_file.device_major;
 }
 
 #ifdef _WIN32
 #include <windows.h>
 
-/* What Windows has instead of permissions and links, and what is refused there. */
-static void test_own(void)
+/* Has a file open, and its bytes in memory, until the next call. Others may open it, too, if it is shared. */
+static ssize hold(const char *path, int is_shared)
 {
-    static const char *const devices[] = { "CON", "con.txt", "none/COM1", "COM9:", "C:aux", "PRN .x", "lpt0.a", "Lpt\xc2\xb3" };
-    char whole[4096], less[4];
-    struct statx found;
-    make("a", "one");
-    IS((about(HERE, "a", LINK_ITSELF).mode & KINDS) == LINK);
-    ssize n = posix_readlink("a", whole, sizeof whole - 1);
-    whole[n > 0 ? n : 0] = 0;
-    IS(n > 6 && same(whole, "//?/", 4) && same(whole + n - 2, "/a", 2) && has(whole, "one"));
-    found = about(HERE, whole, LINK_ITSELF);
-    IS((found.mode & KINDS) == REGULAR && found.inode == about(HERE, "a", FOLLOW).inode);
-    FAILS(posix_readlink("a", less, sizeof less));
-    FAILS(posix_readlink("none", whole, sizeof whole));
-    int file = posix_open("a", WRITE);
-    IS(!posix_fchmod(file, FILE_ATTRIBUTE_HIDDEN) && about(file, "", OPEN_FILE).mode & FILE_ATTRIBUTE_HIDDEN);
-    make("a", "hidden");
-    IS(!posix_fchmod(file, 0) && !(about(HERE, "a", FOLLOW).mode & FILE_ATTRIBUTE_HIDDEN) && !posix_close(file));
-    FAILS(posix_fchmod(file, 0));
-    for (size_t i = 0; i < sizeof devices / sizeof *devices; i++) {
-        REFUSED(posix_open(devices[i], WRITE | CREATE, 0644), NO_ACCESS);
-        REFUSED(posix_statx(HERE, devices[i], LINK_ITSELF, 0x7ff, &found), NO_ACCESS);
+    static HANDLE held, map;
+    static void *at;
+    if (held) UnmapViewOfFile(at), CloseHandle(map), CloseHandle(held);
+    held = CreateFileA(path, GENERIC_READ | GENERIC_WRITE, is_shared ? FILE_SHARE_READ | FILE_SHARE_WRITE : 0, NULL, OPEN_EXISTING, 0, NULL);
+    map = CreateFileMappingA(held, NULL, PAGE_READWRITE, 0, 0, NULL);
+    at = MapViewOfFile(map, FILE_MAP_WRITE, 0, 0, 0);
+    return at ? 0 : -1;
+}
+#endif
+
+static ssize call(const char *name)
+{
+    const char *path = word[1], *text = word[2];
+    long n = number(text);
+    int *opened = &files[number(word[3])], file = *path >= '0' && *path <= '9' ? files[*path - '0'] : -1;
+    if (same(name, "open")) return (*opened = posix_open(path, flags(text), 0644)) < 0 ? -1 : *opened < 3;
+    if (same(name, "stat")) return status(-100, path, 0, text);
+    if (same(name, "lstat")) return status(-100, path, 0x100, text);
+    if (same(name, "fstat")) return status(file, "", 0x1000, text);
+    if (same(name, "fill")) return repeated(file, bytes, (size_t)n, 0);
+    if (same(name, "count")) return repeated(file, bytes, sizeof bytes, 1);
+    if (same(name, "errno")) return rattle_set_errno((int)number(path)), rattle_errno();
+    if (same(name, "arg")) return rattle_arg((size_t)number(path), bytes, (size_t)n);
+#ifdef _WIN32
+    if (same(name, "hold")) return hold(path, *text == 's');
+#endif
+#define MADE(type, call, parameters, given) \
+    if (same(name, #call)) return posix_##call given;
+    CALLS(MADE)
+    return -9;
+}
+
+/* Cuts the words of a line. Those that it hasn't are empty. Returns its end. */
+static char *cut(char *at)
+{
+    static char none[1];
+    for (int i = 0; i < 4; i++) {
+        word[i] = *at == '\n' ? none : at;
+        while (*at != '\t' && *at != '\n') at++;
+        if (*at == '\t') *at++ = 0;
     }
-    REFUSED(posix_open("a:stream", WRITE | CREATE | NEW, 0644), NO_ACCESS);
-    REFUSED(posix_open(".", READ), NO_ACCESS);
-    REFUSED(posix_statx(HERE, "/proc/self", LINK_ITSELF, 0x7ff, &found), MISSING);
-    REFUSED(posix_open("a", WRITE | 02000), NOT_VALID);
-    REFUSED(posix_chown("a", 0, 0), NOT_HERE);
-    REFUSED(posix_fdatasync(1), NOT_HERE);
-    REFUSED(posix_flock(1, 2), NOT_HERE);
-    REFUSED(posix_ftruncate(1, 0), NOT_HERE);
-    REFUSED(posix_lseek(1, 0, 0), NOT_HERE);
+    return at;
 }
-
-/* Files that another program has open. A file whose bytes are in memory can't be emptied. */
-static void test_links(void)
-{
-    make("a", "hidden");
-    HANDLE held = CreateFileA("a", GENERIC_READ | GENERIC_WRITE, 0, NULL, OPEN_EXISTING, 0, NULL);
-    FAILS(posix_open("a", READ));
-    FAILS(posix_open("a", WRITE));
-    IS(CloseHandle(held));
-    held = CreateFileA("a", GENERIC_READ | GENERIC_WRITE, FILE_SHARE_READ | FILE_SHARE_WRITE, NULL, OPEN_EXISTING, 0, NULL);
-    HANDLE map = CreateFileMappingA(held, NULL, PAGE_READWRITE, 0, 0, NULL);
-    void *bytes = MapViewOfFile(map, FILE_MAP_WRITE, 0, 0, 0);
-    FAILS(posix_open("a", WRITE | CREATE | EMPTY, 0644));
-    IS(UnmapViewOfFile(bytes) && CloseHandle(map) && has("a", "hidden"));
-    make("b", "new");
-    FAILS(posix_rename("b", "a"));
-    IS(CloseHandle(held) && has("a", "hidden") && !posix_rename("b", "a") && has("a", "new"));
-}
-#else
-static void test_own(void)
-{
-    char to[8];
-    make("a", "one");
-    REFUSED(posix_readlink("a", to, sizeof to), NOT_VALID);
-    int file = posix_open("a", WRITE), at = posix_open(".", READ);
-    IS(!posix_fchmod(file, 04640) && about(file, "", OPEN_FILE).mode == (REGULAR | 04640));
-    IS(!posix_fsync(at) && !posix_close(at) && !posix_fdatasync(file) && !posix_ftruncate(file, 2) && posix_lseek(file, 0, 2) == 2);
-    IS(!posix_flock(file, 2 | 4));
-    at = posix_open("a", READ);
-    FAILS(posix_flock(at, 2 | 4));
-    IS(!posix_chown("a", about(HERE, "a", FOLLOW).user, (unsigned)-1));
-    IS(!posix_close(at) && !posix_close(file));
-    FAILS(posix_chown("none", (unsigned)-1, (unsigned)-1));
-    FAILS(posix_fchmod(file, 0));
-    FAILS(posix_fdatasync(file));
-    FAILS(posix_flock(file, 2));
-    FAILS(posix_ftruncate(file, 0));
-    FAILS(posix_lseek(file, 0, 0));
-#ifdef __APPLE__ /* where a flag that isn't known would be left out */
-    REFUSED(posix_open("a", WRITE | 02000), NOT_VALID);
-#endif
-}
-
-static void test_links(void)
-{
-    char to[8];
-    make("target", "there");
-    IS((about(HERE, "link", LINK_ITSELF).mode & KINDS) == LINK && (about(HERE, "link", FOLLOW).mode & KINDS) == REGULAR);
-    IS(posix_readlink("link", to, sizeof to) == 6 && same(to, "target", 6) && posix_readlink("link", to, 2) == 2 && has("link", "there"));
-    struct statx found;
-    REFUSED(posix_statx(HERE, "bare", FOLLOW, 0x7ff, &found), MISSING);
-    IS((about(HERE, "bare", LINK_ITSELF).mode & KINDS) == LINK);
-}
-#endif
 
 int posix_main(void)
 {
-    test_open();
-    test_lengths();
-    test_statx();
-    test_names();
-    test_arguments();
-    test_own();
-    test_links();
-    print_number(passed);
-    print(" passed, ");
-    print_number(failed);
-    print(" failed\n");
-    return failed > 0;
+    static char input[65536];
+    repeated(0, input, sizeof input - 1, 1);
+    for (char *at = input; *at; at++) {
+        at = cut(at);
+        rattle_set_errno(0);
+        ssize n = call(word[0]);
+        if (n < 0) posix_write(1, "-", 1);
+        if (n >= 0 && (same(word[0], "read") || same(word[0], "readlink") || same(word[0], "arg"))) posix_write(1, bytes, (size_t)n);
+        else print_number(n < 0 ? -n : n);
+        if (n < 0 && rattle_errno()) posix_write(1, " ", 1), print_number(rattle_errno());
+        posix_write(1, "\n", 1);
+    }
+    return 0;
 }

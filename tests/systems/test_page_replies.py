@@ -5,11 +5,12 @@ They fail if a reply is elsewhere than at its line, if somebody gets less than a
 too.
 """
 
-import json
 import re
+from typing import List
 
 import pytest
 
+import rsp
 from lib.systems.page_driver import CONTROL, ENDLESS, SELECTED, Page, replies_to
 
 pytestmark = pytest.mark.xdist_group("page")
@@ -19,6 +20,7 @@ BUTTONS = "all('#replies button')"
 FOLDS = f"{BUTTONS}.map((it) => it.textContent)"
 TOP = "probes.box(the('surface')).top"
 CHANGE_VIEW = "the('view').offsetWidth && the('view').click()"  # on a narrow screen: to replies or back
+SAID = "all('#replies p').map((it) => it.textContent).join(' ')"
 LONG = "asm 0\n" + "nop\n" * 1000 + "end\n" + "#\n" * 1000
 LINES = {"vregs": 32, "regs": 9, "step": 1}  # how many lines a reply has
 
@@ -150,6 +152,7 @@ def test_copying(width: int, page: Page) -> None:
     with page.sized(width, 600, is_mobile=width < 400):
         page.value(CHANGE_VIEW)
         page.answered(script)
+        page.until(SAID)
         page.value("the('answers').focus()")
         for choice, copied in ("0, 5, 0, 9", ["Done"]), ("1, 4, -1, 3", rows[1:]):
             page.value(f"probes.choose({choice})")
@@ -233,25 +236,35 @@ def test_edited_while_it_runs(page: Page) -> None:
     assert page.value(MARKED) == []
 
 
-OPERAND = "Operand 2 may be -1024 to 1008, a multiple of 16."
-# Scripts, what is said at the line at fault, and that line.
-REASONS = {
-    "an operand": ("asm 0\nnop\nlqv $v1[0], 3($0)\nend\n", OPERAND, 3),
-    "another assembler": ("asm 0\nmove $1, $2\nend\n", "Write: addu $1, $2, $0", 2),
-    "a command": ("step\nmem dmem 0\n", "Write: mem BANK ADDR LEN (ADDR 0 to 16777215, LEN 1 to 256)", 2),
-    "another": ("break 0\nbreak 0\n", "Nothing: it is set.", 2),
-    "an unknown command": ("foo\n", "Use lower case; end only ends a block.", 1),
+EXPLAINED = "all('#replies > li:has(p)').map((it) => Number(it.dataset.line))"
+# Scripts with one reply, and the lines that are at fault.
+FAULTY = {
+    "a command": ("mem dmem 0\n", [1]),
+    "a block": ("asm 0\nmove $1, $2\nnop\nlqv $v1[0], 3($0)\nend\n", [2, 4]),
+    "many faults": ("asm 0\n" + 25 * "foo $1\n" + "end\n", [*range(2, 22)]),
+    "an open block": ("asm 0\nnop", [2]),
 }
 
 
-@pytest.mark.parametrize("script, message, line", REASONS.values(), ids=REASONS)
-def test_faults_are_explained(script: str, message: str, line: int, page: Page) -> None:
-    """At the line at fault, in the library's words for an operand."""
+@pytest.mark.parametrize("script, lines", FAULTY.values(), ids=FAULTY)
+def test_faults_are_explained(script: str, lines: List[int], page: Page) -> None:
+    """At each line, which is marked, as the library does, but without the line's number and text."""
+    head = r"\1 " if script.startswith("asm") else ""
+    said = rsp.explain_reply(script, replies_to(script))
     page.answered(script)
-    explained = "all('#replies p').map((it) => it.textContent).join(' ')"
-    page.until(f"{explained}.includes({json.dumps(message)})")
-    assert line in [it for it, off in page.value(BESIDE) if off == 0]
-    assert page.value("document.querySelector('#replies p').parentElement.dataset.line") == str(line)
+    page.until(SAID)
+    assert page.value(SAID).split() == re.sub(r"(?m)^line \d+: (fault \d+ \w+).*\n.*\n", head, said).split()
+    assert page.value(EXPLAINED) == page.value(MARKED) == lines
+
+
+def test_explanations_that_are_asked_for(page: Page) -> None:
+    """Twenty faults are explained, a command not as one before it; and those to which somebody goes."""
+    page.answered("lui $1, 4\njr $31\n" + 25 * "asm 0\nfoo $1\nend\n")
+    page.until(SAID)
+    assert page.value(EXPLAINED) == [1, *range(4, 58, 3)] and page.text("faults") == "27 faults"
+    page.click("faults")
+    page.click("faults")
+    page.until(f"{EXPLAINED}.includes(2)")
 
 
 def test_stop_at_the_first_fault(page: Page) -> None:

@@ -1,20 +1,21 @@
 """The C that is Linux for the proved program on Windows and macOS, posix_windows.c and posix_macos.c: its
 functions one by one, and saves of which a call fails, or that end at it.
 
-posix_calls.c is run on Linux's own calls, too. It fails there if it expects what Linux doesn't do.
+posix_calls.txt is tried on Linux's own calls, too: that fails if it expects what Linux doesn't do.
 """
 
+import os
 import re
+import shlex
+from errno import errorcode
 from pathlib import Path
-from typing import Any, Iterator, Tuple
+from typing import Any, Iterator, List, Tuple
 
 import pytest
 
 from lib import TESTS
 from lib.processes import succeeds
 from lib.program import Result, run_program
-from lib.systems.program_checks import started
-from lib.systems.runners import assert_all_passed
 from lib.systems.target_params import MACOS, on
 from rsp_tools.systems import places
 
@@ -25,18 +26,47 @@ main
 """.split()
 SAVING = "open|write|fsync|fchmod|unlink|rename|readlink|statx"  # those of failing_posix.c
 ARGUMENTS = ["", "two words", 'q"u\\o']
+FAILS = ("-1 ?", "-1 E")  # what posix_calls.txt has, and what a call may return there
 SIZE = 4096
 OLD, NEW = bytes(i % 251 for i in range(SIZE)), b"\0\0\0\1" * (SIZE // 4)
 
 
-def check_calls(program: Path, folder: Path) -> None:
-    """The tests of each call pass."""
+def parts_of(call: str, expected: str) -> Iterator[Tuple[str, str]]:
+    """The calls of which `make` and `has` consist, or a call itself."""
+    name, path, *more = call.split(" ", 2)
+    if name not in ("make", "has"):
+        return iter([(call, expected)])
+    used = (f"write 9 {more[0]}", str(len(more[0]))) if more else ("read 9 64", expected)
+    return iter([(f"open {path} {'wct' if more else 'r'} 9", "0"), used, ("close 9", "0")])
+
+
+def calls_on(system: str, folder: Path) -> Iterator[Tuple[str, str]]:
+    """The calls of posix_calls.txt for a system, and what each returns there."""
+    words = {"long": "n" * 255, "longer": "n" * 256, "user": os.getuid(), "whole": f"//?/Z:{folder}"}
+    systems: List[str] = []
+    for line in (SOURCES / "posix_calls.txt").read_text().format(**words).splitlines():
+        if line.startswith("["):
+            systems = line.strip("[]").split()
+        elif system in systems and line:
+            call, _, expected = line.partition(" ->")
+            yield from parts_of(call, expected.strip())
+
+
+def check_calls(program: Path, system: str, folder: Path) -> None:
+    """Each call returns what posix_calls.txt says."""
     (folder / "own").mkdir()
     (folder / "own/link").symlink_to("target")
-    (folder / "own/bare").symlink_to("none")
-    result = run_program(program, ARGUMENTS, cwd=folder / "own")
-    assert_all_passed(result.output.decode())
-    assert result.status == 0
+    (folder / "own/bare").symlink_to("free")
+    (folder / "own/twin").write_bytes(b"two")
+    os.link(folder / "own/twin", folder / "own/twin2")
+    calls = [*calls_on(system, folder / "own")]
+    script = "".join("".join(f"{word}\t" for word in shlex.split(call)) + "\n" for call, _ in calls)
+    result = run_program(program, ARGUMENTS, script.encode(), cwd=folder / "own")
+    said = re.sub(r"(?m)^-1 (\d+)$", lambda it: f"-1 {errorcode.get(int(it[1]))}", result.output.decode())
+    found = said.splitlines()
+    assert (result.status, result.errors, len(found)) == (0, b"", len(calls))
+    differ = [(*it, was) for it, was in zip(calls, found) if was != it[1] and (it[1], was[:4]) != FAILS]
+    assert differ == [] and len(calls) > 90
 
 
 @pytest.mark.needs("cc")
@@ -45,13 +75,13 @@ def test_calls_of_linux(folder: Path) -> None:
     succeeds("cc", *words, "-c", "-o", folder / "calls.o", SOURCES / "posix_calls.c")
     parts = (folder / "calls.o", places.PARTS / "start.c")
     succeeds("cc", "-O2", "-o", folder / "calls", *parts, "-Wl,--wrap=main")
-    check_calls(folder / "calls", folder)
+    check_calls(folder / "calls", "linux", folder)
 
 
 @on("windows-x86_64", *MACOS)
 def test_calls(runner: Any, folder: Path) -> None:
     made = runner.linked("calls", SOURCES / "posix_calls.c")
-    check_calls(started(runner, folder, made), folder)
+    check_calls(runner.started(folder, made), runner.name.partition("-")[0], folder)
 
 
 def runs(program: Path, folder: Path, how: str) -> Iterator[Tuple[int, Result]]:
@@ -74,7 +104,7 @@ def failing(runner: Any, folder: Path) -> Path:
     (folder / "source").write_text(".word 1\n" * (SIZE // 4))
     (folder / "link").symlink_to("file")
     (folder / "bin").mkdir()
-    return started(runner, folder / "bin", made)
+    return runner.started(folder / "bin", made)
 
 
 @on("windows-x86_64", *MACOS)

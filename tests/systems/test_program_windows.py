@@ -1,9 +1,9 @@
 """What Windows has and Linux hasn't, as rsp.exe meets it under wine: devices, streams, drives, quoting, code
-pages, files that are open elsewhere, and disks without room. test_posix.py ends it while it saves."""
+pages, attributes, files that are open elsewhere, full disks. test_posix.py ends it while it saves."""
 
 import os
 from pathlib import Path
-from typing import Any, Dict, List, Optional
+from typing import Any, Dict, Optional
 
 import pytest
 
@@ -11,13 +11,14 @@ from lib import TESTS
 from lib.pages import tables
 from lib.processes import run
 from lib.program import Result, run_program
-from lib.systems.program_checks import started
 from lib.systems.target_params import on
-from rsp_tools.systems.header import dated_version
 
 OLD, NEW = bytes(range(256)) * 16, b"\0\0\0\1" * 1024
 ON_WINDOWS = on("windows-x86_64")
 SAVED = (0, b"ok 1024 words\n", b"")
+# More than the 260 characters that Windows' older calls allow a path.
+DEEP = "\\".join(("n" * 120, "\u00fc" * 60, "\U0001f600" * 20))
+HIDDEN = "user.DOSATTRIB", b"0x2"  # how wine keeps the attribute of a file
 
 
 @pytest.fixture
@@ -33,12 +34,12 @@ def own(folder: Path) -> Path:
 @pytest.fixture
 def rsp_exe(runner: Any, folder: Path, own: Path) -> Any:
     """Runs rsp.exe there."""
-    program = started(runner, folder)
+    program = runner.started(folder)
     return lambda *words, env=None: run_program(program, words, cwd=own, env=env)
 
 
-def files(own: Path) -> List[str]:
-    return sorted(it.name for it in own.iterdir())
+def contents(folder: Path) -> Dict[str, bytes]:
+    return {str(it.relative_to(folder)): it.read_bytes() for it in folder.rglob("*") if it.is_file()}
 
 
 # Names of devices whose bytes Windows may wait for. A file can have the last four under wine.
@@ -56,68 +57,42 @@ def test_device(name: str, rsp_exe: Any, own: Path) -> None:
         assert rsp_exe(*words.split(), name) == (1, b"", b"rsp: cannot %s %s\n" % (action, said))
 
 
-@ON_WINDOWS
-@pytest.mark.parametrize("name", ("NUL", "no\\..\\nul.txt"))
-def test_null(name: str, rsp_exe: Any, own: Path) -> None:
-    assert rsp_exe("asm", "source", name) == SAVED
-    assert rsp_exe("dis", name) == (0, b"", b"")
-    assert files(own) == ["file", "source"]
+# Paths, and the file that a save to each writes: "" for none, None for a refusal. `{}` is the folder with its
+# drive. Windows ignores a dot or a space at a name's end, and `Z:file` is in the drive's current folder.
+OF_FILE = r"file FILE file. .\file none\..\file link Z:file {}/file \\?\{}\file \\?\{}\link".split()
+WRITTEN: Dict[str, Optional[str]] = {
+    **dict.fromkeys((*OF_FILE, "file "), "file"),
+    **{it: it.replace("\\", "/") for it in ("none\\new", "file:stream", f"{DEEP}\\file")},
+    "Z:new": "new",
+    **dict.fromkeys(("NUL", "no\\..\\nul.txt"), ""),
+    **dict.fromkeys(("no\\file", "none\\", "new\\", "a<b", "a*b", "a?b", "..", "none", "n" * 256)),
+}
 
 
 @ON_WINDOWS
-@pytest.mark.parametrize(
-    "name",
-    ("file", ".\\file", "none\\..\\file", "FILE", "Z:file", "Z:{}\\file", "\\\\?\\Z:{}\\file", "Z:{}/file"),
-)
-def test_path(name: str, rsp_exe: Any, own: Path) -> None:
-    """Each replaces the file, and leaves nothing beside it. `Z:file` is in the drive's current folder."""
+@pytest.mark.parametrize("path", WRITTEN, ids=lambda it: it[:20])
+def test_path(path: str, rsp_exe: Any, own: Path) -> None:
+    """Nothing else is changed or left, no second time either, and a file that is replaced is another one."""
     (own / "none").mkdir()
-    number = (own / "file").stat().st_ino
-    assert rsp_exe("asm", "source", name.format(str(own).replace("/", "\\"))) == SAVED
-    assert (own / "file").read_bytes() == NEW and (own / "file").stat().st_ino != number
-    assert files(own) == ["file", "none", "source"]
-
-
-@ON_WINDOWS
-@pytest.mark.parametrize(
-    "name", ("no\\file", "none\\", "new\\", "a<b", "a*b", "a?b", "..", "none", "n" * 256)
-)
-def test_refused(name: str, rsp_exe: Any, own: Path) -> None:
-    (own / "none").mkdir()
-    said = name.replace("\\", "/").encode()
-    assert rsp_exe("asm", "source", name) == (1, b"", b"rsp: cannot write %s\n" % said)
-    assert files(own) == ["file", "none", "source"]
-
-
-@ON_WINDOWS
-def test_long_path(rsp_exe: Any, own: Path) -> None:
-    """It has more than 260 characters, which Windows' older calls allow."""
-    deep = own / ("n" * 120) / ("\u00fc" * 60) / ("\U0001f600" * 20)
-    deep.mkdir(parents=True)
-    for _ in range(2):
-        name = str(deep.relative_to(own) / "file").replace("/", "\\")
-        assert rsp_exe("asm", "source", name) == SAVED
-    assert files(deep) == ["file"] and (deep / "file").read_bytes() == NEW
-
-
-@ON_WINDOWS
-def test_stream(rsp_exe: Any, own: Path) -> None:
-    """A stream is written in place, and its file stays."""
-    for _ in range(2):
-        assert rsp_exe("asm", "source", "file:stream") == SAVED
-    assert (own / "file").read_bytes() == OLD
-    assert [it for it in files(own) if "rsp-save" in it] == []
-
-
-@ON_WINDOWS
-@pytest.mark.parametrize("is_verbatim", (False, True), ids=("relative", "verbatim"))
-def test_link(is_verbatim: bool, rsp_exe: Any, own: Path) -> None:
-    """A link stays one, also if its path is one that Windows takes letter by letter."""
     (own / "link").symlink_to("file")
-    name = str(own / "link").replace("/", "\\")
-    assert rsp_exe("asm", "source", f"\\\\?\\Z:{name}" if is_verbatim else "link") == SAVED
-    assert (own / "link").is_symlink() and (own / "file").read_bytes() == NEW
-    assert files(own) == ["file", "link", "source"]
+    (own / DEEP.replace("\\", "/")).mkdir(parents=True)
+    expected, written = contents(own), WRITTEN[path]
+    path = path.format(f"Z:{own}".replace("/", "\\"))
+    refused = (1, b"", f"rsp: cannot write {path}\n".replace("\\", "/").encode())
+    with (own / "file").open("rb") as old:
+        for _ in range(2):
+            assert rsp_exe("asm", "source", path) == (refused if written is None else SAVED)
+        assert os.fstat(old.fileno()).st_nlink == (written != "file")
+    expected.update({it: NEW for it in [written, "link" if written == "file" else None] if it})
+    assert contents(own) == expected and (own / "link").is_symlink()
+
+
+@ON_WINDOWS
+def test_hidden(rsp_exe: Any, own: Path) -> None:
+    """A file that is replaced keeps its attributes."""
+    os.setxattr(own / "file", *HIDDEN)
+    assert rsp_exe("asm", "source", "file") == SAVED and (own / "file").read_bytes() == NEW
+    assert os.getxattr(own / "file", HIDDEN[0]) == HIDDEN[1]
 
 
 @ON_WINDOWS
@@ -128,7 +103,7 @@ def test_full_disk(runner: Any, own: Path, folder: Path) -> None:
     (own / "full").mkdir()
     script = f"""
     mount -t tmpfs -o size=4k tmpfs full && cp file full/file && cd full || exit 99
-    {started(runner, folder)} asm ../source file; echo $?
+    {runner.started(folder)} asm ../source file; echo $?
     cmp file ../file && ls -A
     """
     runner.release()
@@ -142,7 +117,7 @@ def by_line(runner: Any, own: Path) -> Any:
     helper = runner.at / "started_windows.exe"
     if not helper.exists():
         runner.compile(TESTS / "systems/started_windows.c", library=[])
-    program = started(runner, own.parent, helper)
+    program = runner.started(own.parent, helper)
 
     def run_line(line: str, *words: str, env: Optional[Dict[str, str]] = None) -> Result:
         script = line.encode("utf-16-le", "surrogatepass")
@@ -160,22 +135,17 @@ LINES = {
     r"rsp dis a\\b": "a//b",
     "rsp dis  \t'a'": "'a'",
     "rsp dis *": "*",
+    "rsp dis \u00fc\u8868\U0001f600": "\u00fc\u8868\U0001f600",
 }
 
 
 @ON_WINDOWS
 @pytest.mark.parametrize("line", LINES)
-def test_quoting(line: str, by_line: Any) -> None:
-    """The words are those that Microsoft's rules make of a line. `*` names no files."""
-    assert by_line(line) == (1, b"", f"rsp: cannot read {LINES[line]}\n".encode())
-
-
-@ON_WINDOWS
-def test_code_page(by_line: Any) -> None:
-    """Arguments are Windows' own, in UTF-16, whichever code page the system has: here the Japanese one, which
-    has `\\` in the second byte of one of these. (Without that locale on Linux wine makes no such files.)"""
-    env, name = {**os.environ, "LC_ALL": "ja_JP.UTF-8"}, "\u00fc\u8868\U0001f600"
-    assert by_line(f"rsp dis {name}", env=env) == (1, b"", f"rsp: cannot read {name}\n".encode())
+def test_words(line: str, by_line: Any) -> None:
+    """The words are those that Microsoft's rules make of a line in UTF-16, and `*` names no files, whichever
+    code page the system has: here the Japanese one, which has `\\` in the second byte of one of these."""
+    env = {**os.environ, "LC_ALL": "ja_JP.UTF-8"}
+    assert by_line(line, env=env) == (1, b"", f"rsp: cannot read {LINES[line]}\n".encode())
 
 
 @ON_WINDOWS
@@ -190,18 +160,12 @@ def test_argument_that_is_no_text(by_line: Any) -> None:
 )
 def test_open_elsewhere(shared: str, is_saved: bool, by_line: Any, own: Path) -> None:
     """Who has the file open says who else may write it. Nobody else loses a byte."""
-    expected = SAVED if is_saved else (1, b"", b"rsp: cannot write file\n")
-    assert by_line("rsp asm source file", "file", shared) == expected
-    assert (own / "file").read_bytes() == (NEW if is_saved else OLD)
-    assert files(own) == ["file", "source"]
+    left = {**contents(own), "file": NEW if is_saved else OLD}
+    said = SAVED if is_saved else (1, b"", b"rsp: cannot write file\n")
+    assert by_line("rsp asm source file", "file", shared) == said and contents(own) == left
 
 
-@ON_WINDOWS
-def test_version(rsp_exe: Any) -> None:
-    assert rsp_exe("--version") == (0, f"rsp {dated_version()}\n".encode(), b"")
-
-
-DIFFERENCES = [*tables("docs/SYSTEMS.md", "## What differs")]
+DIFFERENCES = [it[1:] for it in tables("docs/SYSTEMS.md", "## What differs") if it[1]]
 
 
 @ON_WINDOWS

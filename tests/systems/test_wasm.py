@@ -13,7 +13,7 @@ from lib.systems.target_params import of
 from lib.systems.runners import assert_all_passed
 from rsp_tools.systems import places, wasm
 from rsp_tools.systems.modules import Module
-from rsp_tools.systems.rewriting import PSHUFB, rewritten
+from rsp_tools.systems.rewriting import PSHUFB, rewritten, with_unwind_tables, without_stack_probes
 from rsp_tools.systems.toolchain import Refused, llvm
 
 # A function as the kit's modules have them, with PSHUFB.
@@ -28,7 +28,7 @@ define <16 x i8> @shuffled(<16 x i8> %a, <16 x i8> %b) #0 {{
 
 declare <16 x i8> @{PSHUFB}(<16 x i8>, <16 x i8>)
 
-attributes #0 = {{ "probe-stack"="inline-asm" "target-cpu"="x86-64-v2" "target-features"="+ssse3,+sse4.2" }}
+attributes #0 = {{ nounwind "probe-stack"="inline-asm" "target-cpu"="x86-64-v2" "target-features"="+ssse3" }}
 """
 FOREIGN = "%d = call <4 x i32> @llvm.x86.rsp.add(<4 x i32> zeroinitializer)"
 
@@ -38,7 +38,13 @@ FOREIGN = "%d = call <4 x i32> @llvm.x86.rsp.add(<4 x i32> zeroinitializer)"
 
 @pytest.mark.needs("rt")
 def test_changes(folder: Path) -> None:
+    """Those for WebAssembly, and that on Windows a function with a frame has a table of it."""
     text, made = folder / "small.ll", folder / "small.s"
+    windows = ("--target=x86_64-w64-windows-gnu", "-Wno-override-module", "-S", "-o", made, "-x", "ir", text)
+    framed = SMALL.replace("  %c = call", "  call void @f()\n  %c = call") + "declare void @f()\n"
+    text.write_text(with_unwind_tables(without_stack_probes(framed)))
+    llvm("clang", *windows)
+    assert ".seh_proc shuffled" in made.read_text()
     text.write_text(rewritten(SMALL, {PSHUFB}, wasm.CHANGES))
     llvm("clang", *wasm.CLANG, "-O3", "-Wno-override-module", "-S", "-o", made, "-x", "ir", text)
     instructions = made.read_text()

@@ -4,7 +4,7 @@ from lib import TOP
 
 USE = """
 import { Bank, DMEM, FAULTS, IMEM, Reason, Machine, RspError, State, Status } from "rsp";
-import { Session, assemble, first_difference, run_script } from "rsp";
+import { Session, assemble, explain_reply, explain_text, first_difference, run_script } from "rsp";
 const machine: Machine = new Machine(new Uint8Array(64).buffer, 100), other: Machine = machine.copy();
 machine.load_words(IMEM, 0, assemble("nop"));
 const state: State = new State({ pc: 4, words: new Uint32Array(32) });
@@ -20,8 +20,9 @@ try {
 for (const entry of machine.iter_trace(9)) console.log(entry.lanes[0]);
 const [replies, image]: [Uint8Array, Uint8Array] = run_script("step\\n"), session = new Session(image);
 for (const reply of session.iter_feed(replies)) console.log(reply.length, session.end(), session.rdram[3]);
+const said: string = explain_text("foo", 8) + explain_reply("foo", replies, 3);
 const changes = machine.step_changes();
-console.log(changes?.stored_bytes[31], changes?.traced.pc);
+console.log(changes?.stored_bytes[31], changes?.traced.pc, said);
 other[Symbol.dispose]();
 """
 OPTIONS = {

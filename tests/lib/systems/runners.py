@@ -2,6 +2,7 @@
 
 import os
 import re
+import shlex
 import shutil
 import subprocess
 from pathlib import Path
@@ -106,6 +107,17 @@ class Runner:
     def assembly(self) -> Path:
         """That of the proved program."""
         return TOP / f"compiled/{self.target.cmake[0]}-{self.target.processor}-rsp.s"
+
+    def started(self, folder: Path, program: Optional[Path] = None) -> Path:
+        """A script of the shell that runs a program, or the proved one, as if it were one of this system."""
+        self.hold()
+        unset = [f"-u{name}" for name in os.environ if name not in self.env]
+        changed = [f"{name}={value}" for name, value in self.env.items() if os.environ.get(name) != value]
+        command = ["env", *unset, *changed, *self.start, str(program or self.rsp)]
+        to = folder / "rsp"
+        to.write_text(f'#!/bin/sh\nexec {shlex.join(command)} "$@"\n')
+        to.chmod(0o755)
+        return to
 
     def hold(self) -> None:
         """Keeps what is started anew for each run of a program, and takes more time than the run."""

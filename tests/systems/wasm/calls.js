@@ -430,6 +430,9 @@ function texts() {
   refused(OUT, () => rsp.assemble("nop", 2), "origin is 2, not a multiple of 4 up to 4096");
   refused(OUT, () => rsp.assemble("nop", -4));
   refused(TypeError, () => rsp.assemble(5), "text is of type number");
+  refused(OUT, () => rsp.explain_text("nop", 2), "explain_text: origin is 2, not a multiple of 4 up to 4096");
+  refused(OUT, () => rsp.explain_reply("", "", -1), "explain_reply: before is -1, not 0 to 4294967295");
+  refused(TypeError, () => rsp.explain_text(5), "explain_text: text is of type number");
   same("a text", rsp.text(0x4a631050, 4), "vadd $v1, $v2, $v3[1q]");
   refused(OUT, () => rsp.text(0, 4096));
   refused(OUT, () => rsp.text(2 ** 32, 0));

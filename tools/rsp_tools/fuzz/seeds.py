@@ -13,18 +13,13 @@ from rsp_tools.page_tables import data
 LONGEST = 4096
 OPERANDS = "$0 $31 $v0 $v31[7] $v1[e1] $v2[0q] $c15 $vco $vcc $vce ($2) .word"
 NUMBERS = "0x -1 4092 65535 4294967295 dmem imem rdram"
-OPTIONS = "in out --rdram --save --at --listing --explain --places --labels --help --version --"
-COMMAND_LINES = (
-    "run|run --rdram in --save out|asm in out|asm in out --listing --explain|asm in out --at 8|"
-    "dis in|dis in --labels --places --at 16|--help|run -h|asm in|dis in --at 4095"
-).split("|")
 
 
 def dictionary() -> str:
-    """The words of scripts, of assembly text and of command lines, in libFuzzer's form."""
+    """The words of scripts and of assembly text, in libFuzzer's form."""
     commands = [row["Command"].split()[0] for row in data("commands")]
     instructions = [row["Instruction"].lower() for row in data("instructions")]
-    words = dict.fromkeys([*commands, *instructions, *f"{OPERANDS} {NUMBERS} {OPTIONS}".split()])
+    words = dict.fromkeys([*commands, *instructions, *f"{OPERANDS} {NUMBERS}".split()])
     return "".join(f'"{word}"\n' for word in [*words, r"\x0a", r"\x0d\x0a", r"\x7f"])
 
 
@@ -97,15 +92,6 @@ def runner() -> Iterator[bytes]:
     yield bytes([1, 0])
 
 
-def program() -> Iterator[bytes]:
-    """A command line, and a file."""
-    files = [*short_scripts()][:20] + [*short_texts()][:60]
-    for number, file in enumerate(files):
-        yield f"{COMMAND_LINES[number % len(COMMAND_LINES)]}\n{file}".encode()
-    for line in COMMAND_LINES:
-        yield line.encode() + b"\n" + bytes(range(64))
-
-
-GENERATORS = (calls, scripts, texts, plugin, runner, program)
+GENERATORS = (calls, scripts, texts, plugin, runner)
 SEEDS: Dict[str, Callable[[], Iterator[bytes]]] = {generate.__name__: generate for generate in GENERATORS}
-WITH_DICTIONARY = ("scripts", "texts", "program")
+WITH_DICTIONARY = ("scripts", "texts")

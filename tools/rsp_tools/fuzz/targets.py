@@ -5,26 +5,12 @@ from pathlib import Path
 from typing import List, Sequence
 
 from rsp_tools import TOP
-from rsp_tools.systems import program
 from rsp_tools.systems.toolchain import Word, call
 
 FLAGS = "-O1 -fno-omit-frame-pointer -fsanitize=address,undefined,fuzzer-no-link"
 FLAGS += " -fno-sanitize-recover=undefined"
-# The sources that a target tests, where it doesn't include them; of the program all but windows.c.
-TARGETS = {
-    "calls": "",
-    "scripts": "",
-    "texts": "",
-    "plugin": "plugin/*.c",
-    "runner": "",
-    "program": "library/c/program/[!w]*.c",
-}
-# The calls of the program in C that go to fuzz/program.c.
-CAUGHT = """
-exit read write open close fsync isatty lstat access fchown fchmod rename unlink malloc calloc
-brsp_session_new main
-"""
-OF_PROGRAM = [*program.definitions(), *(f"-D{name}=caught_{name}" for name in CAUGHT.split())]
+# The sources that a target tests, where it doesn't include them.
+TARGETS = {"calls": "", "scripts": "", "texts": "", "plugin": "plugin/*.c", "runner": ""}
 
 
 def compiler() -> List[str]:
@@ -40,9 +26,8 @@ def link(name: str, to: Path, compiler: Sequence[Word], *parts: Word, top: Path 
     objects: List[Path] = []
     for source in [top / f"fuzz/{name}.c", *tested]:
         objects.append(to.with_name(f"{to.name}-{len(objects)}.o"))
-        more = OF_PROGRAM if name == "program" and source in tested else []
         folders = [f"-I{top}/library/c", f"-I{top}/plugin"]
-        call(cc, *options, "-std=gnu11", "-g", *folders, *more, "-c", "-o", objects[-1], source)
+        call(cc, *options, "-std=gnu11", "-g", *folders, "-c", "-o", objects[-1], source)
     call(cc, *options, "-rdynamic", "-o", to, *objects, *parts, "-ldl")
     for path in objects:
         path.unlink()

@@ -1,4 +1,4 @@
-/* Where allocator.c has its memory in WebAssembly, and three functions that the library calls. */
+/* Where allocator.c has its memory in WebAssembly, and four functions that the library calls. */
 typedef __SIZE_TYPE__ size;
 
 enum { PAGE = 65536, UNIT = 16, LEAST = 64 };
@@ -10,6 +10,8 @@ char *heap_more(size len, size *got);
 void *memcpy(void *to, const void *from, size len);
 void *memmove(void *to, const void *from, size len);
 void *memset(void *to, int byte, size len);
+void __multi3(unsigned long long *product, unsigned long long a, unsigned long long a_high, unsigned long long b,
+              unsigned long long b_high);
 
 /* At first what the memory has after the data. Others may have grown it before. */
 char *heap_more(size len, size *got)
@@ -32,3 +34,14 @@ void *memcpy(void *to, const void *from, size len) { return __builtin_memcpy(to,
 void *memmove(void *to, const void *from, size len) { return __builtin_memmove(to, from, len); }
 
 void *memset(void *to, int byte, size len) { return __builtin_memset(to, byte, len); }
+
+/* The product of two numbers of 128 bits, its low half first: clang calls it where a product of 64 bits may be too large. */
+void __multi3(unsigned long long *product, unsigned long long a, unsigned long long a_high, unsigned long long b,
+              unsigned long long b_high)
+{
+    const unsigned long long half = 0xffffffff;
+    unsigned long long low = (a & half) * (b & half), middle = (a >> 32) * (b & half) + (low >> 32);
+    unsigned long long other = (a & half) * (b >> 32) + (middle & half);
+    product[0] = other << 32 | (low & half);
+    product[1] = (a >> 32) * (b >> 32) + (middle >> 32) + (other >> 32) + a * b_high + a_high * b;
+}

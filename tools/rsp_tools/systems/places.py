@@ -8,8 +8,6 @@ TOP = PARTS.parents[2]
 CRATE = TOP / "crates" / "rsp_c"
 CRATES = TOP / "crates"
 HEADER = TOP / "library" / "c" / "brsp.h"
-PROGRAM = TOP / "library" / "c" / "program"
-HELP = TOP / "docs" / "help"
 PYTHON = TOP / "library" / "python"
 RUST = TOP / "library" / "rust"
 # What is made: a folder for each system, below the folder that RSP_OUT names, if it is set. What is kept to

@@ -4,20 +4,16 @@ takes files of two versions together."""
 
 import hashlib
 import json
-import re
 from pathlib import Path
-from typing import Dict, List
+from typing import Dict
 
-from rsp_tools.page_tables import command_forms, data, fault_texts
+from rsp_tools.page_tables import data
 
 from . import examples, header, manual, places
-from .toolchain import Refused
 
 SOURCES = places.TOP / "page"
 LIBRARY = places.MADE / "wasm64"
 START = "index.html"
-STATEMENTS = ("nop", ".word")  # what source text has beside instructions
-ADVICE = places.TOP / "crates/rsp_advice/src/advice.rt"
 Files = Dict[str, bytes]
 
 
@@ -33,37 +29,13 @@ def scripts() -> bytes:
     return module("Scripts to choose from", EXAMPLES=f"[\n{lines}]")
 
 
-def faults() -> Dict[str, List[str]]:
-    """What each fault means, and what helps, by its number."""
-    found = fault_texts(is_replied=False)
-    return {str(number): [f"{it[0].upper()}{it[1:]}." for it in texts] for number, *texts in found}
-
-
-def commands() -> Dict[str, str]:
-    """The form of each command, with the range of its numbers, by its name."""
-    forms = {name: form + (f" ({numbers})" if numbers else "") for name, form, numbers in command_forms()}
-    return {**forms, "end": "end"}
-
-
-def advice() -> Dict[str, str]:
-    """What to write in place of other assemblers' lines: the program's table of statements, and its sentences
-    for others, by their names."""
-    text = ADVICE.read_text()
-    sentences = dict(re.findall(r'const (\w+): &str =\s*"([^"]*)";', text))
-    table = re.findall(r'\(\s*"([^"]+)",\s*(?:"([^"]*)"|(\w+)),?\s*\)', text)
-    if not table:
-        raise Refused(f"{ADVICE} has no table of statements")
-    return {**sentences, **{name: written or sentences[other] for name, written, other in table}}
-
-
 def names() -> bytes:
-    """The module with the names of commands and of what source text has, and with what helps at a fault."""
+    """The module with the names of commands and of what source text has."""
     instructions = [it["Instruction"].lower() for it in data("instructions")]
-    lists = {"STATEMENTS": STATEMENTS, "INSTRUCTIONS": instructions}
+    commands = [it["Command"].split()[0] for it in data("commands")]
+    lists = {"STATEMENTS": ["nop", ".word"], "INSTRUCTIONS": instructions, "COMMANDS": commands}
     sets = {name: f"new Set({json.dumps(it)})" for name, it in lists.items()}
-    tables = {"COMMANDS": commands(), "ADVICE": advice()}
-    maps = {name: f"new Map(Object.entries({json.dumps(it)}))" for name, it in tables.items()}
-    return module("Names in scripts, and faults", **sets, **maps, FAULTS=json.dumps(faults()))
+    return module("Names in scripts", **sets)
 
 
 def parts(library: Path) -> Files:
