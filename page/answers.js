@@ -1,12 +1,16 @@
-/** What a run has answered: the reply to each line, the lines that are source text, and the faults. */
+/** What a run has answered: the reply to each line, the lines that are source text, and the faults, with what the
+ * library says of them. */
+import { last_below } from "./elements.js";
+
 const LF = 10, TEXT = new TextDecoder();
 /** How many bytes of a line are shown. Longer lines are refused. */
 const WIDTH = 256;
 
-/** A refusal: the line of the script that is at fault, and the one whose reply says so. Lines count from 0. Its number
- * and name, whether it is the first one of its number, and the text of the block that it is in, with the address.
- * @typedef {{ line: number, answered: number, number: string, name: string, is_first: boolean,
- *   block?: { source: string, origin: number } }} Fault */
+/** A reply that is a fault: the line that is at fault, the one that has the reply, and the first one that is answered: of
+ * a block its `asm`. Lines count from 0.
+ * @typedef {{ line: number, answered: number, first: number }} Fault */
+/** What the library is asked of a fault: the lines that are answered, how many are before them, and the reply.
+ * @typedef {{ lines: Uint8Array, before: number, reply: Uint8Array }} Question */
 
 export class Answers {
   #script;
@@ -18,8 +22,8 @@ export class Answers {
   #blocks = [];
   /** The `asm` line of the block that is open, or -1. */
   #block = -1;
-  /** The numbers of the faults that came. @type {Set<string>} */
-  #numbers = new Set();
+  /** What was said of commands. @type {Set<string>} */
+  #said = new Set();
 
   /** The reply to each line, and the one to the script's end, if there is one. @type {Uint8Array[]} */
   replies = [];
@@ -29,6 +33,9 @@ export class Answers {
   faults = [];
   /** The fault of a line that is at fault, or whose reply is one. @type {Map<number, Fault>} */
   fault_at = new Map();
+  /** The lines that are at fault, in order, and what the library says of some. @type {number[]} */
+  at_fault = [];
+  why = /** @type {Map<number, string[]>} */ (new Map());
 
   /** @param {Uint8Array} [script] */
   constructor(script = new Uint8Array()) { this.#script = script; }
@@ -47,25 +54,43 @@ export class Answers {
     else if (this.#block < 0 && /^[ \t]*asm[ \t]/.test(this.text(line))) this.#block = line;
   }
 
-  /** Notes a line whose reply is a fault. In a block the reply says which line of it is meant. @param {number} line */
-  #find_fault(line) {
-    const reply = TEXT.decode(this.replies[line].subarray(0, 40));
-    const found = reply.match(/^fault (\d+) (\w+)(?: line (\d+))?/);
+  /** Notes a line whose reply is a fault. In a block the reply says which line of it is meant. @param {number} answered */
+  #find_fault(answered) {
+    const found = TEXT.decode(this.replies[answered].subarray(0, 40)).match(/^fault \d+ \w+(?: line (\d+))?/);
     if (!found) return;
-    const opened = this.#block, [, number, name, at] = found, is_first = !this.#numbers.has(number);
-    const fault = { line, answered: line, number, name, is_first };
-    if (at && opened >= 0) {
-      Object.assign(fault, { line: opened + Number(at), block: this.#text_of(opened, line) });
-    }
-    this.#numbers.add(number);
+    const first = this.#block < 0 ? answered : this.#block, at = found[1] ? first + Number(found[1]) : answered;
+    const line = Math.min(at, answered), fault = { line, answered, first };
     this.faults.push(fault);
-    this.fault_at.set(line, fault).set(fault.line, fault);
+    this.#note(line, fault);
+    this.fault_at.set(answered, fault);
   }
 
-  /** The text of a block. @param {number} opened @param {number} line the one that ends it */
-  #text_of(opened, line) {
-    const text = this.#script.subarray(this.#begins[opened + 1], this.#begins[line]);
-    return { source: TEXT.decode(text), origin: Number(this.text(opened).trim().split(/\s+/)[1]) };
+  /** Notes that a line is at fault. @param {number} line @param {Fault} fault */
+  #note(line, fault) {
+    const at = last_below(this.at_fault, line);
+    if (this.at_fault[at] !== line) this.at_fault.splice(at + 1, 0, line);
+    this.fault_at.set(line, fault);
+  }
+
+  /** What the library is asked of a fault. @param {Fault} fault @returns {Question} */
+  question({ first, answered }) {
+    const end = this.#begins[answered + 1] ?? this.#at;
+    return { lines: this.#script.slice(this.#begins[first], end), before: first, reply: this.replies[answered] };
+  }
+
+  /** Takes what the library says of a fault: of each line its number with the fault, its text, and why. What was said of a
+   * command isn't said again, unless somebody asks for it.
+   * @param {Fault} fault @param {string} said @param {boolean} is_asked */
+  explain(fault, said, is_asked) {
+    const is_block = fault.first < fault.answered;
+    for (const it of said.split(/^(?=line \d+: )/m)) {
+      const [head, , ...why] = it.trimEnd().split(/\n(?: {2})?/), [number, name] = head.split(/: | line /);
+      const line = Math.min(parseInt(number.slice(5)) - 1, fault.answered), key = why.join();
+      if (is_block) why.unshift(name);
+      this.why.set(line, !is_block && !is_asked && this.#said.has(key) ? [] : why);
+      this.#said.add(key);
+      this.#note(line, fault);
+    }
   }
 
   /** Whether a line is source text. @param {number} line */

@@ -1,11 +1,9 @@
 /** Shows replies: each beside its line of the script, or below it where there is no room beside. A reply of many lines
  * takes the rows that are free below its line, and folds what would push the next one down. */
-import { advice } from "./advice.js";
 import { Answers } from "./answers.js";
 import { coloured } from "./colours.js";
 import { element, grouped, last_below, the } from "./elements.js";
 import { fault_page } from "./help.js";
-import { FAULTS } from "./names.js";
 import { VirtualList, go_to, set, show_whole, view } from "./virtual_list.js";
 
 /** How many rows are shown: no browser has a page of many millions. All replies can have hundreds of megabytes. And how
@@ -55,8 +53,6 @@ export class Replies {
   #end = 0;
   /** The lines whose replies somebody has unfolded. @type {Set<number>} */
   #unfolded = new Set();
-  /** What the operands of lines at fault may be. @type {Map<number, string>} */
-  #allowed = new Map();
   #columns = LEAST;
   #widest = 0;
   #is_whole = false;
@@ -78,7 +74,6 @@ export class Replies {
   begin(script) {
     this.answers = new Answers(script);
     this.#unfolded.clear();
-    this.#allowed.clear();
     this.#row_of = (line) => line;
     the("answers").classList.remove("old");
     this.#again();
@@ -105,9 +100,10 @@ export class Replies {
     else this.#lay();
   }
 
-  /** Says at a line what its operand may be. @param {number} line @param {string} allowed */
-  explain(line, allowed) {
-    this.#allowed.set(line, allowed);
+  /** Says at the lines at fault what the library says of these faults.
+   * @param {import("./answers.js").Fault[]} faults @param {string[]} said @param {boolean} is_asked */
+  explain(faults, said, is_asked) {
+    faults.forEach((it, n) => this.answers.explain(it, said[n], is_asked));
     this.#again();
   }
 
@@ -209,17 +205,8 @@ export class Replies {
     button.onclick = () => this.go_to(next.line);
   }
 
-  /** Why a line is at fault, in rows: what its operand may be, else what the fault means, once for each fault; and what
-   * to write, or what helps. @param {number} line */
-  #why(line) {
-    const { answers } = this, fault = answers.fault_at.get(line), allowed = this.#allowed.get(line);
-    if (fault?.line !== line) return [];
-    const [cause, help] = fault.is_first ? FAULTS[fault.number] : [fault.block && `${fault.name}.`];
-    const why = allowed ? `${allowed[0].toUpperCase()}${allowed.slice(1)}.` : cause;
-    const written = answers.is_end(line) ? "" : advice(Number(fault.number), answers.text(line));
-    const rest = written ? `Write: ${written}` : !allowed && help;
-    return [why, rest].flatMap((it) => it ? broken(it, this.#columns) : []);
-  }
+  /** Why a line is at fault, in rows. @param {number} line */
+  #why(line) { return (this.answers.why.get(line) ?? []).flatMap((it) => broken(it, this.#columns)); }
 
   /** An item of the list: a reply, with its line where that isn't beside it, and why it is at fault. What is folded is
    * there for who hears the page. @param {number} item */

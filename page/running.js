@@ -4,11 +4,12 @@ import { Text } from "./text.js";
 
 const WORKER = new URL("worker.js", import.meta.url);
 
-/** What is run: a script with an image, if it isn't the library's zeros; or the text of a block that has a fault.
- * @typedef {{ script: Uint8Array, image?: Uint8Array, is_strict?: boolean } | { source: string, origin: number }} Asked */
-/** What ended a run: its script's end, with the image that it left; a stop; or a fault, in a sentence. Of a text: what
- * its operand may be.
- * @typedef {{ rdram?: Uint8Array, allowed?: string, is_stopped?: boolean, fault?: string }} Ended */
+/** What is run: a script with an image, if it isn't the library's zeros; or questions about faults.
+ * @typedef {{ script: Uint8Array, image?: Uint8Array, is_strict?: boolean }
+ *   | { asked: import("./answers.js").Question[] }} Asked */
+/** What ended a run: its script's end, with the image that it left; a stop; or a fault, in a sentence. Of questions: what
+ * is said of each.
+ * @typedef {{ rdram?: Uint8Array, said?: string[], is_stopped?: boolean, fault?: string }} Ended */
 
 /** The worker stays for the next run. One that is stopped or fails takes it along, and the session that is in it. */
 export class RunWorker {
@@ -50,7 +51,7 @@ export class RunWorker {
   }
 }
 
-const MOST = 50; // faults that the library explains
+const MOST = 20; // faults that are explained unasked, as by rsp run
 export class RunControl {
   #script;
   #editor;
@@ -144,11 +145,13 @@ export class RunControl {
     this.#replies.print(is);
   }
 
-  /** Leads to the next fault: in the script if that is still the one that was run and is shown, else in the replies. */
+  /** Leads to the next line at fault, and explains it: in the script if that is still the one that was run and is shown,
+   * else in the replies. */
   lead_to_fault() {
-    const { faults } = this.#replies.answers;
-    this.#led = (this.#led + 1) % faults.length;
-    const { line } = faults[this.#led], is_in_script = this.#is_as_run && the("text").offsetWidth;
+    const { at_fault, fault_at, why } = this.#replies.answers;
+    this.#led = (this.#led + 1) % at_fault.length;
+    const line = at_fault[this.#led], is_in_script = this.#is_as_run && the("text").offsetWidth;
+    if (!why.get(line)?.length) this.#explain([fault_at.get(line)], true);
     if (!is_in_script) the("answers").focus({ preventScroll: true });
     (is_in_script ? this.#editor : this.#replies).go_to(line);
   }
@@ -158,15 +161,24 @@ export class RunControl {
     this.#replies.add(given);
     const { faults } = this.#replies.answers, known = this.#known;
     this.#known = faults.length;
-    if (this.#is_as_run && known < faults.length) this.#editor.mark(faults.map(({ line }) => line));
-    for (const it of faults.slice(known, MOST)) this.#explain(it);
+    if (known < faults.length) this.#mark();
+    if (known < Math.min(faults.length, MOST)) this.#explain(faults.slice(known, MOST));
   }
 
-  /** Says what the operand at fault may be, if the library knows. @param {import("./answers.js").Fault} fault */
-  async #explain({ line, block }) {
-    if (!block) return;
-    const { answers } = this.#replies, { allowed } = await this.#trials.run(block);
-    if (allowed && answers === this.#replies.answers) this.#replies.explain(line, allowed);
+  /** Has the library explain faults. @param {import("./answers.js").Fault[]} faults */
+  async #explain(faults, is_asked = false) {
+    const { answers } = this.#replies;
+    const { said } = await this.#trials.run({ asked: faults.map((it) => answers.question(it)) });
+    if (!said || answers !== this.#replies.answers) return;
+    this.#replies.explain(faults, said, is_asked);
+    this.#mark();
+  }
+
+  /** Marks the lines at fault in the script, if it is the one that was run, and counts them. */
+  #mark() {
+    const { at_fault } = this.#replies.answers;
+    if (this.#is_as_run) this.#editor.mark(at_fault);
+    the("faults").textContent = counted(at_fault.length, "fault");
   }
 
   /** Shows whether a run is under way. The focus doesn't stay on a button that goes. @param {boolean} is */
@@ -189,7 +201,7 @@ export class RunControl {
 
   /** Says how it goes, and shows the buttons for faults. @param {string} sentence */
   #tell(sentence, is_strict = false) {
-    const { length } = this.#replies.answers.faults;
+    const { length } = this.#replies.answers.at_fault;
     the("ran").textContent = sentence;
     the("faults").textContent = counted(length, "fault");
     the("faults").hidden = !length;

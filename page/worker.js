@@ -1,6 +1,6 @@
 /** Answers scripts by the library: in a worker, so no run freezes the page. It gets a script and an image, and gives
  * replies as they come. Its last message has the image that the script leaves, or says why there is none. It also gets
- * texts of blocks, and says what the operand at fault may be. */
+ * replies that are faults, with the lines that they answer, and says what is wrong there. */
 import "./load_error.js";
 
 /** How long replies are gathered, in milliseconds. */
@@ -38,14 +38,15 @@ async function answered({ script, image, is_strict }) {
   }
 }
 
-/** What the operand may be for which the library refuses a text; nothing if it isn't refused for one. */
-async function allowed_in({ source, origin }) {
-  return library.then(({ assemble }) => void assemble(source, origin)).catch(({ allowed }) => allowed);
+/** What is wrong with lines of a script that have a reply. */
+async function said_of({ asked }) {
+  const { explain_reply } = await library;
+  return asked.map(({ lines, reply, before }) => explain_reply(lines, reply, before));
 }
 
 onmessage = async ({ data }) => {
   try {
-    const ended = data.script ? { rdram: await answered(data) } : { allowed: await allowed_in(data) };
+    const ended = data.script ? { rdram: await answered(data) } : { said: await said_of(data) };
     postMessage({ ended });
   } catch (fault) {
     postMessage({ ended: { fault: fault.message } });

@@ -23,10 +23,10 @@
  * Postconditions: every call returns, whatever numbers it gets, and all calls except brsp_version, brsp_free
  * and brsp_session_free return a status. If the status isn't BRSP_OK, no machine has changed, and neither
  * has anything that the call fills, with three exceptions: brsp_assemble fills `out` to say why,
- * BRSP_NO_ROOM of brsp_labels says in `count` how many labels there are, and BRSP_TOO_LONG ends a session. A
- * call with a handle that holds nothing returns BRSP_NO_MACHINE, except for the calls that make or free;
- * brsp_copy returns BRSP_NO_MACHINE only if `from` holds nothing. The comments below don't list BRSP_OK and
- * BRSP_NO_MACHINE again. */
+ * BRSP_NO_ROOM of a call with a `count` says there how many labels or bytes there are, and
+ * BRSP_TOO_LONG ends a session. A call with a handle that holds nothing returns BRSP_NO_MACHINE, except for
+ * the calls that make or free; brsp_copy returns BRSP_NO_MACHINE only if `from` holds nothing. The comments
+ * below don't list BRSP_OK and BRSP_NO_MACHINE again. */
 #ifndef BRSP_H
 #define BRSP_H
 
@@ -62,7 +62,7 @@ enum brsp_status {
     BRSP_HALTED = 104,        /* brsp_step, brsp_pass_move, brsp_pass_dma: the machine is halted */
     BRSP_RESERVED = 105,      /* brsp_step: the word at pc is reserved */
     BRSP_NO_MEANING = 106,    /* brsp_assemble, brsp_labels: the text has a fault: see brsp_assembled;
-                                 brsp_explain: the text isn't UTF-8 */
+                                 brsp_explain, brsp_explain_text: the text isn't UTF-8 */
     BRSP_TASK_PLACE = 107,    /* brsp_start_task: it isn't a multiple of 8, or 64 bytes pass the image */
     BRSP_TASK_SIZE = 108,     /* brsp_start_task: the size of the boot code isn't 1 to 4096 */
     BRSP_BREAK_FULL = 109,    /* brsp_add_break: sixteen addresses have a breakpoint */
@@ -71,9 +71,9 @@ enum brsp_status {
     BRSP_WATCH_FULL = 112,    /* brsp_add_watch: there are eight watches */
     BRSP_NO_WATCH = 113,      /* brsp_drop_watch: the number has no watch */
     BRSP_SHORT_HISTORY = 114, /* brsp_back: the history holds fewer states */
-    BRSP_NO_ROOM = 115,       /* brsp_assemble, brsp_labels: there are more words or labels than the
-                                 buffer can hold; brsp_session_take, brsp_session_end: it has fewer than
-                                 BRSP_REPLIES bytes */
+    BRSP_NO_ROOM = 115,       /* brsp_assemble, brsp_labels, brsp_explain_text, brsp_explain_reply: there are
+                                 more words, labels or bytes than the buffer can hold; brsp_session_take,
+                                 brsp_session_end: it has fewer than BRSP_REPLIES bytes */
     BRSP_ENDED = 116,         /* brsp_session_take, brsp_session_end: the end of input was met */
     BRSP_TOO_LONG = 117,      /* brsp_session_take, brsp_session_end: it has more than 1048576 bytes */
     BRSP_OTHER_WORD = 118     /* brsp_pass_move, brsp_pass_dma: another word is at pc */
@@ -507,6 +507,18 @@ typedef struct brsp_operand {
  *     depends on the labels of all lines. */
 uint32_t brsp_explain(uint32_t origin, const uint8_t *text, size_t len, brsp_operand *out);
 
+/* Says what is wrong with a text, as `rsp asm --explain` does: a line `line N: fault ..` for each of its
+ * faults, at most twenty, with indented lines that explain the fault, and then how many faults more there
+ * are. A text without a fault gets no bytes. `origin` is as for brsp_assemble. `said` gets these lines, each
+ * with an LF, and `count` the number of their bytes; what follows them in `said` stays unchanged. Returns
+ *   - BRSP_OUT_OF_RANGE for another origin;
+ *   - BRSP_NO_MEANING if the text isn't UTF-8;
+ *   - BRSP_NO_ROOM if there are more bytes than `capacity`: `count` has their number, so pass a capacity of
+ *     0 to learn the number;
+ *   - BRSP_NO_MEMORY. */
+uint32_t brsp_explain_text(uint32_t origin, const uint8_t *text, size_t len, uint8_t *said, size_t capacity,
+                           size_t *count);
+
 /* ---- Scripts: docs/SCRIPT.md lists their commands and replies ---- */
 
 /* A session answers a script, on a machine of its own. What the top of this file says of handles also holds
@@ -541,6 +553,14 @@ uint32_t brsp_session_take(brsp_session *b, const uint8_t *bytes, size_t len, si
 /* Ends the script: `reply` gets the reply to a last line without an LF, if it has any bytes, and the fault
  * of an `asm` block that is still open. Returns the statuses of brsp_session_take. */
 uint32_t brsp_session_end(brsp_session *b, uint8_t *reply, size_t capacity, size_t *written);
+
+/* Says what is wrong with lines of a script whose reply is a fault, as `rsp run --explain` does: a line with
+ * a command, or a block from its `asm` on, up to its `end` or to the end of the script. `before` is how many
+ * lines the script has before them. A reply that is no fault gets no bytes, and neither do lines that have
+ * no reply. If more than one of the lines has a reply, the first counts. `said` and `count` are filled, and
+ * BRSP_NO_ROOM and BRSP_NO_MEMORY returned, as by brsp_explain_text. */
+uint32_t brsp_explain_reply(size_t before, const uint8_t *lines, size_t len, const uint8_t *reply,
+                            size_t reply_len, uint8_t *said, size_t capacity, size_t *count);
 
 /* Reads bytes of a memory of its machine, and changes nothing. Returns BRSP_OUT_OF_RANGE if there is no such
  * bank, or the bytes pass its end. */

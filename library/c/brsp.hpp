@@ -137,6 +137,7 @@ inline std::string sentence(uint32_t status, const call &of)
     case BRSP_NO_MACHINE: return "the " + std::string(of.owner) + " is gone: it was moved from";
     case BRSP_NO_MEMORY: return "an allocation failed";
     case BRSP_OUT_OF_RANGE: return out_of_range(of);
+    case BRSP_NO_MEANING: return "the text isn't UTF-8";
     case BRSP_TASK_PLACE:
         return n + " isn't a multiple of 8, or the 64 bytes from there pass the image's end";
     case BRSP_TASK_SIZE:
@@ -189,6 +190,20 @@ template <class Data> inline auto at(Data &data) -> decltype(data.data())
 inline const uint8_t *at(std::string_view text)
 {
     return reinterpret_cast<const uint8_t *>(text.empty() ? "" : text.data());
+}
+
+/* What a call says in a buffer. The call is made again if the buffer is too small for it. */
+template <class Make> std::string said(const call &of, Make make)
+{
+    bytes out(1024);
+    size_t length = 0;
+    uint32_t status = make(out.data(), out.size(), &length);
+    if (status == BRSP_NO_ROOM) {
+        out.resize(length);
+        status = make(out.data(), out.size(), &length);
+    }
+    done(status, of);
+    return { out.begin(), out.begin() + static_cast<std::ptrdiff_t>(length) };
 }
 
 /* Bytes or words of a memory, which `read` fills. */
@@ -318,6 +333,26 @@ protected:
     detail::done(brsp_explain(origin, detail::at(text), text.size(), &out),
                  { "explain", { { "origin", origin, detail::origins } } });
     return out;
+}
+
+/* What is wrong with a text, in the lines of `rsp asm --explain`; empty if the text has no fault. */
+[[nodiscard]] inline std::string explain_text(std::string_view text, uint32_t origin = 0)
+{
+    return detail::said({ "explain_text", { { "origin", origin, detail::origins } } }, [&](auto... to) {
+        return brsp_explain_text(origin, detail::at(text), text.size(), to...);
+    });
+}
+
+/* What is wrong with lines of a script to which a session replied, in the lines of `rsp run --explain`: with a
+ * line with a command, or with a block from its `asm` on. The script has `before` lines before them. It is
+ * empty if the reply is no fault. */
+[[nodiscard]] inline std::string explain_reply(std::string_view lines, std::string_view reply,
+                                               size_t before = 0)
+{
+    return detail::said({ "explain_reply", {} }, [&](auto... to) {
+        return brsp_explain_reply(before, detail::at(lines), lines.size(), detail::at(reply), reply.size(),
+                                  to...);
+    });
 }
 
 /* The disassembly of a word for an address of IMEM. */

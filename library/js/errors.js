@@ -8,7 +8,7 @@ const range = (low, high, step = 1) => ({
   text: step === 1 ? `${low} to ${high}` : high === 4096 ? "a multiple of 4 up to 4096" : "a multiple of 4 below 4096",
 });
 const WORD = range(0, 0xffffffff), PLACE = range(0, 4092, 4), COUNT = range(1, 1000000), MASK = range(0, 65535);
-const EVENT_MASK = range(0, 131071);
+const EVENT_MASK = range(0, 131071), ORIGIN = range(0, 4096, 4);
 const REGISTER = range(0, 31), BANK = { ...range(0, 2), text: "DMEM, IMEM or RDRAM" };
 
 /** The arguments of each call, in order. */
@@ -38,7 +38,9 @@ export const ARGUMENTS = {
   read: { number: WORD },
   peek: { number: WORD },
   write: { number: WORD, value: WORD },
-  assemble: { origin: range(0, 4096, 4) },
+  assemble: { origin: ORIGIN },
+  explain_text: { origin: ORIGIN },
+  explain_reply: { before: WORD },
   text: { word: WORD, address: PLACE },
   listing: { address: PLACE, count: range(0, 1024) },
   first_difference: { every: COUNT, limit: WORD },

@@ -310,6 +310,17 @@ export function assemble(text: string, origin?: number): Uint32Array;
 /** The address of each label of a text by its name. `origin` and the refusals are as for `assemble`. */
 export function labels(text: string, origin?: number): Record<string, number>;
 
+/** What is wrong with a text, in the lines of `rsp asm --explain`: all its faults, at most twenty, and how many more there
+ * are. It is empty if the text has no fault. `origin` is as for `assemble`. */
+export function explain_text(text: string, origin?: number): string;
+
+/** What is wrong with lines of a script to which a session replied, in the lines of `rsp run --explain`. It is empty if
+ * the reply is no fault. `lines` is a line with a command, or a block from its `asm` on, up to its `end` or to the end of
+ * the script. The script has `before` lines before them. */
+export function explain_reply(
+  lines: string | ArrayBuffer | ArrayBufferView, reply: string | ArrayBuffer | ArrayBufferView, before?: number,
+): string;
+
 /** The disassembly of a word for an address, a multiple of 4 below 4096. */
 export function text(word: number, address?: number): string;
 

@@ -22,7 +22,7 @@ export const STATUS_WRITES = 1 << 16;
 const CALLS = `version new copy free get set state_fault image_length load load_words memory memory_words start_task set_pc
   step step_changes run run_until_move event trace back history pass_move pass_dma add_break drop_break
   add_watch drop_watch reg regs vreg acc flags divider read peek write sp set_sp assemble labels text listing
-  explain session_new session_take session_end session_memory session_free`.split(/\s+/);
+  explain explain_text explain_reply session_new session_take session_end session_memory session_free`.split(/\s+/);
 // Awaited while this module is imported, so that no call returns a promise.
 const wasm = await instantiated(new URL("./rsp.wasm", import.meta.url));
 if ((wasm.brsp_version?.() ?? VERSION) !== VERSION) {
@@ -120,10 +120,15 @@ function assembly_error(origin, text, at, length) {
   return new AssemblyError(line, fault, text.split("\n")[line - 1]?.trim(), why);
 }
 
+/** A text in UTF-8. */
+function utf8_of(call, text) {
+  if (typeof text !== "string") throw new TypeError(`${call}: text is of type ${typeof text}, not a string`);
+  return new TextEncoder().encode(text);
+}
+
 export function assemble(text, origin = 0) {
   numbers("assemble", [origin]);
-  if (typeof text !== "string") throw new TypeError(`assemble: text is of type ${typeof text}, not a string`);
-  const raw = new TextEncoder().encode(text), length = BigInt(raw.length);
+  const raw = utf8_of("assemble", text), length = BigInt(raw.length);
   return given_to("assemble", raw, (at) => lent("assemble", 4096, (words) => {
     const status = wasm.brsp_assemble(origin, at, length, words, 1024n, HERE);
     if (status === Status.NO_MEANING) throw assembly_error(origin, text, at, length);
@@ -142,6 +147,31 @@ export function labels(text, origin = 0) {
       return [text_of(copied(it + BigInt(fields.at(-1).offset), len)), address];
     }));
   }));
+}
+
+/** What a call says in a buffer, which it gets again with more room if this is too small. */
+function said(call, given, make, room = ROOM) {
+  const found = lent(call, room, (to) => {
+    const status = make(to, BigInt(room), HERE);
+    if (status === Status.NO_ROOM) return null;
+    ok(status, call, given);
+    return text_of(copied(to, length_at(HERE)));
+  });
+  return found ?? said(call, given, make, length_at(HERE));
+}
+
+export function explain_text(text, origin = 0) {
+  numbers("explain_text", [origin]);
+  const raw = utf8_of("explain_text", text);
+  return given_to("explain_text", raw, (at) => said("explain_text", [origin], (...to) =>
+    wasm.brsp_explain_text(origin, at, BigInt(raw.length), ...to)));
+}
+
+export function explain_reply(lines, reply, before = 0) {
+  const call = "explain_reply", [raw, answer] = [lines, reply].map((it) => script_of(call, it));
+  numbers(call, [before]);
+  return given_to(call, raw, (at) => given_to(call, answer, (told) => said(call, [before], (...to) =>
+    wasm.brsp_explain_reply(BigInt(before), at, BigInt(raw.length), told, BigInt(answer.length), ...to))));
 }
 
 export function text(word, address = 0) {

@@ -1,11 +1,10 @@
-"""A script's lines as the page draws them below a text area whose letters are transparent, and what it says
-to write in place of one at fault, evaluated in Node; and the types of the page's modules, checked by tsc.
+"""A script's lines as the page draws them below a text area whose letters are transparent, evaluated in Node;
+and the types of the page's modules, checked by tsc.
 
-They fail if the page shows another line than the one that runs, if a line takes so long that the page
-hangs, or if the page says another thing of a line than `rsp asm --explain`.
+They fail if the page shows another line than the one that runs, or if a line takes so long that the page
+hangs.
 """
 
-import csv
 import json
 import re
 import shutil
@@ -40,7 +39,6 @@ TIMED = """(() => {
 })()"""
 IMPORTED = """import { parts_of } from "./colours.js";
 import { line_page } from "./help.js";
-import { advice } from "./advice.js";
 """
 
 
@@ -93,26 +91,6 @@ def test_comment_is_not_explained(evaluate: Evaluate) -> None:
     """A comment is a line's whole rest."""
     pages = evaluate('["# \u2028add", "lui # \u2028add"].map((it) => line_page(it, true))')
     assert [it.rpartition("/")[2] for it in pages] == ["ASSEMBLY.html", "INSTRUCTIONS.html#lui"]
-
-
-@pytest.mark.needs("node")
-def test_advice(evaluate: Evaluate) -> None:
-    """Of lines and names that aren't taken the page says what the program says, and of a command its form. It
-    doesn't look for the nearest name, so of some it says nothing."""
-    with (TOP / "tests/program/explanations.tsv").open() as table:
-        rows = [it for it in csv.DictReader(table, delimiter="\t", quoting=csv.QUOTE_NONE)]
-    expected = {
-        it["line"]: (int(it["fault"][:2]), it["write"].strip("-")) for it in rows if it["operand"] == "-"
-    }
-    expected["mem dmem 4"] = 30, "mem BANK ADDR LEN (ADDR 0 to 16777215, LEN 1 to 256)"
-    expected["foo"] = 30, ""
-    expected["unbreak 010"] = 31, "unbreak ADDR (a multiple of 4 from 0 to 4092)"
-    expected["break /* the end */"] = 12, "a comment, after # or ;"
-    lines = json.dumps([[number, line] for line, (number, _) in expected.items()])
-    found = evaluate(f'{lines}.map(([number, line]) => advice(number, line) ?? "")')
-    advised = {line: it for line, it in zip(expected, found) if it}
-    assert advised == {line: expected[line][1] for line in advised} and len(advised) > 25
-    assert len(found) > 40
 
 
 # Where tsc is less strict than on the library's declarations, and what it can't know.

@@ -1,5 +1,5 @@
-"""The page's worker in Node, over compiled/rsp.wasm: what it posts of a script, of a block's text and of
-refusals.
+"""The page's worker in Node, over compiled/rsp.wasm: what it posts of a script, of replies that are
+faults, and of refusals.
 
 They fail if the page shows other replies than the program, goes on after the first fault when it is told not
 to, loses the image, or says another thing where the library refuses a script or isn't there.
@@ -60,9 +60,9 @@ def test_refusals(page: Path) -> None:
     assert again["replies"] == ["step Done pc 004\n"], "the next run is answered"
 
 
-def test_operands(page: Path) -> None:
-    """What the operand at fault may be; nothing of a last text, whose second word passes the end of IMEM."""
-    sources = {"nop\nlqv $v1[0], 0x460($0)": 8, "nop": 8, "foo": 8, "nop\nj x": 4092}
-    found = answers(page, *({"source": text, "origin": at} for text, at in sources.items()))
-    allowed = ["operand 2 may be -1024 to 1008, a multiple of 16", None, "", ""]
-    assert [it.get("allowed") for it in found] == allowed
+def test_explanations(page: Path) -> None:
+    """Those of Python: of a command, of a block, and of what is no fault."""
+    rows = [("mem\n", "fault 30 BadCommand\n", 6), ("asm 8\nfoo\nend\n", "fault 11 UnknownName line 1\n", 3)]
+    rows.append(("step", "ok\n", 0))
+    asked = [dict(zip(("lines", "reply", "before"), it)) for it in rows]
+    assert answers(page, {"asked": asked})[0]["said"] == [rsp.explain_reply(*it) for it in rows]

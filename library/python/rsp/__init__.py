@@ -22,8 +22,8 @@ import sys
 import threading
 from array import array
 from ctypes import POINTER, Structure, addressof, byref, c_char_p, c_size_t, c_uint16, c_uint32, c_void_p
-from typing import Any, Callable, Container, Dict, Iterable, Iterator, List, NamedTuple, Optional, Sequence
-from typing import Tuple, TypeVar, Union, cast
+from typing import Any, Callable, Container, Dict, Iterable, Iterator, List, Mapping, NamedTuple, Optional
+from typing import Sequence, Tuple, TypeVar, Union, cast
 
 from . import errors as _errors
 from . import fields as _fields
@@ -32,6 +32,7 @@ from .compare import Emulator, FirstDifference, first_difference
 from .script import Ran, ScriptError
 from .script import strict_replies as _strict_replies
 from .formatting import Difference, Part
+from .symbols import resolved as _resolved
 from .state import Accumulators, Changes, Divider, Flags, Scalars, SpWords, State, Traced, unset
 from .errors import FAULTS, Fault
 from .fields import alike as _alike
@@ -40,9 +41,9 @@ __version__ = "0.9.0"
 __all__ = [
     "DMEM", "FAULTS", "IMEM", "RDRAM", "VERSION", "Accumulators", "AssemblyError", "Bank", "Session",
     "Changes", "Difference", "Divider", "Dma", "Emulator", "Fault", "FirstDifference", "Flags", "Found",
-    "Line", "Machine", "Move", "Part", "Ran", "Reason", "Rsp", "RspError", "STATUS_WRITES", "Scalars",
-    "ScriptError", "SpWords", "State", "Status", "Stop", "Timeline", "Traced", "Words", "assemble",
-    "first_difference", "run_script", "state_fault", "text",
+    "Line", "Machine", "Move", "NotHalted", "Part", "Ran", "Reason", "Rsp", "RspError", "STATUS_WRITES",
+    "Scalars", "ScriptError", "SpWords", "State", "Status", "Stop", "Timeline", "Traced", "Words",
+    "assemble", "explain_reply", "explain_text", "first_difference", "run_script", "state_fault", "text",
 ]  # fmt: skip
 
 _S = TypeVar("_S", bound=Structure)
@@ -157,6 +158,17 @@ class AssemblyError(RspError):
 
     def __reduce__(self) -> Tuple[Any, ...]:
         return AssemblyError, (self.line, self.fault, self.source, self.allowed)
+
+
+class NotHalted(Exception):
+    """A run that should end in a halt didn't. `stop` says where and why it stopped, with all its steps."""
+
+    def __init__(self, stop: "Stop", text: str) -> None:
+        super().__init__(f"{stop.reason.name} after {stop.steps} steps, before {text}")
+        self.stop, self._text = stop, text
+
+    def __reduce__(self) -> Tuple[Any, ...]:
+        return NotHalted, (self.stop, self._text)
 
 
 class Move(NamedTuple):
@@ -308,6 +320,8 @@ _CALLS = {
     "brsp_assemble": [_U, _B, _Z, _W, _Z, POINTER(_Assembled)], "brsp_text": [_U, _U, POINTER(_Line)],
     "brsp_labels": [_U, _B, _Z, POINTER(_Label), _Z, POINTER(_Z)],
     "brsp_listing": [_M, _U, POINTER(_Line), _Z], "brsp_explain": [_U, _B, _Z, POINTER(_errors.Operand)],
+    "brsp_explain_text": [_U, _B, _Z, c_void_p, _Z, POINTER(_Z)],
+    "brsp_explain_reply": [_Z, _B, _Z, _B, _Z, c_void_p, _Z, POINTER(_Z)],
     "brsp_session_new": [_M, _B, _Z],
     "brsp_session_take": [_M, c_void_p, _Z, c_void_p, c_void_p, _Z, c_void_p],
     "brsp_session_end": [_M, c_void_p, _Z, c_void_p],
@@ -408,16 +422,19 @@ class Words(List[int]):
         return [number for number, count in enumerate(counts, 1) for _ in range(count)]
 
 
-def assemble(text: str, origin: int = 0) -> Words:
+def assemble(text: str, origin: int = 0, symbols: Optional[Mapping[str, int]] = None) -> Words:
     """The words of a text, at most 1024. The first is for the address `origin`, a multiple of 4 up to 4096.
 
     `assemble(text).labels["loop"]` is the address of a label, and `assemble(text).lines` has the line of each
     word. Raises AssemblyError if the text has a fault.
+
+    `symbols` are numbers by names that operands may have, as they may have labels. If DMEM is a text, too, of
+    `.word` lines, its labels are for the code: `assemble(code, symbols=assemble(data).labels)`.
     """
     (origin,) = _numbers("assemble", origin)
-    if not isinstance(text, str):
-        raise TypeError(f"assemble: text is of type {type(text).__name__}, not str")
-    raw, words, out = text.encode(), (c_uint32 * 1024)(), _Assembled()
+    _errors.text_of("assemble", text)
+    raw = (_resolved(text, symbols) if symbols else text).encode()
+    words, out = (c_uint32 * 1024)(), _Assembled()
     status = _lib.brsp_assemble(origin, raw, len(raw), words, 1024, byref(out))
     if status == Status.NO_MEANING:
         found = _errors.Operand()
@@ -427,6 +444,33 @@ def assemble(text: str, origin: int = 0) -> Words:
         )
     _check(status, "assemble", [origin])
     return Words(words[: out.count], raw, origin)
+
+
+def _said(call: str, number: int, *given: Any) -> str:
+    """What a call says in a buffer. The call is made again if the buffer is too small for it."""
+    count, status = c_size_t(1024), int(Status.NO_ROOM)
+    while status == Status.NO_ROOM:
+        out = ctypes.create_string_buffer(count.value)
+        status = getattr(_lib, f"brsp_{call}")(number, *given, out, len(out), byref(count))
+    _check(status, call, [number])
+    return out.raw[: count.value].decode()
+
+
+def explain_text(text: str, origin: int = 0) -> str:
+    """What is wrong with a text, in the lines of `rsp asm --explain`: all its faults, at most twenty, and how
+    many more there are. It is empty if the text has no fault. `origin` is as for `assemble`."""
+    (origin,) = _numbers("explain_text", origin)
+    raw = _errors.text_of("explain_text", text)
+    return _said("explain_text", origin, raw, len(raw))
+
+
+def explain_reply(lines: Union[str, bytes], reply: Union[str, bytes], before: int = 0) -> str:
+    """What is wrong with lines of a script to which a session replied, in the lines of `rsp run --explain`.
+    It is empty if the reply is no fault. `lines` is a line with a command, or a block from its `asm` on, up
+    to its `end` or to the end of the script. The script has `before` lines before them."""
+    (before,) = _numbers("explain_reply", before)
+    raw, told = (_errors.script_of("explain_reply", it) for it in (lines, reply))
+    return _said("explain_reply", before, raw, len(raw), told, len(told))
 
 
 def text(word: int, address: int = 0) -> str:
@@ -600,8 +644,8 @@ class Machine(_Owner):
         return self._fill("image_length", c_size_t()).value
 
     def load(self, bank: int, address: int, data: bytes) -> None:
-        """Writes the bytes of a buffer to a memory, and empties the history. The bytes of a buffer of words
-        are written in this computer's order; `load_words` writes the high byte first."""
+        """Writes the bytes of a buffer to a memory, and empties the history. Numbers of several bytes need
+        the high byte first, as numpy's ">i2" has them: TypeError for a buffer in the other order."""
         numbers = _numbers("load", bank, address)
         raw = _errors.bytes_of("load", "data", data)
         self._call("load", *numbers, raw, len(raw), numbers=numbers)
@@ -624,7 +668,8 @@ class Machine(_Owner):
         to `load`.
 
         The items are bytes, or of another dtype. Memories have the high byte first, so words are ">u4" and
-        lanes ">u2". This call needs numpy.
+        lanes ">u2". With [("x", ">i2"), ("y", ">i2"), ("color", ">u4")] they are structures of eight bytes,
+        and `["x"]` of the array has the first lane of each. This call needs numpy.
         """
         numpy, data = _numpy("memory_array"), bytearray(self.memory(bank, address, length))
         return numpy.frombuffer(data, dtype)
@@ -697,6 +742,20 @@ class Machine(_Owner):
     def run(self, steps: int) -> Stop:
         """Makes 1 to 1000000 steps, up to the first reason to stop."""
         return _stop_of(self._fill_alone("run", _Stop(), steps))
+
+    def run_to_halt(self, limit: int = 100000000) -> Stop:
+        """Runs to the halt. Raises NotHalted if something else stops the run: `limit` steps, a reserved word,
+        a breakpoint or a watch."""
+        (limit,), steps = _numbers("run_to_halt", limit), 0
+        stop = Stop(Reason.HALT if self.peek(4) & 1 else Reason.LIMIT, 0, self.regs().pc, None)
+        while stop.reason is Reason.LIMIT and steps < limit:
+            stop = self.run(min(limit - steps, 1000000))
+            steps += stop.steps
+        word, stop = stop.word, Stop(stop.reason, steps, stop.pc, stop.watch)
+        stop.word = word
+        if stop.reason is not Reason.HALT:
+            raise NotHalted(stop, str(self.listing(stop.pc, 1)[0]))
+        return stop
 
     def run_until_move(self, steps: int, reads: int, writes: int) -> Stop:
         """As `run`, but also stops before an MFC0 from an SP register whose bit is set in `reads`, and before

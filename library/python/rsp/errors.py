@@ -2,6 +2,8 @@
 
 import enum
 import operator
+import re
+import sys
 from ctypes import Structure, c_int64, c_size_t, c_uint32
 from typing import Any, Dict, NamedTuple, Sequence, Tuple
 
@@ -43,6 +45,7 @@ class Range(NamedTuple):
 
 WORD = Range(range(BELOW), "0 to 4294967295")
 PLACE = Range(range(0, 4096, 4), "a multiple of 4 below 4096")
+ORIGIN = Range(range(0, 4097, 4), "a multiple of 4 up to 4096")
 COUNT = Range(range(1, 1000001), "1 to 1000000")
 MASK = Range(range(65536), "0 to 65535")
 EVENT_MASK = Range(range(1 << 17), "0 to 131071")
@@ -64,6 +67,7 @@ ARGUMENTS: Dict[str, Dict[str, Range]] = {
     "event": {"steps": COUNT, "reads": MASK, "writes": EVENT_MASK},
     "trace": {"steps": COUNT},
     "iter_trace": {"limit": WORD},
+    "run_to_halt": {"limit": WORD},
     "back": {"states": COUNT},
     "pass_move": {"value": WORD},
     "add_break": {"address": PLACE},
@@ -77,7 +81,9 @@ ARGUMENTS: Dict[str, Dict[str, Range]] = {
     "read": {"number": WORD},
     "peek": {"number": WORD},
     "write": {"number": WORD, "value": WORD},
-    "assemble": {"origin": Range(range(0, 4097, 4), "a multiple of 4 up to 4096")},
+    "assemble": {"origin": ORIGIN},
+    "explain_text": {"origin": ORIGIN},
+    "explain_reply": {"before": WORD},
     "text": {"word": WORD, "address": PLACE},
     "listing": {"address": PLACE, "count": Range(range(1025), "0 to 1024")},
     "first_difference": {"every": COUNT, "limit": WORD},
@@ -147,16 +153,39 @@ def integers(call: str, numbers: Sequence[Any], item: str = "") -> Tuple[int, ..
         raise
 
 
+def has_low_byte_first(form: str) -> bool:
+    """Whether numbers of a buffer have several bytes, the low one first. A form is as in `struct`; that of a
+    structure has names between colons, and braces."""
+    order = "@"
+    for char in re.sub(":[^:]*:", "", form):
+        if char in "@=^<>!":
+            order = char
+        elif char in "hHiIlLqQnNPefdguw" and (order == "<" or order in "@=^" and sys.byteorder == "little"):
+            return True
+    return False
+
+
 def bytes_of(call: str, name: str, data: Any) -> bytes:
-    """The bytes of a buffer, as they are in memory."""
+    """The bytes of a buffer, as they are in memory. TypeError for numbers with the low byte first, which a
+    machine would read as others."""
     if type(data) is bytes:
         return data
     try:
-        return bytes(memoryview(data))
+        view = memoryview(data)
     except TypeError:
-        raise TypeError(
-            f"{call}: {name} is of type {type(data).__name__}, not bytes or another buffer"
-        ) from None
+        text = f"{call}: {name} is of type {type(data).__name__}, not bytes or another buffer"
+        raise TypeError(text) from None
+    if has_low_byte_first(view.format):
+        text = f"{call}: {name} has the low byte of each number first ({view.format})"
+        raise TypeError(f'{text}: use .astype(">i2") or the like, or .tobytes() for the bytes as they are')
+    return bytes(view)
+
+
+def text_of(call: str, text: Any) -> bytes:
+    """A text in UTF-8."""
+    if not isinstance(text, str):
+        raise TypeError(f"{call}: text is of type {type(text).__name__}, not str")
+    return text.encode()
 
 
 def script_of(call: str, script: Any) -> bytes:

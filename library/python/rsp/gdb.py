@@ -16,8 +16,9 @@ import socket
 import struct
 import sys
 import time
+from contextlib import contextmanager, suppress
 from pathlib import Path
-from typing import Any, Callable, Dict, List, NamedTuple, Optional, Set, Tuple
+from typing import Any, Callable, Dict, Iterator, List, NamedTuple, Optional, Set, Tuple
 
 import rsp
 import rsp.waits
@@ -29,7 +30,7 @@ from rsp.script import STATE as _STATE
 from rsp.timeline import Watch
 
 _IMEM = 0x04001000  # GDB's address of IMEM
-_FLAGS, _SP, _NUMBERS = 312, 320, 337  # in the list of numbers of which GDB's registers are parts
+_FLAGS, _SP, _NUMBERS, _CHANGES = 312, 320, 337, 345  # in the list of numbers that GDB's registers show
 _TYPES = """
 <vector id="v8i16" type="int16" count="8"/><vector id="v8u16" type="uint16" count="8"/>
 <vector id="v16u8" type="uint8" count="16"/><vector id="v8i64" type="int64" count="8"/>
@@ -43,11 +44,13 @@ _EVER = 1 << 62
 _PACKET = 0x4000  # the most bytes of a packet
 _COUNTED = 4000000
 _SLICE = 0.5  # how many seconds of `monitor goto` a packet may take
+_NOT_LOOKED_AT = "not looked at: transfers that were ordered before this step, or by the CPU; other data"
 _HELP = """\
 monitor when           the number of the present step
 monitor goto STEP      goes to a step
 monitor counts [STEP]  how often each instruction was executed, from a step to the present one
-monitor waits          the waits for a DMA that are missing from here to the halt, at most 1000000 steps on
+monitor wrote NAME     goes back to the last change of a register or lane: $r8, $v18[3], $acc, $vco
+monitor waits          the waits for a DMA that are missing from here to the halt, or in 1000000 steps
 monitor why            why the last breakpoint or watch was refused
 These are as in a script for `rsp run`:
 monitor task ADDR | pc ADDR | load BANK ADDR HEX | write N VALUE | read N
@@ -86,7 +89,7 @@ def _description() -> Tuple[bytes, List[_Register]]:
     cpu += regs("lo hi", "I", "int32", None)
     cp0 += regs("badvaddr cause", "I", "int32", None)
     cpu += regs("pc", "I", "code_ptr", _PC)
-    fpu = regs(" ".join(f"f{n}" for n in range(32)), "I", "ieee_single", None)
+    fpu = regs(" ".join(f"f{n}" for n in range(32)), "f", "ieee_single", None)
     fpu += regs("fcsr fir", "I", "int32", None)
     bits = "".join(f'<field name="{it}" start="{n}" end="{n}"/>' for n, it in enumerate(_STATUS.split()))
     own = f'{_TYPES}<flags id="sp_status" size="4">{bits}</flags>'
@@ -101,6 +104,7 @@ def _description() -> Tuple[bytes, List[_Register]]:
         own += regs(f"sp_{name}", "I", "sp_status" if name == "status" else "uint32", _SP + n, "system")
     own += regs(" ".join(f"dpc_{it}" for it in _DPC_NAMES.split()), "I", "uint32", _SP + 8, "system")
     own += regs("sp_interrupt", "I", "uint32", _SP + 16, "system")
+    own += regs("imem_changes", "I", "uint32", _CHANGES, "adapter")
     mips = "org.gnu.gdb.mips."
     features = {f"{mips}cpu": cpu, f"{mips}cp0": cp0, f"{mips}fpu": fpu, "rsp": own}
     inside = "".join(f'<feature name="{name}">{held}</feature>' for name, held in features.items())
@@ -155,15 +159,18 @@ class Stub:
         self.no_ack = self.ended = False
         line.is_interrupted = self._interrupted
         self._was_interrupted, self._end = False, math.inf  # the time at which a packet has to be answered
-        self._goal, self._why = -1, "nothing was refused"
+        self._why, self._news = "nothing was refused", ""
+        self._more: Optional[Callable[[], str]] = None  # continues a command that takes long
+        self._imem, self._imem_changes = b"", 0  # what GDB has seen
         self._breaks: Set[int] = set()  # GDB's addresses; below 4096 that of a JR's target, which is a link
         self._watches: Dict[Watch, int] = {}  # with GDB's address of each
+        line.breaks, line.watches = set(), set()  # those of a GDB that is gone
         self._fresh: Optional[int] = None  # the breakpoint that was set last since the last stop
         self._calls: Dict[str, Callable[[str], Optional[bytes]]] = {
             **dict.fromkeys("!HTD", lambda rest: b"OK"),
             "k": lambda rest: None,
             "?": lambda rest: self._stopped(),
-            "g": lambda rest: b"".join(it.hex().encode() if it else b"xx" * n for it, n in self._values()),
+            "g": lambda rest: self._values().encode(),
             "s": lambda rest: self._go(1),
             "c": lambda rest: self._go(_EVER),
             "z": lambda rest: self._point(rest, True),
@@ -179,7 +186,7 @@ class Stub:
     def reply(self, packet: bytes) -> Optional[bytes]:
         """The reply to a packet: empty if the packet isn't known, an error if it is wrong."""
         name, rest = packet[:1].decode("latin-1"), packet[1:].decode("latin-1")
-        self.ended = name in ("D", "k")
+        self.ended = name == "D"
         try:
             return self._calls[name](rest) if name in self._calls else b""
         except (ValueError, LookupError, struct.error, rsp.RspError):
@@ -188,27 +195,33 @@ class Stub:
     # Registers
 
     def _numbers(self) -> List[int]:
-        """The state as a list, with the accumulators once more as numbers of 48 bits."""
+        """The state as a list, with the accumulators once more as numbers of 48 bits, and how often IMEM has
+        changed, so that GDB reads it once for each change."""
         numbers = [*_STATE.unpack(bytes(self.line.machine.get()))]
         for high, middle, low in zip(*(numbers[n : n + 8] for n in range(_ACCUMULATORS, _FLAGS, 8))):
             numbers.append((high << 32 | middle << 16 | low) - ((high & 0x8000) << 33))
-        return numbers
+        imem = self.line.machine.memory(rsp.IMEM, 0, 4096)
+        self._imem_changes += imem != self._imem
+        self._imem = imem
+        return [*numbers, self._imem_changes]
 
-    def _values(self) -> List[Tuple[Optional[bytes], int]]:
-        """The bytes of each of GDB's registers, or None if the machine hasn't it, and how many they are."""
-        numbers = self._numbers()
+    def _values(self) -> str:
+        """The bytes of GDB's registers, or x for one that the machine lacks. But floating point is 0, because
+        `tui reg float` hangs GDB 13 otherwise."""
+        numbers, values = self._numbers(), ""
         for number in (_PC, _PC + 1):
             numbers[number] |= _IMEM
-        values: List[Tuple[Optional[bytes], int]] = []
         for form, at, size in _REGISTERS:
-            raw = None if at is None else struct.pack(f">{form}", *numbers[at : at + len(form)])
-            values.append((raw, size))
+            if at is None:
+                values += ("00" if form == "f" else "xx") * size
+            else:
+                values += struct.pack(f">{form}", *numbers[at : at + len(form)]).hex()
         return values
 
     def _set_register(self, rest: str) -> bytes:
         number, raw = (bytes.fromhex(it.rjust(len(it) + len(it) % 2, "0")) for it in rest.split("="))
         form, at, _ = _REGISTERS[int.from_bytes(number, "big")]
-        if at is None:
+        if at is None or at == _CHANGES:
             raise ValueError
         numbers = self._numbers()
         numbers[at : at + len(form)] = struct.unpack(f">{form}", raw)
@@ -216,12 +229,24 @@ class Stub:
             numbers[at] &= 0xFFC
         if at == _PC:
             numbers[at + 1] = (numbers[at] + 4) & 0xFFC
-        parts = [value >> shift & 0xFFFF for shift in (32, 16, 0) for value in numbers[_NUMBERS:]]
+        parts = [value >> shift & 0xFFFF for shift in (32, 16, 0) for value in numbers[_NUMBERS:_CHANGES]]
         numbers[_ACCUMULATORS:_FLAGS] = parts
         numbers[0] = 0
         self.line.machine.set(rsp.State.from_buffer_copy(_STATE.pack(*numbers[:_NUMBERS])))
-        self.line.changed()
+        self._changed()
         return b"OK"
+
+    def _changed(self) -> None:
+        """Makes a change part of the timeline. The steps after it, which it may make wrong, are forgotten."""
+        first, last = self.line.step + 1, self.line.last
+        if first <= last:
+            self._news += f"[rsp] steps {first} to {last} are forgotten\n"
+        self.line.changed()
+
+    def _told(self) -> str:
+        """What GDB hasn't shown yet."""
+        news, self._news = self._news, ""
+        return news
 
     # Packets
 
@@ -238,10 +263,12 @@ class Stub:
             words = bytes.fromhex(name[5:]).decode("latin-1").split()
             return _hex(self._monitor(*words or ["help"]))
         if name == "rsp.goto":
-            return _hex(f"{self._goto(self._goal)}\n") if self._goal >= 0 else b""
-        if name == "rsp.text":
-            word, address = _pair(more)
-            return _hex(_text(word, address & 0xFFC))
+            return _hex(f"{self._more()}\n") if self._more else b""
+        if name == "rsp.texts":
+            rows = enumerate(self.line.machine.memory_words(rsp.IMEM, 0, 1024))
+            return _hex("\n".join(f"{4 * n:03x} {word:08x} {_text(word, 4 * n)}" for n, word in rows if word))
+        if name == "rsp.news":
+            return _hex(self._told())
         return {"fThreadInfo": b"m1", "sThreadInfo": b"l", "C": b"QC1", "Attached": b"1"}.get(name, b"")
 
     def _mode(self, rest: str) -> bytes:
@@ -266,17 +293,19 @@ class Stub:
             raise ValueError
         if data:
             self.line.machine.load(*_place(address), data)
-            self.line.changed()
+            self._changed()
         return b"OK"
 
     def _point(self, rest: str, remove: bool) -> bytes:
         """Sets or removes a breakpoint or a watch."""
         kind, numbers = rest.split(";")[0].split(",", 1)
         at, size = _pair(numbers)
-        bank, low = (rsp.IMEM, at) if at < 4096 and kind in "01" else _place(at)
+        bank, low = rsp.RDRAM, at
+        with suppress(ValueError):
+            bank, low = (rsp.IMEM, at) if at < 4096 and kind in "01" else _place(at)
         if kind in "01":
             if bank != rsp.IMEM:
-                raise ValueError
+                return self._refused("only IMEM, which begins at 0x04001000, can have breakpoints")
             breaks = self._breaks - {at} if remove else self._breaks | {at}
             places = {it & 0xFFC for it in breaks}
             if len(places) > 16:
@@ -292,6 +321,8 @@ class Stub:
                 return self._refused("there are at most eight watches of at most 64 bytes")
             self._watches = kept if remove else {**kept, **parts}
             self.line.watches = {*self._watches}
+        elif kind in "34":
+            return self._refused("only writes can be watched: `watch`, not `rwatch` or `awatch`")
         return b"OK" if kind in "012" else b""
 
     def _refused(self, why: str) -> bytes:
@@ -309,6 +340,8 @@ class Stub:
         if rest not in ("c", "s"):
             return b""
         start, self._was_interrupted = self.line.step, False
+        if self._interrupted():  # a single step doesn't ask
+            return self._stopped("interrupted")
         found = self.line.back(start - 1 if rest == "s" else 0)
         if found.reason is rsp.Reason.WATCH:
             return self._stopped(watch=found.watch)
@@ -348,11 +381,32 @@ class Stub:
     def _goto(self, goal: int) -> str:
         """Goes towards a step. GDB sends no Ctrl-C while it waits for the reply to `monitor`, so this takes
         at most half a second, and what GDB has sourced asks for more."""
+        with self._slice():
+            at = self.line.goto(goal)
+        self._more = (lambda: self._goto(goal)) if self._was_interrupted and at != goal else None
+        more = f", on the way to {goal}" if self._more else ", the last one" if at < goal else ""
+        return f"step {at}{more}"
+
+    @contextmanager
+    def _slice(self) -> Iterator[None]:
+        """Gives a search half a second."""
         self._was_interrupted, self._end = False, time.monotonic() + _SLICE
-        at = self.line.goto(goal)
+        yield
         self._end = math.inf
-        self._goal = goal if self._was_interrupted and at != goal else -1
-        return f"step {at}" + (f", on the way to {goal}" if self._goal >= 0 else "")
+
+    def _wrote(self, name: str, start: int) -> str:
+        """Goes back to the step that changed a register last, and is then before it, as GDB is at a watched
+        store. If there is none it stays at the step `start`. It takes its time as `monitor goto` does."""
+        self._more = None
+        with self._slice():
+            found = self.line.wrote(name)
+        if found.reason is rsp.Reason.WATCH:
+            return f"step {found.step}: {self.line.machine.listing(self.line.machine.regs().pc, 1)[0]}"
+        if self._was_interrupted and found.step:
+            self._more = lambda: self._wrote(name, start)
+            return f"step {found.step}, on the way back"
+        self.line.goto(start)
+        return f"no step from {found.step} to {start} has changed {name}"
 
     def _counts(self, first: str = "0") -> str:
         step = self.line.step
@@ -362,16 +416,26 @@ class Stub:
         rows = sorted(self.line.counts(_number(first)).items())
         return "\n".join(f"{n:9} {at:03x} {_text(words[at // 4], at)}" for at, n in rows)
 
+    def _waits(self) -> str:
+        """Which waits are missing, and where this has looked."""
+        machine = self.line.machine.copy()
+        if machine.peek(4) & 1:
+            return "the machine is halted, so nothing follows: `monitor goto 0` goes to the first step"
+        found = [*map(str, rsp.waits.causes(machine, at_end=True))] or ["none is missing"]
+        ends = {rsp.Status.HALTED: "to the halt", rsp.Status.RESERVED: "to a reserved word"}
+        end = ends.get(machine.step(), "in 1000000 steps, without a halt")
+        return "\n".join([*found, f"looked at: what this data does from here on, {end}", _NOT_LOOKED_AT])
+
     def _change(self, call: Callable[..., None], *operands: Any) -> str:
         """Makes a call that changes the machine."""
         call(*operands)
-        self.line.changed()
+        self._changed()
         return "ok"
 
     def _read(self, number: str) -> str:
         word = self.line.machine.read(_number(number))
         if _number(number) == 7:  # the semaphore, which a read takes
-            self.line.changed()
+            self._changed()
         return f"c{number} {word:08x}"
 
     def _commands(self) -> Dict[str, Callable[..., Any]]:
@@ -381,7 +445,8 @@ class Stub:
             "when": lambda: f"step {self.line.step}",
             "goto": lambda step: self._goto(_number(step)),
             "counts": self._counts,
-            "waits": lambda: "\n".join(map(str, rsp.waits.causes(machine.copy()))) or "none is missing",
+            "wrote": lambda name: self._wrote(name, self.line.step),
+            "waits": self._waits,
             "why": lambda: self._why,
             "task": lambda at: self._change(machine.start_task, _number(at)),
             "pc": lambda at: self._change(machine.set_pc, _number(at)),
@@ -402,13 +467,13 @@ class Stub:
 
     def _monitor(self, name: str, *operands: str) -> str:
         """The reply to `monitor`."""
-        self._goal, commands = -1, self._commands()
+        self._more, commands = None, self._commands()
         if name not in commands:
-            return _HELP
+            return _HELP if name == "help" else f"fault: {name[:80]} isn't a command\n{_HELP}"
         try:
-            return f"{commands[name](*operands)}\n"
+            return f"{commands[name](*operands)}\n{self._told()}"
         except TypeError:  # too many operands, or too few
-            return _HELP
+            return f"fault: {name} has other operands\n{_HELP}"
         except (rsp.RspError, ValueError) as fault:
             return f"fault: {fault}\n"
 
@@ -449,7 +514,7 @@ class Wire:
     def __init__(self, source: int, sink: Callable[[bytes], object]) -> None:
         self._source, self._sink = source, sink
         self._held = self._last = b""
-        self._open = True
+        self._open, self._asked = True, False  # Ctrl-C before a run: GDB may make thousands of short ones
 
     def _fill(self, wait: Optional[float]) -> None:
         if self._open and select.select([self._source], [], [], wait)[0]:
@@ -459,8 +524,8 @@ class Wire:
     def interrupted(self) -> bool:
         """Whether Ctrl-C or the end of the connection came while the machine ran."""
         self._fill(0)
-        found = b"\x03" in self._held or not self._open
-        self._held = self._held.replace(b"\x03", b"", 1)
+        found = self._asked or b"\x03" in self._held or not self._open
+        self._held, self._asked = self._held.replace(b"\x03", b"", 1), False
         return found
 
     def send(self, body: bytes) -> None:
@@ -473,6 +538,7 @@ class Wire:
         """The next packet, or None at the end. One that is too long is dropped."""
         while True:
             head, dollar, rest = self._held.partition(b"$")
+            self._asked = self._asked or b"\x03" in head
             if b"-" in head and self._last:
                 self._sink(self._last)
             body, _, tail = rest.partition(b"#")
@@ -490,19 +556,20 @@ class Wire:
             self._fill(None)
 
 
-def _serve(line: rsp.Timeline, source: int, sink: Callable[[bytes], object]) -> None:
+def _serve(line: rsp.Timeline, source: int, sink: Callable[[bytes], object]) -> bool:
+    """Serves one GDB, and returns whether it has typed `kill`."""
     wire = Wire(source, sink)
     stub = Stub(line, wire.interrupted, lambda text: wire.send(b"O" + _hex(text)))
     try:
         while not stub.ended:
             packet = wire.packet(lambda: not stub.no_ack)
-            if packet is None:
-                return
-            answer = stub.reply(packet)
-            if answer is not None:
-                wire.send(answer)
+            answer = b"" if packet is None else stub.reply(packet)
+            if packet is None or answer is None:
+                return answer is None
+            wire.send(answer)
     except ConnectionError:  # GDB has ended
-        return
+        pass
+    return False
 
 
 def _bytes(path: str, most: int) -> bytes:
@@ -521,14 +588,16 @@ def _machine(options: argparse.Namespace) -> rsp.Machine:
 
 
 def _serve_port(line: rsp.Timeline, port: int) -> None:
-    """Serves the first program that connects, and no other."""
-    with socket.create_server(("127.0.0.1", port)) as server:
-        place = server.getsockname()[1]
-        print(f"rsp-gdb: listens on 127.0.0.1:{place}", file=sys.stderr, flush=True)
-        link = server.accept()[0]
-    with link:
-        link.setsockopt(socket.IPPROTO_TCP, socket.TCP_NODELAY, 1)
-        _serve(line, link.fileno(), link.sendall)
+    """Serves one program after another, until one kills. While one is served, others are refused."""
+    killed = False
+    while not killed:
+        with socket.create_server(("127.0.0.1", port)) as server:
+            port = server.getsockname()[1]
+            print(f"rsp-gdb: listens on 127.0.0.1:{port}", file=sys.stderr, flush=True)
+            link = server.accept()[0]
+        with link:
+            link.setsockopt(socket.IPPROTO_TCP, socket.TCP_NODELAY, 1)
+            killed = _serve(line, link.fileno(), link.sendall)
 
 
 def main() -> None:
@@ -537,7 +606,7 @@ def main() -> None:
     parser.add_argument("--rdram", metavar="FILE", help="the contents of RDRAM; without it 8 MiB of zeros")
     parser.add_argument("--script", metavar="FILE", help="carries out a script for `rsp run` first")
     parser.add_argument("--task", metavar="ADDR", help="starts the task there, after the script")
-    parser.add_argument("--port", metavar="N", help="listens on port N of 127.0.0.1 instead, for one GDB")
+    parser.add_argument("--port", metavar="N", help="listens on port N of 127.0.0.1, for one GDB at a time")
     parser.add_argument("--side", action="store_true", help="prints the path of the file for GDB's option -x")
     options = parser.parse_args()
     if options.side:

@@ -2,7 +2,11 @@
 
 import importlib
 import re
-from typing import Any, Dict, List, Optional, Set
+import struct
+from contextlib import suppress
+from functools import lru_cache
+from types import SimpleNamespace
+from typing import Any, Dict, List, Set, Tuple
 
 gdb: Any = importlib.import_module("gdb")  # only GDB has it
 try:
@@ -11,111 +15,156 @@ try:
 except ImportError:
     raise gdb.GdbError("rsp-gdb needs GDB 13 or later") from None
 IMEM = 0x04001000
+PC = 37  # its number among GDB's registers of a MIPS
+
+
+def asked(what: str) -> str:
+    """The reply of rsp-gdb to a packet.
+
+    GDB drops all frames when this sends a packet, and ends with a segmentation fault if it is at work on one.
+    So only commands, hooks, and what GDB calls at a stop or a change ask: no disassembler and no unwinder.
+    """
+    link = gdb.selected_inferior().connection
+    reply = link.send_packet(what) if isinstance(link, gdb.RemoteTargetConnection) else None
+    return bytes.fromhex((reply or b"").decode()).decode()
+
+
+TEXTS: Dict[int, Tuple[bytes, str]] = {}  # of the words in IMEM that aren't 0, by their addresses there
+
+
+@lru_cache(1)
+def read_texts(connection: int, changes: int) -> None:
+    """Reads the disassembly of IMEM, whose changes rsp-gdb counts in a register: once for each."""
+    rows = (line.split(" ", 2) for line in asked("qrsp.texts").splitlines())
+    TEXTS.clear()
+    TEXTS.update({int(at, 16): (bytes.fromhex(word), line) for at, word, line in rows})
+
+
+def refresh(*_: object) -> None:
+    """At a stop, and after a change. There may be no frame, or one of another target."""
+    with suppress(gdb.error, ValueError):
+        changes = gdb.selected_frame().read_register("imem_changes")
+        read_texts(gdb.selected_inferior().connection_num, int(changes))
 
 
 def text(_: object, info: Any) -> Any:
-    """Disassembles a word of IMEM as rsp does, with the label of its target."""
-    link = gdb.selected_inferior().connection
-    if info.address >> 12 != IMEM >> 12 or not isinstance(link, gdb.RemoteTargetConnection):
+    """Disassembles a word of IMEM as rsp does, with the label of its target. A word that wasn't there at the
+    last stop is shown as a number."""
+    if info.address >> 12 != IMEM >> 12 or not TEXTS or not gdb.selected_inferior().connection:
         return None
-    word = bytes(info.read_memory(4)).hex()
-    reply = link.send_packet(f"qrsp.text:{word},{info.address & 0xFFC:x}") or b""
-    line = bytes.fromhex(reply.decode()).decode()
+    word = bytes(info.read_memory(4))
+    known, line = TEXTS.get(info.address & 0xFFC, (bytes(4), "nop"))
+    line = line if word == known else f".word 0x{word.hex()}"
     target = re.search(r"^(?:b(?!reak)|j(?:al)? ).*0x([0-9a-f]{3})$", line)
     if target:
         label = gdb.execute(f"output/a {IMEM + int(target[1], 16)}", to_string=True).partition(" ")[2]
         line += f" {label}" if label else ""
-    return gdb.disassembler.DisassemblerResult(4, line) if line else None
+    return gdb.disassembler.DisassemblerResult(4, line)
 
 
-class Id:
-    """The identity of a frame: $sp, and where its routine begins."""
-
-    def __init__(self, sp: Any, pc: Any) -> None:
-        self.sp, self.pc = sp, pc
+@lru_cache(1)
+def calls(connection: int, changes: int) -> Tuple[List[int], Dict[int, int]]:
+    """The words of IMEM, and the targets of all calls that name one, by the calls' addresses. This reads IMEM
+    once for each change, as GDB's own unwinders read code."""
+    words = [*struct.unpack(">1024I", gdb.selected_inferior().read_memory(IMEM, 4096))]
+    rows = [*enumerate(words)]
+    jumps = {4 * n: it % 1024 * 4 for n, it in rows if it >> 26 == 3}
+    branches = {4 * n: (4 * n + 4 + it % 1024 * 4) % 4096 for n, it in rows if it >> 26 == 1 and it & 1 << 20}
+    return words, {**jumps, **branches}
 
 
 class Caller:
     """The unwinder. Links have 12 bits, and no frame is in memory: the caller is known only from $ra, if the
-    instruction before the link calls the routine at pc.
-
-    GDB 13 crashes if an unwinder sends a packet, so this reads IMEM.
-    """
+    instruction before the link calls the routine at pc."""
 
     name, enabled = "rsp", True
 
     def __init__(self) -> None:
-        self.words: List[int] = []
         self.called: Set[int] = set()  # what a JALR was seen to call
-        for event in gdb.events.cont, gdb.events.memory_changed, gdb.events.new_objfile, gdb.events.stop:
-            event.connect(lambda _: self.words.clear())
-
-    def targets(self) -> Dict[int, int]:
-        """The targets of all calls in IMEM that name one, by the calls' addresses."""
-        if not self.words:
-            raw = bytes(gdb.selected_inferior().read_memory(IMEM, 4096))
-            self.words = [int.from_bytes(raw[n : n + 4], "big") for n in range(0, 4096, 4)]
-        rows = [*enumerate(self.words)]
-        jumps = {4 * n: it % 1024 * 4 for n, it in rows if it >> 26 == 3}
-        branches = {
-            4 * n: (4 * n + 4 + it % 1024 * 4) % 4096 for n, it in rows if it >> 26 == 1 and it & 1 << 20
-        }
-        return {**jumps, **branches}
 
     def __call__(self, frame: Any) -> Any:
-        pc, ra = frame.read_register("pc"), frame.read_register("ra")
+        registers = [*frame.architecture().registers()]  # GDB takes much longer to find them by their names
+        if registers[-1].name != "imem_changes":
+            return None
+        registers = [*registers[:32], registers[PC], registers[-1]]
+        *general, pc, changes = values = [frame.read_register(it) for it in registers]
+        ra = general[31]
         at, link = (int(pc) & 0xFFFFFFFF) - IMEM, int(ra) & 0xFFC
         if not 0 <= at < 4096:
             return None
-        targets, call = self.targets(), link - 8 & 0xFFC
+        words, targets = calls(gdb.selected_inferior().connection_num, int(changes))
+        call = link - 8 & 0xFFC
         starts = {0, *targets.values(), *self.called}
         start, target = max(it for it in starts if it <= at), targets.get(call)
-        word = self.words[call // 4]
+        word = words[call // 4]
         if word >> 26 == 0 and word & 63 == 9:  # JALR, whose register holds its target at first
-            target = int(frame.read_register(f"r{word >> 21 & 31}")) & 0xFFC
+            target = int(general[word >> 21 & 31]) & 0xFFC
             if start < target <= at and not target <= call <= at:
                 self.called.add(target)
                 start = target
             elif start in self.called:
                 target = start
         is_known = target == start and not start <= call <= at
-        made = frame.create_unwind_info(Id(gdb.Value(0).cast(ra.type), gdb.Value(IMEM + start).cast(ra.type)))
+        sp, begin = (gdb.Value(it).cast(ra.type) for it in (0, IMEM + start))
+        made = frame.create_unwind_info(SimpleNamespace(sp=sp, pc=begin))
         # Without a known caller GDB ends, because the next frame is this one.
-        made.add_saved_register("pc", gdb.Value(IMEM + (link if is_known else at)).cast(ra.type))
-        for name in ("ra", "sp", *(f"r{n}" for n in range(29))):
-            made.add_saved_register(name, frame.read_register(name))
+        values[32] = gdb.Value(IMEM + (link if is_known else at)).cast(ra.type)
+        for register, value in zip(registers, values):
+            made.add_saved_register(register, value)
         return made
 
 
-class Frames:
-    """A filter that changes no frame. With it, `backtrace` doesn't report identical frames at its end."""
-
-    name, priority, enabled = "rsp", 1, True
-
-    def filter(self, frames: Any) -> Any:
-        """The same frames."""
-        return frames
+def flush(*_: object) -> None:
+    """Makes GDB read registers and code again. It doesn't expect that `monitor` and `load` change them."""
+    gdb.execute("maintenance flush register-cache", to_string=True)
+    gdb.execute("maintenance flush dcache", to_string=True)
 
 
-def arrive() -> None:
+def changed(*_: object) -> None:
+    """After a change by the user."""
+    gdb.write(asked("qrsp.news"))
+    flush()
+    refresh()
+
+
+def loaded(*_: object) -> None:
+    """At the first prompt after `load`. GDB doesn't run the hook after `load` if the user has typed it."""
+    gdb.events.before_prompt.disconnect(loaded)
+    changed()
+
+
+def before_load(*_: object) -> None:
+    """Before `load`."""
+    gdb.events.before_prompt.connect(loaded)
+
+
+def arrive(*_: object) -> None:
     """After `monitor`. GDB sends no Ctrl-C while it waits for a reply, so the stub goes to a step in parts,
-    and between them Ctrl-C ends this. GDB doesn't expect that `monitor` changes registers."""
-    link, reply = gdb.selected_inferior().connection, ""
+    and between them Ctrl-C ends this."""
+    reply = ""
     try:
-        while isinstance(link, gdb.RemoteTargetConnection):
-            more = bytes.fromhex((link.send_packet("qrsp.goto") or b"").decode())
-            if not more:
-                break
-            reply = more.decode()
+        more = asked("qrsp.goto")
+        while more:
+            reply, more = more, asked("qrsp.goto")
     except KeyboardInterrupt:
-        pass
-    finally:
-        gdb.write(reply)
-        gdb.execute("maintenance flush register-cache", to_string=True)
+        reply = asked("qRcmd," + b"when".hex())
+    gdb.write(reply)
+    changed()
+
+
+def fixed(_: object, *numbers: Any) -> Any:
+    """$fix(H, L): the s15.16 numbers whose high halves are in $vH, and whose low halves are in $vL."""
+    if len(numbers) != 2 or not all(0 <= int(it) < 32 for it in numbers):
+        raise gdb.GdbError("$fix takes the numbers of two vector registers, as in $fix(2, 3)")
+    high, low = (gdb.selected_frame().read_register(f"v{int(it):02}") for it in numbers)
+    values = [int(high["s"][n]) + int(low["u"][n]) / 65536 for n in range(8)]
+    return gdb.Value(struct.pack(">8d", *values), gdb.lookup_type("double").array(7))
 
 
 def show(_: object, words: str, __: bool) -> None:
     """`info registers`. GDB's own shows a vector of a MIPS as one number."""
+    if not gdb.selected_inferior().pid:
+        raise gdb.GdbError("The program has no registers now.")
     frame = gdb.selected_frame()
     names: List[str] = []
     for word in words.split() or [*(f"r{n}" for n in range(32)), "pc", "npc"]:
@@ -131,19 +180,35 @@ def show(_: object, words: str, __: bool) -> None:
         gdb.write(f"{name:<14} {value if has_parts else value.format_string(format='x')}\n")
 
 
-def start() -> Optional[str]:
+def define(kind: Any, call: Any, *words: Any) -> None:
+    """Defines a command or a function. Hooks call commands, because `python` shows a traceback if Ctrl-C came
+    before."""
+    type("Defined", (kind,), {"invoke": call, "__doc__": call.__doc__})(*words)
+
+
+def start() -> None:
     """Tells GDB of all this."""
-    registers: Any = type("Registers", (gdb.Command,), {"invoke": show, "__doc__": show.__doc__})
-    registers("info registers", gdb.COMMAND_DATA)
+    define(gdb.Command, show, "info registers", gdb.COMMAND_DATA)
+    define(gdb.Function, fixed, "fix")
     kind: Any = type("Text", (gdb.disassembler.Disassembler,), {"__call__": text})
     gdb.disassembler.register_disassembler(kind("rsp"), None)
     gdb.unwinder.register_unwinder(None, Caller(), replace=True)
-    gdb.frame_filters["rsp"] = Frames()
+    # A filter that changes no frame. With it, `backtrace` doesn't report identical frames at its end.
+    same = SimpleNamespace(name="rsp", priority=1, enabled=True, filter=lambda frames: frames)
+    gdb.frame_filters["rsp"] = same
+    for event in gdb.events.stop, gdb.events.before_prompt:  # if the user has a hook-stop, or after a `Quit`
+        event.connect(refresh)
+    for event in gdb.events.memory_changed, gdb.events.register_changed:
+        event.connect(changed)
+    with suppress(gdb.error):  # of a GDB without full screen
+        gdb.execute("tui new-layout rsp regs 2 {-horizontal src 1 asm 1} 2 status 0 cmd 1")
     gdb.execute("set architecture mips:3000")
     gdb.execute("set endian big")
     gdb.execute("set remotetimeout 60")  # GDB gives up after a few seconds otherwise, on a busy computer
-    done: Optional[str] = gdb.execute("define hookpost-monitor\npython arrive()\nend", to_string=True)
-    return done
+    hooks = {"-stop": refresh, "-monitor": flush, "post-monitor": arrive, "post-load": changed}
+    for words, call in {**hooks, "-load": before_load, "post-restore": changed}.items():
+        define(gdb.Command, call, f"maintenance rsp{words}", gdb.COMMAND_DATA)
+        gdb.execute(f"define hook{words}\nmaintenance rsp{words}\nend", to_string=True)
 
 
 start()

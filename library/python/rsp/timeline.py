@@ -1,15 +1,19 @@
 """A machine that goes to any of its steps, forwards and backwards, also across DMAs."""
 
 import collections
+import ctypes
 from bisect import bisect
 from contextlib import contextmanager, suppress
 from typing import Callable, Counter, Iterator, List, NamedTuple, Optional, Set, Tuple
 
 from . import DMEM, IMEM, RDRAM, Reason, Machine, RspError, State
+from .writes import Register, Search
 
 _PIECE = 1 << 16  # RDRAM is kept in pieces, which marks share as long as they are equal
+_KEPT = 40 << 20  # the most bytes of RDRAM that marks keep, so that a process stays below 100 MB
 _TO_RDRAM = 1 << 3  # SP_WR_LEN, as a mask of SP registers
 _RUN = 1000000  # the most steps of a run
+_HISTORY = 256  # steps that the machine undoes by itself; more would not fit into the cache of the processor
 
 Watch = Tuple[int, int]
 
@@ -39,11 +43,12 @@ class _Mark(NamedTuple):
 
 class Timeline:
     """A copy of a machine that can go to any of its steps. `step` is the number of steps up to the present
-    one, and `machine` is the machine there.
+    one, `machine` is the machine there, and `last` is the last step that was reached.
 
     A machine is deterministic, so a step can be reached again from a mark before it. Marks are copies of all
-    registers and memories, one for each `gap` steps. If there are more than `most`, every second one is
-    dropped, and the gap is doubled. So any step can be undone, also a DMA, and what you have changed.
+    registers and memories, one for each `gap` steps. If there are more than `most`, or if they keep more than
+    40 MiB of RDRAM, every second one is dropped, and the gap is doubled. Those of your changes stay. So any
+    step can be undone, also a DMA, and what you have changed.
 
     `machine` may be looked at as you like. After a change by its other calls, such as `load`, call `changed`.
     `breaks` holds up to sixteen addresses of IMEM, and `watches` up to eight ranges of DMEM: pairs of an
@@ -51,8 +56,8 @@ class Timeline:
     `is_interrupted` after at most a million steps each time, and end where they are if it returns true.
     """
 
-    def __init__(self, machine: Machine, gap: int = 1 << 19, most: int = 32) -> None:
-        self.machine = Machine(machine.memory(RDRAM, 0, machine.image_length), 4096)
+    def __init__(self, machine: Machine, gap: int = 1 << 21, most: int = 32) -> None:
+        self.machine = Machine(machine.memory(RDRAM, 0, machine.image_length), _HISTORY)
         for bank in DMEM, IMEM:
             self.machine.load(bank, 0, machine.memory(bank, 0, 4096))
         self.machine.set(machine.get())
@@ -68,6 +73,7 @@ class Timeline:
     def changed(self) -> None:
         """Makes your changes of the machine part of the timeline. What came after them is forgotten."""
         self._marks = [it for it in self._marks if it.step < self.step]
+        self.last = self.step
         self._rdram_moved = True  # RDRAM may differ from _rdram
         self._mark(True)
 
@@ -112,7 +118,7 @@ class Timeline:
             end = least
         while end > least and found.reason is Reason.LIMIT:
             mark = self._marks[self._after(end - 1) - 1]
-            begin, window = max(mark.step, least, end - window), 16 * window
+            begin, window = max(mark.step, least, end - window), 64 * window
             if self.goto(begin) != begin:
                 return Found(Reason.LIMIT, self.step)
             with self._armed():
@@ -128,6 +134,34 @@ class Timeline:
                         break  # only if the machine was changed without a call of `changed`
             end = begin
         return found if self.goto(found.step) == found.step else Found(Reason.LIMIT, self.step)
+
+    def wrote(self, register: str, least: int = 0) -> Found:
+        """Goes back to the last step that changed a register, so that pc is at its instruction, with
+        Reason.WATCH. Names are `$r8` or `$8`, `$v18`, `$v18[3]`, `$acc`, `$acc[3]`, `$vco`, `$vcc`, `$vce`,
+        `$vcc[3]`, `$div_in`, `$div_out` and `$div_loaded`; others raise ValueError.
+
+        The reason is LIMIT if no step from the one where this ends has changed it: that is `least`, or where
+        you did, or as far as this came before it was interrupted, for which it asks at each mark.
+        """
+        sought, window, before = Register(register), 4096, self.step
+        now, least, is_interrupted = sought.value(self.machine.get()), max(0, least), self.is_interrupted
+        self.is_interrupted, found = lambda: False, None
+        try:
+            while before > least and found is None:
+                mark = self._marks[self._after(before - 1) - 1]
+                begin, window = max(mark.step, least, before - window), 64 * window
+                self.goto(begin)
+                other = Search(sought, self.machine, now).last_other(before - begin)
+                if other is not None:
+                    found = Found(Reason.WATCH if begin + other < before else Reason.LIMIT, begin + other)
+                elif begin > least and is_interrupted():
+                    found = Found(Reason.LIMIT, begin)
+                before = begin
+            found = found or Found(Reason.LIMIT, before)
+            self.goto(found.step)
+        finally:
+            self.is_interrupted = is_interrupted
+        return found
 
     def counts(self, least: int = 0) -> Counter[int]:
         """How often the instruction at each address was executed from the step `least` to the present one."""
@@ -153,17 +187,28 @@ class Timeline:
 
     def _mark(self, changed: bool) -> None:
         if self._rdram_moved:
-            raw = self.machine.memory(RDRAM, 0, self.machine.image_length)
-            new = [raw[at : at + _PIECE] for at in range(0, len(raw), _PIECE)]
-            old = self._rdram or new
-            self._rdram = tuple(o if o == n else n for o, n in zip(old, new))
-            self._rdram_moved = False
+            self._rdram, self._rdram_moved = tuple(self._pieces()), False
         dmem, imem = (self.machine.memory(it, 0, 4096) for it in (DMEM, IMEM))
         self._marks.append(_Mark(self.step, self.machine.get(), dmem, imem, self._rdram, changed))
-        if len(self._marks) > self._most:
+        while len(self._marks) > self._most or self._kept() > _KEPT:
             kept = [it for n, it in enumerate(self._marks) if it.changed or n % 2 == 0]
-            if len(kept) < len(self._marks):
-                self._marks, self._gap = kept, 2 * self._gap
+            if len(kept) == len(self._marks):
+                break
+            self._marks, self._gap = kept, 2 * self._gap
+
+    def _pieces(self) -> Iterator[bytes]:
+        """RDRAM in pieces, of which those that haven't changed are the last mark's."""
+        length, room = self.machine.image_length, bytearray(_PIECE)
+        to = (ctypes.c_uint8 * _PIECE).from_buffer(room)
+        for n, at in enumerate(range(0, length, _PIECE)):
+            size = min(_PIECE, length - at)
+            self.machine._call("memory", RDRAM, at, to, size)
+            new = room if size == _PIECE else room[:size]
+            yield self._rdram[n] if self._rdram and self._rdram[n] == new else bytes(new)
+
+    def _kept(self) -> int:
+        """How many bytes of RDRAM the marks keep, at most."""
+        return _PIECE * len({id(piece) for mark in self._marks for piece in mark.rdram})
 
     def _restore(self, mark: _Mark) -> None:
         for n, piece in enumerate(mark.rdram):
@@ -192,14 +237,14 @@ class Timeline:
                 self.machine.drop_watch(number)
 
     def _advance(self, steps: int) -> Found:
-        """Makes at most this many steps, up to a reason to stop, a change of the caller's or the end of a DMA
-        to RDRAM. Leaves a mark where one is due."""
+        """Makes at most this many steps, up to a reason to stop, a change of the caller's, or the end of the
+        first DMA to RDRAM since a mark. Leaves a mark where one is due."""
         after = self._after(self.step)
         is_last = after == len(self._marks)
         end = self._marks[-1].step + self._gap if is_last else self._marks[after].step
         most = min(steps, max(end - self.step, 1), _RUN)
         before = self.machine.memory(DMEM, 0, 4096)
-        stop = self.machine.run_until_move(most, 0, _TO_RDRAM)
+        stop = self.machine.run_until_move(most, 0, 0 if self._rdram_moved else _TO_RDRAM)
         reason, made = stop.reason, stop.steps
         if reason is Reason.MOVE:
             reason = Reason.LIMIT
@@ -208,6 +253,7 @@ class Timeline:
                 last = self.machine.run(1)
                 reason, made = last.reason, made + last.steps
         self.step += made
+        self.last = max(self.last, self.step)
         watch = None
         if self.watches and made and reason in (Reason.WATCH, Reason.HALT, Reason.RESERVED):
             # A halt or a reserved word after a watched change is reported in its place.

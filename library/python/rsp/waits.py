@@ -1,4 +1,4 @@
-"""Finds missing waits for a DMA.
+"""Finds missing waits for a DMA, and waits that leave something behind.
 
 The machine finishes each DMA at once, so a program that forgets to wait runs well here, and fails on a
 console.
@@ -20,6 +20,8 @@ The rules are our own:
   it counts as waiting as soon as it reads again at an address where it has read before. A copy that doesn't
   is followed for AHEAD steps. A load between a read and the branch at which the two ways part doesn't count,
   because the program tests the answer there, and loads again.
+- A copy that waits then gets the answer that all is done, and must come to the instruction at which the
+  machine leaves the wait with the same registers and the same DMEM: a wait that turns leaves nothing behind.
 - While a transfer is under way, no instruction may load a byte that it brings, store a byte that it brings or
   takes, or be fetched from what it brings.
 - One more transfer may be ordered while one is under way, because a console has a second set of DMA registers
@@ -74,7 +76,9 @@ class Transfer(NamedTuple):
 
 class Missing(NamedTuple):
     """An instruction before which a wait is missing: the `transfer`, the instruction's address `place` and
-    its `text`, and `what` it does: `loads`, `stores`, `is fetched`, `writes a DMA register` or `ends`.
+    its `text`, and `what` it does: `loads`, `stores`, `is fetched`, `writes a DMA register` or `ends`. Or the
+    instruction is a read in a wait, and `what` is `leaves another $18 behind if it turns`, for the first
+    register that is another one then, or the first byte of DMEM.
 
     `read` is None, or the address of the last read of an SP register before the instruction, if the fault
     depends on that read: it happens only if the transfer is still under way there.
@@ -103,15 +107,16 @@ class _Walk:
     """A machine, and the transfers that are under way, in their order.
 
     `read` is None, or the address of the last read of a copy, which gets another answer than the machine.
-    `reads` is the number of reads that the copy has made, and `has_parted` whether it has left the machine's
-    way. The twin shows which bytes an instruction touches: it makes the same step over other bytes.
+    `reads` is the number of reads that the copy has made, `has_parted` whether it has left the machine's way,
+    and `waits` whether it waits. The twin shows which bytes an instruction touches: it makes the same step
+    over other bytes.
     """
 
     def __init__(
         self, machine: Machine, twin: Machine, transfers: Sequence[Transfer], read: Optional[int]
     ) -> None:
         self.machine, self.transfers = machine, [*transfers]
-        self.has_parted, self.reads = False, 0
+        self.has_parted, self.waits, self.reads = False, False, 0
         self._twin, self._read = twin, read
         self._asked: Set[int] = set()
         self._code = machine.memory_words(IMEM, 0, 1024)
@@ -171,6 +176,7 @@ class _Walk:
             self.transfers.clear()
             return found, self.machine.step() is Status.OK
         if pc in self._asked and self.has_parted:
+            self.waits = True
             return [], False
         self._asked.add(pc)
         self._read, self.reads = pc, self.reads + 1
@@ -184,19 +190,34 @@ class _Walk:
         copy = _Walk(self.machine.copy(), self._twin, self.transfers[-count:], pc)
         found: List[Missing] = []
         untested: List[Missing] = []  # what is missing since the last read
-        beside: Optional[Machine] = self.machine.copy()  # until the ways part
+        out = self.machine.copy()  # until the ways part: then it is on its way out of a wait
         for _ in range(AHEAD):
             reads = copy.reads
             more, continues = copy.step()
             if copy.reads > reads:
                 found, untested = found + untested, []
             untested += more
-            if beside and beside.step() is Status.OK and beside.regs().pc != copy.machine.regs().pc:
+            if not copy.has_parted and out.step() is Status.OK and out.regs().pc != copy.machine.regs().pc:
                 untested = [it for it in untested if it.what != "loads"]
-                beside, copy.has_parted = None, True
+                copy.has_parted = True
             if not continues:
                 break
-        return found + untested
+        return found + untested + (self._turned(copy, out) if copy.waits else [])
+
+    def _turned(self, copy: "_Walk", out: Machine) -> List[Missing]:
+        """Lets a copy that waits leave its wait, and names what it leaves behind that the machine doesn't."""
+        place, end, turned = copy.machine.regs().pc, out.regs().pc, copy.machine
+        for _ in range(AHEAD):
+            if turned.regs().pc == end or turned.step() is not Status.OK:
+                break
+        if turned.regs().pc != end:
+            return []
+        names = [it.name for it in turned.get().diff(out.get())]
+        pairs = enumerate(zip(turned.memory(DMEM, 0, 4096), out.memory(DMEM, 0, 4096)))
+        names += [f"DMEM {at:03x}" for at, (mine, its) in pairs if mine != its]
+        text = turned.listing(place, 1)[0].text
+        what = f"leaves another {', '.join(names[:1])} behind if it turns"
+        return [Missing(copy.transfers[-1], place, text, what)] if names else []
 
     def _write(self, pc: int, move: Move) -> List[Missing]:
         full = self.transfers[1:]

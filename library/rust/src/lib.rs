@@ -47,4 +47,4 @@ pub use shapes::{
     Accumulators, Bank, Changes, DivideState, Dma, Event, Field, FlagBits, Line, MoveEnd, Reason, Scalars, SpWords, State, StepEnd, Stop,
     Traced,
 };
-pub use texts::{assemble, labels, text, version};
+pub use texts::{assemble, explain_reply, explain_text, labels, text, version};

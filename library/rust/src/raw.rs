@@ -127,6 +127,7 @@ extern "C" {
     pub fn brsp_text(word: u32, address: u32, out: *mut Line) -> u32;
     pub fn brsp_listing(m: *mut Handle, address: u32, lines: *mut Line, len: usize) -> u32;
     pub fn brsp_explain(origin: u32, text: *const u8, len: usize, out: *mut Operand) -> u32;
+    pub fn brsp_explain_text(origin: u32, text: *const u8, len: usize, said: *mut u8, capacity: usize, count: *mut usize) -> u32;
     pub fn brsp_session_new(b: *mut SessionHandle, image: *const u8, len: usize) -> u32;
     pub fn brsp_session_take(
         b: *mut SessionHandle,
@@ -138,6 +139,16 @@ extern "C" {
         written: *mut usize,
     ) -> u32;
     pub fn brsp_session_end(b: *mut SessionHandle, reply: *mut u8, capacity: usize, written: *mut usize) -> u32;
+    pub fn brsp_explain_reply(
+        before: usize,
+        lines: *const u8,
+        len: usize,
+        reply: *const u8,
+        reply_len: usize,
+        said: *mut u8,
+        capacity: usize,
+        count: *mut usize,
+    ) -> u32;
     pub fn brsp_session_memory(b: *mut SessionHandle, bank: u32, address: u32, bytes: *mut u8, len: usize) -> u32;
     pub fn brsp_session_free(b: *mut SessionHandle);
 }

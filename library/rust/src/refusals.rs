@@ -39,7 +39,7 @@ fn arguments(call: &str) -> &'static [(&'static str, Range)] {
         "add_watch" => &[("address", DMEM), ("length", WATCHED)],
         "reg" | "vreg" | "set_vreg" => &[("number", REGISTER)],
         "set_reg" => &[("number", REGISTER), ("value", WORD)],
-        "assemble" | "labels" => &[("origin", ORIGIN)],
+        "assemble" | "labels" | "explain_text" => &[("origin", ORIGIN)],
         "text" => &[("word", WORD), ("address", PLACE)],
         "listing" => &[("address", PLACE), ("count", LISTED)],
         "first_difference" => &[("every", COUNT)],

@@ -6,6 +6,7 @@ use crate::shapes::Line;
 use crate::{Operand, RspError};
 
 const NO_MEANING: u32 = 106;
+const NO_ROOM: u32 = 115;
 
 pub(crate) const NO_LINE: raw::Line = raw::Line { word: 0, address: 0, len: 0, text: [0; 68] };
 
@@ -38,6 +39,55 @@ pub fn labels(text: &str, origin: u32) -> Result<Vec<(String, u16)>, RspError> {
     done(unsafe { raw::brsp_labels(origin, text.as_ptr(), text.len(), found.as_mut_ptr(), found.len(), &mut count) }, "labels", &[])?;
     let name = |it: &raw::Label| String::from_utf8_lossy(&it.name[..usize::from(it.len)]).into_owned();
     Ok(found[..count].iter().map(|it| (name(it), it.address)).collect())
+}
+
+/// What a call says in a buffer. The call is made again if the buffer is too small for it.
+fn said(call: &str, given: &[u64], make: impl Fn(&mut [u8], &mut usize) -> u32) -> Result<String, RspError> {
+    right_version()?;
+    let (mut out, mut count) = (vec![0; 1024], 0);
+    let mut status = make(&mut out, &mut count);
+    if status == NO_ROOM {
+        out.resize(count, 0);
+        status = make(&mut out, &mut count);
+    }
+    done(status, call, given)?;
+    Ok(String::from_utf8_lossy(&out[..count]).into_owned())
+}
+
+/// What is wrong with a text, in the lines of `rsp asm --explain`: all its faults, at most twenty, and how many more there are. It is empty if
+/// the text has no fault. `origin` is as for [`assemble`].
+///
+/// ```
+/// assert!(rsp::explain_text("nop\nfoo", 0)?.starts_with("line 2: fault 11 UnknownName line 2\n"));
+/// # Ok::<(), rsp::RspError>(())
+/// ```
+pub fn explain_text(text: &str, origin: u32) -> Result<String, RspError> {
+    // SAFETY: each pointer is of a borrow, with its own length.
+    let make = |to: &mut [u8], count: &mut usize| unsafe {
+        raw::brsp_explain_text(origin, text.as_ptr(), text.len(), to.as_mut_ptr(), to.len(), count)
+    };
+    said("explain_text", &[origin.into()], make)
+}
+
+/// What is wrong with lines of a script to which a [`Session`](crate::Session) replied, in the lines of `rsp run --explain`. It is empty if the
+/// reply is no fault.
+///
+/// `lines` is a line with a command, or a block from its `asm` on, up to its `end` or to the end of the script. The script has `before` lines
+/// before them.
+///
+/// ```
+/// let said = rsp::explain_reply("stop 3", "fault 30 BadCommand\n", 6)?;
+/// assert!(said.starts_with("line 7: fault 30 BadCommand\n"));
+/// # Ok::<(), rsp::RspError>(())
+/// ```
+pub fn explain_reply(lines: impl AsRef<[u8]>, reply: impl AsRef<[u8]>, before: usize) -> Result<String, RspError> {
+    let (lines, reply) = (lines.as_ref(), reply.as_ref());
+    // SAFETY: each pointer is of a borrow, with its own length.
+    let make = |to: &mut [u8], count: &mut usize| unsafe {
+        let given = (lines.as_ptr(), lines.len(), reply.as_ptr(), reply.len());
+        raw::brsp_explain_reply(before, given.0, given.1, given.2, given.3, to.as_mut_ptr(), to.len(), count)
+    };
+    said("explain_reply", &[], make)
 }
 
 /// The disassembly of a word for an address, a multiple of 4 below 4096.

@@ -763,6 +763,40 @@ static void explanations(void)
     SEE(brsp_explain(4096, (const uint8_t *)"jr", 2, &out) == BRSP_OK && out.number == 1);
 }
 
+/* What is said of texts and of replies, by the headings of docs/FAULTS.md, in a buffer that is filled only as far as it is said. */
+static void said(void)
+{
+    static const char text[] = "nop\nfoo $1\nj x\n", script[] = "asm 0x80\nnop\nj x\nend\nmem\n", fault[] = "fault 15 LabelMissing line 2\n";
+    static const char first[] = "line 2: fault 11 UnknownName line 2\n  ", block[] = "line 9: fault 15 LabelMissing line 2\n  ";
+    static const char line[] = "line 7: fault 30 BadCommand\n  ", open[] = "line 4: fault 10 BadLine line 3\n  ";
+    const uint8_t *at = (const uint8_t *)text, *lines = (const uint8_t *)script, *reply = (const uint8_t *)fault;
+    uint8_t out[1000], kept[1000];
+    size_t count = 9, whole;
+    memset(out, 0xa5, sizeof out);
+    memcpy(kept, out, sizeof out);
+    SEE(brsp_explain_text(2, at, strlen(text), out, sizeof out, &count) == BRSP_OUT_OF_RANGE && count == 9);
+    SEE(brsp_explain_text(4100, at, strlen(text), out, sizeof out, &count) == BRSP_OUT_OF_RANGE && count == 9);
+    SEE(brsp_explain_text(0, (const uint8_t *)"\xff", 1, out, sizeof out, &count) == BRSP_NO_MEANING && count == 9);
+    SEE(brsp_explain_text(0, at, strlen(text), out, 0, &count) == BRSP_NO_ROOM && count > strlen(first) && count < sizeof out);
+    whole = count;
+    SEE(brsp_explain_text(0, at, strlen(text), out, whole - 1, &count) == BRSP_NO_ROOM && count == whole && !memcmp(out, kept, sizeof out));
+    SEE(brsp_explain_text(0, at, strlen(text), out, whole, &count) == BRSP_OK && count == whole && !memcmp(out, first, strlen(first)));
+    SEE(out[whole - 1] == '\n' && !memcmp(out + whole, kept + whole, sizeof out - whole));
+    SEE(brsp_explain_text(4096, (const uint8_t *)"", 0, out, sizeof out, &count) == BRSP_OK && count == 0);
+    SEE(brsp_explain_text(0, (const uint8_t *)"nop", 3, out, 0, &count) == BRSP_OK && count == 0);
+    memcpy(out, kept, sizeof out);
+    SEE(brsp_explain_reply(6, lines, 21, reply, strlen(fault), out, 0, &count) == BRSP_NO_ROOM && count > strlen(block) && count < sizeof out);
+    whole = count;
+    SEE(brsp_explain_reply(6, lines, 21, reply, strlen(fault), out, whole - 1, &count) == BRSP_NO_ROOM && count == whole && !memcmp(out, kept, sizeof out));
+    SEE(brsp_explain_reply(6, lines, 21, reply, strlen(fault), out, whole, &count) == BRSP_OK && count == whole && !memcmp(out, block, strlen(block)));
+    SEE(!memcmp(out + whole, kept + whole, sizeof out - whole));
+    SEE(brsp_explain_reply(6, lines + 21, 4, (const uint8_t *)"fault 30 BadCommand", 19, out, sizeof out, &count) == BRSP_OK && !memcmp(out, line, strlen(line)));
+    SEE(brsp_explain_reply(0, lines, 17, (const uint8_t *)"fault 10 BadLine line 3\n", 24, out, sizeof out, &count) == BRSP_OK && !memcmp(out, open, strlen(open)));
+    SEE(brsp_explain_reply(0, lines + 21, 4, (const uint8_t *)"ok\n", 3, out, sizeof out, &count) == BRSP_OK && count == 0);
+    SEE(brsp_explain_reply(0, (const uint8_t *)"# no\n", 5, reply, strlen(fault), out, sizeof out, &count) == BRSP_OK && count == 0);
+    SEE(brsp_explain_reply(0, lines, 0, reply, strlen(fault), out, sizeof out, &count) == BRSP_OK && count == 0);
+}
+
 static void texts(void)
 {
     brsp_machine m = BRSP_NONE;
@@ -783,6 +817,7 @@ static void texts(void)
     SEE(brsp_assemble(0, (const uint8_t *)"nop\n\xff\n", 6, words, 4, &out) == BRSP_NO_MEANING && out.fault == 33);
     SEE(words[0] == 9);
     explanations();
+    said();
     SEE(brsp_assemble(0, text, strlen(good), words, 4, &out) == BRSP_OK && out.count == 3 && out.line == 0 && out.fault == 0);
     SEE(words[0] == 0 && words[1] == 0x4a631050u && words[2] == 0x0d && words[3] == 9);
     memset(&line, 0xee, sizeof line);

@@ -194,6 +194,8 @@ static void test_texts()
         see("a fault's parts", fault.status == BRSP_NO_MEANING && fault.fault == BRSP_FAULT_OUT_OF_RANGE && fault.line == 3 && fault.operand.number == 2);
     }
     see("explain", brsp::explain("lui $1").number == 2 && brsp::explain("nop").number == 0);
+    refuses(BRSP_NO_MEANING, "explain_text: the text isn't UTF-8", [] { static_cast<void>(brsp::explain_text("\xff")); });
+    refuses(BRSP_OUT_OF_RANGE, "explain_text: origin is 2, not a multiple of 4 up to 4096", [] { static_cast<void>(brsp::explain_text("nop", 2)); });
     const std::vector<brsp_label> labels = brsp::labels("nop\nx: nop\ny:", 8);
     see("labels", labels.size() == 2 && labels[0].address == 12 && std::string(labels[1].name) == "y" && labels[1].address == 16);
     see("text", brsp::text(0x4a631050) == "vadd $v1, $v2, $v3[1q]");

@@ -1,5 +1,5 @@
 /* What the calls of brsp.h take of memory: linked with -Wl,--wrap=malloc,--wrap=realloc,--wrap=free.
- *   - brsp_new, brsp_copy, brsp_assemble, brsp_explain and brsp_labels while the K-th call of malloc or realloc fails, for each K. A handle keeps what it held.
+ *   - brsp_new, brsp_copy, brsp_assemble, brsp_explain, brsp_explain_text, brsp_explain_reply and brsp_labels while the K-th call of malloc or realloc fails, for each K. A handle keeps what it held.
  *   - brsp_session_new the same, and a script with blocks: each refused call is made again, and the replies are those to the whole script.
  *   - What a handle held is freed when brsp_new or brsp_copy puts another machine into it.
  *   - No other call takes memory or frees any: accepted, refused, and of a handle that holds no machine.
@@ -121,6 +121,28 @@ static void failing_explain(void)
         see("brsp_explain", k, status == BRSP_NO_MEMORY && out.number == 99);
     }
     see("brsp_explain takes memory", k, k > 0 && status == BRSP_OK && out.number == 1 && out.kind == BRSP_OPERAND_JUMP);
+}
+
+/* What is said without memory for it changes nothing, and keeps none. */
+static void failing_said(int is_reply)
+{
+    static const char text[] = "asm 0\na: foo $1\nend\n", fault[] = "fault 11 UnknownName line 1";
+    const uint8_t *at = (const uint8_t *)text, *told = (const uint8_t *)fault;
+    uint8_t said[400];
+    size_t count = 0;
+    uint32_t status = BRSP_NO_MEMORY;
+    long k, blocks = held;
+    for (k = 0; k < 1000; k++) {
+        left = k;
+        count = 99;
+        said[0] = 77;
+        status = is_reply ? brsp_explain_reply(0, at, strlen(text), told, strlen(fault), said, sizeof said, &count)
+                          : brsp_explain_text(0, at + 6, 10, said, sizeof said, &count);
+        left = -1;
+        if (status == BRSP_OK) break;
+        see("an explanation", k, status == BRSP_NO_MEMORY && count == 99 && said[0] == 77 && held == blocks);
+    }
+    see("an explanation takes memory", k, k > 1 && status == BRSP_OK && count > 26 && said[5] == (is_reply ? '2' : '1') && held == blocks);
 }
 
 /* Labels without memory for one of them, or for the list, change nothing. */
@@ -400,6 +422,8 @@ int main(void)
     refused_calls(&m);
     failing_explain();
     failing_labels();
+    failing_said(0);
+    failing_said(1);
     other_calls(&m);
     without_machine();
     failing_session_new();

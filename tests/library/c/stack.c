@@ -18,6 +18,7 @@ static brsp_machine m = BRSP_NONE, copy = BRSP_NONE;
 static uint8_t bytes[4096], image[8192];
 static uint32_t words[1024], word;
 static char text[65536];
+static const char faulty[] = "asm 0\nvadd $v1 , $5, v3\nmulff $1\nlqv $v1, 4, 2, $16\nj 0x1080\n.word 99999999999, x y\nend\n";
 static brsp_state state;
 static brsp_sp_words sp;
 static brsp_line lines[1024];
@@ -82,6 +83,12 @@ static void sp_words(void) { word = brsp_sp(&m, &sp); }
 static void set_sp(void) { word = brsp_set_sp(&m, &sp); }
 static void assemble(void) { word = brsp_assemble(0, (const uint8_t *)text, strlen(text), words, 1024, &assembled); }
 static void explain(void) { word = brsp_explain(0, (const uint8_t *)text, strlen(text), &operand); }
+static void explain_text(void) { word = brsp_explain_text(0, (const uint8_t *)faulty + 6, strlen(faulty) - 6, reply, sizeof reply, &number); }
+static void explain_reply(void)
+{
+    static const char fault[] = "fault 12 BadOperand line 1";
+    word = brsp_explain_reply(0, (const uint8_t *)faulty, strlen(faulty), (const uint8_t *)fault, strlen(fault), reply, sizeof reply, &number);
+}
 static void labels(void) { word = brsp_labels(0, (const uint8_t *)text, strlen(text), found, 4, &number); }
 static void disassemble(void) { word = brsp_text(0x4a631050u, 0, lines); }
 static void listing(void) { word = brsp_listing(&m, 0, lines, 1024); }
@@ -105,7 +112,7 @@ static const struct {
     void (*made)(void);
 } calls[] = {
     { "nothing", nothing }, { "brsp_version", version }, { "brsp_new", make }, { "brsp_assemble", assemble }, { "brsp_load_words", load_words },
-    { "brsp_explain", explain }, { "brsp_labels", labels },
+    { "brsp_explain", explain }, { "brsp_explain_text", explain_text }, { "brsp_explain_reply", explain_reply }, { "brsp_labels", labels },
     { "brsp_load", load }, { "brsp_memory", memory }, { "brsp_memory_words", memory_words }, { "brsp_step", step }, { "brsp_run", run },
     { "brsp_step_changes", changed },
     { "brsp_run_until_move", run_until_move }, { "brsp_event", event }, { "brsp_pass_dma", pass_dma }, { "brsp_history", history },

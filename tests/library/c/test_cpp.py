@@ -33,6 +33,10 @@ def test_class(compiler: str, standard: str, folder: Path) -> None:
     assert_passes(program(folder, HERE / "machine.cpp", compiler, standard))
 
 
+def test_explanations(folder: Path, explained: Path) -> None:
+    assert_passes(program(folder, HERE / "explanations.cpp"), explained)
+
+
 @pytest.mark.needs("valgrind")
 def test_class_under_valgrind(folder: Path) -> None:
     """A machine that is lost, freed twice, or used after its end."""

@@ -1,8 +1,8 @@
 """The programs in C over the library, and its allocator for WebAssembly, under the sanitizers of gcc.
 
 They fail if the sanitizer of addresses or that of undefined behaviour finds something, or memory that nobody
-freed, or if a program says something else than without them. tests/plugin and tests/program do the same with
-the plugin and with the program in C, tests/library/c/test_runner.py with the runner of vectors.
+freed, or if a program says something else than without them. tests/plugin does the same with the plugin, and
+tests/library/c/test_runner.py with the runner of vectors.
 """
 
 from pathlib import Path

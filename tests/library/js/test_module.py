@@ -99,6 +99,13 @@ def test_scripts(runner: Any) -> None:
 
 
 @in_javascript
+def test_explanations(runner: Any, explained: Path) -> None:
+    shutil.copy(explained, runner.at)
+    found = json.loads(runner.test("explanations.js", f"/at/{explained.name}"))
+    assert [said for said, _ in found] == [expected for _, expected in found]
+
+
+@in_javascript
 @pytest.mark.parametrize("name", ("calls", "limits"))
 def test_in_javascript(runner: Any, name: str) -> None:
     """Each call in its range and out of it; memory that is given back, the stack, dropped machines."""

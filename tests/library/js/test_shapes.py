@@ -22,7 +22,7 @@ TYPES = page("library/js/rsp.d.ts")
 # A field that has another name there.
 RENAMED = {"bytes": "stored_bytes"}
 # What one of the classes of Python and JavaScript has alone: a call of numpy, and how a machine is freed.
-PYTHON_ALONE, JAVASCRIPT_ALONE = {"close", "memory_array"}, {"free"}
+PYTHON_ALONE, JAVASCRIPT_ALONE = {"run_to_halt", "close", "memory_array"}, {"free"}
 # The fields of a state that can have a fault and another name than the number has.
 FIELDS = {"ZERO": "words[0]", "LOADED": "divider.loaded", "SP": "sp[0]"}
 # A script that prints the numbers and the layouts of shapes.js, and the calls of errors.js.
@@ -75,7 +75,8 @@ def test_numbers_and_calls(library_js: Dict[str, Any]) -> None:
     fields = {FIELDS.get(name, name.lower()): number for name, number in shapes.FIELDS.items()}
     fields.update({f"sp[{n}]": fields["sp[0]"] + n for n in range(8)})
     assert {it: int(n) for n, it in library_js["FIELDS"].items()} == fields
-    known = python_names("Machine") | {"Machine", "assemble", "text", "first_difference"}
+    functions = "Machine assemble explain_text explain_reply text first_difference".split()
+    known = python_names("Machine") | {*functions}
     assert {*library_js["calls"]} - known == set()
 
 

@@ -4,9 +4,11 @@ They fail if a call does something else than docs/EMBEDDING.md says, or isn't re
 """
 
 import operator
+import pickle
 import signal
 import sys
 from contextlib import suppress
+from pathlib import Path
 from typing import Any, Callable, Dict, Iterator, Set, Tuple, Union
 from unittest import mock
 
@@ -46,15 +48,24 @@ CALLS: Dict[str, Tuple[Any, ...]] = {
 }  # fmt: skip
 OF_A_SESSION: Dict[str, Tuple[Any, ...]] = {"feed": ("step\n",), "end": (), "close": ()}
 # Those that are made of other calls.
-NO_CALL = {"iter_trace", "memory_array", "iter_feed", "save_state", "load_state"}
+NO_CALL = {"iter_trace", "memory_array", "iter_feed", "save_state", "load_state", "run_to_halt"}
 # Calls that aren't a machine's, or give no result at once, by their numbers.
 FUNCTIONS: Dict[str, Callable[..., object]] = {
     "Machine": lambda depth: rsp.Machine(bytes(64), depth),
     "iter_trace": lambda limit: [*loaded("break").iter_trace(limit)],
+    "run_to_halt": lambda limit: halted().run_to_halt(limit),
     "assemble": lambda origin: rsp.assemble("", origin),
     "text": rsp.text,
+    "explain_text": lambda origin: rsp.explain_text("", origin),
+    "explain_reply": lambda before: rsp.explain_reply("", b"", before),
     "first_difference": lambda *numbers: rsp.first_difference(loaded("break"), loaded("break"), *numbers),
 }
+
+
+def halted() -> rsp.Machine:
+    machine = rsp.Machine()
+    machine.write(4, 2)
+    return machine
 
 
 def methods_of(kind: type) -> Set[str]:
@@ -194,6 +205,7 @@ REFUSALS: Tuple[Refusal, ...] = (
     (OUT, "image has 0 bytes", lambda it: rsp.Rsp(b"")),
     (OUT, "image has 8388616 bytes", lambda it: rsp.Rsp(bytes(8388616))),
     (TypeError, "text is of type bytes", lambda it: ANY.assemble(b"nop")),
+    (TypeError, "explain_text: text is of type bytes", lambda it: ANY.explain_text(b"nop")),
     (rsp.AssemblyError, "fault 11 UnknownName line 2: foo $1", lambda it: rsp.assemble("nop\n foo $1")),
     (AttributeError, "rsp has no names", lambda it: ANY.names),
 )
@@ -432,6 +444,49 @@ def test_labels() -> None:
     words = rsp.assemble(EVENTS, 0x100)
     assert words.labels == {"start": 0x100, "transfer": 0x11C, "end": 0x120}
     assert [*words.labels] == ["start", "transfer", "end"] and rsp.assemble("nop").labels == {}
+
+
+def test_symbols() -> None:
+    """The labels of a block for DMEM are numbers in operands, and nowhere else; a fault shows the text."""
+    data = rsp.assemble("in: .word 1, 2\nlw: .word 0\nv:", 0x40)
+    text = """v2: lw $1, lw($0) # lw
+vadd $v1, $v1, $v1[v]; in
+ lw $2, in+4($1)
+ori $3, $0, v - 0x2
+bne $1, $0, v2
+.word in, v"""
+    numbers = ("lw($0)", "72($0)"), ("in+4", "68"), ("v - 0x2", "74"), ("in, v", "64, 76")
+    expected = text
+    for symbol, number in numbers:
+        expected = expected.replace(symbol, number)
+    words = rsp.assemble(text, symbols=data.labels)
+    assert words == rsp.assemble(expected) and words.labels == {"v2": 0} and words.lines == [*range(1, 7), 6]
+    with pytest.raises(rsp.AssemblyError, match="OutOfRange line 2: lw .1, far") as caught:
+        rsp.assemble("nop\nlw $1, far($0)", symbols={"far": 1 << 20})
+    assert caught.value.source == "lw $1, far($0)"
+    assert_raises(ValueError, "the symbol in is a label", rsp.assemble, " in: nop", 0, data.labels)
+
+
+def test_run_to_halt() -> None:
+    """It fails at anything but a halt, and says where."""
+    machine = loaded("loop: addiu $1, $1, 1\nbne $1, $2, loop\nnop\nbreak\n")
+    machine.set_reg(2, 1000000)
+    assert machine.run_to_halt() == (Reason.HALT, 3000001, 16, None)
+    assert machine.run_to_halt(0) == (Reason.HALT, 0, 16, None)
+    machine = loaded("nop\nj 0x000\nnop\n.word 0xffffffff\n")
+    with pytest.raises(rsp.NotHalted, match="^LIMIT after 1000002 steps, before 000 00000000 nop$") as caught:
+        machine.run_to_halt(1000002)
+    assert pickle.loads(pickle.dumps(caught.value)).stop == (Reason.LIMIT, 1000002, 0, None)
+    machine.set_pc(12)
+    with pytest.raises(rsp.NotHalted, match="^RESERVED after 0 steps, before 00c ffffffff"):
+        machine.run_to_halt()
+
+
+def test_explanations(explained: Path) -> None:
+    for n, *row in (it.split("\t") for it in explained.read_text().splitlines()):
+        given, reply, said = map(bytes.fromhex, row)
+        found = rsp.explain_reply(given, reply, int(n)) if reply else rsp.explain_text(given.decode(), int(n))
+        assert found == said.decode()
 
 
 def test_texts() -> None:

@@ -9,13 +9,16 @@ import os
 import pty
 import random
 import re
+import select
 import socket
+import struct
 import subprocess
 import sys
 import termios
+import time
 from contextlib import contextmanager
 from pathlib import Path
-from typing import Any, Callable, Dict, Iterator, List
+from typing import Any, Callable, Dict, Iterator, List, Union
 
 import pytest
 
@@ -83,10 +86,10 @@ reverse-continue; reverse-continue; reverse-continue; monitor goto 0; p *(char[2
     New value = 0 | last () at text.s:230 | New value = 0 | last () at text.s:227 | check () | "\\000\\001"
 """,
     "a halt and a reserved word": """
-break 10; continue; stepi; stepi; reverse-continue
-    10\t | halted after 88 steps | machine is halted | SIGSTOP | 10\t
-monitor goto 88; p $sp_status; set var *(int*)0x04001028 = -1; monitor write 4 5; continue; reverse-stepi
-    step 88 | [ halted broke ] | ok | word at pc is reserved | SIGILL | 10\t
+break 10; continue; stepi; stepi; monitor waits; reverse-continue
+    10\t | halted after 88 steps | machine is halted | SIGSTOP | halted, so nothing follows | 10\t
+monitor goto 99; p $sp_status; set var *(int*)0x04001028 = -1; monitor write 4 5; continue; reverse-stepi
+    step 88, the last one | [ halted broke ] | ok | word at pc is reserved | SIGILL | 10\t
 p $sp_status; set $acc[7] = -5; set $v31.b[3] = 9; set $r9 = $pc; stepi; p $acc[7]; p $v31.s[1]; p/x $r9
     [ ] | halted after 88 | = -5 | = 9 | = 0x4001024
 """,
@@ -103,9 +106,10 @@ tbreak check; reverse-continue; backtrace; next; next; next; next; up; tbreak 10
     "conditions, until, reverse steps and finishes": """
 break scale if $r16 == 0x20; continue; until 17; reverse-step; reverse-next; reverse-finish; info breakpoints
     scale () at text.s:11 | scale () at text.s:17 | 16\t | 15\t | 16\t | breakpoint already hit 1 time
-tbreak inner; continue; reverse-finish; disassemble /s start,+8; x/i 0x04001008; detach
+tbreak inner; continue; reverse-finish; disassemble /s start,+8; x/i 0x04001008
+set debug remote 1; stepi; next; detach
     inner () | check () at text.s:22 | text.s: | 1\tstart: | ori $16, $0, 0 | 2\tori | jal 0x028 <scale>
-    detached
+    vCont;c | vCont;c | detached
 """,
     "registers and memories": """
 tbreak last; continue; set $v01.s[3] = -5; info registers v01 vcc $acc sp_status npc; x/2xh 0x04000080
@@ -115,11 +119,27 @@ p $v04.u[1] = 65535; p $v04.s[1]; p/x $v04.b[2]; set var *(char*)0x80000123 = 5;
 python print([it for it in sys.modules if it in ("rsp", "ctypes")]); x/xw 0x20000000
     [] | Cannot access memory at address 0x20000000
 """,
+    "a change in the past": """
+break check; continue; monitor goto 20; set $r8 = 5; monitor goto 30; monitor goto 10; set var *(int*)0 = 5
+    step 20 | [rsp] steps 21 to 68 are forgotten | step 30 | step 10 | [rsp] steps 11 to 30 are forgotten
+monitor goto 12; monitor goto 11; monitor load dmem 0 00; monitor goto 13; monitor goto 0; load; x/i $pc
+    step 11 | ok\n[rsp] steps 12 to 12 are | step 13 | step 0 | [rsp] steps 1 to 13 are | ori $16, $0
+""",
+    "an overlay, s15.16, and what is refused": """
+tbreak last; continue; set var *(int*)0x04001068 = 0x40910000; x/i $pc; set $r17 = 0x1f00
+    last () | mtc0 $17, $c0
+display/i 0x04001f00; stepi 5; reverse-stepi 2; set $v02.s[0] = -2; set $v03.u[0] = 32768; p $fix(2, 3)
+    sll $0, $1, 0 | nop | = {-1.5,
+p $fix(2); p $fix(2, 32); break *0x80001000; continue; monitor why; delete 2; detach; info registers
+    $fix takes | $fix takes | Cannot access | only IMEM, which | detached | The program has no registers
+""",
     "monitor": """
 monitor; tbreak check; continue; monitor counts; monitor counts 66; monitor why
     monitor task ADDR | 10 028 lqv $v1[0], 0($16) | 1 040 jr | 1 010 bgezal | 1 014 | nothing was refused
-monitor waits; monitor when; monitor task 1; monitor task; monitor read 4; monitor goto x; monitor goto
-    07c: lh $5, 0($0): loads | step 68 | fault: start_task: 1 | monitor when | c4 00000000 | fault: x isn't
+monitor waits
+    07c: lh $5, 0($0): loads | 024: break: ends before the end of the transfer of 078 | looked at: | the halt
+monitor when; monitor task 1; monitor task; monitor foo; monitor read 4; monitor goto x
+    step 68 | start_task: 1 | task has other operands | foo isn't a command\nmonitor when | c4 0000 | x isn't
 monitor goto -1; monitor load imem 0x20 zz; monitor load disk 0 00; monitor load dmem 0x84 0a0B; monitor sp
     monitor when | fault: | fault: BANK | ok | c4 00000000 | interrupt 0
 monitor mem dmem 0x80 6; monitor mem dmem 4000 0x61; monitor dis 0x10 1; monitor pc 8; monitor regs
@@ -138,21 +158,25 @@ def test_session(name: str, folder: Path) -> None:
     words = [*made(folder), "-batch", *(word for it in commands for word in ("-ex", it))]
     output = run(*words, cwd=folder, env=ENV).stdout.partition("Transfer rate")[2]
     assert_parts(output, [part for it in lines if it[0] == " " for part in it.strip(" ").split(" | ")])
-    assert not re.search("identical|corrupt|SIGTRAP", output)  # SIGTRAP is a stop that GDB doesn't expect
+    # A stop that GDB doesn't expect; and what comes only after a change of IMEM, in a session with packets.
+    assert not re.search("identical|corrupt|SIGTRAP|qrsp.texts|m4001000,1000", output)
 
 
 @with_gdb
-def test_page(folder: Path) -> None:
-    """The first session of the page, typed as it stands."""
+@pytest.mark.parametrize("text, begin", (("scale.s scale", "| rsp-gdb --script"), ("names.s", "| rsp-gdb\n")))
+def test_page(text: str, begin: str, folder: Path) -> None:
+    """The sessions of the page, typed as they stand."""
     made(folder)
     name = "docs/GDB.md"
     (folder / "scale.s").write_text(block_with(name, "# Doubles the samples"))
+    (folder / "names.s").write_text("start: ori $17, $0, limit\nbreak\n")
+    (folder / "data.s").write_text(block_with(name, "# DMEM: the samples"))
     (folder / "data.rsp").write_text(re.findall("`(load dmem .*?)`", page(name))[0])
-    session = block_with(name, "(gdb) target remote")
+    session = block_with(name, f"(gdb) target remote {begin}")
     (folder / "examples").symlink_to(TOP / "examples")
     path = f"{folder}:{Path(sys.executable).parent}:{os.environ['PATH']}"
     typed = "\n".join(re.findall(r"(?m)^\(gdb\) (.*)$", session))
-    words = "sh", "-ec", block_with(name, "python3 examples/python/make_elf.py")
+    words = "sh", "-ec", block_with(name, f"python3 examples/python/make_elf.py {text}")
     output = succeeds(*words, cwd=folder, env={**ENV, "PATH": path}, input=typed)
     assert_parts(output, [it for it in session.splitlines() if it and not it.startswith("(gdb)")])
 
@@ -164,20 +188,36 @@ def test_without_an_elf(folder: Path) -> None:
     assert "= 0x7\n" in run(*words, "-batch", "-ex", "p/x $r11", cwd=folder, env=ENV).stdout
 
 
-@contextmanager
-def terminal(folder: Path, *words: str) -> Iterator[Callable[[str, str], str]]:
-    """GDB in a terminal, where Ctrl-C is a key. The call types, and returns what is shown up to a text."""
-    at, inside = pty.openpty()
-    own: Dict[str, Any] = {"stdin": inside, "stdout": inside, "stderr": inside, "cwd": folder, "env": ENV}
-    begun = lambda: fcntl.ioctl(0, termios.TIOCSCTTY, 0)  # noqa: E731
-    gdb = subprocess.Popen([*made(folder), *words], start_new_session=True, preexec_fn=begun, **own)
+@with_gdb
+def test_typed(folder: Path) -> None:
+    """Code is new after `load`, also if it is typed, and after `monitor`; and why a read isn't watched."""
+    typed = "target remote | ./rsp-gdb\nload\nx/i $pc\nmonitor load imem 0 4b0a2d10\nx/i $pc\n"
+    typed += "rwatch *(int*)0\ncontinue\nmonitor why\n"
+    output = run(*made(folder)[:-4], cwd=folder, env=ENV, input=typed).stdout
+    assert_parts(output, ["ori $16, $0, 0x0000", "vadd $v20, $v5, $v10[0]", "only writes can be watched"])
 
-    def typed(text: str, until: str) -> str:
+
+@contextmanager
+def terminal(folder: Path, term: str = "dumb") -> Iterator[Callable[[str, Union[str, Path]], str]]:
+    """GDB in a terminal, where Ctrl-C is a key. The call types, and returns what is shown up to a text or a
+    file."""
+    at, inside = pty.openpty()
+    fcntl.ioctl(at, termios.TIOCSWINSZ, struct.pack("4H", 40, 100, 0, 0))
+    own: Dict[str, Any] = {"stdin": inside, "stdout": inside, "stderr": inside, "cwd": folder}
+    begun = lambda: fcntl.ioctl(0, termios.TIOCSCTTY, 0)  # noqa: E731
+    env = {**ENV, "TERM": term}
+    gdb = subprocess.Popen(made(folder), start_new_session=True, preexec_fn=begun, env=env, **own)
+
+    def typed(text: str, until: Union[str, Path]) -> str:
         os.write(at, text.encode())
         screen = ""
-        while until not in screen:
-            screen += os.read(at, 4096).decode(errors="replace")
-        return screen
+        for _ in range(2000):
+            if until in screen if isinstance(until, str) else until.exists():
+                return screen
+            assert gdb.poll() is None, f"after {text!r} GDB has ended:\n{screen}"
+            if select.select([at], [], [], 0.1)[0]:
+                screen += os.read(at, 4096).decode(errors="replace")
+        pytest.fail(f"after {text!r} GDB hangs:\n{screen[:4096]}")
 
     with gdb:
         try:
@@ -190,17 +230,44 @@ def terminal(folder: Path, *words: str) -> Iterator[Callable[[str, str], str]]:
 
 
 @with_gdb
-def test_interrupts(folder: Path) -> None:
-    """Ctrl-C ends a run and `monitor goto`, which the microcode doesn't."""
+@pytest.mark.parametrize("layout", ("asm", "split", "src", "regs", "rsp"))
+def test_screen(layout: str, folder: Path) -> None:
+    """GDB doesn't crash in full screen, where it asks for texts and frames while it draws."""
+    changes = "set $v04.u[3] = 7", "set var *(int*)0 = 5", "set var *(int*)0x0400104c = 0", "monitor goto 9"
+    with terminal(folder, "xterm") as typed:
+        shown = typed(f"tbreak check\ncontinue\nlayout {layout}\n", "lh $10, 0($17)")
+        for window in "vector", "general", "system", "float", "all":
+            for commands in ("stepi", "next", "reverse-stepi"), (*changes, "stepi"):
+                done = folder / f"{window} {commands[0]}"
+                lines = f"tui reg {window}", *commands, f"python open({str(done)!r}, 'w')", ""
+                shown += typed("\n".join(lines), done)
+        assert "v00" in shown and "sp_mem_addr" in shown
+
+
+# What only Ctrl-C ends. Before the last two GDB is at work between short runs for most of the time.
+ENDLESS = {
+    "condition": ("break *0x04001000 if $r20 == 5", "continue"),
+    "register": ("watch $r20", "continue"),
+    "steps back": ("monitor goto 1000000", "reverse-stepi 100000"),
+    "goto": ("", "monitor goto 9999999999999"),
+    "run": ("", "continue"),
+}
+
+
+@with_gdb
+@pytest.mark.parametrize("name", ENDLESS)
+def test_interrupts(name: str, folder: Path) -> None:
+    """Each Ctrl-C counts, whenever it comes."""
+    first, endless = ENDLESS[name]
+    chance = random.Random(name)
     with terminal(folder) as typed:
-        typed("set var *(int*)0x04001000 = 0x08000000\n", "(gdb)")  # j 0x000
-        typed("monitor goto 9999999999999\n", "on the way to 9999999999999")
-        screen = typed("\3", "(gdb)")
-        typed("monitor when\n", "step ")
-        while "SIGINT" not in screen:
-            typed("continue\n", "Continuing.")
-            screen = typed("\3", "(gdb)")
-        typed("reverse-continue\n", "No more reverse-execution history")
+        typed(f"set confirm off\nset var *(int*)0x04001000 = 0x08000000\n{first}\n", "(gdb)")  # j 0x000
+        typed(f"define endless\necho begun\\n\n{endless}\nend\noutput 40+2\n", "42(gdb) ")
+        for _ in range(20):
+            typed("endless\n", "begun\r\n")
+            time.sleep(chance.uniform(0, 0.4))
+            assert "Traceback" not in typed("\3", "(gdb) ")
+        typed("delete\nreverse-continue\n", "No more reverse-execution history")
 
 
 def assert_received(link: socket.socket, sent: bytes, expected: bytes) -> None:
@@ -212,24 +279,33 @@ def assert_received(link: socket.socket, sent: bytes, expected: bytes) -> None:
 
 
 def test_port(folder: Path) -> None:
-    """One client at 127.0.0.1, with whom the stub ends. A million wrong bytes leave it as it is."""
+    """One client at a time, at 127.0.0.1. After one that is gone or detached the next has the history; `kill`
+    ends the stub. A million wrong bytes leave it as it is."""
     task = bytes(8) + b"\0\0\1\0\0\0\0\x10" + bytes(48)
     (folder / "image").write_bytes(bytes(64) + task + bytes(128) + 4 * b"\x24\2\0\7")
     words = [*STUB, "--port", "0", "--rdram", "image", "--task", "0x40"]
     with subprocess.Popen(words, stderr=subprocess.PIPE, text=True, env=ENV, cwd=folder) as stub:
         assert stub.stderr
-        here = "127.0.0.1", int(stub.stderr.readline().rpartition(":")[2])
+        first = stub.stderr.readline()
+        here = "127.0.0.1", int(first.rpartition(":")[2])
         assert "in use" in run(*STUB, "--port", here[1], env=ENV).stdout
         pytest.raises(ConnectionRefusedError, socket.create_connection, ("127.0.0.2", here[1]))
         with socket.create_connection(here) as link:
             assert_received(link, b"$m4001000,4#22", b"$24020007#")
             pytest.raises(ConnectionRefusedError, socket.create_connection, here)
-            random_bytes = random.Random(2).randbytes(1000000).replace(b"-", b"")
+            assert_received(link, b"+$Z0,4001000,4#0f+$s#73", b"25:04001004")
+        random_bytes = random.Random(2).randbytes(1000000).replace(b"-", b"")
+        assert stub.stderr.readline() == first
+        with socket.create_connection(here) as link:
             for wrong in random_bytes, b"$" + 1000000 * b"a", 1000000 * b"$", 1000 * b"$m0,4#00":
                 link.sendall(wrong + b"#00")
             for sent, expected in (b"$?#3f", b"$T05"), (b"+$c#63\3", b"$T02"), (b"+$D#44", b"$OK#"):
                 assert_received(link, sent, expected)
-        assert stub.wait() == 0
+        assert stub.stderr.readline() == first
+        with socket.create_connection(here) as link:
+            assert_received(link, b"$bc#c5", b"replaylog:begin;25:04001000")
+            link.sendall(b"+$k#6b")
+            assert stub.wait() == 0
 
 
 FAULTS = {
@@ -280,7 +356,7 @@ def test_packets() -> None:
         b"m1 m80001000,4 m20000000,4 M0,2:00 M4000fff,2:0000 X0,1: P0 P26=00000000 P25=00 P999=00 Z Z0,x,4"
         b" Z0,80000000,4 Z2,0,0 Z2,4000fff,2 Z2,0,ffffffff qRcmd,0 vCont;t Z3,0,4 bx m-1,4 m0,-1 m4000000,"
         b" m0,0x4 mffffffffffffffffffffffff,4 M0,100000000: P100000000=00 Z2,100000000,4 Z0,4001000,4,4"
-        b" qXfer:features:read:target.xml:-1,5 qRcmd,zz qrsp.text:100000000,0 qrsp.text:0 vCont;x z9,0,4"
+        b" qXfer:features:read:target.xml:-1,5 qRcmd,zz qrsp.text P81=00000001 vCont;x z9,0,4"
     )
     for packet in wrong.split():
         reply = asked.reply(packet)
@@ -292,7 +368,8 @@ def test_packets() -> None:
     replies = [asked.reply(it) for it in (b"Z2,0,1c1", b"Z2,8,40", b"z2,0,1c1", b"Z2,0,200", b"Z2,0,201")]
     many = b"E.there are at most eight watches of at most 64 bytes"
     assert replies == [b"OK", many, b"OK", b"OK", many]
-    assert asked.reply(b"qrsp.text:0d00040a,0") == b"jal 0x028".hex().encode()
+    assert asked.reply(b"M4001ff8,4:0d00040a") == b"OK"  # a linker's word
+    assert bytes.fromhex((asked.reply(b"qrsp.texts") or b"").decode()).endswith(b"\nff8 0d00040a jal 0x028")
     for _ in range(3000):
         packet = bytes(
             chance.choice(b"0123456789abf,;:=gmMXPpZzqQvbT?H\xff") for _ in range(chance.randrange(12))
@@ -301,7 +378,28 @@ def test_packets() -> None:
     asked = stub()
     asked.line.goto(60)
     asked.asked = lambda: True  # Ctrl-C
-    assert [(asked.reply(it) or b"")[:3] for it in (b"Z2,0,4", b"bc", b"c")] == [b"OK", b"T02", b"T02"]
+    replies = [(asked.reply(it) or b"")[:3] for it in (b"Z2,0,4", b"bc", b"bs", b"c", b"s")]
+    assert replies == [b"OK", *4 * [b"T02"]]
+    assert b"on the way".hex().encode() in (asked.reply(b"qRcmd," + b"goto 999999".hex().encode()) or b"")
+    assert asked.reply(b"qRcmd," + b"when".hex().encode()) and asked.reply(b"qrsp.goto") == b""
+
+
+def test_wrote() -> None:
+    """`monitor wrote` finds in COOKBOOK's loop what the page says. It stays if there is nothing."""
+    begin = "        ori   $1, $0, 4\n        lqv"
+    command, reply = block_with("docs/COOKBOOK.md", begin, 1).strip().split("\n")
+    line = rsp.Timeline(loaded(block_with("docs/COOKBOOK.md", begin)), 4)
+    line.run_to(18)
+    asked = Stub(line, lambda: False, lambda text: None)
+    assert asked._monitor(*command.split()[2:]) == f"{reply}\n" and line.step == 17
+    line.goto(18)
+    assert asked._monitor("wrote", "$r9") == "no step from 0 to 18 has changed $r9\n" and line.step == 18
+    asked.asked = lambda: True
+    parts = [asked._monitor("wrote", "$v02")]
+    while asked._more:
+        parts.append(asked._more())
+    assert len(parts) > 2 and parts[-1] == "no step from 0 to 18 has changed $v02"
+    assert asked._monitor("wrote", "$v32").startswith("fault: $v32 isn't a register")
 
 
 def test_semaphore() -> None:
@@ -322,6 +420,8 @@ def test_wire() -> None:
     os.write(to, b"f\3")
     assert wire.packet(lambda: True) == b"?" and sent == [b"$a}\3#e1", b"-", sent[0], b"+"]
     assert wire.interrupted() and not wire.interrupted()
+    os.write(to, b"\3$s#73")  # Ctrl-C before a run is for this run
+    assert wire.packet(lambda: False) == b"s" and wire.interrupted() and not wire.interrupted()
     os.write(to, b"$" + 0x5000 * b"a" + b"#00$m#6d")
     assert wire.packet(lambda: False) == b"m"
     os.close(to)

@@ -82,6 +82,36 @@ def test_view_of_a_task(folder: Path) -> None:
         assert output.splitlines()[1] == f"{'> 000 addiu $1, $0, 4224'.ljust(40)}| $1 00001080"
 
 
+# Two vectors, and by Python the lanes in which a sum or a product of theirs overflows, by bits 47 to 16.
+LANES = (0x7FFF, 0x7FFF), (-0x8000, -0x8000), (1, 1), (2, 2), (0x7FFF, 1), (-4096, -4096), (0, 64), (64, -256)
+OVERFLOWS = {
+    "vadd": lambda a, b: not -0x8000 <= a + b <= 0x7FFF,
+    "vsub": lambda a, b: not -0x8000 <= a - b <= 0x7FFF,
+    "vmulf": lambda a, b: not -0x8000 <= 2 * a * b + 0x8000 >> 16 <= 0x7FFF,
+    "vmacf": lambda a, b: not -0x8000 <= 4 * a * b + 0x8000 >> 16 <= 0x7FFF,
+    "vmulu": lambda a, b: not 0 <= 2 * a * b + 0x8000 >> 16 <= 0x7FFF,
+    "vmudh": lambda a, b: not -0x8000 <= a * b <= 0x7FFF,
+    "vmadh": lambda a, b: not -0x8000 <= 2 * a * b <= 0x7FFF,
+}
+
+
+def test_clamps(folder: Path) -> None:
+    """In a loop of two turns, in which other instructions clamp nothing."""
+    loads, lines = "", "".join(f"{name} $v3, $v1, $v2\n" for name in OVERFLOWS)
+    for n in range(2):
+        loads += f"load dmem {16 * n} {''.join(f'{pair[n] % 65536:04x}' for pair in LANES)}\n"
+    text = f"lqv $v1[0], 0($0)\nlqv $v2[0], 16($0)\nori $1, $0, 1\nturn: {lines}vxor $v3, $v1, $v2\n"
+    end = "bgtz $1, turn\naddiu $1, $1, -1\nbreak\nend\n"
+    (folder / "script").write_text(f"{loads}asm 0\n{text}{end}")
+    expected = [
+        f"{12 + 4 * n:03x} {name} $v3, $v1, $v2: clamps lane {lane}, 2 times"
+        for n, (name, overflows) in enumerate(OVERFLOWS.items())
+        for lane, (a, b) in enumerate(LANES)
+        if overflows(a, b)
+    ]
+    assert by_python(EXAMPLES / "clamps.py", folder / "script").splitlines() == expected
+
+
 def test_counts(folder: Path) -> None:
     """A loop of three turns in several runs, and an instruction that is never executed."""
     text, script = (HERE / "turns.s").read_text(), folder / "script"

@@ -9,6 +9,8 @@ import ctypes
 import gc
 import operator
 import pickle
+import struct
+import sys
 from pathlib import Path
 from typing import Any, Callable, List, Tuple
 from unittest import mock
@@ -226,14 +228,19 @@ def test_failed_starts() -> None:
 def test_buffers() -> None:
     machine = rsp.Rsp()
     words = array.array("I", [1, 2])
-    datas: Tuple[Any, ...] = (words, memoryview(words), bytearray(words.tobytes()))
+    high_first = struct.pack(">2I", *words)
+    if sys.byteorder == "little":
+        for wrong in words, memoryview(words), (ctypes.c_uint16 * 3)():
+            assert_raises(TypeError, "load: data has the low byte of each", machine.load, rsp.DMEM, 0, wrong)
+        words.byteswap()
+    datas: Tuple[Any, ...] = (words.tobytes(), memoryview(words).cast("B"), bytearray(words.tobytes()))
     for data in datas:
         machine.load(rsp.DMEM, 0, bytes(16))
         machine.load(rsp.DMEM, 0, data)
-        assert machine.memory(rsp.DMEM, 0, 12) == words.tobytes() + bytes(4), type(data)
+        assert machine.memory(rsp.DMEM, 0, 12) == high_first + bytes(4), type(data)
     machine.load(rsp.DMEM, 0, memoryview(bytes(range(24)))[::2])
     assert machine.memory(rsp.DMEM, 0, 13) == bytes([*range(0, 24, 2), 0]), "every second byte"
-    image: Any = array.array("Q", range(16))
+    image: Any = array.array("B", range(128))
     assert rsp.Rsp(image).memory(rsp.RDRAM, 0, 128) == image.tobytes()
 
 
@@ -276,3 +283,12 @@ def test_memories_as_arrays() -> None:
     assert machine.memory_array(rsp.DMEM, 4, 4).tolist() == [5, 6, 7, 8]
     assert machine.run(numpy.int64(3)).steps == 3
     assert_raises(ValueError, "multiple", machine.memory_array, rsp.DMEM, 0, 6, ">u4")
+    points = machine.memory_array(rsp.DMEM, 0, 8, [("x", ">i2"), ("y", ">i2")])
+    assert (points["x"].tolist(), points["y"].tolist()) == ([0, 0x506], [9, 0x708])
+    machine.load(rsp.DMEM, 0, points)
+    kinds: Any = "<i2", [("x", "<i2"), ("y", ">i2")], [("b", "u1"), ("y", ">i2"), ("f", "<f4")], "<c8"
+    for low_first in kinds:
+        data = numpy.zeros(3, low_first)
+        assert_raises(TypeError, "the low byte of each", machine.load, rsp.DMEM, 0, data)
+    machine.load(rsp.DMEM, 0, numpy.zeros(3, [("h", "S3"), ("y", ">i2"), ("?", "?")]))
+    assert machine.memory(rsp.DMEM, 0, 8) == bytes(8)

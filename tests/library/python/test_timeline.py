@@ -6,7 +6,7 @@ than a search among the single steps.
 
 import random
 from collections import Counter
-from typing import List, Tuple
+from typing import Callable, List, Tuple
 
 import pytest
 
@@ -26,6 +26,7 @@ addiu $7, $0, 160; bne $1, $7, turn; sw $8, 0x14($0); break"""
 OVERLAYS = "addiu $9, $9, 1; jr $31; sw $9, 0x18($0)", "mfc0 $9, $c7; jr $31; sh $9, 0x1c($0)"
 PLACES = [4 * n for n in range(34)]
 EVER = 1 << 40
+outside = pytest.mark.outside("1,000 programs take a minute")
 Seen = Tuple[int, int, bytes]  # a hash of the whole machine, pc, DMEM
 
 
@@ -106,6 +107,84 @@ def test_steps_and_searches(seed: int) -> None:
             assert line.step == result.step and seen(line.machine) == steps[result.step]
 
 
+# Lines of random programs: $1 to $4, two groups of vector registers, whose lanes often stay as they are.
+LINES = """addiu $A, $B, -1; ori $A, $0, 5; lui $3, 0; vaddc $vX, $vY, $vX; vlt $vX, $vX, $vY[2]
+vmadh $vX, $vX, $vY; vch $vX, $vY, $vX; vrcpl $vX[1], $vY[3]; vrcph $vX[3], $vX[5]; ltv $v8[E], 16($0)
+ltv $v16[E], 0($A); mtc2 $A, $vX[2]; ctc2 $B, $vcc; ctc2 $A, $vco; ctc2 $A, $vce; cfc2 $A, $vcc; mfc0 $A, $c7
+bgezal $A, next; lh $B, 4($A); lqv $vX[0], 0($A); vsubc $vX, $vX, $vX; bne $A, $B, next; sqv $vX[0], 16($0)
+mfc2 $B, $vX[E]; vmulf $vX, $vY, $vX; xor $A, $A, $B"""
+# Names, and what of a state they are.
+VALUES = """$r0 words[0]; $1 words[1]; $02 words[2]; r3 words[3]; $r31 words[31]; $v8 vectors[8][:]
+$v09 vectors[9][:]; $v10[7] vectors[10][7]; v17[2] vectors[17][2]; $vce flags.vce; $vco flags.vco
+$vcc flags.vcc; $vco[1] flags.vco & 0x202; $vcc[2] flags.vcc & 0x404; $div_in divider.input
+$div_out divider.output; $div_loaded divider.loaded
+$acc[3] accumulators.low[3], it.accumulators.middle[3], it.accumulators.high[3]
+$acc accumulators.low[:], it.accumulators.middle[:], it.accumulators.high[:]"""
+
+
+def drawn(chance: random.Random) -> rsp.Rsp:
+    """A machine with a random program, which is a loop."""
+    lines = []
+    for n in range(chance.randrange(4, 40)):
+        line = chance.choice(LINES.replace("\n", "; ").split("; ")).replace("next", f"at{n}")
+        for letter, numbers in ("A", (1, 2, 3, 4)), ("B", (1, 2, 4)), ("X", (8, 9, 10, 17)), ("Y", (9, 16)):
+            line = line.replace(f"${letter}", f"${chance.choice(numbers)}")
+            line = line.replace(f"$v{letter}", f"$v{chance.choice(numbers)}")
+        lines += [line.replace("[E]", f"[{2 * chance.randrange(8)}]"), "nop", f"at{n}:"]
+    machine = loaded("turn: " + "\n".join([*lines, "j turn", "nop"]) + "\n")
+    machine.load(rsp.DMEM, 0, chance.randbytes(64))
+    return machine
+
+
+@pytest.mark.parametrize("first", (0, *(pytest.param(n, marks=outside) for n in range(20, 1000, 20))))
+def test_wrote(first: int) -> None:
+    """Each search is equal to a walk back through all states, over a change of the user's."""
+    for seed in range(first, first + 20):
+        chance = random.Random(seed)
+        machine, changed = drawn(chance), chance.randrange(1, 200)
+        line = rsp.Timeline(machine, chance.choice((7, 90, 5000)), 4)
+        states = [(machine.get(), machine.get())]
+        for n in range(1, 300):
+            machine.step()
+            before = machine.get()
+            if n == changed:
+                assert line.run_to(n).step == n
+                for one in machine, line.machine:
+                    one.set_reg(2, 5)
+                    one.set_vreg(9, range(8))
+                line.changed()
+            states.append((before, machine.get()))
+        line.run_to(299)
+        for row in VALUES.replace("\n", "; ").split("; "):
+            name, _, part = row.partition(" ")
+            value: Callable[[rsp.State], object] = eval(f"lambda it: (it.{part})")
+            at = chance.randrange(300)
+            now, n = value(states[at][1]), at
+            while n and value(states[n][0]) == now == value(states[n - 1][1]):
+                n -= 1
+            is_step = n > 0 and value(states[n][0]) == now
+            expected = Found(Reason.WATCH, n - 1) if is_step else Found(Reason.LIMIT, n)
+            assert line.goto(at) == at
+            assert line.wrote(name) == expected, (seed, name, at)
+            assert line.step == expected.step and line.machine.get() == states[line.step][1]
+
+
+def test_wrote_in_parts() -> None:
+    """Names that aren't registers are refused. A search that is interrupted comes further each time."""
+    line = rsp.Timeline(loaded("ori $1, $0, 5\nturn: j turn\naddiu $2, $2, 1\n"), 5000)
+    line.run_to(40000)
+    for name in "$v32", "$r1[0]", "$v1[8]", "$vce[8]", "$pc", "$v", "", "$r1 ":
+        with pytest.raises(ValueError, match="isn't a register"):
+            line.wrote(name)
+    line.is_interrupted = lambda: True
+    steps = [line.step]
+    while line.wrote("$1").reason is Reason.LIMIT:
+        steps.append(line.step)
+    assert line.step == 0 and 3 < len(steps) and steps == sorted({*steps}, reverse=True)
+    line.goto(40000)
+    assert line.wrote("$1", 39000) == (Reason.LIMIT, 39000, None) == (*line.wrote("$1", 39000),)
+
+
 @pytest.mark.parametrize("single, reason", ((0x40, Reason.HALT), (0, Reason.RESERVED)))
 def test_change_before_an_end(single: int, reason: Reason) -> None:
     """A watched change is found also if the machine makes single steps, or if a reserved word follows."""
@@ -131,6 +210,30 @@ def test_interrupted(way: str) -> None:
     result = getattr(line, way)(*[] if way == "back" else [EVER])
     assert result in ((Reason.LIMIT, line.step, None), line.step) and 0 < line.step != here
     assert line.machine.reg(1) == (line.step + 2) // 3
+
+
+def test_runs_with_dmas() -> None:
+    """Only the first DMA to RDRAM since a mark ends a run: if each did, many would make it slow."""
+    line = rsp.Timeline(loaded("turn: mtc0 $0, $c0\nmtc0 $0, $c1\nmtc0 $0, $c3\nj turn\nnop\n"))
+    asked: List[int] = []
+    line.is_interrupted = lambda: asked.append(line.step) is not None  # type: ignore[func-returns-value]
+    line.run_to(100000)
+    assert asked == [0, 3]
+
+
+# Changes eight bytes in each 64 KiB of RDRAM, over and over, so that no two marks have a piece in common.
+GREEDY = """lui $7, 1; ori $9, $0, 7; lui $2, 0x80; turn: ori $1, $0, 0; sw $3, 0($0); next: mtc0 $0, $c0
+mtc0 $1, $c1; mtc0 $9, $c3; addu $1, $1, $7; bne $1, $2, next; nop; j turn; addiu $3, $3, 1"""
+
+
+def test_memory() -> None:
+    """Marks keep at most 40 MiB, whatever the microcode does: then a process takes some 80 MB."""
+    machine = rsp.Rsp(bytes(8 << 20))
+    machine.load(rsp.IMEM, 0, words(GREEDY))
+    line = rsp.Timeline(machine, 1 << 17)
+    line.run_to(5000000)
+    kept = {id(piece): len(piece) for mark in line._marks for piece in mark.rdram}
+    assert 8 << 20 < sum(kept.values()) <= 40 << 20
 
 
 def test_example(capsys: pytest.CaptureFixture[str]) -> None:

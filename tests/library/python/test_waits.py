@@ -182,6 +182,27 @@ def test_wrong(name: str) -> None:
     assert sorted(named(program)) == sorted(expected)
 
 
+# What a wait leaves behind if it turns, by what is in its delay slot.
+LEAVES_BEHIND = {
+    "addiu $18, $18, -1": "$18",
+    "sb $4, 0x12($4)": "DMEM 013",
+    "vadd $v2, $v2, $v3": "$v2 lane 0",
+    "mtc0 $4, $c7": "",
+    "addiu $18, $0, 5": "",
+    "lw $18, 0($0)": "",
+}
+
+
+@pytest.mark.parametrize("slot", LEAVES_BEHIND)
+def test_turns(slot: str) -> None:
+    """A wait in whose delay slot a counter, a store or a sum goes on, and others that may turn."""
+    machine = loaded(BEGIN + GET + wait().replace("nop", slot) + "break\n")
+    machine.set_vreg(3, [1] * 8)
+    name, found = LEAVES_BEHIND[slot], [*rsp.waits.missing(machine, at_end=True)]
+    what = f"leaves another {name} behind if it turns"
+    assert [(it.place, it.what, it.transfer.place) for it in found] == [(0x18, what, 0x14)] * bool(name)
+
+
 def test_sentences() -> None:
     (found,) = rsp.waits.missing(loaded(BEGIN + GET + LOAD + "break\n"))
     assert found.transfer == (0x14, rsp.DMEM, 0x400, 256, False) and found.read is None

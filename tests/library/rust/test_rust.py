@@ -71,6 +71,12 @@ def test_savestates(cargo: Cargo, folder: Path) -> None:
 
 
 @in_crate
+def test_explanations(cargo: Cargo, explained: Path) -> None:
+    ran = cargo("test", "--offline", "-q", "--test", "explanations", RSP_EXPLAINED=explained)
+    assert ran.returncode == 0 and "2 passed" in ran.stdout, ran.stdout
+
+
+@in_crate
 def test_cargo_doc(cargo: Cargo) -> None:
     ran = cargo("doc", "--offline", "-q", "--no-deps", RUSTDOCFLAGS="-D warnings")
     assert (ran.returncode, ran.stdout) == (0, "")
