@@ -9,18 +9,23 @@ from rsp_conformance.steps import Entry
 
 STATE_BITS = 8 * STATE.size
 # The parts of a line from its last digit on, each with its number of bits.
-PARTS = {"after": STATE_BITS, "before": STATE_BITS, "choice": 4, "word": 32, "name": 128}
-HEAD = (
-    "Made by conformance/generate --hex: where the parts of a line begin, and the fields of a state, by bits."
-)
+PARTS = {"after": STATE_BITS, "before": STATE_BITS, "choice": 4, "word": 32, "name": 128, "text": 256}
+# The fields of a brsp_changes in their order, as flat.FIELDS.
+CHANGES = {
+    "word": (1, 32), "value": (1, 32), "pc": (1, 16), "address": (1, 16), "vco": (1, 16), "vcc": (1, 16),
+    "vce": (1, 8), "scalar": (1, 8), "vector": (1, 8), "stored": (1, 8), "lanes": (8, 16), "next_pc": (1, 16),
+    "npc": (1, 16), "div_in": (1, 16), "div_out": (1, 16), "div_loaded": (1, 16), "quadword": (1, 16),
+    "high": (8, 16), "middle": (8, 16), "low": (8, 16), "bytes": (32, 8),
+}  # fmt: skip
+HEAD = "Made by conformance/generate --hex: where the parts of a line, a state and a record begin, by bits."
 FORMS = {"svh": ("//", "localparam int {} = {};"), "vhd": ("--", "  constant {} : natural := {};")}
 
 
 def line_of(entry: Entry) -> str:
-    """A case: its name, word and choice, and both states, each as one little-endian number."""
+    """A case: its text, name, word and choice, and both states, each as one little-endian number."""
     before, after = (state[::-1].hex() for state in states_of(entry))
-    name = entry["name"].encode().ljust(16).hex()
-    return f"{name}{entry['word']}{int('choice' in entry)}{before}{after}\n"
+    text, name = entry["text"].encode()[:32].rjust(32, b"\0").hex(), entry["name"].encode().ljust(16).hex()
+    return f"{text}{name}{entry['word']}{int('choice' in entry)}{before}{after}\n"
 
 
 def hex_bytes(entries: List[Entry]) -> bytes:
@@ -36,14 +41,15 @@ def write_programs(folder: Path, name: str, out: Path) -> None:
 
 
 def offsets() -> Iterator[Tuple[str, int]]:
-    """Constants of each part and each field: its offset, the bits of a number, and the count of numbers."""
-    yield from (("BRSP_STATE_BITS", STATE_BITS), ("BRSP_LINE_BITS", sum(PARTS.values())))
-    for sizes in ({part: (1, bits) for part, bits in PARTS.items()}, FIELDS):
-        at = 0
+    """Constants of each part and field: its offset, the bits of a number, and their count; and all bits."""
+    parts = {part: (1, bits) for part, bits in PARTS.items()}
+    for whole, sizes in (("STATE", FIELDS), ("LINE", parts), ("CHANGES", CHANGES)):
+        at, prefix = 0, "BRSP_CHANGES_" if whole == "CHANGES" else "BRSP_"
         for name, (count, bits) in sizes.items():
-            start = f"BRSP_{name.upper()}"
+            start = f"{prefix}{name.upper()}"
             yield from ((start, at), (f"{start}_BITS", bits), (f"{start}_COUNT", count))
             at += count * bits
+        yield f"BRSP_{whole}_BITS", at
 
 
 def write_offsets(out: Path) -> None:

@@ -39,7 +39,7 @@ def run_images(script: Script, imem: Optional[bytes], dmem: bytes) -> None:
         script.load("imem", 0, imem.rstrip(b"\0").hex() or "00")
     script.copy(bench.ZEROS, "dmem")
     script.load("dmem", 0, dmem.hex())
-    for line in (f"write 4 {bench.ALL_CLEAR}", "write 7 0", "pc 0"):
+    for line in (f"write 4 {bench.ALL_CLEAR}", "pc 0"):
         script.add(line)
     script.add("run 100000", 1, ("stop",))
     script.memory("dmem", 0, MEMORY, ("dmem",))

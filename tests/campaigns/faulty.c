@@ -1,6 +1,7 @@
 /* The library with a planted fault. FAULT=1: lane 5 of VADD is one too small if two largest numbers and a carry are added. FAULT=2: VXOR changes
  * a bit if the instruction before it was LQV. FAULT=3: it dies after a batch that has a case of the word WORD. FAULT=4: VLT changes a bit after
- * a CTC2, unless the registers were read or set since. FAULT=5: SB of a register with an odd number changes the first byte of DMEM, too. */
+ * a CTC2, unless the registers were read or set since. FAULT=5: SB of a register with an odd number changes the first byte of DMEM, too.
+ * FAULT=6: VRCPL takes DIV_IN also if it isn't loaded. */
 #include "brsp.h"
 #include <stdio.h>
 static uint32_t faulty_step(brsp_machine *m);
@@ -33,6 +34,7 @@ static int is_faulty(const brsp_state *s, uint32_t word)
     uint32_t before = last;
     last = word;
     if (FAULT == 4 && (word & 0xFFE00000) == 0x48C00000) is_spoilt = 1;
+    if (FAULT == 6) return 0;
     if (FAULT == 4) return (word & 0xFE00003F) == 0x4A000020 && is_spoilt;
     if (FAULT == 5) return word >> 26 == 40 && word >> 16 & 1;
     if (FAULT == 2) return (word & 0xFE00003F) == 0x4A00002C && (before & 0xFC00F800) == 0xC8002000;
@@ -48,6 +50,7 @@ static uint32_t faulty_step(brsp_machine *m)
     brsp_memory(m, BRSP_IMEM, s.pc, w, 4);
     uint32_t word = (uint32_t)w[0] << 24 | (uint32_t)w[1] << 16 | (uint32_t)w[2] << 8 | w[3];
     int faulty = is_faulty(&s, word);
+    if (FAULT == 6 && (word & 0xFE00003F) == 0x4A000031) s.divider.loaded = 1, brsp_set(m, &s);
     uint32_t status = brsp_step(m);
     if (!faulty || status != BRSP_OK) return status;
     if (FAULT == 5) {

@@ -64,6 +64,15 @@ def test_lanes_next_to_one_another() -> None:
     assert (np.isin(a - b, (0, 1, -1)) | np.isin(a + b, (0xFFFF, 0x10000))).mean() > 0.2
 
 
+def test_addresses_of_choices() -> None:
+    """A case of LTV is marked as a choice if its element is odd, or its address isn't a multiple of 16. The
+    address is the offset if the base is $0."""
+    cases, are_choices = cases_of("ltv", "t", 0, 4096)
+    word, each = cases["word"].astype(np.int64), np.arange(4096)
+    address = cases["state"]["words"][each, word >> 21 & 31].astype(np.int64) + 16 * (word & 127)
+    assert (are_choices == ((address % 16 != 0) | (word & 128 != 0))).all()
+
+
 def test_limits_of_clamps() -> None:
     """One lane of 100 of VMACF reaches a limit of the clamp."""
     a, b, accumulators = operands_of("vmacf")

@@ -17,7 +17,7 @@ if is_here("python:numpy"):
 
 pytestmark = [pytest.mark.needs("cc", "python:numpy"), pytest.mark.usefixtures("library")]
 
-CASE_17, CASE_18, CASE_39 = (name_of("vadd", "1", number) for number in (17, 18, 39))
+CASE_17, CASE_18, CASE_19 = (name_of("vadd", "1", number) for number in (17, 18, 19))
 WRONG = {
     "hang": "no answer within 10 seconds",
     "die": "the command ended with status 3; it wrote: panicked: / \\x1b]0;title\\x07boom",
@@ -31,16 +31,16 @@ def word_17() -> str:
     return f"{int(cases_of('vadd', '1', 17, 1)[0]['word'][0]):08x}"
 
 
-def forty(emulator: str, out: Path, *more: object) -> str:
-    """The output of 40 cases, of which one has a fault, and all others agree."""
-    output = output_of(out, emulator, "--instructions", "vadd", "--cases", 40, *more)
-    assert counts_of(out) == {"vadd": (40, 1, 1)}, output
+def twenty(emulator: str, out: Path, *more: object) -> str:
+    """The output of 20 cases, of which one has a fault, and all others agree."""
+    output = output_of(out, emulator, "--instructions", "vadd", "--cases", 20, *more)
+    assert counts_of(out) == {"vadd": (20, 1, 1)}, output
     return output
 
 
 @pytest.mark.parametrize("how", WRONG)
 def test_command(how: str, folder: Path) -> None:
-    output = forty(f"{EMULATOR} {how} {word_17()}", folder, "--limit", 10)
+    output = twenty(f"{EMULATOR} {how} {word_17()}", folder, "--limit", 10)
     assert f"{CASE_17}: " in output and WRONG[how] in output
     assert how != "panic" or re.search(r" / \.\. / .*at a function / at main\n", output), output
 
@@ -67,9 +67,9 @@ def test_answer_that_is_none(how: str, message: str) -> None:
 def test_fault_that_a_case_does_not_show(is_late: bool, folder: Path) -> None:
     """The first case of the run that repeats the fault is named."""
     emulator = faulty(3, f"-DWORD=0x{word_17()}") if is_late else f"{EMULATOR} after {word_17()}"
-    late = f"{CASE_39}: ended by SIGABRT; it wrote: core: \\x1b[31mboom"
+    late = f"{CASE_19}: ended by SIGABRT; it wrote: core: \\x1b[31mboom"
     what = late if is_late else f"{CASE_18}: {WRONG['die']}"
-    output = forty(emulator, folder)
+    output = twenty(emulator, folder)
     assert f"{what}; the shortest run that shows it begins with {CASE_17}" in output
 
 
@@ -77,14 +77,14 @@ def test_difference_that_depends_on_what_ran_before(folder: Path) -> None:
     """It is shown as a difference. The program isn't cut down, because it agrees the next time."""
     words = ("python:emulator:Remembers", "--instructions", "xor", "--cases", 0, "--programs", 2)
     output, why = output_of(folder, *words), "because it depends on what the emulator ran before"
-    form = rf"PROGRAM-g2-1-000000: steps 1 to 100, from xor .* on: vce: expected .*; not cut down, {why}"
+    form = rf"PROGRAM-g3-1-000000: steps 1 to 100, from xor .* on: vce: expected .*; not cut down, {why}"
     assert re.search(form, output), output
     assert counts_of(folder) == {"program": (2, 1, 0)}
 
 
 def test_lost_register(folder: Path) -> None:
     output = campaign("python:emulator:Forgets", "--cases", 0, "--programs", 1, "--here", folder).stdout
-    form = r"(?m)PROGRAM-g2-1-000000: step 0, .*: \$5: expected [0-9a-f]{8}, got 0{8}$"
+    form = r"(?m)PROGRAM-g3-1-000000: step 0, .*: \$5: expected [0-9a-f]{8}, got 0{8}$"
     assert re.search(form, output), output
 
 

@@ -1,25 +1,31 @@
 """What a campaign prints: names of words, operands, instructions that an emulator lacks, and its progress."""
 
+import argparse
 import os
 import pty
 import re
 import subprocess
+from concurrent.futures import Future
 from pathlib import Path
+from typing import Any, List
 
 import pytest
 
 import rsp
 from lib.campaigns import agreed, campaign, counts_of, faulty, output_of, results_of
 from lib.packages import is_here
-from rsp_conformance.campaign.protocol import Result
+from rsp_conformance.campaign import workers
+from rsp_conformance.campaign.protocol import BATCH, SHOWN, Result
 from rsp_conformance.campaign.report import text_table
 from rsp_conformance.campaign.supervise import nothing
 from rsp_conformance.table import ROWS, ignored_bits, row_of
 
 if is_here("python:numpy"):
-    from rsp_conformance.campaign.compare import named
-    from rsp_conformance.campaign.generator import cases_of
+    import numpy as np
+    from rsp_conformance.campaign.compare import named, parts_that_differ
+    from rsp_conformance.campaign.generator import END, cases_of
     from rsp_conformance.campaign.operands_read import in_brief
+    from rsp_conformance.campaign.worker_process import check_cases
 
 pytestmark = [pytest.mark.needs("cc", "python:numpy"), pytest.mark.usefixtures("library")]
 
@@ -51,18 +57,21 @@ def test_difference_of_a_word_with_ignored_bits(folder: Path) -> None:
     words = ("python:emulator:WrongShift", "--instructions", "sra")
     output = output_of(folder, *words, "--cases", 200, "--programs", 1)
     assert re.search(rf"SRA-g2-1-\d+ \({IGNORED} at \w+; ", output), output
-    assert re.search(rf"PROGRAM-g2-1-000000: step \d+, {IGNORED}: \$\d+: expected", output), output
+    assert re.search(rf"PROGRAM-g3-1-000000: step \d+, {IGNORED}: \$\d+: expected", output), output
     assert results_of(folder)["program-0-1.json"]["parts"] == {"sra": 1}
-    output = campaign(*words, "--case", "PROGRAM-g2-1-000000", folder).stdout
-    pattern = rf"PROGRAM-g2-1-000000 is cut down to 1 step from address \w+:\n\w+: {IGNORED}\n"
+    output = campaign(*words, "--case", "PROGRAM-g3-1-000000", folder).stdout
+    pattern = rf"PROGRAM-g3-1-000000 is cut down to 1 step from address \w+:\n\w+: {IGNORED}\n"
     assert re.search(pattern, output), output
 
 
 def test_operands_of_flags() -> None:
-    """They are those of the lowest lane whose bit differs."""
+    """They are those of the lowest lane whose bit differs, and the bit counts as one of its register."""
     state = rsp.State(vectors=[[16 * register + lane for lane in range(8)] for register in range(32)])
     (word,) = rsp.assemble("vch $v3, $v1, $v2[2h]\n")
     assert in_brief("vch", word, state, "vcc: expected 0a00, got 0000") == "; lane 1, a 0011, b 0022"
+    ends = np.zeros(2, END)
+    ends[1]["state"]["flags"]["clip"] = 10
+    assert parts_that_differ(ends[:1], ends[1:]) == {"VCC": 1}
 
 
 def test_instruction_that_is_not_there(folder: Path) -> None:
@@ -129,6 +138,29 @@ def test_bytes_that_differ(kind: str, folder: Path) -> None:
     found = re.search(r"(?m)(SB-g2-1-\d+) .*: (DMEM 000: expected [0-9a-f]{32}, got [0-9a-f]{32})$", output)
     assert found and "bytes of memories" not in output, output
     assert f"\n  {found[2]}\n" in campaign(emulator, "--case", found[1]).stdout
+
+
+def test_differences_that_are_shown() -> None:
+    """Of a task as many as of a batch, because to show one takes longer than to run a thousand cases."""
+    batches = check_cases(faulty(5), "sb", "1", 0, 2 * BATCH, np.zeros(BATCH, END))
+    assert [len(batch.get("shown", [])) for batch in batches] == [0, SHOWN, 0]
+
+
+def test_tasks_that_wait(monkeypatch: pytest.MonkeyPatch) -> None:
+    """AHEAD at most, and each that ends is replaced by one, because a task that waits takes memory."""
+    started: List[Any] = []
+
+    def start(*call: Any) -> "Future[Result]":
+        started.append(call)
+        ended: "Future[Result]" = Future()
+        ended.set_result({})
+        return ended
+
+    monkeypatch.setattr(workers, "AHEAD", 2)
+    monkeypatch.setattr(workers.Threads, "start", start)
+    args = argparse.Namespace(emulator="", seed="1", scheduler="", workers=1)
+    found = workers.results(args, [("add", 0, 1)] * 5, {})
+    assert [len(started) for _ in found] == [2, 3, 4, 5, 5]
 
 
 def test_progress(folder: Path) -> None:

@@ -24,7 +24,7 @@ from . import CampaignFault
 from .hashes import library
 from .output_folder import MOST, OutputFolder, settings_in
 from .report import html_table, results_in, text_table
-from .protocol import PROGRAM, VERSION, name_of, plural
+from .protocol import PROGRAM, VERSION, VERSIONS, name_of, plural
 from .supervise import check
 from .workers import options_of, results
 
@@ -172,13 +172,12 @@ def case_of(text: str) -> Tuple[str, str, int, int]:
     found = re.fullmatch(r"(\w+?)(?:-g(\d+))?-([a-z0-9]+)-(\d+)(?:\.\.(\d+))?", text)
     if found and found[1].lower() in (*INSTRUCTIONS, PROGRAM):
         first, last, version = int(found[4]), int(found[5] or found[4]), int(found[2] or 1)
-        if version != VERSION:
-            raise argparse.ArgumentTypeError(
-                f"{text} is of generator {version}, and this is generator {VERSION}"
-            )
+        name = found[1].lower()
+        if version != (own := VERSIONS.get(name, VERSION)):
+            raise argparse.ArgumentTypeError(f"{text} is of generator {version}, and this is generator {own}")
         if first <= last:
-            return found[1].lower(), found[3], first, last
-    names = f"as VADD-g{VERSION}-7-000123 does, and no program, as PROGRAM-g{VERSION}-7-000005 does"
+            return name, found[3], first, last
+    names = f"as {name_of('vadd', '7', 123)} does, and no program, as {name_of(PROGRAM, '7', 5)} does"
     raise argparse.ArgumentTypeError(f"{text} names no case, {names}")
 
 
@@ -197,7 +196,8 @@ def arguments() -> argparse.Namespace:
     add("--seed", type=seed_of, default="1", help="letters a to z and digits (1)")
     add("--here", action="store_const", const=1, dest="workers", help="one task at a time, as --workers 1")
     add("--scheduler", metavar="ADDRESS", help="runs the tasks on a cluster of Dask")
-    names = f"VADD-g{VERSION}-7-000123, VADD-g{VERSION}-7-000123..000130, or PROGRAM-g{VERSION}-7-000005"
+    case = name_of("vadd", "7", 123)
+    names = f"{case}, {case}..000130, or {name_of(PROGRAM, '7', 5)}"
     add("--case", type=case_of, metavar="NAME", help=f"shows {names}")
     add("emulator", metavar="EMULATOR")
     add("out", metavar="OUT", type=Path, nargs="?")

@@ -84,6 +84,11 @@ class Sides:
             self.machine.run(steps)
         return Program(self.machine.get(), memories_in(self.machine))
 
+    def addresses(self, program: Program, steps: int) -> List[int]:
+        """The addresses of the words that the library's machine executes."""
+        self.begin(program)
+        return [entry.pc for entry in self.machine.iter_trace(steps)]
+
     def memories_after(self, case: Array, memories: bytes) -> List[str]:
         """The quadwords of memories that differ after a case, in words, or none if they can't be shown."""
         theirs = self.emulator.memories_after(case, memories, self.machine)

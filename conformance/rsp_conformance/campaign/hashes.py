@@ -60,7 +60,8 @@ def hash_of(paths: Iterable[object], more: str = "") -> str:
 
 def sources() -> List[Path]:
     """The sources of what a campaign compares with: our own files, and the library."""
-    own = [*SOURCES.glob("*.[ch]"), *(HERE / "rsp_conformance").rglob("*.py"), *TOP.glob("plugin/*.[ch]")]
+    own = [path for ending in ("py", "tsv") for path in (HERE / "rsp_conformance").rglob(f"*.{ending}")]
+    own += [*SOURCES.glob("*.[ch]"), *TOP.glob("plugin/*.[ch]")]
     return [*sorted(own), HEADER, library()]
 
 

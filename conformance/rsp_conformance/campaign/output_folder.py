@@ -10,7 +10,7 @@ from rsp_conformance.safe_files import MOST_JSON, read_file, write_file
 
 from . import CampaignFault
 from .hashes import files_of, hashes, other_hashes
-from .protocol import PROGRAM, VERSION, Result, Task, plural
+from .protocol import PROGRAM, VERSION, VERSIONS, Result, Task, plural
 from .report import file_of, result_in, task_of
 
 # The options that decide a campaign's cases and programs.
@@ -39,7 +39,7 @@ class OutputFolder:
     def __init__(self, args: argparse.Namespace) -> None:
         self.out: Path = args.out
         self.files, self.earlier_results = files_of(args.emulator, args.files), 0
-        self.settings: Dict[str, Any] = {"generator": VERSION}
+        self.settings: Dict[str, Any] = {"generator": [VERSION, VERSIONS[PROGRAM]]}
         self.settings.update({key: getattr(args, key) for key in SETTINGS})
         self.settings["hashes"] = hashes(args.emulator, args.files)
         kinds = ((args.cases, args.size, args.instructions), (args.programs, args.programs_size, [PROGRAM]))
@@ -91,6 +91,6 @@ class OutputFolder:
         for program in result["programs"]:
             folder = self.out / "programs"
             folder.mkdir(exist_ok=True)
-            write_file(folder / f"{program['name']}.s", program.pop("source"))
-            write_file(folder / f"{program['name']}.script", program.pop("script"))
+            for kind, key in (("s", "source"), ("script", "script"), ("hex", "image")):
+                write_file(folder / f"{program['name']}.{kind}", program.pop(key))
         write_file(self.path_of(task_of(result)), json.dumps(result) + "\n")

@@ -8,6 +8,7 @@ Options = Dict[str, Any]  # of the campaign, for its tasks
 
 VERSION = 2  # of the generator: another version gives the cases of the same numbers other names
 PROGRAM = "program"  # in place of an instruction, in a task of programs
+VERSIONS = {PROGRAM: 3}  # of the generator of programs
 BATCH, SHOWN = 1024, 5  # the cases of a call, and the differences of a task that are shown
 # An end is a state, the status and a digest: the bytes of one, and where its status is.
 END_BYTES, STATUS_AT = 784, 772
@@ -17,7 +18,7 @@ UNDONE, UNSHOWN, RESERVED = 0xFFFFFFFF, 0xFFFFFFFE, 105
 
 def name_of(what: str, seed: str, number: int) -> str:
     """The name of a case, or of a program: VADD-g2-7-000123, with the generator's version."""
-    return f"{what.upper()}-g{VERSION}-{seed}-{number:06d}"
+    return f"{what.upper()}-g{VERSIONS.get(what, VERSION)}-{seed}-{number:06d}"
 
 
 def plural(number: int, noun: str) -> str:

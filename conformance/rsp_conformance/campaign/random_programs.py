@@ -11,6 +11,7 @@ import numpy as np
 import rsp
 
 from . import CampaignFault
+from .dependences import Pairs, met, with_dependences
 from .generator import EDGE, FIRST_EDGE, IMEM, INSTRUCTIONS, MEMORIES
 from .generator import Array, Draw, cases_of, generator, registers
 from .protocol import PROGRAM, SHOWN, Result, name_of
@@ -38,9 +39,9 @@ def words_of(names: Tuple[str, ...], seed: str) -> Array:
     return words
 
 
-def program_of(names: Sequence[str], seed: str, number: int) -> Program:
-    """An IMEM full of words of these instructions. A quarter of the words are of eight instructions that the
-    program chooses.
+def program_of(names: Sequence[str], seed: str, number: int) -> Tuple[Program, Pairs]:
+    """An IMEM full of words of these instructions, of which half are dependences, and these. A quarter of the
+    other words are of eight instructions that the program chooses.
 
     Branches and jumps go forward by a few words, and JR and JALR are rare, because each program would
     otherwise soon be in a small loop.
@@ -48,7 +49,9 @@ def program_of(names: Sequence[str], seed: str, number: int) -> Program:
     choice = (generator("program", f"{seed}/{number}").random_raw(LENGTH + 8) >> 1).astype(np.int64)
     few, choice = choice[:8] % len(names), choice[8:]
     rows = np.where(choice & 3, (choice >> 16 & 0xFFFF) % len(names), few[choice >> 8 & 7])
-    words, on = words_of(tuple(names), seed)[rows, choice >> 32 & WORDS - 1], choice >> 48
+    pool, numbers, on = words_of(tuple(names), seed), choice >> 32 & WORDS - 1, choice >> 48
+    raw = (generator("dependences", f"{seed}/{number}").random_raw(LENGTH // 2) >> 1).astype(np.int64)
+    rows, words, pairs = with_dependences(tuple(names), pool, rows, numbers, raw)
     forms = np.array([INSTRUCTIONS[name].form for name in names])[rows]
     words = np.where(np.isin(forms, ("branch one", "branch two")), words & ~0xFFFF | 1 + on % 7, words)
     words = np.where(np.isin(forms, ("jump register", "link register")) & (choice >> 24 & 15 > 0), 0, words)
@@ -58,7 +61,7 @@ def program_of(names: Sequence[str], seed: str, number: int) -> Program:
     memories[IMEM : IMEM + 4096] = words.astype(">u4").view(np.uint8)
     state = registers(Draw(PROGRAM, seed, number, 1))["state"][0]
     state["pc"], state["npc"], state["vectors"] = 0, 4, edged(state["vectors"])
-    return settable(Program(state.tobytes(), memories))
+    return settable(Program(state.tobytes(), memories)), pairs
 
 
 def name_in(text: str) -> str:
@@ -120,9 +123,11 @@ def check_programs(
     names = [name for name in instructions if name not in NEVER]
     if not names:
         raise CampaignFault("programs have to have an instruction other than BREAK")
-    sides.first_difference(program_of(names, seed, start), 0, 1)  # the emulator may take no programs
+    sides.first_difference(program_of(names, seed, start)[0], 0, 1)  # the emulator may take no programs
     yield {"count": 0, "unseen": sides.unseen}
     for number in range(start, start + count):
-        program, name = program_of(names, seed, number), name_of(PROGRAM, seed, number)
+        (program, pairs), name = program_of(names, seed, number), name_of(PROGRAM, seed, number)
+        counts = met(pairs, sides.addresses(program, min(steps, 1000000)))
         found = sides.first_difference(program, steps, EVERY)
-        yield result_of(sides, name, program, found, cut) if found else {"count": 1}
+        result = result_of(sides, name, program, found, cut) if found else {"count": 1}
+        yield {**result, "met": counts}

@@ -87,16 +87,18 @@ def not_there(results: List[Result]) -> str:
 
 
 def last_line(results: List[Result]) -> str:
-    """A sentence about what was done, which comes after the table."""
+    """Sentences about dependences that programs met, and about what was done, which come after the table."""
     lines = summary(results)
     keys = ("count", "differ", "faults", "missing", "unshown")
     count, differ, faults, missing, unshown = (sum(line[key] for line in lines.values()) for key in keys)
     apart = {"not there": missing, "not shown": unshown}
     others = "".join(f", {number} {what}" for what, number in apart.items() if number)
-    programs = lines.get(PROGRAM, {"count": 0})["count"]
+    programs, met = (lines.get(PROGRAM, nothing())[key] for key in ("count", "met"))
+    kinds = ", ".join(f"{kind} {number}" for kind, number in met.items())
     seconds = plural(round(sum(result["processor"] for result in results)), "second")
     unseen = printable(", ".join(dict.fromkeys(part for result in results for part in result["unseen"])))
-    done = f"{plural(count - programs - missing - unshown, 'case')} and {plural(programs, 'program')}"
+    done = f"Dependences that programs met: {kinds}.\n" if met else ""
+    done += f"{plural(count - programs - missing - unshown, 'case')} and {plural(programs, 'program')}"
     more = f" Not compared, or not in all bits: {unseen}." if unseen else ""
     return f"{done}: {differ} differ, {faults} of them by faults{others}; {seconds} of processor.{more}"
 

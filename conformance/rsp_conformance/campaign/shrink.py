@@ -3,8 +3,9 @@ and bytes that aren't 0.
 """
 
 import struct
-from typing import Callable, List, Optional, Tuple
+from typing import Callable, List, Optional, Set, Tuple
 
+import numpy as np
 import rsp
 from rsp_conformance import bench
 from rsp_conformance.library_states import numbers_of
@@ -52,10 +53,11 @@ def cut_down(sides: Sides, program: Program, steps: int, is_hidden: bool) -> Res
     """
 
     def first_difference(candidate: Program, most: int) -> Optional[rsp.FirstDifference]:
-        return sides.first_difference(candidate, most, most if is_hidden else max(1, most // 16))
+        every = most if is_hidden else max(1, most // 16)
+        return sides.first_difference(settable(candidate), most, every)
 
     def later(back: int) -> Program:
-        return settable(sides.after(program, steps - back))
+        return sides.after(program, steps - back)
 
     most = fewest(steps, lambda back: first_difference(later(back), back)) or steps
     program = later(most)
@@ -71,8 +73,9 @@ def cut_down(sides: Sides, program: Program, steps: int, is_hidden: bool) -> Res
         "pc": program.state.pc,
         "listing": [f"{pc:03x}: {program.named(pc)}" for pc in words],
         "texts": [program.named(pc) for pc in sorted(words, key=lambda pc: (pc - program.state.pc) % 4096)],
-        "source": source_of(program, words),
+        "source": source_of(program, words, {*sides.addresses(program, found.step)}),
         "script": script_of(program, found.step),
+        "image": image_of(program, found.step, sides.after(program, found.step)),
     }
 
 
@@ -89,11 +92,19 @@ def smallest(program: Program, parts: Parts, fails: Callable[[Program], object])
     return with_parts(minimal(parts, lambda kept: fails(with_parts(kept))))
 
 
-def source_of(program: Program, words: List[int]) -> str:
+def source_of(program: Program, words: List[int], executed: Set[int]) -> str:
     """The text of a program for `rsp asm --at`, from its first to its last word that isn't 0."""
     addresses = range(min(words, default=0), max(words, default=0) + 4, 4)
     head = f"# rsp asm --at {addresses[0]}; it begins at {program.state.pc:#05x}\n"
-    return head + "".join(f"{program.text(pc)}\n" for pc in addresses)
+    marks = ("" if pc in executed else "  # never runs" for pc in addresses)
+    return head + "".join(f"{program.text(pc)}{mark}\n" for pc, mark in zip(addresses, marks))
+
+
+def image_of(program: Program, steps: int, after: Program) -> str:
+    """A program for a test bench, and what the library leaves, in the words that FORMS.md lists."""
+    states = (np.frombuffer(bytes(side.state), "<u4").astype(">u4").tobytes() for side in (program, after))
+    memories = program.raw[IMEM:RDRAM], program.raw[DMEM:IMEM], after.raw[DMEM:IMEM]
+    return b"".join((steps.to_bytes(4, "big"), *states, *memories)).hex("\n", 4) + "\n"
 
 
 def memories_after_setting(data: str) -> bytes:

@@ -22,7 +22,7 @@ import subprocess
 import sys
 import threading
 import time
-from collections import Counter, deque
+from collections import deque
 from multiprocessing import Pipe
 from typing import Deque, Iterator, List, Optional, Tuple
 
@@ -49,19 +49,22 @@ FAULTS, SEARCH_SECONDS, BEGIN_SECONDS = 8, 60, 60
 FIRST_LINES, LAST_LINES, LINE_BYTES = 5, 20, 400
 PYTHON = TOP / "tools/python"
 NUMBERS = ("count", "unshown", "missing", "differ", "choices", "processor")
+COUNTS = ("parts", "met")  # of what differs, and of the dependences of programs
 LISTS = ("shown", "faults", "programs", "unseen")
 
 
 def nothing() -> Result:
     """A result without cases, to which others are added."""
-    return {**dict.fromkeys(NUMBERS, 0), "parts": {}, **{key: [] for key in LISTS}}
+    return {**dict.fromkeys(NUMBERS, 0), **{key: {} for key in COUNTS}, **{key: [] for key in LISTS}}
 
 
 def add(total: Result, result: Result) -> None:
-    """Adds the numbers, the counts of parts, and the lists of a result to a total."""
+    """Adds the numbers, the counts and the lists of a result to a total."""
     for key in (*NUMBERS, *LISTS):
         total[key] = total[key] + result.get(key, type(total[key])())
-    total["parts"] = dict(Counter(total["parts"]) + Counter(result.get("parts", {})))
+    for key in COUNTS:
+        more = result.get(key, {})
+        total[key] = {name: total[key].get(name, 0) + more.get(name, 0) for name in {**total[key], **more}}
 
 
 def end_with_parent(parent: int) -> None:
