@@ -1,28 +1,57 @@
-// The library as the reference of lock.sv, by DPI-C. brsp_step_changes gives what a retired instruction has written.
-#include "Vlock__Dpi.h"
+// The library as the golden model of any core that fills a brsp_changes for each instruction that it retires (lock.sv), by DPI-C.
 #include "brsp.h"
+#include "svdpi.h"
 #include <cstdio>
 #include <cstring>
 static brsp_machine m = BRSP_NONE;
-static brsp_state s; // as the last step has left it
+static brsp_line line;
+static unsigned long instructions;
+static int is_wrong;
 
-int reference_open(const char *path)
+// Compares the numbers of a field, each of `size` bytes, and prints the first that differs.
+static void check(const char *name, const void *expected, const void *got, size_t size, size_t count)
 {
-    static uint8_t text[4096], image[64];
-    static uint32_t words[1024];
-    brsp_assembled made;
-    FILE *file = fopen(path, "r");
-    if (!file || brsp_assemble(0, text, fread(text, 1, sizeof text, file), words, 1024, &made) || brsp_new(&m, image, sizeof image, 0)) return 0;
-    return !brsp_load_words(&m, BRSP_IMEM, 0, words, made.count) && !brsp_get(&m, &s);
+    for (size_t i = 0; i < count && !is_wrong; i++) {
+        uint32_t a = 0, b = 0;
+        memcpy(&a, (const char *)expected + size * i, size);
+        memcpy(&b, (const char *)got + size * i, size);
+        if (a == b) continue;
+        is_wrong = 1;
+        printf("instruction %lu, %03x %s: %s", instructions, line.address, line.text, name);
+        if (count > 1) printf("%zu", i);
+        printf(": expected %0*x, got %0*x\n", (int)(2 * size), a, (int)(2 * size), b);
+    }
 }
-int reference_word() { brsp_scalars now; uint32_t word; brsp_regs(&m, &now); brsp_memory_words(&m, BRSP_IMEM, now.pc, &word, 1); return (int)word; }
-int reference_step(svBitVecVal *vu)
+#define FIELD(name, field) check(name, &ours.field, &theirs.field, sizeof ours.field, 1)
+#define LANES(name, field) check(name, &ours.field, &theirs.field, sizeof ours.field[0], sizeof ours.field / sizeof ours.field[0])
+
+static void compare(const brsp_changes &ours, const brsp_changes &theirs)
 {
-    brsp_changes c;
-    if (brsp_step_changes(&m, &c)) return 0;
-    const brsp_traced &t = c.traced;
-    if (t.vector < 32) memcpy(s.vectors[t.vector], t.lanes, 16); // an LTV writes eight: then call brsp_get
-    s.flags = { (uint8_t)t.vco, (uint8_t)(t.vco >> 8), (uint8_t)t.vcc, (uint8_t)(t.vcc >> 8), t.vce };
-    s.accumulators = c.accumulators, s.divider = c.divider;
-    return memcpy(vu, s.vectors, 572) != nullptr;
+    char name[32];
+    FIELD("pc", traced.pc); FIELD("word", traced.word);
+    FIELD("number of the scalar register", traced.scalar); FIELD("number of the vector register", traced.vector);
+    snprintf(name, sizeof name, "$%u", ours.traced.scalar); FIELD(name, traced.value);
+    snprintf(name, sizeof name, "$v%u lane ", ours.traced.vector); LANES(name, traced.lanes);
+    FIELD("store", traced.stored); FIELD("address", traced.address); FIELD("quadword", quadword);
+    check("byte of the quadword and the next: ", ours.bytes, theirs.bytes, 1, sizeof ours.bytes);
+    FIELD("VCO", traced.vco); FIELD("VCC", traced.vcc); FIELD("VCE", traced.vce);
+    LANES("accumulator high lane ", accumulators.high); LANES("accumulator middle lane ", accumulators.middle);
+    LANES("accumulator low lane ", accumulators.low);
+    FIELD("DIV_IN", divider.input); FIELD("DIV_OUT", divider.output); FIELD("DIV_IN loaded", divider.loaded);
+}
+
+extern "C" int lock_open(void) { static uint8_t image[64]; brsp_free(&m); instructions = 0; is_wrong = 0; return !brsp_new(&m, image, sizeof image, 0); }
+extern "C" int lock_load(int bank, int address, int word) { uint32_t w = (uint32_t)word; return !brsp_load_words(&m, (uint32_t)bank, (uint32_t)address, &w, 1); }
+
+// Steps the library, and compares. pc and npc after the step aren't compared: a wrong branch shows in the next record. 0 if something differs.
+extern "C" int lock_retire(const svBitVecVal *record)
+{
+    brsp_changes ours, theirs;
+    brsp_scalars now;
+    memcpy(&theirs, record, sizeof theirs);
+    if (brsp_regs(&m, &now) || brsp_listing(&m, now.pc, &line, 1)) return 0;
+    instructions++;
+    if (brsp_step_changes(&m, &ours)) { printf("instruction %lu, %03x %s: the library stops\n", instructions, line.address, line.text); return 0; }
+    compare(ours, theirs);
+    return !is_wrong;
 }

@@ -30,7 +30,7 @@ class TestScaled(unittest.TestCase):
         with rsp.Machine(bytes(64)) as machine:
             machine.load_words(rsp.IMEM, 0, rsp.assemble(SCALED))
             machine.load(rsp.DMEM, 0, struct.pack(">9h", *samples, volume))
-            self.assertEqual(machine.run(100).reason, rsp.Reason.HALT)
+            machine.run_to_halt(100)
             return list(struct.unpack(">8h", machine.memory(rsp.DMEM, 32, 16)))
 
     def test_edges(self) -> None:
