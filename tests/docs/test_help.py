@@ -13,7 +13,7 @@ from typing import List
 import pytest
 
 from lib import TOP
-from lib.pages import page
+from lib.pages import data, page
 from lib.program import run_program
 
 
@@ -27,6 +27,15 @@ def started(request: pytest.FixtureRequest, program: Path) -> Path:
 def test_help(name: str, started: Path) -> None:
     words = [name] * (name != "rsp")
     assert run_program(started, [*words, "--help"]) == (2, b"", page(f"docs/help/{name}.txt").encode())
+
+
+def test_scripts_in_help(program: Path) -> None:
+    """The help of `run` has the form of each command, and ends with a script that has no fault."""
+    text = page("docs/help/run.txt").partition("Commands of a script:\n")[2]
+    commands, _, script = text.partition("Example")
+    forms = re.sub(r"\(.*?\)", "", ", ".join(re.findall(r"(?m)^  .{14}(.*)$", commands)))
+    assert {*re.findall(r"[a-z]+(?: [A-Z]+)*", forms)} == {row["Command"] for row in data("commands")}
+    assert run_program(program, ["run", "--strict"], script.partition("\n")[2].encode()).status == 0
 
 
 def test_version(started: Path) -> None:

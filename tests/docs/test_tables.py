@@ -185,7 +185,8 @@ def test_forms_planned_otherwise() -> None:
     others = re.findall(r"`(rsp_\w+)`", rows["sixteen crates"])
     assert len(rows) >= 18 and rows["sixteen crates"].startswith(f"{len(LINES)}: ")
     assert len({*others} & LINES.keys()) == len(others) == len(LINES) - 16
-    of_kit = {used for name in LINES for used in uses(name)} - {*LINES, "core", "std_alloc", "std_heap"}
+    of_std = {"core", "std_alloc", "std_heap", "std_io"}
+    of_kit = {used for name in LINES for used in uses(name)} - LINES.keys() - of_std
     (listed,) = (f"{planned} {cell}" for planned, cell in rows.items() if "crates of the kit" in planned)
     assert_same_items(re.findall(r"`(\w+)`", listed), of_kit)
     (trusted,) = re.findall(r"\*\*The kit's libraries\*\*, (.*?)\. - ", sentences(GUARANTEES))

@@ -71,7 +71,7 @@ def test_block(user: User, suite: Path, block: Block) -> None:
 @pytest.mark.needs("cc")
 def test_installed_by_root(user: User, folder: Path) -> None:
     """README's blocks, which leave no file when it is removed. The files belong to another user before, and
-    the program in C names no folder."""
+    the program of lock step names no folder."""
     enter = ("unshare", "--mount", *["--map-root-user"] * (os.getuid() != 0))
     if run(*enter, "true").returncode:
         pytest.skip("there is no mount namespace here")

@@ -7,6 +7,7 @@ says which fault only it finds.
 
 import functools
 import os
+import platform
 import re
 import shutil
 from http.server import SimpleHTTPRequestHandler, ThreadingHTTPServer
@@ -113,12 +114,18 @@ def test_cmake_installs(stranger: User, home: Path, compiler: str, more: str) ->
 
 @pytest.mark.needs("cmake", "make")
 def test_cmake_refuses_what_is_changed(stranger: User, home: Path) -> None:
-    """Otherwise only: that CMake builds the library of other sources, or counts an editor's file."""
+    """Otherwise only: that CMake builds the library of other sources, or counts an editor's file, or that an
+    update changes nothing whose files are older than what was built before."""
     configured, source = "cmake -S . -B ~/out", "crates/rsp_numbers/src/lib.rt"
     prints(stranger, f"echo more >{source}.orig; {configured}")
     ended = stranger.types(f"echo '// more' >>{source}; {configured}")
     assert ended.returncode and f"{source} isn't as it was" in " ".join(ended.stderr.split())
     prints(stranger, f"git checkout -q . && rm {source}.orig && {configured}")
+    assembly, build = f"compiled/Linux-{platform.machine()}-lib.s", "cmake --build ~/out --target brsp_static"
+    update = f"echo '.section .comment; .string \"update\"' >>{assembly} && touch -d 2001-1-1 {assembly}"
+    mark = f'sed -i "s|^[0-9a-f]*  {assembly}|$(sha256sum {assembly})|" compiled/rsp_c.made'
+    prints(stranger, f"{build} && {update} && {mark} && {build} && grep -q update ~/out/libbrsp.a")
+    prints(stranger, "git checkout -q .")
 
 
 @pytest.mark.needs("cmake", "make", "objdump")

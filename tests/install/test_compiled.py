@@ -11,7 +11,11 @@ import pytest
 from lib.pages import page
 from lib.user import User, prints
 
-pytestmark = [pytest.mark.needs("git", "cc", "ar"), pytest.mark.xdist_group("compiled")]
+pytestmark = [
+    pytest.mark.needs("git", "cc", "ar"),
+    pytest.mark.xdist_group("compiled"),
+    pytest.mark.timeout(900),
+]
 FIRST = "./rsp run examples/first.rsp"
 # What the scripts of the shell call beside the compiler, binutils and a program that sums.
 TOOLS = "sh cat cp cut dirname find grep head mkdir mktemp mv readlink rm sed sort uname uniq"
@@ -110,10 +114,13 @@ def test_other_processor(stranger: User) -> None:
     assert prints(stranger, f"{cross}; {run}; {FIRST}") == f"{stranger.env['HOME']}/out\n{REPLIES * 2}"
     assert prints(stranger, "git status --porcelain --ignored") == ""
     prints(stranger, f"{FIRST}; sleep 2.1; {FIRST}")  # which need not read the sources then
-    prints(stranger, "printf '#!/bin/sh\\necho riscv64-linux-gnu\\n' >~/riscv && chmod +x ~/riscv")
+    asked = "[ $1 = -dumpmachine ] && echo $MACHINE"
+    prints(stranger, f"printf '#!/bin/sh\\n{asked}\\n' >~/cc && chmod +x ~/cc")
     known = "Darwin-arm64 Darwin-x86_64 Linux-aarch64 Linux-x86_64 Windows-x86_64"
     why = f"compiled/ has no assembly for Linux-riscv64, only for {known}\n"
-    refuses(stranger, f"CC=~/riscv {FIRST}", why)
+    refuses(stranger, f"MACHINE=riscv64-linux-gnu CC=~/cc {FIRST}", why)
+    why = f"{stranger.env['HOME']}/cc doesn't make the program"
+    refuses(stranger, f"MACHINE=arm64-linux-gnu CC=~/cc {FIRST}", why)
 
 
 def test_archive(stranger: User) -> None:

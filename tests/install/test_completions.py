@@ -84,6 +84,14 @@ def test_first_word(prefix: Path, shell: str) -> None:
     assert {*COMMANDS, "help"} <= SHELLS[shell](prefix, "rsp ")
 
 
+@pytest.mark.parametrize("shell", [pytest.param(it, marks=pytest.mark.needs(it)) for it in ("bash", "fish")])
+def test_words_after_help(prefix: Path, shell: str) -> None:
+    """`help` takes one command, and a script may be called help."""
+    assert SHELLS[shell](prefix, "rsp help ") == {*COMMANDS}
+    assert not SHELLS[shell](prefix, "rsp help run ") & {*COMMANDS}
+    assert "--strict" in SHELLS[shell](prefix, "rsp run help --")
+
+
 FILES = ("rsp asm ", "rsp run ", "rsp run --strict > ")
 
 

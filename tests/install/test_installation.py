@@ -109,13 +109,15 @@ def test_uninstall(own: Path) -> None:
 
 
 def test_package_of_a_distribution(library: Path, folder: Path) -> None:
-    """DESTDIR is where the files go, and PREFIX what brsp.pc names, without an rpath."""
-    where = {**os.environ, "DESTDIR": str(folder / "package")}
-    succeeds(INSTALL, "/usr", "--no-rpath", env=where)
-    assert files_below(folder / "package/usr") - {"bin/rsp"} == {*FILES}
-    text = (folder / "package/usr/lib/pkgconfig/brsp.pc").read_text()
-    assert text.startswith("prefix=/usr\n") and "rpath" not in text
-    succeeds(INSTALL, "/usr", "--uninstall", env=where)
+    """DESTDIR is where the files go, and PREFIX what brsp.pc names, without an rpath. PREFIX is none of the
+    system's folders, so that a faulty installation harms nobody."""
+    prefix, where = folder / "usr", {**os.environ, "DESTDIR": str(folder / "package")}
+    succeeds(INSTALL, prefix, "--no-rpath", env=where)
+    package = folder / f"package{prefix}"
+    assert files_below(package) - {"bin/rsp"} == {*FILES}
+    text = (package / "lib/pkgconfig/brsp.pc").read_text()
+    assert text.startswith(f"prefix={prefix}\n") and "rpath" not in text
+    succeeds(INSTALL, prefix, "--uninstall", env=where)
     assert files_below(folder / "package") == set()
 
 

@@ -97,10 +97,8 @@ def test_report_that_is_there(bench: Bench, folder: Path) -> None:
 
 
 def test_wrong_lane(bench: Bench, folder: Path) -> None:
-    """VMUDM sets the lowest bit of lane 5, which shows when the lane is stored, in step 8 of task 2. Task 1
-    leaves an accumulator whose middle part begins with 1."""
-    words = bench.words("addiu $1, $0, -1\nmtc2 $1, $v1[0]\nvmudn $v2, $v1, $v1\nbreak")
-    messages = check_tasks(bench, folder, bench.faulty(1), [[f"put imem 0 {words}"], products(bench)])
+    """VMUDM sets the lowest bit of lane 5, which shows when the lane is stored, in step 8 of task 2."""
+    messages = check_tasks(bench, folder, bench.faulty(1), [["put imem 0 0000000d"], products(bench)])
     difference = "DMEM 000028 is 00020002 here and 00020003 there"
     step = f"task 2, step 8, 01c: {bench.words('sqv $v3[0], 32($0)')} sqv $v3[0], 32($0): {difference}"
     files = [f"{folder}/rsp-task-2.{suffix}" for suffix in ("txt", "script")]
@@ -119,11 +117,15 @@ def test_wrong_lane(bench: Bench, folder: Path) -> None:
     ids=["eight bytes more", "nothing"],
 )
 def test_wrong_transfer(fault: int, difference: str, bench: Bench, folder: Path) -> None:
-    """A DMA to RDRAM writes too much or nothing: no register shows it, and no byte that the plugin uses."""
-    task = [f"put imem 0 {bench.words_of('dma_out')}", "put dmem f00 00000100 00002ff8 00000007"]
-    task += ["put rdram 2ff8 1 2 3 4", "put dmem 100 5 6"]
+    """A DMA to RDRAM writes too much or nothing: no register shows it, and no byte that the plugin uses. The
+    script begins after a DMA into DMEM, with an accumulator whose middle part begins with 1."""
+    into, out = ((HERE / f"calls/dma_{it}.s").read_text() for it in ("in", "out"))
+    begin = "addiu $1, $0, -1\nmtc2 $1, $v1[0]\nvmudn $v2, $v1, $v1\n"
+    change = "lw $4, 0x100($0)\naddiu $4, $4, 4\nsw $4, 0x100($0)"
+    words = bench.words(begin + into.replace("break", change) + out)
+    task = [f"put imem 0 {words}", "put dmem f00 00000100 00002ff8 00000007", "put rdram 2ff8 1 2 3 4"]
     messages = check_tasks(bench, folder, bench.faulty(fault), [task])
-    step = f"task 1, step 6, 014: {bench.words('mtc0 $3, $c3')} mtc0 $3, $c3: {difference}"
+    step = f"task 1, step 18, 044: {bench.words('mtc0 $3, $c3')} mtc0 $3, $c3: {difference}"
     assert messages[1:3] == [f"task 1: {difference}", step]
     assert messages[-1] == "1 tasks, 1 differ"
     assert_plays(bench, folder, 1)

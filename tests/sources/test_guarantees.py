@@ -49,7 +49,7 @@ FORMS = {"name": r"^[^/\"\n]*\bfn \w+[(<]", "clause": r"^\s*requires\b", "ensure
 SIGNATURE_END = re.compile(r"\brequires\b|\bensures\b|\{\}?\n|;\n")
 OF_MEMORY = re.compile(r"\bGlobal\b|\bAllocError\b")
 # The folders whose headers nobody gets, or of which the page speaks as a whole.
-OTHER_HEADERS = ("tests/", "fuzz/", "plugin/", "conformance/", "library/c/program/")
+OTHER_HEADERS = ("tests/", "fuzz/", "plugin/", "conformance/")
 
 
 class Part(NamedTuple):
@@ -159,13 +159,12 @@ def test_assumed() -> None:
 
 
 def linked() -> Set[str]:
-    """The files of C that the modules of tools name, except those of the program in C."""
+    """The files of C that the modules of tools name."""
     folders = ("tools/rsp_tools", "tools/rsp_tools/systems", "tools/rsp_tools/packaging")
     trees = [ast.parse(path.read_text()) for folder in folders for path in TOP.glob(f"{folder}/*.py")]
     texts = [it.value for tree in trees for it in ast.walk(tree) if isinstance(it, ast.Constant)]
     named = {str(text).rpartition("/")[2] for text in texts if re.fullmatch(r"[\w/]+\.c", str(text))}
-    named |= {f"{part}.c" for part in wasm.PARTS if part != "rsp"}
-    return named - {path.name for path in TOP.glob("library/c/program/*.c")}
+    return named | {f"{part}.c" for part in wasm.PARTS if part != "rsp"}
 
 
 def headers() -> Set[str]:
@@ -179,9 +178,9 @@ def test_unproved_files() -> None:
     rows = {row[0].strip("`"): row[3] for row in tables(GUARANTEES, "## Assumed") if len(row) == 4}
     files = {name for name in rows if name.endswith(".c")}
     assert {name.rpartition("/")[2] for name in files} == linked()
-    # What changes the kit's module before or after clang compiles it, and the program that isn't proved.
+    # What changes the kit's module before or after clang compiles it.
     changing = {"tools/rsp_tools/systems/rewriting.py", "tools/rsp_tools/systems/objects.py"}
-    assert {*rows} == files | headers() | changing | {"library/c/program"}
+    assert {*rows} == files | headers() | changing
     tests = {name: re.findall(r"`(tests/[^`]*)`", cell) for name, cell in rows.items()}
     assert [name for name, paths in tests.items() if not paths] == []
     assert [it for it in (*rows, *sum(tests.values(), [])) if not (TOP / it).exists()] == []

@@ -14,13 +14,12 @@ import pytest
 from lib import TOP
 from lib.packages import need
 from lib.processes import run, succeeds
-from rsp_tools.systems.program import definitions
 
 HEADERS = "/usr/include/mupen64plus"
 STRICT = ("-std=gnu11", "-O2", "-Wall", "-Wextra", "-Wconversion", "-Werror", "-S")
 FOLDERS = ("-Ilibrary/c", "-Iplugin", "-Iconformance/campaigns", f"-I{HEADERS}")
-# What the scripts that compile these files define: a planted fault, words of microcode, texts of the program.
-DEFINED = ("-DFAULT=1", "-DSETTING=0", "-DSAVING=0", "-DLOADING=0", *definitions())
+# What the scripts that compile these files define: a planted fault, words of microcode.
+DEFINED = ("-DFAULT=1", "-DSETTING=0", "-DSAVING=0", "-DLOADING=0")
 # The compilers, and their options for the files that aren't for this system: a program over the headers of
 # mupen64plus, one for the VR4300, those for Windows, and those for macOS and WebAssembly, which gcc hasn't.
 WINDOWS = "x86_64-w64-mingw32-gcc"
