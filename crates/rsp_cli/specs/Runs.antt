@@ -31,7 +31,7 @@ script_of asked content input = bytes_or (option_map (λ name. name.now) asked.s
 abbrev pub image_of : RunFiles → (List ℕ → Option (Result (List ℕ) FileFault)) → Option (List ℕ)
 image_of asked content = bytes_or (option_map (λ name. name.now) asked.rdram) content (Some default_image)
 
--- the file with this name holds the image after a save, and no other file was written; without a name none was
+-- the file with this name holds the image after a save, and each other name leads to what it led to, or to the image; without a name all do
 abbrev pub IsSaved : Option (List ℕ) → (List ℕ → Option (Result (List ℕ) FileFault)) → (List ℕ → Option (Result (List ℕ) FileFault)) → List ℕ → Type 0
 IsSaved None before after image = SameFiles before after
 IsSaved (Some name) before after image = IsSavedAs name before after image

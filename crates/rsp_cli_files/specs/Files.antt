@@ -24,7 +24,7 @@ abbrev pub IsWritten : Option (Result (List ℕ) FileFault) → Option (Result (
 IsWritten None after bytes = Unit {0}
 IsWritten (Some held) after bytes = after ≡ Some (Ok bytes)
 
--- after a write of these bytes every other name leads to what it led to, or to the file that was written
+-- after a write of these bytes each name leads to what it led to, or to these bytes
 abbrev pub WritesOneFile : (List ℕ → Option (Result (List ℕ) FileFault)) → (List ℕ → Option (Result (List ℕ) FileFault)) → List ℕ → Type 0
 WritesOneFile before after bytes = (name : List ℕ) → (after name ≡ before name) ⊎ (after name ≡ Some (Ok bytes))
 
@@ -32,7 +32,7 @@ WritesOneFile before after bytes = (name : List ℕ) → (after name ≡ before 
 abbrev pub SameFiles : (List ℕ → Option (Result (List ℕ) FileFault)) → (List ℕ → Option (Result (List ℕ) FileFault)) → Type 0
 SameFiles before after = (name : List ℕ) → after name ≡ before name
 
--- the file with this name holds these bytes after a write, and no other file was written
+-- the file with this name holds these bytes after a write, and each other name leads to what it led to, or to these bytes
 abbrev pub IsSavedAs : List ℕ → (List ℕ → Option (Result (List ℕ) FileFault)) → (List ℕ → Option (Result (List ℕ) FileFault)) → List ℕ → Type 0
 IsSavedAs name before after bytes = IsWritten (before name) (after name) bytes × WritesOneFile before after bytes
 
