@@ -34,10 +34,6 @@ is_made() { # TOP MARK: whether the files are there and made of the sources as t
         files=$(sed 1,3d "$2") && [ "$files" ] && [ "$files" = "$(tell_files "$1" "$2")" ]
 }
 
-is_of_others() { # MARK MARK: whether the first is there, and of other sources than the second
-    [ -e "$1" ] && [ "$(sed -n 2,3p "$1")" != "$(sed -n 2,3p "$2" 2>/dev/null)" ]
-}
-
 tell_names() { sed -e 1,3d -e 's/^[^ ]*  //' "$1"; } # MARK: the names of its files
 
 tell_files() { # TOP MARK: the sums of its files as they are
@@ -113,8 +109,8 @@ tell_machine() {
     esac
 }
 
-is_for() { # MARK MACHINE: whether the files are made of that machine's assembly, or of none
-    ! grep -q '  compiled/' "$1" || grep -q "  compiled/$2-" "$1"
+is_for() { # MARK MACHINE: whether the files are made of that machine's assembly
+    grep -q "^[^ ]*  .*/$2-[a-z]*\.s$" "$1"
 }
 
 # Where a crate's files lie: in the tree, or all in one folder.

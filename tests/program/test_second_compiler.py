@@ -26,7 +26,7 @@ BETWEEN = 600
 @pytest.fixture(scope="module")
 def other(tmp_path_factory: pytest.TempPathFactory) -> Path:
     """The program of the other compiler."""
-    ours, below = build.Build("rsp_main").file, crates.with_below("rsp_main")[:-1]
+    ours, below = crates.CRATES / "rsp_main/out/rsp_main", crates.with_below("rsp_main")[:-1]
     made, file = tmp_path_factory.mktemp("other") / "rsp", ours.with_suffix(".by-rattle")
     if ours.exists() and file.exists() and file.stat().st_mtime > ours.stat().st_mtime - BETWEEN:
         return file

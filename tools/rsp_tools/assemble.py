@@ -1,10 +1,12 @@
 """tools/assemble makes the files of compiled/ anew, of which cc makes the program and the library for C.
-./prove makes them too, changes nothing, and compares each byte with what is there.
+./prove makes them too, changes nothing, and compares each byte with what is there. `tools/build CRATE [COMMAND..]`
+makes only this system's file of the program (rsp_main) or of the library (rsp_c), in crates/CRATE/out, and
+then becomes COMMAND; ./rsp and library/c/build call it if a source isn't as it was when compiled/ was made.
 
-Both need the kit. They first prove the program and the library here, if that isn't done (tools/build). Then
-the kit compiles them, several files at a time: to assembly for each system, and the library to WebAssembly.
-Beside the proofs that takes some seven minutes of processor time. The same kit makes the same bytes of the
-same sources in any folder.
+All need the kit. They first prove what isn't proved here, and print when each crate begins and ends; a run
+that was stopped continues there. Then the kit compiles, several files at a time: to assembly for each system,
+and the library to WebAssembly. Beside the proofs that takes some seven minutes of processor time. The same
+kit makes the same bytes of the same sources in any folder.
 
 tools/assemble also writes compiled/record: which kit proved what, and on which day. ./prove names each file
 that differs, and counts in its last line.
@@ -15,27 +17,29 @@ This alone is no fault, because another kit may compile the same sources to othe
 """
 
 import argparse
+import os
+import platform
 import signal
-import subprocess
 import sys
 import tempfile
+import time
 from concurrent.futures import ThreadPoolExecutor
 from pathlib import Path
-from typing import Dict, List, Mapping, NoReturn, Tuple
+from typing import Dict, List, Mapping, NoReturn, Sequence, Tuple
 
-from rsp_tools import TOOLS, TOP
-from rsp_tools.build import is_made, kit, line_of, listed_sources, sources
+from rsp_tools import TOP
+from rsp_tools.build import LOGIC, is_made, kit, line_of, listed_sources, sources
+from rsp_tools.crates import with_below
 from rsp_tools.packaging.install_tree import File, put_all
+from rsp_tools.proof import guarded, prove_below
 from rsp_tools.record import made_of, record
 from rsp_tools.systems import places, wasm
 from rsp_tools.systems.modules import LIBRARY, PROGRAM, Crate, Module, module
 from rsp_tools.systems.objects import common, compiled, for_linux
 from rsp_tools.systems.rewriting import with_own_calls, with_unwind_tables, without_stack_probes
 from rsp_tools.systems.toolchain import Refused
-from rsp_tools.systems.windows import GNU
 from rsp_tools.targets import PROCESSORS, TARGETS
 
-NAME = "tools/assemble"
 COMPILED = TOP / "compiled"
 CRATES = (PROGRAM, LIBRARY)
 ASSEMBLED = ("linux-x86_64", "linux-aarch64", "windows-x86_64", "macos")
@@ -57,7 +61,7 @@ def for_other(made: Module, crate: Crate, processor: str, triple: str, at: Path)
     function."""
     flags = [*made.flags, "-fno-verbose-asm"]
     changes = [with_own_calls] if crate == PROGRAM else []
-    if triple == GNU:
+    if triple in TARGETS["windows-x86_64"].triples.values():
         flags = [it for it in flags if not it.endswith("-sections")]
         changes += [without_stack_probes, with_unwind_tables]
     return common(compiled(made._replace(flags=flags), processor, triple, at, changes, kind="-S"))
@@ -90,9 +94,9 @@ def make() -> Dict[Crate, Files]:
         return {crate: {name: it.result() for name, it in files.items()} for crate, files in going.items()}
 
 
-def mark(crate: Crate, files: Files) -> str:
-    """What tools/built.sh reads: of what these files are made, and first by which kit."""
-    sums = [line_of(f"compiled/{name}", data) for name, data in files.items()]
+def mark(crate: Crate, files: Files, folder: str = "compiled") -> str:
+    """What tools/built.sh reads: of what these files in a folder are made, and first by which kit."""
+    sums = [line_of(f"{folder}/{name}", data) for name, data in files.items()]
     for path in map(places.PARTS.joinpath, crate.parts.split()):
         sums.append(line_of(str(path.relative_to(TOP)), path.read_bytes()))
     return f"{kit()}\n{sources(crate.name)}{''.join(sums)}"
@@ -160,27 +164,102 @@ def write(made: Mapping[Crate, Files], output: str) -> int:
     kept = COMPILED / "record"
     if new or output or not kept.exists() or made_of(TOPS) not in kept.read_text():
         new["record"] = record(TOPS, output).encode()
-    put_all(COMPILED, [File(*it) for it in new.items()], fail)
-    print(f"{NAME}: {', '.join(new) or 'nothing'} in compiled/ is new")
+    put(COMPILED, new)
+    print(f"rsp: {', '.join(new) or 'nothing'} in compiled/ is new")
     return 0
 
 
-def fail(text: str) -> NoReturn:
-    sys.exit(f"{NAME}: {text}")
+def make_here(crate: Crate) -> Files:
+    """This system's file, and then its mark."""
+    triple, begun = PROCESSORS[platform.machine()].triple, time.time()
+    say(f"{crate.name} begins")
+    files = {name: assembly(crate, *of) for name, of in triples(crate).items() if of[1] == triple}
+    say(f"{crate.name} is proved and compiled after {time.time() - begun:.0f} s")
+    made = mark(crate, files, str(crate.out.relative_to(TOP)))
+    return {**files, f"{crate.name}.made": made.encode()}
+
+
+def put(folder: Path, files: Files) -> None:
+    put_all(folder, [File(*it) for it in files.items()], fail)
+
+
+def say(text: str) -> None:
+    print(f"rsp: {text}", file=sys.stderr, flush=True)
+
+
+def fail(text: str, status: int = 1) -> NoReturn:
+    """Ends at once, and all that the kit is about with it."""
+    say(text)
+    os._exit(status)
+
+
+def stop(number: int, _: object) -> NoReturn:
+    fail("stopped; the next run goes on from here", 128 + number)
+
+
+def check_kit() -> None:
+    if not kit():
+        fail("`rt`, the command of the Rattle kit, isn't on this machine (README.md names its version)")
+    if not kit().endswith(LOGIC):
+        fail(f"the kit here is `{kit()}`, and the proofs are for one of `{LOGIC}` (tools/logic)")
+
+
+def check_edits(since: float) -> None:
+    """Ends if a source was edited in the meantime: an edit that was taken back leaves the same sums, and may
+    yet be part of what is made."""
+    for name in dict.fromkeys(below for top in TOPS for below in with_below(top)):
+        folders = [it for part in ("src", "specs", "proofs") for it in os.walk(places.CRATES / name / part)]
+        if any(os.lstat(f"{at}/{it}").st_ctime >= since for at, _, files in folders for it in ["", *files]):
+            fail(f"{name} was edited in the meantime, so nothing is written: type the command again")
+
+
+def arguments() -> argparse.Namespace:
+    form = argparse.RawDescriptionHelpFormatter
+    parser = argparse.ArgumentParser("tools/assemble", description=__doc__, formatter_class=form)
+    kinds = parser.add_mutually_exclusive_group()
+    kinds.add_argument("--check", action="store_true", help="compare, as ./prove does")
+    kinds.add_argument("--here", metavar="CRATE", choices=TOPS, help="as tools/build does")
+    kinds.add_argument("--mutations", metavar="FILE", default="", help="what `rt ci` printed, for the record")
+    proved = "prove nothing below the program and the library, because `rt ci` has just done it"
+    parser.add_argument("--proved", action="store_true", help=proved)
+    parser.add_argument("command", nargs="*", metavar="COMMAND", help="what --here then becomes")
+    return parser.parse_args()
+
+
+def prove(crates: Sequence[Crate]) -> None:
+    """Proves what is below these crates. Ends if one can't be proved."""
+    if failed := prove_below([crate.name for crate in crates], say):
+        log = f"crates/{failed}/out/proof.log"
+        print(*(TOP / log).read_text(errors="replace").splitlines()[-25:], sep="\n", file=sys.stderr)
+        fail(f"{failed} isn't proved, for the reason above; all that `rt` said is in {log}")
+
+
+def build(crate: Crate, command: Sequence[str], since: float) -> int:
+    """Makes this system's file of a crate, whose sources weren't edited since, and becomes a command."""
+    prove([crate])
+    files = make_here(crate)
+    check_edits(since)
+    put(crate.out, files)
+    if command:
+        os.execv(command[0], command)
+    return 0
 
 
 def main() -> int:
-    form, said = argparse.RawDescriptionHelpFormatter, "what `rt ci` printed: the record has its mutations"
-    parser = argparse.ArgumentParser(prog=NAME, description=__doc__, formatter_class=form)
-    parser.add_argument("--check", action="store_true", help="compare, as ./prove does")
-    parser.add_argument("--mutations", metavar="FILE", default="", help=said)
-    options = parser.parse_args()
-    signal.signal(signal.SIGINT, lambda *_: sys.exit(130))
-    for name in TOPS:
-        if subprocess.run([TOOLS / "build", name]).returncode:
-            fail(f"{name} isn't proved")
+    options = arguments()
+    since = time.time() - 0.02  # the system's clock of files is a little behind
+    for number in (signal.SIGINT, signal.SIGTERM):
+        signal.signal(number, stop)
+    check_kit()
+    guarded()
     try:
-        return check(make()) if options.check else write(make(), options.mutations)
+        if options.here:
+            return build(CRATES[TOPS.index(options.here)], options.command, since)
+        if not options.proved:
+            prove(CRATES)
+        made = make()
+        check_edits(since)
+        return check(made) if options.check else write(made, options.mutations)
     except (Refused, OSError) as reason:
         fail(str(reason))
 

@@ -9,7 +9,7 @@ from typing import Sequence, Tuple
 
 from rsp_tools.build import kit, over_libraries, sources
 from rsp_tools.crates import CRATES, library, with_below
-from rsp_tools.proof import at_once, time_of
+from rsp_tools.proof import at_once
 from rsp_tools.systems import places
 from rsp_tools.systems.toolchain import Refused
 
@@ -25,6 +25,14 @@ functions   {} are proved, in {} crates:
 
 {}
 """
+
+
+def time_of(path: Path) -> float:
+    """When the file was made; 0 if it is gone."""
+    try:
+        return path.stat().st_ctime
+    except FileNotFoundError:
+        return 0
 
 
 def said(name: str) -> str:

@@ -13,6 +13,7 @@ from pathlib import Path
 from typing import Callable, Iterator, NamedTuple, Optional, Union
 
 from lib import TOP
+from rsp_tools.build import LOGIC
 
 CRATES = """# small crates
 rsp_decode:
@@ -50,11 +51,10 @@ pub extern "C" fn rsp_answer() -> u32 {
 HEADER = "#define BRSP_VERSION 1\nuint32_t rsp_answer(void);\n"
 COPIED = "VERSION rsp library/c/build library/c/brsp.map library/python/pyproject.toml"
 TOOLS = "sh env cat cut dirname readlink find grep rm sed sha256sum sort uname uniq"
-# Programs in place of `rt`, without the rest of its kit: of another logic; of this one, which prints what it
-# is asked for; failing.
+# Programs in place of `rt`, without the rest of its kit: of another version or logic; failing.
 RT = {
-    "other": '[ "$1" != version ] || exec echo "rattle-kit-0 logic 0"\nexec "{rt}" "$@"',
-    "alone": '[ "$1" != lib ] || echo asked for "$@"\nexec "{rt}" "$@"',
+    "other version": '[ "$1" != version ] || exec echo "rattle-kit-0 {logic}"\nexec "{rt}" "$@"',
+    "other logic": "echo rattle-kit-0 logic 0",
     "broken": "exit 2",
 }
 # In place of the kit's `rattle`: it holds one crate until it may go on.
@@ -83,7 +83,7 @@ class Result(NamedTuple):
 
     @property
     def proved(self) -> set[str]:
-        return {*re.findall(r"(\w+) is proved after \d+ s$", self.output, re.M)}
+        return {*re.findall(r"(\w+) is proved (?:and compiled )?after \d+ s", self.output)}
 
     @property
     def last(self) -> str:
@@ -107,7 +107,7 @@ class ToyRepository:
             path.chmod(0o755)
         self.kits = {"": os.environ["PATH"], "none": str(folder / "none")}
         for name, text in RT.items():
-            self.kits[name] = with_program(folder / name / "rt", text.format(rt=shutil.which("rt")))
+            self.kits[name] = with_program(folder / name / "rt", text.format(rt=shutil.which("rt"), logic=LOGIC))
         self.kits["no python"] = with_program(folder / "no python/python3", "exit 9")
         self.kits["holds"] = holding_kit(folder / "holds")
         (folder / "none").mkdir()

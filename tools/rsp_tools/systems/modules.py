@@ -11,7 +11,8 @@ import tempfile
 from pathlib import Path
 from typing import Callable, List, NamedTuple
 
-from rsp_tools import TOOLS, build
+from rsp_tools import build
+from rsp_tools.proof import guarded
 from rsp_tools.targets import PROCESSORS
 
 from . import places
@@ -53,11 +54,8 @@ LIBRARY = Crate("rsp_c", "src/lib.rt --crate-type staticlib", "lib", "heap.c all
 
 
 def mark(crate: Crate) -> str:
-    """The kit's version and the sums of all sources. If the crate isn't built of these, it is built first."""
-    built = build.Build(crate.name)
-    if not built.is_built() and subprocess.run([TOOLS / "build", crate.name]).returncode:
-        raise Refused(f"{crate.name} isn't proved")
-    return f"{build.kit()}\n{built.made_of()}"
+    """The kit's version and the sum of all sources."""
+    return f"{build.kit()}\n{build.sources(crate.name)}"
 
 
 def link_toolchain(folder: Path) -> None:
@@ -71,15 +69,15 @@ def link_toolchain(folder: Path) -> None:
 
 
 def take(crate: Crate, processor: str, folder: Path) -> None:
-    """Has the kit build a crate for a processor, and leaves in a folder the module, the words for clang, and
-    what the kit said."""
+    """Has the kit prove a crate and build it for a processor, and leaves in a folder the module, the words for
+    clang, and what the kit said."""
     link_toolchain(folder / "toolchain")
     # The words are those of `rt`, with a processor and a toolchain. The check loads what the crate's own
     # check, or that for another processor, has left.
     words = build.over_libraries("build", crate.name) + f"{crate.words} --backend llvm --jobs 2".split()
     words += ["--incremental", str(crate.out / "incremental"), "--target", PROCESSORS[processor].triple]
     ended = subprocess.run(
-        [*words, "--toolchain", str(folder / "toolchain"), "-o", str(folder / "made")],
+        [*guarded(), *words, "--toolchain", str(folder / "toolchain"), "-o", str(folder / "made")],
         cwd=crate.out.parent,
         stdin=subprocess.DEVNULL,
         stdout=subprocess.PIPE,
@@ -89,7 +87,7 @@ def take(crate: Crate, processor: str, folder: Path) -> None:
     )
     if ended.returncode or not (folder / "module").is_file():
         last = "\n".join(ended.stdout.strip().splitlines()[-20:])
-        raise Refused(f"`rattle build` for {processor} ended with status {ended.returncode}:\n{last}")
+        raise Refused(f"{crate.name} isn't proved and built for {processor}:\n{last}")
     (folder / "said").write_text(ended.stdout)
 
 
@@ -131,7 +129,8 @@ def keep(folder: Path, made_of: str, files: List[Path]) -> None:
 
 
 def module(processor: str, crate: Crate = LIBRARY) -> Module:
-    """The module of a crate for a processor, made again if a source has changed. Of a crate only one is made
+    """The module of a crate for a processor, made again if a source has changed; the crates below have to be
+    proved. Of a crate only one is made
     at a time, because the check for the second one loads what that for the first has found."""
     kept = places.KEPT / f"{crate.name}-{processor}"
     kept.parent.mkdir(parents=True, exist_ok=True)
