@@ -55,9 +55,9 @@ def run(machine: Machine, reads: Callable[[], int], limit: int = 1000000) -> Sto
 
 
 def difference(machine: Machine, seeds: int = 8, limit: int = 1000000) -> Optional[str]:
-    """Runs copies of a machine: one as it is, up to the halt, and one for each seed, in which DMAs take as many
-    reads as are `drawn`, for up to sixteen times as many steps, and 1,000 more. Returns None if all halt and
-    leave the same bytes in DMEM, IMEM and RDRAM, otherwise a sentence about the first that doesn't.
+    """Runs copies of a machine: one as it is, up to the halt, and one for each seed, in which DMAs take as
+    many reads as are `drawn`, for up to sixteen times as many steps, and 1,000 more. Returns None if all halt
+    and leave the same bytes in DMEM, IMEM and RDRAM, otherwise a sentence about the first that doesn't.
 
     Raises NotHalted if the machine as it is doesn't halt within `limit` steps.
     """

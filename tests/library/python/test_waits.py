@@ -187,7 +187,7 @@ def test_wrong(name: str) -> None:
 LEAVES_BEHIND = {
     "addiu $18, $18, -1": "$18",
     "sb $4, 0x12($4)": "DMEM 010",
-    "vadd $v2, $v2, $v3": "$v2 lane 0",
+    "vnor $v2, $v2, $v0": "$v2 lane 0",
     "mtc0 $4, $c7": "",
     "addiu $18, $0, 5": "",
     "lw $18, 0($0)": "",
@@ -196,9 +196,8 @@ LEAVES_BEHIND = {
 
 @pytest.mark.parametrize("slot", LEAVES_BEHIND)
 def test_turns(slot: str) -> None:
-    """A wait in whose delay slot a counter, a store or a sum goes on, and others that may turn."""
+    """A wait in whose delay slot a counter, a store or bits go on, and others that may turn."""
     machine = loaded(BEGIN + GET + wait().replace("nop", slot) + "break\n")
-    machine.set_vreg(3, [1] * 8)
     name, found = LEAVES_BEHIND[slot], [*rsp.waits.missing(machine, at_end=True)]
     what = f"leaves another {name} behind if it turns"
     assert [(it.place, it.what, it.transfer.place) for it in found] == [(0x18, what, 0x14)] * bool(name)
@@ -286,6 +285,7 @@ def test_cookbook(folder: Path) -> None:
     code, line = (block_with(name, "import rsp, rsp.waits", more) for more in (0, 1))
     block = block_with(name, "        jal   fetch             # the first block")
     text = "ori $1, $0, 0x800\nori $7, $0, 0xc00\n" + block.replace("# its address", "\nlw $5, 0($4)")
+    assert rsp.slow.difference(loaded(text)) is None
     for program, expected in (text, []), (re.sub(r"(?m)^(next:).*\n.*\n", r"\1\n", text), [line.strip()]):
         (folder / "text.s").write_text(program)
         output = succeeds(sys.executable, "-c", textwrap.dedent(code), cwd=folder, env=ENV)
@@ -298,6 +298,9 @@ def test_in_c(folder: Path) -> None:
     example = TOP / "examples/c/waits.c"
     made, text = built(folder, example), folder / "text.s"
     right: Dict[str, Tuple[str, Named]] = {f"right: {name}": (text, []) for name, text in RIGHT.items()}
+    for slot, name in LEAVES_BEHIND.items():
+        named_read = [("mfc0 $4, $c6", "leaves something behind if it turns")] * bool(name)
+        right[slot] = BEGIN + GET + wait().replace("nop", slot), named_read
     for name, (program, expected) in {**right, **WRONG}.items():
         text.write_text(program + "break\n")
         ended = run(made, text)
