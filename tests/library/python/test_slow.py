@@ -44,6 +44,8 @@ def test_difference() -> None:
     assert str(rsp.slow.difference(stored)).startswith("DMEM 010 is 00000000000000000000000000000000 if DMAs")
     with pytest.raises(rsp.NotHalted):
         rsp.slow.difference(machine, limit=65)
+    draws = [[draw() for _ in range(99)] for draw in map(rsp.slow.drawn, (3, 3))]
+    assert draws[0] == draws[1] and {*draws[0]} == {*range(5)}
 
 
 def test_command(folder: Path) -> None:
