@@ -65,13 +65,13 @@ def difference(machine: Machine, seeds: int = 8, limit: int = 1000000) -> Option
     steps = plain.run_to_halt(limit).steps
     memories = memories_of(plain.save_state())
     for seed in range(seeds):
-        slow, when = machine.copy(), f"if they take the reads of seed {seed}"
+        slow, when = machine.copy(), f"if they take those of seed {seed}"
         stop = run(slow, drawn(seed), 16 * steps + 1000)
         if stop.reason is not Reason.HALT:
             ended = f"{stop.reason.name} after {stop.steps}"
-            return f"HALT after {steps} steps if DMAs take none, and {ended} {when}"
+            return f"HALT after {steps} steps if DMAs take no reads, and {ended} {when}"
         for part in quadwords(memories, memories_of(slow.save_state())):
-            return part.told("if DMAs take none", when)
+            return part.told("if DMAs take no reads", when)
     return None
 
 
