@@ -297,11 +297,11 @@ def test_in_c(folder: Path) -> None:
     """The example in C names the same of all these programs."""
     example = TOP / "examples/c/waits.c"
     made, text = built(folder, example), folder / "text.s"
-    right: Dict[str, Tuple[str, Named]] = {f"right: {name}": (text, []) for name, text in RIGHT.items()}
+    programs = {**WRONG, **{f"right: {name}": (text, []) for name, text in RIGHT.items()}}
     for slot, name in LEAVES_BEHIND.items():
-        named_read = [("mfc0 $4, $c6", "leaves something behind if it turns")] * bool(name)
-        right[slot] = BEGIN + GET + wait().replace("nop", slot), named_read
-    for name, (program, expected) in {**right, **WRONG}.items():
+        read = [("mfc0 $4, $c6", "leaves something behind if it turns")] * bool(name)
+        programs[slot] = BEGIN + GET + wait().replace("nop", slot), read
+    for name, (program, expected) in programs.items():
         text.write_text(program + "break\n")
         ended = run(made, text)
         found = re.findall(r"(?m)^\w+: (.*): (.*) before the end of the transfer of \w+$", ended.stdout)
