@@ -131,9 +131,11 @@ def walked(number: int) -> Tuple[rsp.Timeline, List[Tuple[Found, rsp.Difference]
     for n in range(300):
         before = machine.get()
         if n == at == line.run_to(n).step:
-            for one in machine, line.machine:
-                one.set_reg(2, 5)
-                one.set_vreg(9, range(8))
+            state = machine.get()
+            for it in range(32):
+                state.words[it], state.vectors[it] = it, range(8)
+            machine.set(state)
+            line.machine.set(state)
             line.changed()
             made.append((Found(Reason.LIMIT, n), before.diff(machine.get())))
             before = machine.get()
