@@ -10,12 +10,12 @@ typedef struct early { const char *what; uint32_t place; } early; /* what an ins
 typedef struct seen { brsp_state state; uint8_t dmem[4096]; } seen;
 
 /* A machine on its way, with the last transfers that are under way. By instruction: what comes too early, and where a copy has read. A copy has the walk
- * `whose` it is, and has parted once its way is another one. */
+ * `whose` it is, has parted once its way is another one, and then waits if it reads where it has read. */
 typedef struct walk {
     brsp_machine m;
     transfer orders[2];
     struct walk *whose;
-    uint32_t count, has_parted, asked[1024];
+    uint32_t count, has_parted, waits, asked[1024];
     early found[1024];
 } walk;
 
@@ -48,8 +48,20 @@ static void take(walk *w, walk *copy)
     memset(copy->found, 0, sizeof copy->found);
 }
 
-/* Follows a copy that is answered that the last transfers are under way. It has waited if its way has parted and it reads where it has read. A load
- * between a read and the branch at which the ways part doesn't count, because the program tests the answer there, and loads again. */
+/* Names the read of a wait that leaves something behind if it turns. The copy that waits is answered that all is done, and has to come to the
+ * instruction at which the machine leaves the wait, with the same registers and the same DMEM. */
+static void name_turn(walk *w, walk *copy, brsp_machine *out)
+{
+    seen turned, straight;
+    brsp_stop stop;
+    look(&copy->m, &turned), look(out, &straight);
+    early *found = &w->found[turned.state.pc / 4];
+    brsp_add_break(&copy->m, straight.state.pc), brsp_run(&copy->m, AHEAD, &stop), look(&copy->m, &turned);
+    if (turned.state.pc == straight.state.pc && memcmp(&turned, &straight, sizeof turned) != 0) *found = (early){ "leaves something behind if it turns", w->orders[w->count - 1].place };
+}
+
+/* Follows a copy that is answered that the last transfers are under way. A load between a read and the branch at which the ways part doesn't count,
+ * because the program tests the answer there, and loads again. */
 static void follow(walk *w, uint32_t last)
 {
     walk copy = { .orders = { w->orders[w->count - last], w->orders[1] }, .whose = w, .count = last };
@@ -62,7 +74,9 @@ static void follow(walk *w, uint32_t last)
         copy.has_parted = mine.pc != its.pc;
         for (early *it = copy.found; copy.has_parted && it < copy.found + 1024; it++) if (it->what == loads) it->what = NULL;
     }
-    take(w, &copy), brsp_free(&copy.m), brsp_free(&beside);
+    take(w, &copy);
+    if (copy.waits) name_turn(w, &copy, &beside);
+    brsp_free(&copy.m), brsp_free(&beside);
 }
 
 /* A move of an SP register. A write of SP_RD_LEN or SP_WR_LEN orders a transfer; a read shows whether one is under way. Answers as `step`. */
@@ -78,7 +92,8 @@ static int make_move(walk *w, const brsp_move *at)
     if (!at->writes && w->whose) {
         take(w->whose, w), brsp_peek(&w->m, at->number, &n);
         n |= at->number == 4 ? 4 | is_full << 3 : at->number == 5 ? is_full : 1;
-        return !(w->asked[at->stop.pc / 4]++ && w->has_parted) && brsp_pass_move(&w->m, n) == BRSP_OK;
+        w->waits = w->asked[at->stop.pc / 4]++ && w->has_parted;
+        return !w->waits && brsp_pass_move(&w->m, n) == BRSP_OK;
     }
     for (n = 1; !at->writes && n <= w->count; n++) follow(w, n);
     if (!at->writes) w->count = 0;

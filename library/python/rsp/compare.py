@@ -96,7 +96,7 @@ def _restore(side: Emulator, copy: _Copy) -> None:
         side.load(bank, 0, data)
 
 
-def _quadwords(ours: Sequence[bytes], theirs: Sequence[bytes]) -> Iterator[Part]:
+def quadwords(ours: Sequence[bytes], theirs: Sequence[bytes]) -> Iterator[Part]:
     """The quadwords of memories that differ."""
     for name, here, there in zip(_errors.BANKS, ours, theirs):
         for at in range(0, len(here), QUADWORD) if here != there else ():
@@ -106,7 +106,7 @@ def _quadwords(ours: Sequence[bytes], theirs: Sequence[bytes]) -> Iterator[Part]
 
 
 def _parts(ours: _Copy, theirs: _Copy) -> Difference:
-    return Difference([*ours.state.diff(theirs.state), *_quadwords(ours.memories, theirs.memories)])
+    return Difference([*ours.state.diff(theirs.state), *quadwords(ours.memories, theirs.memories)])
 
 
 def _step(

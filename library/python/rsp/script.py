@@ -2,7 +2,7 @@
 
 import re
 import struct
-from typing import TYPE_CHECKING, Any, Iterator, List, Union
+from typing import TYPE_CHECKING, Any, Iterator, List, Tuple, Union
 
 from . import errors as _errors
 
@@ -110,6 +110,17 @@ def machine_of(replies: bytes, rdram: bytes) -> "Machine":
     machine.load(IMEM, 0, banks[4096:])
     machine.set(State.from_buffer_copy(STATE.pack(*numbers)))
     return machine
+
+
+def runs(script: str, image: bytes) -> "Iterator[Tuple[int, Machine]]":
+    """Carries out a script. The number of each line `run`, and the machine before it, without breakpoints."""
+    from . import Session
+
+    session = Session(image)
+    for number, line in enumerate(script.splitlines(), 1):
+        if line.split()[:1] == ["run"]:
+            yield number, machine_of(session.feed(ASKED), session.rdram)
+        session.feed(f"{line}\n")
 
 
 def _opened(lines: List[bytes], number: int) -> int:

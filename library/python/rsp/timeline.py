@@ -4,15 +4,17 @@ import collections
 import ctypes
 from bisect import bisect
 from contextlib import contextmanager, suppress
+from functools import partial
 from typing import Callable, Counter, Iterator, List, NamedTuple, Optional, Set, Tuple
 
 from . import DMEM, IMEM, RDRAM, Reason, Machine, RspError, State
-from .writes import Register, Search
+from .writes import Register
 
 _PIECE = 1 << 16  # RDRAM is kept in pieces, which marks share as long as they are equal
 _KEPT = 40 << 20  # the most bytes of RDRAM that marks keep, so that a process stays below 100 MB
 _TO_RDRAM = 1 << 3  # SP_WR_LEN, as a mask of SP registers
 _RUN = 1000000  # the most steps of a run
+_TRACED = 1 << 16  # and of a trace, whose entries are then 2 MiB
 _HISTORY = 256  # steps that the machine undoes by itself; more would not fit into the cache of the processor
 
 Watch = Tuple[int, int]
@@ -81,6 +83,9 @@ class Timeline:
         """Goes to a step, whatever breakpoints and watches there are, and returns the number of the step at
         which it arrives: another one if the machine halts before, or meets a reserved word, or if this is
         interrupted."""
+        return self._goto(step, self.is_interrupted)
+
+    def _goto(self, step: int, is_interrupted: Callable[[], bool] = lambda: False) -> int:
         step = max(step, 0)
         if 0 <= self.step - step <= self.machine.history():
             if step < self.step:
@@ -90,7 +95,7 @@ class Timeline:
             mark = self._marks[max(self._after(step) - 1, 0)]
             if step < self.step or self.step < mark.step:
                 self._restore(mark)
-            while self.step < step and not self.is_interrupted():
+            while self.step < step and not is_interrupted():
                 if self._advance(step - self.step).reason in (Reason.HALT, Reason.RESERVED):
                     break
         return self.step
@@ -111,14 +116,9 @@ class Timeline:
 
         What is between two marks is run again in windows, the last one first.
         """
-        start = end = self.step
-        least, window = max(0, min(least, start)), 4096
+        start, least = self.step, max(0, min(least, self.step))
         found = Found(Reason.LIMIT, least)
-        if not self.breaks and not self.watches:
-            end = least
-        while end > least and found.reason is Reason.LIMIT:
-            mark = self._marks[self._after(end - 1) - 1]
-            begin, window = max(mark.step, least, end - window), 64 * window
+        for begin, end in self._windows(least) if self.breaks or self.watches else ():
             if self.goto(begin) != begin:
                 return Found(Reason.LIMIT, self.step)
             with self._armed():
@@ -132,7 +132,8 @@ class Timeline:
                         found = here
                     elif here.reason in (Reason.HALT, Reason.RESERVED):
                         break  # only if the machine was changed without a call of `changed`
-            end = begin
+            if found.reason is not Reason.LIMIT:
+                break
         return found if self.goto(found.step) == found.step else Found(Reason.LIMIT, self.step)
 
     def wrote(self, register: str, least: int = 0) -> Found:
@@ -143,40 +144,38 @@ class Timeline:
         The reason is LIMIT if no step from the one where this ends has changed it: that is `least`, or where
         you did, or as far as this came before it was interrupted, for which it asks at each mark.
         """
-        sought, window, before = Register(register), 4096, self.step
-        now, least, is_interrupted = sought.value(self.machine.get()), max(0, least), self.is_interrupted
-        self.is_interrupted, found = lambda: False, None
-        try:
-            while before > least and found is None:
-                mark = self._marks[self._after(before - 1) - 1]
-                begin, window = max(mark.step, least, before - window), 64 * window
-                self.goto(begin)
-                other = Search(sought, self.machine, now).last_other(before - begin)
+        sought, found = Register(register, self.machine), Found(Reason.LIMIT, self.step)
+        for begin, end in self._windows(least):
+            copy, found = self._copy_at(begin), Found(Reason.LIMIT, begin)
+            for at in range(begin, end, _TRACED):
+                other = sought.last_other(copy, min(_TRACED, end - at), partial(self._copy_at, at))
                 if other is not None:
-                    found = Found(Reason.WATCH if begin + other < before else Reason.LIMIT, begin + other)
-                elif begin > least and is_interrupted():
-                    found = Found(Reason.LIMIT, begin)
-                before = begin
-            found = found or Found(Reason.LIMIT, before)
-            self.goto(found.step)
-        finally:
-            self.is_interrupted = is_interrupted
+                    found = Found(Reason.WATCH if at + other < end else Reason.LIMIT, at + other)
+            if found.step > begin or found.reason is Reason.WATCH or self.is_interrupted():
+                break
+        self._goto(found.step)
         return found
 
     def counts(self, least: int = 0) -> Counter[int]:
         """How often the instruction at each address was executed from the step `least` to the present one."""
-        here, is_interrupted = self.step, self.is_interrupted
-        self.is_interrupted = lambda: False
-        counted: Counter[int] = collections.Counter()
-        marks = [it.step for it in self._marks if least < it.step < here]
-        for begin, end in zip([least, *marks], [*marks, here]):
-            if begin < end:
-                self.goto(begin)
-                copy = self.machine.copy()
-                counted.update(it.pc for it in copy.iter_trace(end - begin))
-        self.goto(here)
-        self.is_interrupted = is_interrupted
+        here, counted = self.step, collections.Counter()  # type: int, Counter[int]
+        for begin, end in self._windows(least):
+            counted.update(it.pc for it in self._copy_at(begin).iter_trace(end - begin))
+        self._goto(here)
         return counted
+
+    def _copy_at(self, step: int) -> Machine:
+        self._goto(step)
+        return self.machine.copy()
+
+    def _windows(self, least: int) -> Iterator[Tuple[int, int]]:
+        """The steps from `least` to the present one in windows between marks, the last window first."""
+        end, window = self.step, 4096
+        while end > max(0, least):
+            mark = self._marks[self._after(end - 1) - 1]
+            begin, window = max(mark.step, least, end - window), 64 * window
+            yield begin, end
+            end = begin
 
     def _after(self, step: int) -> int:
         """The number of marks up to a step."""

@@ -36,11 +36,12 @@ from typing import Iterator, List, Mapping, NamedTuple, Optional, Sequence, Set,
 
 from . import DMEM, IMEM, Move, Reason, Machine, Status
 from . import errors as _errors
+from .compare import quadwords
 
 __all__ = ["AHEAD", "Missing", "Transfer", "causes", "missing"]
 
 AHEAD = 10000  # steps after an answer that isn't the machine's
-_READS, _WRITES, _ORDERS = 0b1110000, 0b1111, 0b1100  # of SP registers, as masks
+READS, ORDERS, _WRITES = 0b1110000, 0b1100, 0b1111  # of SP registers, as masks
 _STATUS, _FULL = 4, 5
 _COP0 = 16
 _STORES = frozenset((40, 41, 43, 58))  # SB, SH, SW and the vector stores, by the six high bits of a word
@@ -78,7 +79,7 @@ class Missing(NamedTuple):
     """An instruction before which a wait is missing: the `transfer`, the instruction's address `place` and
     its `text`, and `what` it does: `loads`, `stores`, `is fetched`, `writes a DMA register` or `ends`. Or the
     instruction is a read in a wait, and `what` is `leaves another $18 behind if it turns`, for the first
-    register that is another one then, or the first byte of DMEM.
+    register that is another one then, or the first quadword of DMEM.
 
     `read` is None, or the address of the last read of an SP register before the instruction, if the fault
     depends on that read: it happens only if the transfer is still under way there.
@@ -101,6 +102,12 @@ class Missing(NamedTuple):
         at, name = max(before, default=(0, ""))
         label = f" ({name}{f'+{self.place - at}' if self.place > at else ''})" if name else ""
         return f"{self.place:03x}{label}: {self.text}: {self.what} before the end of {self.transfer}{when}"
+
+
+def pass_read(machine: Machine, number: int, is_full: bool) -> None:
+    """Steps over a read of an SP register of READS with the answer that one transfer is under way, or two."""
+    status = machine.peek(_STATUS) | 4 | 8 * is_full
+    machine.pass_move({_STATUS: status, _FULL: int(is_full)}.get(number, 1))
 
 
 class _Walk:
@@ -126,7 +133,7 @@ class _Walk:
         pc = self.machine.regs().pc
         word, found = self._code[pc // 4], self._fetch(pc)
         if word >> 26 == _COP0:
-            stop = self.machine.run_until_move(1, _READS, _WRITES)
+            stop = self.machine.run_until_move(1, READS, _WRITES)
             if stop.move and not stop.steps:  # after a step it is the move that comes next
                 more, continues = self._move(pc, stop.move)
             else:
@@ -180,9 +187,7 @@ class _Walk:
             return [], False
         self._asked.add(pc)
         self._read, self.reads = pc, self.reads + 1
-        is_full = len(self.transfers) > 1
-        status = self.machine.peek(_STATUS) | 4 | 8 * is_full
-        self.machine.pass_move({_STATUS: status, _FULL: is_full}.get(move.number, 1))
+        pass_read(self.machine, move.number, len(self.transfers) > 1)
         return [], True
 
     def _follow(self, pc: int, count: int) -> List[Missing]:
@@ -206,24 +211,21 @@ class _Walk:
 
     def _turned(self, copy: "_Walk", out: Machine) -> List[Missing]:
         """Lets a copy that waits leave its wait, and names what it leaves behind that the machine doesn't."""
-        place, end, turned = copy.machine.regs().pc, out.regs().pc, copy.machine
-        for _ in range(AHEAD):
-            if turned.regs().pc == end or turned.step() is not Status.OK:
-                break
-        if turned.regs().pc != end:
+        turned, end = copy.machine, out.regs().pc
+        (read,) = turned.listing(turned.regs().pc, 1)
+        turned.add_break(end)
+        if turned.run(AHEAD).pc != end:
             return []
-        names = [it.name for it in turned.get().diff(out.get())]
-        pairs = enumerate(zip(turned.memory(DMEM, 0, 4096), out.memory(DMEM, 0, 4096)))
-        names += [f"DMEM {at:03x}" for at, (mine, its) in pairs if mine != its]
-        text = turned.listing(place, 1)[0].text
-        what = f"leaves another {', '.join(names[:1])} behind if it turns"
-        return [Missing(copy.transfers[-1], place, text, what)] if names else []
+        mine, its = ([it.memory(DMEM, 0, 4096)] for it in (turned, out))
+        parts = [*turned.get().diff(out.get()), *quadwords(mine, its)][:1]
+        whats = (f"leaves another {it.name} behind if it turns" for it in parts)
+        return [Missing(copy.transfers[-1], read.address, read.text, it) for it in whats]
 
     def _write(self, pc: int, move: Move) -> List[Missing]:
         full = self.transfers[1:]
         found = [self._missing(full[-1], pc, "writes a DMA register")] if full else []
         at, length = self.machine.peek(0), (move.value & 0xFFF | 7) + 1
-        if 1 << move.number & _ORDERS:
+        if 1 << move.number & ORDERS:
             size = min(4096, length * ((move.value >> 12 & 0xFF) + 1))
             order = Transfer(pc, IMEM if at & 0x1000 else DMEM, at & 0xFFF, size, move.number == 3)
             self.transfers = [*self.transfers[-1:], order]
@@ -255,7 +257,7 @@ def missing(machine: Machine, limit: int = 1000000, at_end: bool = False) -> Ite
     twin = Machine()
     reported: Set[Tuple[int, int, str]] = set()
     while left > 0:
-        stop = machine.run_until_move(min(left, 1000000), 0, _ORDERS)
+        stop = machine.run_until_move(min(left, 1000000), 0, ORDERS)
         left -= stop.steps
         if stop.reason in (Reason.HALT, Reason.RESERVED):
             return

@@ -1,83 +1,58 @@
-"""`rsp.slow`, whose transfers take time, on waits that turn.
+"""`rsp.slow`, whose DMAs take time, on waits that turn.
 
-They fail if a read gets another answer than the rules say, if a wait that counts its turns isn't found, or if
-the microcode of microcode/ or of examples/ leaves other bytes when a DMA takes time.
+They fail if a read gets another answer than the rules say, or if a wait that counts its turns isn't found.
+test_waits.py shows that the repository's microcode leaves the same bytes.
 """
 
 import sys
 from pathlib import Path
+from typing import List
 
 import pytest
 
 import rsp
 import rsp.slow
 import rsp.waits
-from lib import TOP
 from lib.library.module import ENV, loaded
 from lib.pages import block_with
 from lib.processes import run
-from rsp import Reason
 
-COOKBOOK = "docs/COOKBOOK.md"
-COUNTS = block_with(
-    COOKBOOK, "        ori   $18, $0, 8"
-)  # in each of eight turns, in the delay slot of a wait
+# A loop that counts its eight turns in the delay slot of a wait, and what the two modules say of it.
+COUNTS, NAMED, DIFFERS = (block_with("docs/COOKBOOK.md", "        ori   $18, $0, 8", it) for it in range(3))
 RIGHT = COUNTS.replace("        addiu", "        nop\n        addiu")
-GET = "mtc0 $0, $c0\nmtc0 $0, $c1\nmtc0 $3, $c2\n"
 
 
-@pytest.mark.parametrize("number", (4, 5, 6))
-def test_answers(number: int) -> None:
-    """The first of two transfers takes two reads, and the second one read more."""
+@pytest.mark.parametrize("number, answers", ((4, [12, 12, 4, 0]), (5, [1, 1, 0, 0]), (6, [1, 1, 1, 0])))
+def test_answers(number: int, answers: List[int]) -> None:
+    """The first of three DMAs takes two reads, the second one none, and the third one read more."""
     reads = "".join(f"mfc0 ${at}, $c{number}\n" for at in range(8, 12))
-    machine, left = loaded(GET + GET + reads + "break\n"), [2, 1]
-    stop = rsp.slow.run(machine, lambda: left.pop(0))
-    assert (stop.reason, stop.steps) == (Reason.HALT, 11)
-    answers = {4: [12, 12, 4, 0], 5: [1, 1, 0, 0], 6: [1, 1, 1, 0]}
-    assert [machine.reg(at) for at in range(8, 12)] == answers[number]
-    assert [machine.peek(at) for at in (5, 6)] == [0, 0]
-
-
-def test_limits() -> None:
-    """The steps over moves count, and a transfer that takes no read is over."""
-    for limit in range(1, 11):
-        machine = loaded(GET + GET + "mfc0 $8, $c6\nmfc0 $9, $c6\nj 0\nnop\n")
-        assert rsp.slow.run(machine, lambda: 1, limit)[:2] == (Reason.LIMIT, limit)
-        plain = loaded(GET + GET + "nop\nnop\nj 0\nnop\n")
-        plain.run(limit)
-        assert plain.regs().pc == machine.regs().pc and machine.reg(8) == (limit > 6)
-    machine = loaded(GET + "mfc0 $8, $c6\nbreak\n")
-    assert rsp.slow.run(machine, lambda: 0).reason is Reason.HALT and machine.reg(8) == 0
+    for limit in range(1, 20):
+        machine, counts = loaded(3 * "mtc0 $0, $c2\nnop\n" + reads + "break\n"), iter((2, 0, 1))
+        stop = rsp.slow.run(machine, lambda: next(counts), limit)
+        assert stop == loaded(10 * "nop\n" + "break\n").run(limit) and stop.pc == machine.regs().pc
+    assert [machine.reg(at) for at in range(8, 12)] == answers
+    assert [machine.peek(at) for at in (4, 5, 6)] == [3, 0, 0]
 
 
 def test_difference() -> None:
     """Also what COOKBOOK says of its loop, here and by `rsp.waits`."""
     machine = loaded(COUNTS)
     (wait,) = rsp.waits.missing(machine.copy())
-    said = [block_with(COOKBOOK, "        ori   $18, $0, 8", more).strip() for more in (1, 2)]
-    assert [str(wait), rsp.slow.difference(machine)] == said and machine.regs().pc == 0
-    assert rsp.slow.difference(loaded(RIGHT)) is None
+    assert [str(wait), rsp.slow.difference(machine)] == [NAMED.strip(), DIFFERS.strip()]
+    assert machine.regs().pc == 0 and rsp.slow.difference(loaded(RIGHT)) is None
     stored = loaded(COUNTS.replace("bne   $18, $0, turn", "bgtz $18, turn"))
-    assert rsp.slow.difference(stored) == "if a DMA takes 5 reads: DMEM 010 is ff, and 00 if it takes none"
+    assert str(rsp.slow.difference(stored)).startswith("DMEM 010 is 00000000000000000000000000000000 if DMAs")
     with pytest.raises(rsp.NotHalted):
         rsp.slow.difference(machine, limit=65)
-    draws = [[rsp.slow.drawn(seed)() for _ in range(9)] for seed in (1, 1, 2)]
-    assert draws[0] == draws[1] != draws[2]
+    draws = [[draw() for _ in range(99)] for draw in map(rsp.slow.drawn, (3, 3))]
+    assert draws[0] == draws[1] and {*draws[0]} == {*range(5)}
 
 
 def test_command(folder: Path) -> None:
-    finds = (COUNTS, 1, "line 14: if a DMA takes 5"), (RIGHT, 0, "no run differs")
-    for text, status, printed in finds:
-        (folder / "script").write_text(f"asm 0\n{text}end\nrun 3\nrun 1000\n")
-        ended = run(sys.executable, "-m", "rsp.slow", folder / "script", env=ENV)
-        assert ended.returncode == status and printed in ended.stdout
-        assert f"line {text.count(chr(10)) + 3} isn't compared: LIMIT after 3 steps" in ended.stdout
+    for text, status, printed in (COUNTS, 1, DIFFERS.strip()), (RIGHT, 0, "no difference"):
+        script = f"asm 0\n{text}stay: j stay\nnop\nend\nrun 1000\nwrite 4 5\nrun 1\n"
+        (folder / "script").write_text(script)
+        ended, last = run(sys.executable, "-m", "rsp.slow", folder / "script", env=ENV), script.count("\n")
+        lines = f"line {last - 2}: {printed}\nline {last}: not compared: LIMIT after 1000000 steps"
+        assert ended.returncode == status and ended.stdout.startswith(lines)
     assert run(sys.executable, "-m", "rsp.slow", folder / "none", env=ENV).returncode == 1
-
-
-SCRIPTS = [*sorted(TOP.glob("microcode/*.rsp")), *sorted(TOP.glob("examples/*.rsp"))]
-
-
-@pytest.mark.parametrize("path", SCRIPTS, ids=lambda it: it.stem)
-def test_microcode(path: Path) -> None:
-    assert [*rsp.slow._in_script(path.read_text(), bytes(1 << 16))] == []

@@ -5,8 +5,9 @@ than a search among the single steps.
 """
 
 import random
+import re
 from collections import Counter
-from typing import Callable, List, Tuple
+from typing import List, Tuple
 
 import pytest
 
@@ -14,6 +15,7 @@ import rsp
 from lib.library.module import loaded
 from lib.pages import block_with, page
 from rsp import Found, Reason
+from rsp_conformance.table import ROWS
 
 # 160 turns. Each stores at changing places; every 32nd sends bytes to RDRAM and brings others, lets go of the
 # semaphore, and calls one of two overlays, which it brings to f00.
@@ -107,82 +109,63 @@ def test_steps_and_searches(seed: int) -> None:
             assert line.step == result.step and seen(line.machine) == steps[result.step]
 
 
-# Lines of random programs: $1 to $4, two groups of vector registers, whose lanes often stay as they are.
-LINES = """addiu $A, $B, -1; ori $A, $0, 5; lui $3, 0; vaddc $vX, $vY, $vX; vlt $vX, $vX, $vY[2]
-vmadh $vX, $vX, $vY; vch $vX, $vY, $vX; vrcpl $vX[1], $vY[3]; vrcph $vX[3], $vX[5]; ltv $v8[E], 16($0)
-ltv $v16[E], 0($A); mtc2 $A, $vX[2]; ctc2 $B, $vcc; ctc2 $A, $vco; ctc2 $A, $vce; cfc2 $A, $vcc; mfc0 $A, $c7
-bgezal $A, next; lh $B, 4($A); lqv $vX[0], 0($A); vsubc $vX, $vX, $vX; bne $A, $B, next; sqv $vX[0], 16($0)
-mfc2 $B, $vX[E]; vmulf $vX, $vY, $vX; xor $A, $A, $B"""
-# Names, and what of a state they are.
-VALUES = """$r0 words[0]; $1 words[1]; $02 words[2]; r3 words[3]; $r31 words[31]; $v8 vectors[8][:]
-$v09 vectors[9][:]; $v10[7] vectors[10][7]; v17[2] vectors[17][2]; $vce flags.vce; $vco flags.vco
-$vcc flags.vcc; $vco[1] flags.vco & 0x202; $vcc[2] flags.vcc & 0x404; $div_in divider.input
-$div_out divider.output; $div_loaded divider.loaded
-$acc[3] accumulators.low[3], it.accumulators.middle[3], it.accumulators.high[3]
-$acc accumulators.low[:], it.accumulators.middle[:], it.accumulators.high[:]"""
+# Names for `wrote`, and the parts of a `diff` that they mean.
+NAMES = {
+    "$r{n}": r"\${n}", "${n:02}": r"\${n}", "$v{n:02}": r"\$v{n} .*", "v{n}[{lane}]": r"\$v{n} .* {lane}",
+    "$acc": "acc.*", "$acc[{lane}]": "acc.* {lane}", "$div_in": "in", "$div_out": "out",
+    "$div_loaded": "loaded", **{f"$vc{it}{lane}": f"vc{it}" for it in "oce" for lane in ("", "[{lane}]")},
+}  # fmt: skip
 
 
-def drawn(chance: random.Random) -> rsp.Rsp:
-    """A machine with a random program, which is a loop."""
-    lines = []
-    for n in range(chance.randrange(4, 40)):
-        line = chance.choice(LINES.replace("\n", "; ").split("; ")).replace("next", f"at{n}")
-        for letter, numbers in ("A", (1, 2, 3, 4)), ("B", (1, 2, 4)), ("X", (8, 9, 10, 17)), ("Y", (9, 16)):
-            line = line.replace(f"${letter}", f"${chance.choice(numbers)}")
-            line = line.replace(f"$v{letter}", f"$v{chance.choice(numbers)}")
-        lines += [line.replace("[E]", f"[{2 * chance.randrange(8)}]"), "nop", f"at{n}:"]
-    machine = loaded("turn: " + "\n".join([*lines, "j turn", "nop"]) + "\n")
-    machine.load(rsp.DMEM, 0, chance.randbytes(64))
-    return machine
+def walked(number: int) -> Tuple[rsp.Timeline, List[Tuple[Found, rsp.Difference]]]:
+    """A timeline of a random program, and what each step of a plain machine and the user have changed."""
+    from rsp_conformance.campaign.random_programs import program_of
 
-
-@pytest.mark.parametrize("first", (0, *(pytest.param(n, marks=outside) for n in range(20, 1000, 20))))
-def test_wrote(first: int) -> None:
-    """Each search is equal to a walk back through all states, over a change of the user's."""
-    for seed in range(first, first + 20):
-        chance = random.Random(seed)
-        machine, changed = drawn(chance), chance.randrange(1, 200)
-        line = rsp.Timeline(machine, chance.choice((7, 90, 5000)), 4)
-        states = [(machine.get(), machine.get())]
-        for n in range(1, 300):
-            machine.step()
+    chance = random.Random(number)
+    program, _ = program_of([it for it in ROWS if it != "break"], "wrote", number)
+    machine = rsp.Machine(bytes(program.memories[0x2000:]))
+    machine.load(rsp.DMEM, 0, bytes(program.memories[:0x1000]))
+    machine.load(rsp.IMEM, 0, bytes(program.memories[0x1000:0x2000]))
+    machine.set(program.state)
+    line, made, at = rsp.Timeline(machine, chance.choice((7, 90, 5000)), 4), [], chance.randrange(300)
+    for n in range(300):
+        before = machine.get()
+        if n == at == line.run_to(n).step:
+            state = machine.get()
+            for it in range(32):
+                state.words[it], state.vectors[it] = it, range(8)
+            machine.set(state)
+            line.machine.set(state)
+            line.changed()
+            made.append((Found(Reason.LIMIT, n), before.diff(machine.get())))
             before = machine.get()
-            if n == changed:
-                assert line.run_to(n).step == n
-                for one in machine, line.machine:
-                    one.set_reg(2, 5)
-                    one.set_vreg(9, range(8))
-                line.changed()
-            states.append((before, machine.get()))
-        line.run_to(299)
-        for row in VALUES.replace("\n", "; ").split("; "):
-            name, _, part = row.partition(" ")
-            value: Callable[[rsp.State], object] = eval(f"lambda it: (it.{part})")
-            at = chance.randrange(300)
-            now, n = value(states[at][1]), at
-            while n and value(states[n][0]) == now == value(states[n - 1][1]):
-                n -= 1
-            is_step = n > 0 and value(states[n][0]) == now
-            expected = Found(Reason.WATCH, n - 1) if is_step else Found(Reason.LIMIT, n)
+        if machine.step() is rsp.Status.OK:
+            made.append((Found(Reason.WATCH, n), before.diff(machine.get())))
+    line.run_to(300)
+    return line, made
+
+
+@pytest.mark.needs("python:numpy")
+@pytest.mark.parametrize("first", (0, *(pytest.param(n, marks=outside) for n in range(20, 1000, 20))))
+def test_wrote(first: int, monkeypatch: pytest.MonkeyPatch) -> None:
+    """Each search is equal to a walk back through the steps of a random program."""
+    for number in range(first, first + 20):
+        chance, (line, made) = random.Random(number), walked(number)
+        monkeypatch.setattr(rsp.timeline, "_TRACED", chance.choice((30, 1 << 16)))
+        for name, part in NAMES.items():
+            n, lane, at = chance.randrange(32), chance.randrange(8), chance.randrange(line.last + 1)
+            least, bits = chance.choice((0, at // 2)), 0x101 << lane if part + "[{lane}]" == name[1:] else -1
+            name, form = (it.format(n=n, lane=lane) for it in (name, part))
+            expected = Found(Reason.LIMIT, least)
+            for found, parts in made:
+                if least <= found.step < at + (found.reason is Reason.LIMIT):
+                    named = (it for it in parts if re.fullmatch(form, it.name))
+                    expected = found if any((it.value ^ it.other) & bits for it in named) else expected
             assert line.goto(at) == at
-            assert line.wrote(name) == expected, (seed, name, at)
-            assert line.step == expected.step and line.machine.get() == states[line.step][1]
-
-
-def test_wrote_in_parts() -> None:
-    """Names that aren't registers are refused. A search that is interrupted comes further each time."""
-    line = rsp.Timeline(loaded("ori $1, $0, 5\nturn: j turn\naddiu $2, $2, 1\n"), 5000)
-    line.run_to(40000)
+            assert line.wrote(name, least) == expected and line.step == expected.step, (number, name, at)
     for name in "$v32", "$r1[0]", "$v1[8]", "$vce[8]", "$pc", "$v", "", "$r1 ":
         with pytest.raises(ValueError, match="isn't a register"):
             line.wrote(name)
-    line.is_interrupted = lambda: True
-    steps = [line.step]
-    while line.wrote("$1").reason is Reason.LIMIT:
-        steps.append(line.step)
-    assert line.step == 0 and 3 < len(steps) and steps == sorted({*steps}, reverse=True)
-    line.goto(40000)
-    assert line.wrote("$1", 39000) == (Reason.LIMIT, 39000, None) == (*line.wrote("$1", 39000),)
 
 
 @pytest.mark.parametrize("single, reason", ((0x40, Reason.HALT), (0, Reason.RESERVED)))

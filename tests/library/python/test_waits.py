@@ -8,18 +8,19 @@ import re
 import sys
 import textwrap
 from pathlib import Path
-from typing import Any, Dict, Iterator, List, Optional, Tuple
+from typing import Any, Dict, List, Optional, Tuple
 
 import pytest
 
 import rsp
+import rsp.slow
 import rsp.waits
 from lib import TOP
 from lib.library.module import ENV, assert_raises, loaded
 from lib.library.programs import built
 from lib.pages import block_with
 from lib.processes import run, succeeds
-from rsp.script import ASKED, machine_of
+from rsp.script import runs
 
 # Pieces of the programs. $2 is an address of DMEM, $1 one of RDRAM, $3 the order: 256 bytes.
 BEGIN = "ori $2, $0, 0x400\nori $1, $0, 0x800\nori $3, $0, 255\n"
@@ -185,8 +186,8 @@ def test_wrong(name: str) -> None:
 # What a wait leaves behind if it turns, by what is in its delay slot.
 LEAVES_BEHIND = {
     "addiu $18, $18, -1": "$18",
-    "sb $4, 0x12($4)": "DMEM 013",
-    "vadd $v2, $v2, $v3": "$v2 lane 0",
+    "sb $4, 0x12($4)": "DMEM 010",
+    "vnor $v2, $v2, $v0": "$v2 lane 0",
     "mtc0 $4, $c7": "",
     "addiu $18, $0, 5": "",
     "lw $18, 0($0)": "",
@@ -195,9 +196,8 @@ LEAVES_BEHIND = {
 
 @pytest.mark.parametrize("slot", LEAVES_BEHIND)
 def test_turns(slot: str) -> None:
-    """A wait in whose delay slot a counter, a store or a sum goes on, and others that may turn."""
+    """A wait in whose delay slot a counter, a store or bits go on, and others that may turn."""
     machine = loaded(BEGIN + GET + wait().replace("nop", slot) + "break\n")
-    machine.set_vreg(3, [1] * 8)
     name, found = LEAVES_BEHIND[slot], [*rsp.waits.missing(machine, at_end=True)]
     what = f"leaves another {name} behind if it turns"
     assert [(it.place, it.what, it.transfer.place) for it in found] == [(0x18, what, 0x14)] * bool(name)
@@ -268,23 +268,15 @@ def test_machine_afterwards() -> None:
     assert_raises(TypeError, "missing: limit is of type str", list, rsp.waits.missing(machine, wrong))
 
 
-def missing_in(script: str) -> Iterator[rsp.waits.Missing]:
-    """The waits that are missing in the runs of a script."""
-    session = rsp.Session(bytes(1 << 16))
-    for line in script.splitlines():
-        words = line.partition("#")[0].split() or [""]
-        if words[0] in ("run", "step"):
-            machine = machine_of(session.feed(ASKED), session.rdram)
-            yield from rsp.waits.missing(machine, int(words[1], 0) if words[1:] else 1)
-        session.feed(f"{line}\n")
-
-
 SCRIPTS = [*sorted(TOP.glob("microcode/*.rsp")), *sorted(TOP.glob("examples/*.rsp"))]
 
 
 @pytest.mark.parametrize("path", SCRIPTS, ids=lambda it: it.stem)
 def test_microcode(path: Path) -> None:
-    assert list(missing_in(path.read_text())) == []
+    """Each run leaves the same bytes, too, if DMAs take time."""
+    for line, machine in runs(path.read_text(), bytes(1 << 16)):
+        assert rsp.slow.difference(machine) is None, line
+        assert list(rsp.waits.missing(machine)) == [], line
 
 
 def test_cookbook(folder: Path) -> None:
@@ -293,6 +285,7 @@ def test_cookbook(folder: Path) -> None:
     code, line = (block_with(name, "import rsp, rsp.waits", more) for more in (0, 1))
     block = block_with(name, "        jal   fetch             # the first block")
     text = "ori $1, $0, 0x800\nori $7, $0, 0xc00\n" + block.replace("# its address", "\nlw $5, 0($4)")
+    assert rsp.slow.difference(loaded(text)) is None
     for program, expected in (text, []), (re.sub(r"(?m)^(next:).*\n.*\n", r"\1\n", text), [line.strip()]):
         (folder / "text.s").write_text(program)
         output = succeeds(sys.executable, "-c", textwrap.dedent(code), cwd=folder, env=ENV)
@@ -304,8 +297,11 @@ def test_in_c(folder: Path) -> None:
     """The example in C names the same of all these programs."""
     example = TOP / "examples/c/waits.c"
     made, text = built(folder, example), folder / "text.s"
-    right: Dict[str, Tuple[str, Named]] = {f"right: {name}": (text, []) for name, text in RIGHT.items()}
-    for name, (program, expected) in {**right, **WRONG}.items():
+    programs = {**WRONG, **{f"right: {name}": (text, []) for name, text in RIGHT.items()}}
+    for slot, name in LEAVES_BEHIND.items():
+        read = [("mfc0 $4, $c6", "leaves something behind if it turns")] * bool(name)
+        programs[slot] = BEGIN + GET + wait().replace("nop", slot), read
+    for name, (program, expected) in programs.items():
         text.write_text(program + "break\n")
         ended = run(made, text)
         found = re.findall(r"(?m)^\w+: (.*): (.*) before the end of the transfer of \w+$", ended.stdout)
