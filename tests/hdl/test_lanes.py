@@ -47,7 +47,7 @@ def passes(name: str, cases: Path, folder: Path, model: str = MODEL) -> bool:
 def test_model(cases: Path, folder: Path, monkeypatch: pytest.MonkeyPatch) -> None:
     """All vectors agree, and 500 random cases of each instruction. The tables are found from the top.
     Verilator reads the model."""
-    succeeds("verilator", "--lint-only", "-Wno-fatal", "-Wno-WIDTH", f"-I{HDL}", "--top-module", "core", *CORE)
+    succeeds("verilator", "--lint-only", "-Wno-fatal", f"-I{HDL}", "--top-module", "core", *CORE)
     assert len(NAMES) == 45 and [name for name in NAMES if not passes(name, cases, folder)] == []
     monkeypatch.setenv("PATH", f"{Path(sys.executable).parent}:{os.environ['PATH']}")
     words = ("--instructions", ",".join(NAMES).lower(), "--cases", 500, "--here", folder / "out")
