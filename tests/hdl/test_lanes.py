@@ -60,12 +60,13 @@ def test_model(cases: Path, folder: Path, monkeypatch: pytest.MonkeyPatch) -> No
 def test_faults(cases: Path, folder: Path) -> None:
     """The vectors of an instruction find each planted fault in it."""
     assert all(MODEL.count(old) == 1 for _, old, _ in FAULTS)
-    assert [at for at in FAULTS if passes(at[0], cases, folder, MODEL.replace(*at[1:]))] == []
+    found = (not passes(name, cases, folder, MODEL.replace(old, new)) for name, old, new in FAULTS)
+    assert [fault for fault, is_found in zip(FAULTS, found) if not is_found] == []
 
 
 @pytest.mark.needs("yosys")
 def test_equivalence(folder: Path) -> None:
-    """A lane of vu.sv is equal to the model. Without the carry it isn't, and the log has a case of a carry."""
+    """A lane of vu.sv is equal to the model. Without the carry it isn't, and the log shows a carry."""
     shutil.copytree(HDL, folder / "examples/hdl")
     (folder / "docs").symlink_to(TOP / "docs")
     command = block_with("docs/CAMPAIGN.md", "yosys").replace("/tmp/hdl", str(folder))
