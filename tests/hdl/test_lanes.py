@@ -1,4 +1,4 @@
-"""The golden model in SystemVerilog, examples/hdl/lanes.sv, with Icarus and Yosys.
+"""The golden model in SystemVerilog, examples/hdl/lanes.sv, with Icarus, Verilator and Yosys.
 
 It fails if the model differs from a vector or from the library, if the vectors of an instruction
 don't find a fault that is planted in the model, or if Yosys doesn't tell an equal lane from a wrong one.
@@ -7,18 +7,15 @@ don't find a fault that is planted in the model, or if Yosys doesn't tell an equ
 import os
 import re
 import shutil
-import sys
 from pathlib import Path
 
 import pytest
 
 from lib import TESTS, TOP
-from lib.campaigns import campaign
-from lib.pages import block_with
+from lib.pages import block_with, sentences
 from lib.processes import run, succeeds
 
-HDL = TOP / "examples/hdl"
-CORE = HDL / "vu_core.sv", HDL / "lanes_vu.sv"
+HDL, PAGE = TOP / "examples/hdl", "docs/CAMPAIGN.md"
 MODEL = (HDL / "lanes.sv").read_text()
 INSTRUCTIONS = (line.split("\t") for line in (TOP / "docs/data/instructions.tsv").read_text().splitlines())
 NAMES = [name for name, bits, *_ in INSTRUCTIONS if bits.startswith("COP2 (opcode 0x12), function")]
@@ -36,23 +33,26 @@ def cases(tmp_path_factory: pytest.TempPathFactory) -> Path:
 def passes(name: str, cases: Path, folder: Path, model: str = MODEL) -> bool:
     """Whether a model agrees with all vectors of an instruction."""
     (folder / "lanes.sv").write_text(model)
-    succeeds("iverilog", "-g2012", "-I", cases, "-I", folder, "-o", folder / "tb.vvp", HDL / "tb.sv", *CORE)
+    core = (HDL / "tb.sv", HDL / "vu_core.sv", HDL / "lanes_vu.sv")
+    succeeds("iverilog", "-g2012", "-I", cases, "-I", folder, "-o", folder / "tb.vvp", *core)
     output = succeeds("vvp", "-n", folder / "tb.vvp", f"+hex={cases}/{name}.hex")
     count = (cases / f"{name}.hex").read_text().count("\n")
     return count > 0 and f"\n{count} passed, 0 failed, 0 skipped, " in f"\n{output}"
 
 
-@pytest.mark.needs("iverilog", "verilator", "python:numpy")
+@pytest.mark.needs("iverilog", "verilator", "make", "c++", "python:numpy")
 @pytest.mark.usefixtures("library")
-def test_model(cases: Path, folder: Path, monkeypatch: pytest.MonkeyPatch) -> None:
-    """All vectors agree, and 500 random cases of each instruction. The tables are found from the top.
-    Verilator reads the model."""
-    succeeds("verilator", "--lint-only", "-Wno-fatal", f"-I{HDL}", "--top-module", "core", *CORE)
+def test_model(cases: Path, folder: Path) -> None:
+    """All vectors agree, and 500 cases of each instruction by the page's commands for 100,000."""
     assert len(NAMES) == 45 and [name for name in NAMES if not passes(name, cases, folder)] == []
-    monkeypatch.setenv("PATH", f"{Path(sys.executable).parent}:{os.environ['PATH']}")
-    words = ("--instructions", ",".join(NAMES).lower(), "--cases", 500, "--here", folder / "out")
-    ended = campaign(f"hex:vvp -n {folder}/tb.vvp", *words, cwd=TOP)
-    lines = [line.split()[:4] for line in ended.stdout.splitlines()]
+    unit = re.search("with `(--top-module core [^`]*)` in place of `([^`]*)`", sentences(PAGE))
+    assert unit
+    commands = block_with(PAGE, "verilator --cc").rpartition("conformance/campaign")[0]
+    commands = commands.replace(unit[2], unit[1]) + block_with(PAGE, "conformance/campaign /tmp/hdl/core.so")
+    commands = commands.replace("/tmp/hdl", str(folder)).replace("100000", "500 --here")
+    environment = {**os.environ, "PATH": f"/usr/bin:{os.environ['PATH']}"}
+    output = succeeds("sh", "-ec", commands, env=environment)
+    lines = [line.split()[:4] for line in output.splitlines()]
     assert [name for name in NAMES if [name, "500", "0", "0"] not in lines] == []
 
 
@@ -69,7 +69,7 @@ def test_equivalence(folder: Path) -> None:
     """A lane of vu.sv is equal to the model. Without the carry it isn't, and the log shows a carry."""
     shutil.copytree(HDL, folder / "examples/hdl")
     (folder / "docs").symlink_to(TOP / "docs")
-    command = block_with("docs/CAMPAIGN.md", "yosys").replace("/tmp/hdl", str(folder))
+    command = block_with(PAGE, "yosys").replace("/tmp/hdl", str(folder))
     for name in "VADD", "VCH", "VMADH":
         succeeds("sh", "-ec", command.replace("VCH", name), cwd=folder)
     unit = folder / "examples/hdl/vu.sv"
