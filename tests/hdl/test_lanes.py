@@ -8,6 +8,7 @@ import os
 import re
 import shutil
 from pathlib import Path
+from typing import List, Sequence
 
 import pytest
 
@@ -30,29 +31,28 @@ def cases(tmp_path_factory: pytest.TempPathFactory) -> Path:
     return folder / "hex"
 
 
-def passes(name: str, cases: Path, folder: Path, model: str = MODEL) -> bool:
-    """Whether a model agrees with all vectors of an instruction."""
+def failing(names: Sequence[str], cases: Path, folder: Path, model: str = MODEL) -> List[str]:
+    """Those of some instructions with whose vectors a model doesn't agree."""
     (folder / "lanes.sv").write_text(model)
     core = (HDL / "tb.sv", HDL / "vu_core.sv", HDL / "lanes_vu.sv")
     succeeds("iverilog", "-g2012", "-I", cases, "-I", folder, "-o", folder / "tb.vvp", *core)
-    output = succeeds("vvp", "-n", folder / "tb.vvp", f"+hex={cases}/{name}.hex")
-    count = (cases / f"{name}.hex").read_text().count("\n")
-    return count > 0 and f"\n{count} passed, 0 failed, 0 skipped, " in f"\n{output}"
+    outputs = {name: succeeds("vvp", "-n", folder / "tb.vvp", f"+hex={cases}/{name}.hex") for name in names}
+    counts = {name: (cases / f"{name}.hex").read_text().count("\n") for name in names}
+    return [it for it in names if f"\n{counts[it] or 1} passed, 0 failed, 0 skipped, " not in outputs[it]]
 
 
 @pytest.mark.needs("iverilog", "verilator", "make", "c++", "python:numpy")
 @pytest.mark.usefixtures("library")
 def test_model(cases: Path, folder: Path) -> None:
     """All vectors agree, and 500 cases of each instruction by the page's commands for 100,000."""
-    assert len(NAMES) == 45 and [name for name in NAMES if not passes(name, cases, folder)] == []
+    assert len(NAMES) == 45 and failing(NAMES, cases, folder) == []
     unit = re.search("with `(--top-module core [^`]*)` in place of `([^`]*)`", sentences(PAGE))
     assert unit
     commands = block_with(PAGE, "verilator --cc").rpartition("conformance/campaign")[0]
     commands = commands.replace(unit[2], unit[1]) + block_with(PAGE, "conformance/campaign /tmp/hdl/core.so")
     commands = commands.replace("/tmp/hdl", str(folder)).replace("100000", "500 --here")
     environment = {**os.environ, "PATH": f"/usr/bin:{os.environ['PATH']}"}
-    output = succeeds("sh", "-ec", commands, env=environment)
-    lines = [line.split()[:4] for line in output.splitlines()]
+    lines = [row.split()[:4] for row in succeeds("sh", "-ec", commands, env=environment).splitlines()]
     assert [name for name in NAMES if [name, "500", "0", "0"] not in lines] == []
 
 
@@ -60,8 +60,8 @@ def test_model(cases: Path, folder: Path) -> None:
 def test_faults(cases: Path, folder: Path) -> None:
     """The vectors of an instruction find each planted fault in it."""
     assert all(MODEL.count(old) == 1 for _, old, _ in FAULTS)
-    found = (not passes(name, cases, folder, MODEL.replace(old, new)) for name, old, new in FAULTS)
-    assert [fault for fault, is_found in zip(FAULTS, found) if not is_found] == []
+    found = (failing([name], cases, folder, MODEL.replace(old, new)) for name, old, new in FAULTS)
+    assert [fault for fault, names in zip(FAULTS, found) if not names] == []
 
 
 @pytest.mark.needs("yosys")
