@@ -53,15 +53,16 @@ def test_bench(folder: Path) -> None:
 
 
 @OUTSIDE
-@pytest.mark.needs("ghdl")
+@pytest.mark.needs("ghdl", "iverilog")
 def test_ghdl(folder: Path) -> None:
-    """Cases, and memories of programs."""
+    """Cases, and memories of programs; and a unit in VHDL, in the bench."""
     succeeds("conformance/generate", "--hex", "--of", TOP / "conformance/vectors", folder, "VXOR")
     succeeds("ghdl", "-a", "--std=08", "hex/brsp_state.vhd", TESTS / "hdl/read.vhd", cwd=folder)
     succeeds("ghdl", "-e", "--std=08", "read", cwd=folder)
     files = ("-gcases=hex/VXOR.hex", "-gwords=hex/VXOR-1.imem.hex")
     output = succeeds("ghdl", "-r", "--std=08", "read", *files, cwd=folder)
     assert "62 cases" in output and re.search(r"1024 words, [1-9]\d* of them VXOR", output), output
+    assert "\n62 passed, 0 failed, 0 skipped" in typed(folder, "ghdl -a")
 
 
 @OUTSIDE

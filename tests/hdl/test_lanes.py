@@ -1,45 +1,26 @@
-"""The golden model in SystemVerilog, examples/hdl/lanes.sv, with Icarus.
+"""The golden model in SystemVerilog, examples/hdl/lanes.sv, with Icarus, Verilator and Yosys.
 
-It fails if the model differs from a vector or from the library, or if the vectors of an instruction
-don't find a fault that is planted in the model.
+It fails if the model differs from a vector or from the library, if the vectors of an instruction
+don't find a fault that is planted in the model, or if Yosys doesn't tell an equal lane from a wrong one.
 """
 
 import os
-import sys
+import re
+import shutil
 from pathlib import Path
+from typing import List, Sequence
 
 import pytest
 
-from lib import TOP
-from lib.campaigns import campaign
-from lib.processes import succeeds
+from lib import TESTS, TOP
+from lib.pages import block_with, sentences
+from lib.processes import run, succeeds
 
-HDL = TOP / "examples/hdl"
+HDL, PAGE = TOP / "examples/hdl", "docs/CAMPAIGN.md"
 MODEL = (HDL / "lanes.sv").read_text()
 INSTRUCTIONS = (line.split("\t") for line in (TOP / "docs/data/instructions.tsv").read_text().splitlines())
 NAMES = [name for name, bits, *_ in INSTRUCTIONS if bits.startswith("COP2 (opcode 0x12), function")]
-FAULTS = (
-    ("VADD", "+ 48'(flags[CARRY])", "+ 48'(flags[NOT_EQUAL])"),
-    ("VSUB", "- 48'(flags[CARRY])", "+ 48'(flags[CARRY])"),
-    ("VADDC", "> 48'sd65535", "> 48'sd65536"),
-    ("VSUBC", "u(a) < u(b)", "s(a) < s(b)"),
-    ("VABS", "? -s(b)", "? ~s(b)"),
-    ("VLT", "&& flags[CARRY] && flags[NOT_EQUAL]", "&& flags[CARRY]"),
-    ("VGE", "s(a) > s(b)", "u(a) > u(b)"),
-    ("VCH", "n == -1, b[15]", "n == 0, b[15]"),
-    ("VCL", "u(a) + u(b) <= 48'sd65536", "u(a) + u(b) < 48'sd65536"),
-    ("VCR", "s(a) + s(b) <= -1", "s(a) + s(b) <= 0"),
-    ("VMRG", "flags[COMPARE] ? a : b", "flags[CLIP] ? a : b"),
-    ("VMULF", "with_signed_clamp(2 * s(a) * s(b) + 32768", "with_signed_clamp(2 * s(a) * s(b)"),
-    ("VMULU", "h < 0 ? 16'd0 : h > 48'sd32767", "h < 0 ? 16'd0 : h > 48'sd65535"),
-    ("VMADM", "acc + s(a) * u(b)", "acc + s(a) * s(b)"),
-    ("VMUDN", "h < -48'sd32768 ? 16'd0", "h < 0 ? 16'd0"),
-    ("VMULQ", "p = p + 31", "p = p + 32"),
-    ("VMADH", "h > 48'sd32767 ? 16'h7fff", "h > 48'sd32768 ? 16'h7fff"),
-    ("VXOR", "e >= 2 ? {i[2:1], e[0]}", "e >= 2 ? {i[2:1], e[1]}"),
-    ("VRSQ", "{index[8:1], zeros[0]}", "{index[8:1], index[0]}"),
-    ("VRCPL", "vrcpl = divided(0, {is_loaded", "vrcpl = divided(0, {!is_loaded"),
-)
+FAULTS = [line.split("\t") for line in (TESTS / "hdl/faults.tsv").read_text().splitlines()[1:]]
 
 
 @pytest.fixture(scope="module")
@@ -50,25 +31,28 @@ def cases(tmp_path_factory: pytest.TempPathFactory) -> Path:
     return folder / "hex"
 
 
-def passes(name: str, cases: Path, folder: Path, model: str = MODEL) -> bool:
-    """Whether a model agrees with all vectors of an instruction."""
+def failing(names: Sequence[str], cases: Path, folder: Path, model: str = MODEL) -> List[str]:
+    """Those of some instructions with whose vectors a model doesn't agree."""
     (folder / "lanes.sv").write_text(model)
-    paths = ("-I", cases, "-I", folder, "-o", folder / "tb.vvp", HDL / "lanes_tb.sv")
-    succeeds("iverilog", "-g2012", *paths)
-    output = succeeds("vvp", "-n", folder / "tb.vvp", f"+hex={cases}/{name}.hex")
-    count = (cases / f"{name}.hex").read_text().count("\n")
-    return count > 0 and output.endswith(f"\n{count} passed, 0 failed\n")
+    core = (HDL / "tb.sv", HDL / "vu_core.sv", HDL / "lanes_vu.sv")
+    succeeds("iverilog", "-g2012", "-I", cases, "-I", folder, "-o", folder / "tb.vvp", *core)
+    outputs = {name: succeeds("vvp", "-n", folder / "tb.vvp", f"+hex={cases}/{name}.hex") for name in names}
+    counts = {name: (cases / f"{name}.hex").read_text().count("\n") for name in names}
+    return [it for it in names if f"\n{counts[it] or 1} passed, 0 failed, 0 skipped, " not in outputs[it]]
 
 
-@pytest.mark.needs("iverilog", "python:numpy")
+@pytest.mark.needs("iverilog", "verilator", "make", "c++", "python:numpy")
 @pytest.mark.usefixtures("library")
-def test_model(cases: Path, folder: Path, monkeypatch: pytest.MonkeyPatch) -> None:
-    """All vectors agree, and 500 random cases of each instruction. The tables are found from the top."""
-    assert len(NAMES) == 45 and [name for name in NAMES if not passes(name, cases, folder)] == []
-    monkeypatch.setenv("PATH", f"{Path(sys.executable).parent}:{os.environ['PATH']}")
-    words = ("--instructions", ",".join(NAMES).lower(), "--cases", 500, "--here", folder / "out")
-    ended = campaign(f"hex:vvp -n {folder}/tb.vvp", *words, cwd=TOP)
-    lines = [line.split()[:4] for line in ended.stdout.splitlines()]
+def test_model(cases: Path, folder: Path) -> None:
+    """All vectors agree, and 500 cases of each instruction by the page's commands for 100,000."""
+    assert len(NAMES) == 45 and failing(NAMES, cases, folder) == []
+    unit = re.search("with `(--top-module core [^`]*)` in place of `([^`]*)`", sentences(PAGE))
+    assert unit
+    commands = block_with(PAGE, "verilator --cc").rpartition("conformance/campaign")[0]
+    commands = commands.replace(unit[2], unit[1]) + block_with(PAGE, "conformance/campaign /tmp/hdl/core.so")
+    commands = commands.replace("/tmp/hdl", str(folder)).replace("100000", "500 --here")
+    environment = {**os.environ, "PATH": f"/usr/bin:{os.environ['PATH']}"}
+    lines = [row.split()[:4] for row in succeeds("sh", "-ec", commands, env=environment).splitlines()]
     assert [name for name in NAMES if [name, "500", "0", "0"] not in lines] == []
 
 
@@ -76,4 +60,21 @@ def test_model(cases: Path, folder: Path, monkeypatch: pytest.MonkeyPatch) -> No
 def test_faults(cases: Path, folder: Path) -> None:
     """The vectors of an instruction find each planted fault in it."""
     assert all(MODEL.count(old) == 1 for _, old, _ in FAULTS)
-    assert [at for at in FAULTS if passes(at[0], cases, folder, MODEL.replace(*at[1:]))] == []
+    found = (failing([name], cases, folder, MODEL.replace(old, new)) for name, old, new in FAULTS)
+    assert [fault for fault, names in zip(FAULTS, found) if not names] == []
+
+
+@pytest.mark.needs("yosys")
+def test_equivalence(folder: Path) -> None:
+    """A lane of vu.sv is equal to the model. Without the carry it isn't, and the log shows a carry."""
+    shutil.copytree(HDL, folder / "examples/hdl")
+    (folder / "docs").symlink_to(TOP / "docs")
+    command = block_with(PAGE, "yosys").replace("/tmp/hdl", str(folder))
+    for name in "VADD", "VCH", "VMADH":
+        succeeds("sh", "-ec", command.replace("VCH", name), cwd=folder)
+    unit = folder / "examples/hdl/vu.sv"
+    unit.write_text(unit.read_text().replace("{17'd0, flags[0]}", "18'd0"))
+    assert run("sh", "-ec", command.replace("VCH", "VADD"), cwd=folder).returncode == 1
+    shown = dict(re.findall(r"\\(\w+) .* ([01]+)\n", (folder / "equal.log").read_text()))
+    a, b, right, wrong = (int(shown[name][-16:], 2) for name in ("a", "b", "acc_expected", "acc_found"))
+    assert (right, wrong) == (a + b + 1 & 0xFFFF, a + b & 0xFFFF) and shown["flags"][-1] == "1", shown
