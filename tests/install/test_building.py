@@ -165,7 +165,7 @@ def test_edits_while_it_proves(program_repository: ToyRepository, folder: Path) 
 
 @of_library
 def test_another_kit(library_repository: ToyRepository, folder: Path) -> None:
-    """One of another logic is refused. Without the functions that tools/build calls, `rt` alone proves all."""
+    """One of another logic is refused. Without functions that tools/build calls, `rt` alone proves all."""
     repository = library_repository.copied(folder)
     repository.edit(DECODE, "0", "1")
     result = repository.run(C, "other logic")

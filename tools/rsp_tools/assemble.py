@@ -1,7 +1,8 @@
 """tools/assemble makes the files of compiled/ anew, of which cc makes the program and the library for C.
-./prove makes them too, changes nothing, and compares each byte with what is there. `tools/build CRATE [COMMAND..]`
-makes only this system's file of the program (rsp_main) or of the library (rsp_c), in crates/CRATE/out, and
-then becomes COMMAND; ./rsp and library/c/build call it if a source isn't as it was when compiled/ was made.
+./prove makes them too, changes nothing, and compares each byte with what is there. tools/build CRATE makes
+only this system's file of the program (rsp_main) or of the library (rsp_c), in crates/CRATE/out, and then
+becomes the command that follows; ./rsp and library/c/build call it if a source isn't as it was when compiled/
+was made.
 
 All need the kit. They first prove what isn't proved here, and print when each crate begins and ends; a run
 that was stopped continues there. Then the kit compiles, several files at a time: to assembly for each system,
@@ -241,7 +242,7 @@ def build(crate: Crate, command: Sequence[str], since: float) -> int:
     check_edits(since)
     put(crate.out, files)
     if command:
-        os.execv(command[0], command)
+        os.execv(command[0], [*command])
     return 0
 
 

@@ -1,4 +1,4 @@
-"""What is made of the sources as they are, by the marks that tools/built.sh reads; and the kit that makes it."""
+"""What is made of the sources as they are, by the marks that tools/built.sh reads; and the kit."""
 
 import functools
 import hashlib

@@ -38,8 +38,8 @@ def at_once() -> int:
 
 @functools.lru_cache(None)
 def program() -> Any:
-    """The kit's program `rt` as a module, which shares proofs with other clones on this machine if it can; None
-    for a kit with which this was never tried."""
+    """The kit's library, which shares proofs with other clones on this machine if it can; None for a kit with
+    which this was never tried."""
     if kit() not in TRIED or not (kit_folder() / "bin/rtlib.py").exists():
         return None
     loader = importlib.machinery.SourceFileLoader("rt", str(kit_folder() / "bin/rt"))
@@ -120,8 +120,8 @@ class Proof:
 
 
 def prove_below(tops: Sequence[str], say: Callable[[str], None]) -> str:
-    """Proves what isn't proved of the crates below these, and keeps other runs of the kit out of all until this
-    program ends. Returns "", or a crate that can't be proved."""
+    """Proves what isn't proved of the crates below these, and keeps other runs of the kit out of all until
+    this program ends. Returns "", or a crate that can't be proved."""
     names = [*dict.fromkeys(name for top in tops for name in with_below(top)[:-1])]
     rtlib = program()
     if not rtlib:

@@ -107,7 +107,9 @@ class ToyRepository:
             path.chmod(0o755)
         self.kits = {"": os.environ["PATH"], "none": str(folder / "none")}
         for name, text in RT.items():
-            self.kits[name] = with_program(folder / name / "rt", text.format(rt=shutil.which("rt"), logic=LOGIC))
+            self.kits[name] = with_program(
+                folder / name / "rt", text.format(rt=shutil.which("rt"), logic=LOGIC)
+            )
         self.kits["no python"] = with_program(folder / "no python/python3", "exit 9")
         self.kits["holds"] = holding_kit(folder / "holds")
         (folder / "none").mkdir()

@@ -69,8 +69,8 @@ def link_toolchain(folder: Path) -> None:
 
 
 def take(crate: Crate, processor: str, folder: Path) -> None:
-    """Has the kit prove a crate and build it for a processor, and leaves in a folder the module, the words for
-    clang, and what the kit said."""
+    """Has the kit prove a crate and build it for a processor, and leaves in a folder the module, the words
+    for clang, and what the kit said."""
     link_toolchain(folder / "toolchain")
     # The words are those of `rt`, with a processor and a toolchain. The check loads what the crate's own
     # check, or that for another processor, has left.
