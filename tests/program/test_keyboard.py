@@ -70,7 +70,7 @@ def test_session(program: Path) -> None:
 
 def test_long_session(program: Path) -> None:
     """There is no most number of faults that are explained, as there is for a file."""
-    lines = after_greeting(type_step(program, "run", script=b"step 5\n" * 25).errors)
+    lines = after_greeting(type_step(program, "run", script=b"regs 5\n" * 25).errors)
     assert lines[::2] == ["fault 30 BadCommand"] * 25 and {*lines[1::2]} == {lines[1]} != {lines[0]}
 
 
@@ -96,11 +96,19 @@ NAMES = """expected: load asm step run break unbreak watch unwatch back pc read 
 REFUSED = {
     "mem dmem 0x200": "expected: mem BANK ADDR LEN, and BANK is dmem, imem or rdram",
     "mem rom 0 4": "expected: mem BANK ADDR LEN, and BANK is dmem, imem or rdram",
-    "step 5  # five": "expected: step",
-    "STEP": "expected: step",
+    "step 5  # five": "expected: step\n  help: run 5 makes 5 steps",
+    "step x": "expected: step",
+    "STEP": "expected: step\n  help: write commands and banks in lower case",
+    "mem DMEM 0": "expected: mem BANK ADDR LEN, and BANK is dmem, imem or rdram\n"
+    "  help: write commands and banks in lower case",
+    "load dmem 0 12 34": "expected: load BANK ADDR HEX, and BANK is dmem, imem or rdram\n"
+    "  help: HEX has no 0x and no blanks",
+    "disassemble 0": "help: is `dis ADDR N` meant?",
+    "info regs": "help: is `regs` meant?",
+    "C": "help: is `run N` meant?",
     "stpe": "help: is `step` meant?",
     "unwacth 0": "help: is `unwatch K` meant?",
-    "end": "help: end comes only after asm ADDR and the lines of its block",
+    **dict.fromkeys(("end", "END"), "help: end comes only after asm ADDR and the lines of its block"),
     **dict.fromkeys(
         ("addiu $1, $0, 1", "li $1, 5", ".half 1", "nop", "loop: nop"),
         "help: write asm ADDR, then lines of assembly text, then end",
@@ -132,6 +140,10 @@ def test_refused_number(command: str, rsp: Any) -> None:
 LAST = {
     "break 010": "help: 010 is 10 in decimal; hexadecimal numbers begin with 0x",
     "run 0": "note: N isn't 1 to 1,000,000",
+    "load dmem 0 0x12": "help: HEX has no 0x and no blanks",
+    "mem dmem 0 0x1000": "help: numbers are decimal, or 0x and hexadecimal",
+    "read SP_STATUS": "help: SP_STATUS is SP register 4: read 4",
+    "asm 0\nEnd": "help: write end in lower case, alone in line 2, which is: End",
     "watch 0 0": "note: LEN isn't 1 to 64, or the bytes aren't all inside DMEM",
     "\ufeffstep": "help: save the file without a byte-order mark",
 }
@@ -186,7 +198,7 @@ script:7: fault 15 LabelMissing line 1
 script:13: fault 10 BadLine line 4
   | (none)
   expected: end, for the block of line 9
-  help: write end alone in line 11, which is: end # done
+  help: write end in lower case, alone in line 11, which is: end # done
 """
 
 

@@ -281,13 +281,13 @@ j nowhere
 EXPLAINED: tuple[tuple[str, list[int], list[str]], ...] = (
     ("2: fault 12 BadOperand line 2", [2, 3], ["$v3"]),
     ("4: fault 12 BadOperand line 4", [1, 2], ["write a number, a label, or a label + or - a number"]),
-    ("5: fault 14 LabelTwice line 5", [], []),
+    ("5: fault 14 LabelTwice line 5", [], ["line 2 has the label x: rename one"]),
     ("6: fault 12 BadOperand line 6", [2], ["4($2)"]),
     ("7: fault 12 BadOperand line 7", [1], []),
     ("8: fault 12 BadOperand line 8", [1], [mock.ANY]),
     ("9: fault 11 UnknownName line 9", [], ["leave the line out"]),
     ("10: fault 10 BadLine line 10", [], [mock.ANY]),
-    ("11: fault 12 BadOperand line 11", [1, 2, 3], [mock.ANY] * 3),
+    ("11: fault 12 BadOperand line 11", [1, 2, 3], [mock.ANY]),
 )
 
 
@@ -356,7 +356,7 @@ def test_orders_assemble(files: Files) -> None:
     count = 0
     for line, _, number, text, _, advice in ORDERS:
         statements = advice[len("try: ") :].split(" / ")
-        if number == "-" and not statements[0].startswith("leave the line out"):
+        if statements[0].split()[0].isalpha() and "leave" not in statements[0]:
             count += len(files.assemble(["x: nop", "y: nop", *statements]))
         elif number != "-":
             name, _, operands = line.partition(" ")
@@ -384,11 +384,17 @@ COMPARED: Dict[str, Callable[[int, int], bool]] = {"ge": ge, "gt": gt, "le": le,
 @pytest.mark.parametrize("name", COMPARED)
 @pytest.mark.parametrize("modulus", (0, 1 << 32), ids=("signed", "unsigned"))
 def test_meaning_of_branches(name: str, modulus: int, files: Files) -> None:
-    """The advice branches if the comparison holds, by which $s0 stays 0."""
-    statements = advised(files, f"b{name}{'u' * (modulus > 0)} $t0, $t1, x")
-    for pair in PAIRS:
+    """The advice branches if the comparison holds, by which $s0 stays 0, or sets a register to 1."""
+    unsigned = "u" * (modulus > 0)
+    statements = advised(files, f"b{name}{unsigned} $t0, $t1, x")
+    with_five = advised(files, f"b{name}{unsigned} $t0, 5, x")
+    for pair in (*PAIRS, (6, 5), (4, 5)):
         a, b = (it % modulus if modulus else it for it in pair)
         assert ends(files, pair, statements, 16) == (not COMPARED[name](a, b)), pair
+        assert ends(files, pair, with_five, 16) == (not COMPARED[name](a, 5)), pair
+        if name != "lt":
+            setting = advised(files, f"s{name}{unsigned} $s1, $t0, $t1")
+            assert ends(files, pair, setting, 17) == COMPARED[name](a, b), pair
 
 
 @pytest.mark.parametrize(
@@ -396,8 +402,12 @@ def test_meaning_of_branches(name: str, modulus: int, files: Files) -> None:
 )
 def test_meaning_of_numbers(number: int, files: Files) -> None:
     assert ends(files, (3, 4), advised(files, f"li $t1, {number}"), 9) == number % (1 << 32)
+    size = abs((number + (1 << 31)) % (1 << 32) - (1 << 31))
+    assert ends(files, (number, 0), advised(files, "abs $s1, $t0"), 17) == size
     if -32768 < number <= 32768:
-        assert ends(files, (3, 4), advised(files, f"subi $t1, $t0, {number}"), 9) == (3 - number) % (1 << 32)
+        for name in ("subi", "subu"):
+            advice = advised(files, f"{name} $t1, $t0, {number}")
+            assert ends(files, (3, 4), advice, 9) == (3 - number) % (1 << 32)
 
 
 def test_nothing_to_explain(files: Files) -> None:

@@ -1,9 +1,17 @@
 // What helps with a text of another assembler. Each function returns an empty text if there is nothing to say.
 
+use crate::fits::{is_label, number_of};
 use crate::nearest::is_instruction;
+use crate::statements::DATA;
 use rsp_decode::Operand;
 
+const COLON: &str = "the colon follows the label directly";
+
+const COMMAS: &str = "write a comma between operands";
+
 const COMMENT: &str = "a comment begins with # or ;";
+
+const DOLLAR: &str = "a register begins with $, as $8";
 
 const ELEMENT: &str =
     "leave out what follows the dot of the name; an element follows a register, as $v3[0]";
@@ -62,6 +70,14 @@ fn has_element(name: &str) -> bool {
     }
 }
 
+/// Whether a text has a label, and a blank before its colon.
+fn has_apart_colon(line: &str) -> bool {
+    match line.split_once(':') {
+        Some((label, _)) => label.ends_with([' ', '\t']) && is_label(label.trim()),
+        None => false,
+    }
+}
+
 /// What helps with a line that is none.
 pub fn of_line(line: &str) -> &'static str {
     if line.starts_with('\u{feff}') {
@@ -70,6 +86,7 @@ pub fn of_line(line: &str) -> &'static str {
         LINE
     } else {
         match of_comment(line) {
+            "" if has_apart_colon(line) => COLON,
             "" => LABEL,
             comment => comment,
         }
@@ -82,12 +99,32 @@ pub fn of_operand(kind: Operand, text: &str) -> &'static str {
     if !comment.is_empty() {
         return comment;
     }
+    if text.contains("%lo(") || text.contains("%hi(") {
+        return DATA;
+    }
     match kind {
+        Operand::Scalar(_) if lacks_comma(text) => COMMAS,
+        Operand::Scalar(_) if matches!(number_of(text), Some(0..=31)) => DOLLAR,
         Operand::Scalar(_) => REGISTERS,
         Operand::ShiftAmount | Operand::Signed | Operand::Unsigned => SUM,
         Operand::JumpTarget | Operand::BranchTarget => of_target(text),
         Operand::ScalarMemory | Operand::VectorMemory(_) => MEMORY,
+        _ if lacks_comma(text) => COMMAS,
         _ => "",
+    }
+}
+
+/// Whether a text is a register, and another operand after a blank.
+pub fn lacks_comma(text: &str) -> bool {
+    match text.split_once([' ', '\t']) {
+        Some((register, rest)) => {
+            let starts = matches!(
+                rest.trim().as_bytes(),
+                [b'$' | b'-' | b'_' | b'0'..=b'9' | b'a'..=b'z' | b'A'..=b'Z', ..]
+            );
+            starts && register.starts_with(['$', 'v'])
+        }
+        None => false,
     }
 }
 

@@ -8,6 +8,10 @@ ghost use Rattle.rsp_advice.specs.Tables.{command_names, fault_numbers};
 use crate::names::is_same;
 use crate::tables::{COMMANDS, FAULTS};
 
+const HEX: &str = "HEX has no 0x and no blanks";
+
+const LOWER_CASE: &str = "write commands and banks in lower case";
+
 /// A command of scripts.
 #[derive(Clone, Copy)]
 pub struct CommandForm {
@@ -47,6 +51,37 @@ pub fn command_forms() -> &'static [CommandForm]
     ensures { map (λ row. row.name.now) result.now ≡ command_names }
 {
     COMMANDS
+}
+
+/// What helps with a line of a script that has the name of a command, and is none; empty if there is nothing to say.
+pub fn of_words(words: &str) -> &'static str {
+    let mut first = words.split_ascii_whitespace();
+    let (name, bank) = (first.next().unwrap_or(""), first.next().unwrap_or(""));
+    if has_capital(name) || has_capital(bank) && is_bank(bank) {
+        LOWER_CASE
+    } else if name == "load" {
+        HEX
+    } else {
+        ""
+    }
+}
+
+fn has_capital(word: &str) -> bool {
+    word.bytes().any(|byte| byte.is_ascii_uppercase())
+}
+
+fn is_bank(word: &str) -> bool {
+    is_same(word, "dmem") || is_same(word, "imem") || is_same(word, "rdram")
+}
+
+/// What helps with a line of a script in which a number can't be read; empty if nothing but what is known of the fault.
+pub fn of_number(words: &str) -> &'static str {
+    let last = words.split_ascii_whitespace().last().unwrap_or("");
+    if words.starts_with("load") && (last.starts_with("0x") || last.starts_with("0X")) {
+        HEX
+    } else {
+        ""
+    }
 }
 
 /// What is known of faults.

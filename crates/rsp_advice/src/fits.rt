@@ -13,7 +13,7 @@ pub struct Operands<'a> {
 }
 
 /// A text in which `%1` to `%3` are operands. Of the number among them `%h` is the upper half and `%l` the lower one, `%a` is an address in
-/// IMEM, `%p` two to its power, and `%q` two to the power that makes it 16.
+/// IMEM, `%p` two to its power, `%q` two to the power that makes it 16, and `%s` the number after it.
 #[derive(Clone, Copy)]
 pub struct Filled<'a> {
     written: &'static str,
@@ -51,6 +51,7 @@ impl<'a> Filled<'a> {
             b'l' => write!(f, "{:#x}", number & 0xffff),
             b'a' => write!(f, "{:#05x}", number & 0xffc),
             b'p' => write!(f, "{}", 1_u32 << number.min(16)),
+            b's' => write!(f, "{}", number.wrapping_add(1).cast_signed()),
             _ => write!(f, "{}", 0x10000_u32 >> number.min(16)),
         }
     }
@@ -75,18 +76,25 @@ impl Display for Filled<'_> {
     }
 }
 
-/// The text with these operands, if they are what its letters take. `*` is any operands, and of one operand each letter is
+/// The text with these operands, if they are what its letters take. `*` is any operands, `=` any of which the first begins with what
+/// follows it, and of one operand each letter is
 ///   - `r` a scalar register, `v` a vector register, in the form of this or of another assembler;
 ///   - `t` the target of a branch or a jump: a label or an address in IMEM;
 ///   - `i` a number of 16 bits with a sign, `n` one from 0 on that fits with the other sign, `m` one below 0 that does;
-///   - `u` a number of 16 bits that needs no sign, `w` one of 32 bits, `a` an address, `s` a shift amount from 1 to 15;
+///   - `j` as `i`, and `k` as `n`, if the number after it is one, too;
+///   - `u` a number of 16 bits that needs no sign, `z` one that has none, `w` one of 32 bits;
+///   - `a` an address in IMEM, maybe with more bits; `s` a shift amount from 1 to 15, `f` one from 0 to 31;
 ///   - `.` anything.
 pub(crate) fn fill<'a>(
     written: &'static str,
     letters: &str,
     operands: &Operands<'a>,
 ) -> Option<Filled<'a>> {
-    if letters == "*" {
+    let is_any = match letters.strip_prefix('=') {
+        Some(start) => operands.first[0].starts_with(start),
+        None => letters == "*",
+    };
+    if is_any {
         return Some(Filled {
             written,
             operands: operands.first,
@@ -135,10 +143,11 @@ fn fitting(letter: u8, text: &str) -> Option<(&str, Option<u32>)> {
         (b't', Some(address @ 0..=4092)) if address % 4 == 0 => Some((text, None)),
         (b't', None) if is_label(text) => Some((text, None)),
         (b'i', Some(-32768..=32767)) | (b'n', Some(0..=32768)) => Some((text, None)),
+        (b'z', Some(0..=65535)) | (b'f', Some(0..=31)) => Some((text, None)),
+        (b'j', Some(-32768..=32766)) | (b'k', Some(0..=32766)) => Some((text, bits)),
         (b'm', Some(-32767..=-1)) => Some((text.strip_prefix('-')?, None)),
-        (b'u', Some(32768..=65535)) | (b'a', Some(0..=0x0fff_ffff)) | (b's', Some(1..=15)) => Some((
-            text, bits,
-        )),
+        (b'a', Some(address @ 0..=0x0fff_ffff)) if address % 4 == 0 => Some((text, bits)),
+        (b'u', Some(32768..=65535)) | (b's', Some(1..=15)) => Some((text, bits)),
         (b'w', Some(-0x8000_0000..=-32769 | 65536..=0xffff_ffff)) => Some((text, bits)),
         _ => None,
     }
@@ -161,6 +170,16 @@ pub(crate) fn number_of(text: &str) -> Option<i64> {
     } else {
         number
     })
+}
+
+/// Whether a text is a label, or a label and a number after `+` or `-`.
+pub(crate) fn is_sum(text: &str) -> bool {
+    match text.split_once('+').or(text.split_once('-')) {
+        Some((label, number)) => {
+            is_label(label) && !number.starts_with('-') && number_of(number).is_some()
+        }
+        None => is_label(text),
+    }
 }
 
 /// Whether a text is a label.

@@ -16,12 +16,14 @@ mod statements;
 mod tables;
 mod visible;
 
-pub use advice::{NO_MARK, of_accumulator, of_comment, of_line, of_name, of_operand};
+pub use advice::{NO_MARK, lacks_comma, of_accumulator, of_comment, of_line, of_name, of_operand};
 pub use allowed::form_of;
-pub use commands::{CommandForm, FaultText, command_forms, command_named, fault_numbered};
+pub use commands::{
+    CommandForm, FaultText, command_forms, command_named, fault_numbered, of_number, of_words,
+};
 pub use fits::{Filled, Operands};
 pub use nearest::{is_instruction, nearest_command, nearest_statement};
-pub use readings::{Apart, Readings, of_apart, of_extra};
-pub use spelling::{Spelling, respelled, respelled_in_range};
-pub use statements::{Statement, is_other, of_other};
+pub use readings::{Apart, Lanes, Readings, of_apart, of_extra, of_lanes};
+pub use spelling::{Spelling, respelled, respelled_in_range, respelled_label, sp_number};
+pub use statements::{Statement, is_other, of_other, of_reshaped};
 pub use visible::{Label, Labelled, Visible};

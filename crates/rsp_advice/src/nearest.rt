@@ -15,7 +15,19 @@ use strsim::osa_distance;
 /// The longest name with which another one is compared. No name that is known has half as many bytes.
 const LONGEST: usize = 20;
 
-/// The search for the nearest name. An edit changes, adds or drops a character, or exchanges two that follow each other.
+/// What other debuggers call the commands: their names, and the command.
+const CALLED: &[(&str, &str)] = &[
+    ("breakpoint bp br tbreak", "break"),
+    ("c cont continue r g go", "run"),
+    ("s n si ni next stepi nexti", "step"),
+    ("disassemble disas disasm u", "dis"),
+    ("memory x dump hexdump", "mem"),
+    ("info i p print register registers", "regs"),
+    ("delete clear", "unbreak"),
+    ("undo reverse rs rsi", "back"),
+];
+
+/// The search for the nearest name. An edit adds or drops a character, or exchanges two.
 #[derive(Drop)]
 struct Search<'a> {
     alloc: Global,
@@ -24,6 +36,8 @@ struct Search<'a> {
     found: Option<&'static str>,
     /// How far it is. A name that is farther isn't meant.
     distance: usize,
+    /// Whether another one is as near, so that neither is meant more than the other.
+    is_tied: bool,
 }
 
 impl<'a> Search<'a> {
@@ -40,28 +54,62 @@ impl<'a> Search<'a> {
             name,
             found: None,
             distance: 2 * edits + 2,
+            is_tied: false,
         }
     }
 
-    /// Takes another name if it begins with the same letter, and is nearer. Of two with as few edits the one of the same length is, and else the first in the order of the
-    /// alphabet.
+    /// Takes another name if it begins with the same letter, is nearer, and a slip of the keys may have changed it. Of two with as few
+    /// edits the one of the same length is nearer.
     fn see(&mut self, other: &'static str) -> Result<(), AllocError> {
-        if self.name.as_bytes().first() != other.as_bytes().first() {
+        if self.name.as_bytes().first() != other.as_bytes().first() || !is_slip(self.name, other) {
             return Ok(());
         }
         let edits = osa_distance(self.alloc, self.name, other)?;
         let is_longer = usize::from(other.len() != self.name.len());
         let distance = edits.saturating_mul(2).saturating_add(is_longer);
-        let is_nearer = match self.found {
-            Some(found) if distance == self.distance => other < found,
-            _ => distance < self.distance,
+        let is_another = match self.found {
+            Some(found) => found != other,
+            None => false,
         };
-        if is_nearer {
+        if distance < self.distance {
             self.distance = distance;
             self.found = Some(other);
+            self.is_tied = false;
+        } else if distance == self.distance && is_another {
+            self.is_tied = true;
         }
         Ok(())
     }
+
+    /// The name that is nearer than each other one.
+    fn nearest(&self) -> Option<&'static str> {
+        if self.is_tied { None } else { self.found }
+    }
+}
+
+/// Whether one of two names has all letters of the other, and as many `n`: a letter in place of another often makes the name of another
+/// kind, as those that `vaddc` and `vmudn` end with, and an `n` negates, as in `nor` and `vne`.
+fn is_slip(name: &str, other: &str) -> bool {
+    (has_letters(name, other) || has_letters(other, name))
+        && count_of(name, b'n') == count_of(other, b'n')
+}
+
+/// Whether a name has each letter of another one as often.
+fn has_letters(name: &str, other: &str) -> bool {
+    other
+        .bytes()
+        .all(|letter| count_of(name, letter) >= count_of(other, letter))
+}
+
+/// How often a name has a letter.
+fn count_of(name: &str, letter: u8) -> usize {
+    let mut count = 0_usize;
+    for byte in name.bytes() {
+        if byte == letter {
+            count = count.saturating_add(1);
+        }
+    }
+    count
 }
 
 /// Whether an instruction has this name, in either case.
@@ -77,9 +125,9 @@ pub fn is_instruction(name: &str) -> bool
 }
 
 /// The name of an instruction, or one for which [`of_other`](crate::of_other) has something to say, that is nearest to an unknown one.
-/// None if none that begins with the same letter is near: two edits away or less, of an unknown name of three or four bytes one edit, and of a shorter one
-/// none. An edit changes, adds or drops a character, or exchanges two that follow each other. AllocError if there is no memory for the
-/// name in lower case, or to compare it.
+/// None if none that begins with the same letter is near: two edits away or less, of an unknown name of three or four bytes one edit, and
+/// of a shorter one none. An edit adds or drops a character other than `n`, or exchanges two. None, too, if two are as near as each other.
+/// AllocError if there is no memory for the name in lower case, or to compare it.
 pub fn nearest_statement(alloc: Global, name: &str) -> Result<Option<&'static str>, AllocError> {
     if name.len() > LONGEST {
         return Ok(None);
@@ -90,7 +138,7 @@ pub fn nearest_statement(alloc: Global, name: &str) -> Result<Option<&'static st
         search.see(row.name)?;
     }
     see_others(&mut search)?;
-    Ok(search.found)
+    Ok(search.nearest())
 }
 
 /// The names that aren't those of instructions.
@@ -105,17 +153,25 @@ fn see_others(search: &mut Search<'_>) -> Result<(), AllocError> {
     Ok(())
 }
 
-/// The command whose name is nearest to an unknown one. None if none is near, and AllocError, as [`nearest_statement`] has them.
+/// The command that other debuggers call by an unknown name, or whose name is nearest to it. None if none is near, and AllocError, as
+/// [`nearest_statement`] has them.
 pub fn nearest_command(alloc: Global, name: &str) -> Result<Option<CommandForm>, AllocError> {
     if name.len() > LONGEST {
         return Ok(None);
+    }
+    for (names, command) in CALLED {
+        for other in names.split(' ') {
+            if is_same(name, other) {
+                return Ok(command_named(command));
+            }
+        }
     }
     let name = name.to_ascii_lowercase(alloc)?;
     let mut search = Search::new(alloc, name.as_str());
     for command in command_forms() {
         search.see(command.name)?;
     }
-    Ok(match search.found {
+    Ok(match search.nearest() {
         Some(found) => command_named(found),
         None => None,
     })

@@ -1,4 +1,4 @@
-// What may be meant where a text of another assembler has the element of a vector register as an operand of its own.
+// What may be meant where a text of another assembler has the element of a vector register, or an offset, as an operand of its own.
 
 use crate::fits::{Operands, is_label, number_of};
 use crate::spelling::{BYTES, ELEMENTS, leading_number, scalar, vector_register};
@@ -19,7 +19,7 @@ pub struct Readings {
 
 impl Readings {
     /// Of a computing instruction: the number is in the instruction, or a lane.
-    fn of_computing(register: u8, number: u8) -> Option<Readings> {
+    pub(crate) fn of_computing(register: u8, number: u8) -> Option<Readings> {
         Some(Readings {
             register,
             number,
@@ -34,7 +34,7 @@ impl Readings {
     }
 
     /// Of a load, a store or a move: the number is a byte, or a lane.
-    fn of_transfer(register: u8, number: u8) -> Option<Readings> {
+    pub(crate) fn of_transfer(register: u8, number: u8) -> Option<Readings> {
         Some(Readings {
             register,
             number,
@@ -66,7 +66,7 @@ impl Display for Readings {
     }
 }
 
-/// The number of an element that is an operand: `3`, `[3]`, `e3` or `e(3)`.
+/// The number of an element that is an operand: `3`, `0x3`, `[3]`, `e3` or `e(3)`.
 fn element_number(text: &str) -> Option<u8> {
     let text = text.strip_prefix('e').unwrap_or(text);
     let inside = text
@@ -77,8 +77,9 @@ fn element_number(text: &str) -> Option<u8> {
         .strip_suffix(')')
         .or(inside.strip_suffix(']'))
         .unwrap_or(inside);
-    match leading_number(digits.as_bytes())? {
-        (number @ 0..=15, []) => Some(number),
+    match (leading_number(digits.as_bytes()), number_of(digits)) {
+        (Some((number @ 0..=15, [])), _) => Some(number),
+        (_, Some(number @ 0..=15)) => u8::try_from(number).ok(),
         _ => None,
     }
 }
@@ -102,6 +103,78 @@ pub fn of_extra(name: &str, before: &str, text: &str) -> Option<Readings> {
     }
 }
 
+/// The registers of a divide or a `vmov`, each with its element as an operand of its own.
+#[derive(Clone, Copy)]
+pub struct Lanes<'a> {
+    name: &'a str,
+    register: u8,
+    lane: &'static str,
+    source: Readings,
+}
+
+impl Display for Lanes<'_> {
+    fn fmt<W: Write>(&self, f: &mut Formatter<W>) -> fmt::Result {
+        let Lanes {
+            name,
+            register,
+            lane,
+            source,
+        } = self;
+        write!(f, "{name} $v{register}{lane}, {source}")
+    }
+}
+
+/// The two registers of an instruction whose four operands are each of them and its element. None if one can't be read.
+pub fn of_lanes<'a>(name: &'a str, operands: &Operands<'a>) -> Option<Lanes<'a>> {
+    let [register, lane, source, element] = operands.first;
+    let lane = element_number(lane)?;
+    if operands.count != 4 || lane > 7 {
+        return None;
+    }
+    Some(Lanes {
+        name,
+        register: whole_register(register)?,
+        lane: BYTES.get(usize::from(lane))?,
+        source: Readings::of_computing(whole_register(source)?, element_number(element)?)?,
+    })
+}
+
+/// What the number of an offset may be.
+#[derive(Clone, Copy)]
+pub(crate) enum Offset {
+    /// Bytes.
+    Bytes,
+    /// Steps: so many bytes, in steps of so many.
+    Steps(i64, u8),
+    /// Bytes, or the same steps.
+    Either(i64, u8),
+}
+
+/// What the offset of a load or a store may be. None if it is out of range either way.
+pub(crate) fn offset_of(kind: Operand, offset: i64) -> Option<Offset> {
+    let Operand::VectorMemory(step) = kind else {
+        return if matches!(offset, -32768..=65535) {
+            Some(Offset::Bytes)
+        } else {
+            None
+        };
+    };
+    if step == 0 {
+        return None;
+    }
+    let size = i64::from(step);
+    let is_bytes = offset % size == 0 && offset >= -64 * size && offset <= 63 * size;
+    if !matches!(offset, -64..=63) || size == 1 || offset == 0 {
+        return if is_bytes { Some(Offset::Bytes) } else { None };
+    }
+    let bytes = offset.saturating_mul(size);
+    Some(if is_bytes {
+        Offset::Either(bytes, step)
+    } else {
+        Offset::Steps(bytes, step)
+    })
+}
+
 /// The offset and the base of a load or a store that are two operands.
 #[derive(Clone, Copy)]
 pub struct Apart<'a> {
@@ -109,14 +182,14 @@ pub struct Apart<'a> {
     register: Option<Readings>,
     offset: &'a str,
     base: &'a str,
-    /// The offset in bytes and the bytes of a step, if the number counts steps.
-    steps: Option<(i64, u8)>,
+    /// What the number of the offset may be.
+    meaning: Offset,
 }
 
 impl Apart<'_> {
     /// Whether the text has one meaning.
     pub fn is_sure(&self) -> bool {
-        self.register.is_none() && self.steps.is_none()
+        self.register.is_none() && matches!(self.meaning, Offset::Bytes)
     }
 }
 
@@ -126,12 +199,16 @@ impl Display for Apart<'_> {
         if let Some(register) = self.register {
             write!(f, "{register}; with ")?;
         }
-        match self.steps {
-            Some((bytes, step)) => write!(
+        match self.meaning {
+            Offset::Bytes => write!(f, "{offset}(${base})"),
+            Offset::Steps(bytes, step) => write!(
                 f,
                 "{bytes}(${base}) if {offset} counts steps of {step} bytes"
             ),
-            None => write!(f, "{offset}(${base})"),
+            Offset::Either(bytes, step) => write!(
+                f,
+                "{offset}(${base}) if {offset} is bytes, {bytes}(${base}) if it counts steps of {step} bytes"
+            ),
         }
     }
 }
@@ -145,9 +222,9 @@ pub fn of_apart<'a>(kind: Operand, operands: &Operands<'a>) -> Option<Apart<'a>>
         4 => (element_number(second)?, third, fourth),
         _ => return None,
     };
-    let steps = match number_of(offset) {
-        Some(number) => steps_of(kind, number)?,
-        None if is_label(offset) => None,
+    let meaning = match number_of(offset) {
+        Some(number) => offset_of(kind, number)?,
+        None if is_label(offset) => Offset::Bytes,
         None => return None,
     };
     let register = if element == 0 {
@@ -159,28 +236,6 @@ pub fn of_apart<'a>(kind: Operand, operands: &Operands<'a>) -> Option<Apart<'a>>
         register,
         offset,
         base: scalar(base)?,
-        steps,
+        meaning,
     })
-}
-
-/// Whether the offset of a load or a store counts steps: then what it is in bytes, and the bytes of a step. None if it is out of range.
-fn steps_of(kind: Operand, offset: i64) -> Option<Option<(i64, u8)>> {
-    let Operand::VectorMemory(step) = kind else {
-        return if matches!(offset, -32768..=65535) {
-            Some(None)
-        } else {
-            None
-        };
-    };
-    if step == 0 {
-        return None;
-    }
-    let size = i64::from(step);
-    if offset % size == 0 && offset >= -64 * size && offset <= 63 * size {
-        Some(None)
-    } else if matches!(offset, -64..=63) {
-        Some(Some((offset * size, step)))
-    } else {
-        None
-    }
 }

@@ -1,6 +1,8 @@
 // How an operand is written here that a text of another assembler writes otherwise.
 
+use crate::fits::{is_sum, number_of};
 use crate::names::is_same;
+use crate::readings::{Offset, Readings, offset_of};
 use rsp_decode::{ByteElements, Operand};
 use std::fmt::{self, Display, Formatter, Write};
 
@@ -39,8 +41,8 @@ const SP_REGISTERS: [&str; 16] = [
     "DPC_TMEM",
 ];
 
-/// libdragon's names of the first of them, after `COP0_`.
-const DMA_REGISTERS: [&str; 7] = [
+/// libdragon's names of them, after `COP0_`.
+const COP0_REGISTERS: [&str; 16] = [
     "DMA_SPADDR",
     "DMA_RAMADDR",
     "DMA_READ",
@@ -48,6 +50,15 @@ const DMA_REGISTERS: [&str; 7] = [
     "SP_STATUS",
     "DMA_FULL",
     "DMA_BUSY",
+    "SEMAPHORE",
+    "DP_START",
+    "DP_END",
+    "DP_CURRENT",
+    "DP_STATUS",
+    "DP_CLOCK",
+    "DP_BUSY",
+    "DP_PIPE_BUSY",
+    "DP_TMEM_BUSY",
 ];
 
 /// The SP registers by their numbers, without `$`.
@@ -82,25 +93,37 @@ pub enum Spelling<'a> {
     Vector(u8, &'static str),
     /// An offset, and the name of a base register without `$`.
     Memory(&'a str, &'a str),
-    /// The digits of an address in IMEM.
-    Address(&'a str),
+    /// The digits of a hexadecimal number.
+    Hexadecimal(&'a str),
+    /// The same, and a text that is it if it is hexadecimal.
+    Digits(&'a str, &'a str),
+    /// A number.
+    Number(u32),
     /// An offset in bytes, if its number counts steps.
     Steps {
         /// The offset.
         bytes: i64,
-        /// What follows it and its parenthesis.
-        rest: &'a str,
+        /// The name of the base register without `$`.
+        base: &'a str,
         /// How many steps it has.
-        count: i64,
+        count: &'a str,
         /// The bytes of a step.
         step: u8,
     },
+    /// A vector register with an element that may be either of two.
+    Either(Readings),
 }
 
 impl Spelling<'_> {
     /// Whether the text of the other assembler has no other meaning.
     pub fn is_sure(&self) -> bool {
-        !matches!(self, Spelling::Scalar(..) | Spelling::Steps { .. })
+        !matches!(
+            self,
+            Spelling::Scalar(..)
+                | Spelling::Digits(..)
+                | Spelling::Steps { .. }
+                | Spelling::Either(_)
+        )
     }
 }
 
@@ -111,13 +134,19 @@ impl Display for Spelling<'_> {
             Spelling::Scalar(name, text) => write!(f, "${name} if {text} is a scalar register"),
             Spelling::Vector(number, element) => write!(f, "$v{number}{element}"),
             Spelling::Memory(offset, base) => write!(f, "{offset}(${base})"),
-            Spelling::Address(digits) => write!(f, "0x{digits}"),
+            Spelling::Hexadecimal(digits) => write!(f, "0x{digits}"),
+            Spelling::Digits(digits, text) => write!(f, "0x{digits} if {text} is hexadecimal"),
+            Spelling::Number(number) => write!(f, "{number}"),
             Spelling::Steps {
                 bytes,
-                rest,
+                base,
                 count,
                 step,
-            } => write!(f, "{bytes}({rest} if {count} counts steps of {step} bytes"),
+            } => write!(
+                f,
+                "{bytes}(${base}) if {count} counts steps of {step} bytes"
+            ),
+            Spelling::Either(readings) => write!(f, "{readings}"),
         }
     }
 }
@@ -142,7 +171,9 @@ pub fn respelled(kind: Operand, text: &str) -> Option<Spelling<'_>> {
         },
         Operand::SpRegister => sp_register(text).map(Spelling::Register),
         Operand::ControlRegister => control(text).map(Spelling::Register),
-        Operand::ScalarMemory | Operand::VectorMemory(_) => memory_operand(text),
+        Operand::ScalarMemory | Operand::VectorMemory(_) => memory_operand(kind, text),
+        Operand::ShiftAmount | Operand::Signed | Operand::Unsigned => number(kind, text),
+        Operand::JumpTarget | Operand::BranchTarget => number(kind, text),
         _ => vector(kind, text.as_bytes()),
     }
 }
@@ -169,7 +200,7 @@ pub(crate) fn leading_number(text: &[u8]) -> Option<(u8, &[u8])> {
 }
 
 /// A text that is a number of one or two digits, and nothing else.
-fn number_of(text: &str) -> Option<usize> {
+fn small_number(text: &str) -> Option<usize> {
     match leading_number(text.as_bytes()) {
         Some((number, [])) => Some(usize::from(number)),
         _ => None,
@@ -178,7 +209,7 @@ fn number_of(text: &str) -> Option<usize> {
 
 /// The number of a register that is written as a scalar one.
 fn scalar_number(text: &str) -> Option<usize> {
-    number_of(text.strip_prefix('$')?)
+    small_number(text.strip_prefix('$')?)
 }
 
 /// A scalar register without `$`, by its name: `t0`, `r8`, `$08`, and `$v0` for `$2`. A number without a letter before it is none.
@@ -187,10 +218,10 @@ pub(crate) fn scalar(text: &str) -> Option<&str> {
     if index_of(name, &SCALARS).is_some() {
         return Some(name);
     }
-    let digits = name.strip_prefix('r').unwrap_or(name);
+    let digits = name.strip_prefix(['r', 'R']).unwrap_or(name);
     let number = match index_of(name, &FIRST_SCALARS) {
         Some(number) => number,
-        None if digits.len() < text.len() => number_of(digits)?,
+        None if digits.len() < text.len() => small_number(digits)?,
         None => return None,
     };
     numbered_scalar(number)
@@ -208,18 +239,93 @@ pub(crate) fn numbered_scalar(number: usize) -> Option<&'static str> {
     SCALAR_NUMBERS.get(number).copied()
 }
 
-/// An offset and a base register: with blanks, or with a base that is written otherwise.
-fn memory_operand(text: &str) -> Option<Spelling<'_>> {
+/// An offset and a base register: with blanks, without an offset, or with a base that is written otherwise.
+fn memory_operand(kind: Operand, text: &str) -> Option<Spelling<'_>> {
     let (offset, rest) = text.split_once('(')?;
     let (offset, base) = (offset.trim(), rest.trim().strip_suffix(')')?.trim());
-    Some(Spelling::Memory(offset, scalar(base)?))
+    let base = scalar(base)?;
+    match number_of(offset) {
+        None if offset.is_empty() => Some(Spelling::Memory("0", base)),
+        None if is_sum(offset) => Some(Spelling::Memory(offset, base)),
+        None => None,
+        Some(number) => match offset_of(kind, number)? {
+            Offset::Bytes | Offset::Either(..) => Some(Spelling::Memory(offset, base)),
+            Offset::Steps(bytes, step) => Some(Spelling::Steps {
+                bytes,
+                base,
+                count: offset,
+                step,
+            }),
+        },
+    }
+}
+
+/// A number that is written otherwise: hexadecimal with `0X`, `$` or `h`, or binary.
+fn number(kind: Operand, text: &str) -> Option<Spelling<'_>> {
+    if let Some(digits) = text.strip_prefix("0X") {
+        let value = i64::from(u32::from_str_radix(digits, 16).ok()?);
+        return Some(if is_in_range(kind, value) {
+            Spelling::Hexadecimal(digits)
+        } else {
+            Spelling::Digits(digits, text)
+        });
+    }
+    if let Some(digits) = text.strip_prefix("0b").or(text.strip_prefix("0B")) {
+        let value = u32::from_str_radix(digits, 2).ok()?;
+        return if is_in_range(kind, i64::from(value)) {
+            Some(Spelling::Number(value))
+        } else {
+            None
+        };
+    }
+    let digits = match text.strip_suffix('h').or(text.strip_suffix('H')) {
+        Some(digits) if digits.starts_with(|first: char| first.is_ascii_digit()) => digits,
+        _ => text.strip_prefix('$')?,
+    };
+    if scalar(text).is_some() || scalar_number(text).is_some() {
+        return None;
+    }
+    hexadecimal(digits, text)
+}
+
+/// Digits that a text has if it is a hexadecimal number.
+fn hexadecimal<'a>(digits: &'a str, text: &'a str) -> Option<Spelling<'a>> {
+    match u32::from_str_radix(digits, 16) {
+        Ok(_) if !digits.starts_with('+') => Some(Spelling::Digits(digits, text)),
+        _ => None,
+    }
+}
+
+/// How a label that is missing is written if it was meant to be a hexadecimal number.
+pub fn respelled_label(text: &str) -> Option<Spelling<'_>> {
+    hexadecimal(text, text)
+}
+
+/// Whether an operand of this kind may be this number.
+fn is_in_range(kind: Operand, number: i64) -> bool {
+    match kind {
+        Operand::ShiftAmount => matches!(number, 0..=31),
+        Operand::JumpTarget | Operand::BranchTarget => {
+            matches!(number, 0..=4092) && number % 4 == 0
+        }
+        _ => matches!(number, -32768..=65535),
+    }
+}
+
+/// The number of an SP register, by its name.
+pub fn sp_number(text: &str) -> Option<usize> {
+    let name = text.strip_prefix('$').unwrap_or(text);
+    let name = name.strip_prefix("COP0_").unwrap_or(name);
+    index_of(name, &SP_REGISTERS)
+        .or(index_of(name, &COP0_REGISTERS))
+        .or(index_of(name, &SP_NUMBERS))
 }
 
 /// An SP register without `$`, by its name, or by its number as that of a scalar register.
 fn sp_register(text: &str) -> Option<&'static str> {
-    let name = text.strip_prefix("COP0_").unwrap_or(text);
-    let named = index_of(name, &SP_REGISTERS).or(index_of(name, &DMA_REGISTERS));
-    SP_NUMBERS.get(named.or(scalar_number(text))?).copied()
+    SP_NUMBERS
+        .get(sp_number(text).or(scalar_number(text))?)
+        .copied()
 }
 
 /// A control register without `$`, by its name, or by its number as that of a scalar register.
@@ -233,6 +339,9 @@ fn control(text: &str) -> Option<&'static str> {
 fn vector<'a>(kind: Operand, text: &[u8]) -> Option<Spelling<'a>> {
     let (register, rest) = vector_register(text)?;
     let element = element_of(rest)?;
+    if let Some(readings) = readings_of(kind, register, element) {
+        return Some(Spelling::Either(readings));
+    }
     let shown = match kind {
         Operand::Vector(_) if matches!(element, Element::Whole) => Some(""),
         Operand::VectorElement => ELEMENTS.get(code_of(element)).copied(),
@@ -241,6 +350,20 @@ fn vector<'a>(kind: Operand, text: &[u8]) -> Option<Spelling<'a>> {
         _ => None,
     };
     Some(Spelling::Vector(register, shown?))
+}
+
+/// A vector register whose element is written as a code or as a lane, by the same letter or by none.
+fn readings_of(kind: Operand, register: u8, element: Element) -> Option<Readings> {
+    match (kind, element) {
+        (
+            Operand::VectorElement,
+            Element::Bracketed(b'e', number @ 0..=7) | Element::Bracketed(b' ', number @ 8..=15),
+        ) => Readings::of_computing(register, number),
+        (Operand::VectorByte(_, ByteElements::All), Element::Bracketed(b'e', number @ 1..=7)) => {
+            Readings::of_transfer(register, number)
+        }
+        _ => None,
+    }
 }
 
 /// The number of a vector register, with or without `$`, and what follows it.
@@ -293,7 +416,7 @@ fn code_of(element: Element) -> usize {
         Element::Bracketed(b'w' | b' ', lane @ 0..=7) => 8 + lane,
         Element::Dotted(b'h', half @ 0..=3) | Element::Bracketed(b'h', half @ 0..=3) => 4 + half,
         Element::Dotted(b'q', pair @ 0..=1) | Element::Bracketed(b'q', pair @ 0..=1) => 2 + pair,
-        Element::Bracketed(b'e', code @ 0..=15) => code,
+        Element::Bracketed(b'e', code @ 8..=15) => code,
         _ => 16,
     };
     usize::from(code)
@@ -302,7 +425,7 @@ fn code_of(element: Element) -> usize {
 /// The byte of a vector register in loads, stores and moves, where others may write a lane.
 fn byte_of(element: Element, elements: ByteElements) -> Option<&'static str> {
     let byte = match element {
-        Element::Whole => 0,
+        Element::Whole => return Some(""),
         Element::Dotted(b'e', lane @ 0..=7) => 2 * lane,
         Element::Bracketed(b'e' | b' ', byte) => byte,
         _ => return None,
@@ -327,7 +450,10 @@ fn lane_of(element: Element) -> Option<&'static str> {
 pub fn respelled_in_range<'a>(kind: Operand, text: &'a str) -> Option<Spelling<'a>> {
     match kind {
         Operand::JumpTarget | Operand::BranchTarget => target_in_imem(text),
-        Operand::VectorMemory(step) => in_bytes(step, text),
+        Operand::VectorMemory(_) => match memory_operand(kind, text) {
+            Some(spelling) if !spelling.is_sure() => Some(spelling),
+            _ => None,
+        },
         _ => None,
     }
 }
@@ -337,22 +463,8 @@ fn target_in_imem(text: &str) -> Option<Spelling<'_>> {
     match text.as_bytes() {
         [b'0', b'x', _, .., _, _, b'0' | b'4' | b'8' | b'c' | b'C'] => {
             let (_, digits) = text.split_at(text.floor_char_boundary(text.len() - 3));
-            Some(Spelling::Address(digits))
+            Some(Spelling::Hexadecimal(digits))
         }
-        _ => None,
-    }
-}
-
-/// The offset of a vector load or store in bytes, if it is in range as a number of steps.
-fn in_bytes(step: u8, text: &str) -> Option<Spelling<'_>> {
-    let (offset, rest) = text.split_once('(')?;
-    match offset.parse::<i64>() {
-        Ok(count @ -64..=63) if step > 1 => Some(Spelling::Steps {
-            bytes: count * i64::from(step),
-            rest,
-            count,
-            step,
-        }),
         _ => None,
     }
 }

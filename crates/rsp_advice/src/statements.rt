@@ -8,9 +8,17 @@ use std::fmt::{self, Display, Formatter, Write};
 const CONDITIONS: &str =
     "no macros or conditions here: let a preprocessor such as m4 write the lines";
 
-const DATA: &str = ".word in IMEM; data goes to DMEM by load or by a DMA";
+/// What helps where a text has data.
+pub(crate) const DATA: &str =
+    "the assembler makes only words of IMEM: write data to DMEM by load or by a DMA, and its address in DMEM as a number, because a label is an address in IMEM";
 
-const END: &str = "end closes a block of a script, alone on its line";
+const DATA_AT: &str =
+    "the assembler makes only words of IMEM: write data to DMEM from %1 on by load or by a DMA, and its address in DMEM as a number, because a label is an address in IMEM";
+
+const END: &str =
+    "end closes a block of a script, in lower case, alone on its line and without a comment";
+
+const ENTRY: &str = "leave the line out; in a script, pc ADDR sets where the code begins";
 
 const FILES: &str = "no other files here: let a preprocessor such as m4 join the texts";
 
@@ -23,7 +31,18 @@ const MULTIPLY: &str = "the RSP multiplies and divides only in vector registers"
 
 const LEFT_OUT: &str = "leave the line out";
 
-const ORIGIN: &str = "leave the line out, and type rsp asm SRC OUT --at ADDR";
+const ORIGIN: &str =
+    "before the first word, leave the line out and begin at the address (rsp asm --at ADDR, in a script asm ADDR); after it, write nop up to the address";
+
+const ORIGIN_AT: &str =
+    "before the first word, leave the line out and begin at %a (rsp asm --at %a, in a script asm %a); after it, write nop up to %a";
+
+const REORDER: &str =
+    "leave the line out, and write nop after each jump and branch: nothing else fills its delay slot";
+
+const COMPARISONS: &str = "the RSP compares vectors by vlt, veq, vne and vge, and by no other";
+
+const BYTES: &str = "the RSP has no vector sums of bytes: vadd and vsub add and subtract halves";
 
 const UNSIGNED: &str = "the RSP has no unsigned vector sums: vaddc and vsubc don't clamp";
 
@@ -39,7 +58,36 @@ const OTHERS: &[(&str, &str, bool, &str)] = &[
         false,
         "addiu $%1, $0, %2 for code; for data write the number of its address in DMEM",
     ),
-    ("move", "rr", true, "addu $%1, $%2, $0"),
+    ("la", "ri", true, "addiu $%1, $0, %2"),
+    ("la", "ru", true, "ori $%1, $0, %2"),
+    ("la", "rw", true, "lui $%1, %h\nori $%1, $%1, %l"),
+    ("move mov", "rr", true, "addu $%1, $%2, $0"),
+    ("sgt", "rrr", true, "slt $%1, $%3, $%2"),
+    ("sgtu", "rrr", true, "sltu $%1, $%3, $%2"),
+    (
+        "sge sgte",
+        "rrr",
+        true,
+        "slt $%1, $%2, $%3\nxori $%1, $%1, 1",
+    ),
+    ("sgeu", "rrr", true, "sltu $%1, $%2, $%3\nxori $%1, $%1, 1"),
+    (
+        "sle slte",
+        "rrr",
+        true,
+        "slt $%1, $%3, $%2\nxori $%1, $%1, 1",
+    ),
+    ("sleu", "rrr", true, "sltu $%1, $%3, $%2\nxori $%1, $%1, 1"),
+    ("xnor", "rrr", true, "xor $%1, $%2, $%3\nnor $%1, $%1, $0"),
+    ("jmp", "t", true, "j %1"),
+    ("jmp", "r", true, "jr $%1"),
+    ("brk", "", true, "break"),
+    (
+        "abs",
+        "rr",
+        true,
+        "sra $at, $%2, 31\nxor $%1, $%2, $at\nsubu $%1, $%1, $at",
+    ),
     ("not", "rr", true, "nor $%1, $%2, $0"),
     ("neg negu", "rr", true, "subu $%1, $0, $%2"),
     ("subi subiu", "rrn", true, "addiu $%1, $%2, -%3"),
@@ -58,6 +106,12 @@ const OTHERS: &[(&str, &str, bool, &str)] = &[
     ("bleu", "rrt", true, "sltu $at, $%2, $%1\nbeq $at, $0, %3"),
     ("bge", "rit", true, "slti $at, $%1, %2\nbeq $at, $0, %3"),
     ("blt", "rit", true, "slti $at, $%1, %2\nbne $at, $0, %3"),
+    ("bgt", "rjt", true, "slti $at, $%1, %s\nbeq $at, $0, %3"),
+    ("ble", "rjt", true, "slti $at, $%1, %s\nbne $at, $0, %3"),
+    ("bgeu", "rit", true, "sltiu $at, $%1, %2\nbeq $at, $0, %3"),
+    ("bltu", "rit", true, "sltiu $at, $%1, %2\nbne $at, $0, %3"),
+    ("bgtu", "rkt", true, "sltiu $at, $%1, %s\nbeq $at, $0, %3"),
+    ("bleu", "rkt", true, "sltiu $at, $%1, %s\nbne $at, $0, %3"),
     ("vzero", "v", true, "vxor $v%1, $v%1, $v%1"),
     ("vcopy", "vv", true, "vor $v%1, $v%2, $v%2"),
     (
@@ -97,17 +151,28 @@ const OTHERS: &[(&str, &str, bool, &str)] = &[
         LACKING,
     ),
     ("vaddu vsubu", "*", false, UNSIGNED),
-    ("constant .definelabel .equ .eqv .equiv", "*", false, ITSELF),
-    ("end", "*", false, END),
+    ("vaddb vsubb vaccb vsucb", "*", false, BYTES),
+    ("vgt vgtu vle vlte vltu vgeu", "*", false, COMPARISONS),
     (
-        ".org origin",
-        "a",
+        "lwv",
+        "*",
         false,
-        "leave the line out, and type rsp asm SRC OUT --at %a",
+        "the RSP has only the store of this kind, swv",
     ),
-    (".org origin .create .open base", "*", false, ORIGIN),
     (
-        ".data .bss .section .rodata .sdata .ds.b .ds.h .ds.w .half .hword .short .byte .dh .db .dw .dd dh db dw dd .long .int .dword .quad .2byte .4byte .8byte .zero .space .skip .fill .ascii .asciz .asciiz .string .float .double .comm .lcomm",
+        "constant .definelabel .equ .eqv .equiv .symbol .name .unname",
+        "*",
+        false,
+        ITSELF,
+    ),
+    ("end", "*", false, END),
+    (".org origin .text", "a", false, ORIGIN_AT),
+    (".text", "", true, LEFT_OUT),
+    (".org origin .create .open base .text", "*", false, ORIGIN),
+    (".section", "=.text", false, LEFT_OUT),
+    (".data .bss .rdata .rodata .sdata", ".", false, DATA_AT),
+    (
+        ".data .bss .section .rdata .rodata .sdata .ds .ds.b .ds.h .ds.w .dcb .dcb.b .dcb.w .dcb.l .dc.b .dc.w .dc.l .half .hword .short .byte .dh .db .dw .dd dh db dw dd .long .int .dword .quad .2byte .4byte .8byte .zero .space .skip .fill .ascii .asciz .asciiz .string .float .double .comm .lcomm",
         "*",
         false,
         DATA,
@@ -120,8 +185,11 @@ const OTHERS: &[(&str, &str, bool, &str)] = &[
     ),
     (".include .incbin include insert", "*", false, FILES),
     (".set", "..", false, ITSELF),
+    (".set", "=reorder", false, REORDER),
+    (".entry", "*", false, ENTRY),
+    (".bound .dmax .print", "*", false, LEFT_OUT),
     (
-        ".set .text .global .globl .local .weak .func .endfunc .ent .end .type .size .file .loc .previous .n64 .rsp .close .area .endarea arch",
+        ".set .global .globl .local .weak .func .endfunc .ent .end .type .size .file .loc .previous .n64 .rsp .close .area .endarea arch",
         "*",
         true,
         LEFT_OUT,
@@ -132,6 +200,35 @@ const OTHERS: &[(&str, &str, bool, &str)] = &[
         false,
         "leave the line out, or write nop up to the address",
     ),
+];
+
+/// The same of instructions, if their operands are those of another one, or of an assembler that writes the first only once.
+const RESHAPED: &[(&str, &str, bool, &str)] = &[
+    ("sub subu", "rrn", true, "addiu $%1, $%2, -%3"),
+    ("sub subu", "rrm", true, "addiu $%1, $%2, %3"),
+    ("sub subu", "rn", true, "addiu $%1, $%1, -%2"),
+    ("sub subu", "rm", true, "addiu $%1, $%1, %2"),
+    ("add addu", "rri", true, "addiu $%1, $%2, %3"),
+    ("add addu addi addiu", "ri", true, "addiu $%1, $%1, %2"),
+    ("and", "rrz", true, "andi $%1, $%2, %3"),
+    ("and andi", "rz", true, "andi $%1, $%1, %2"),
+    ("or", "rrz", true, "ori $%1, $%2, %3"),
+    ("or ori", "rz", true, "ori $%1, $%1, %2"),
+    ("xor", "rrz", true, "xori $%1, $%2, %3"),
+    ("xor xori", "rz", true, "xori $%1, $%1, %2"),
+    ("slt", "rri", true, "slti $%1, $%2, %3"),
+    ("sltu", "rri", true, "sltiu $%1, $%2, %3"),
+    ("sllv", "rrf", true, "sll $%1, $%2, %3"),
+    ("srlv", "rrf", true, "srl $%1, $%2, %3"),
+    ("srav", "rrf", true, "sra $%1, $%2, %3"),
+    ("sll sllv", "rf", true, "sll $%1, $%1, %2"),
+    ("srl srlv", "rf", true, "srl $%1, $%1, %2"),
+    ("sra srav", "rf", true, "sra $%1, $%1, %2"),
+    ("sll", "rrr", true, "sllv $%1, $%2, $%3"),
+    ("srl", "rrr", true, "srlv $%1, $%2, $%3"),
+    ("sra", "rrr", true, "srav $%1, $%2, $%3"),
+    ("beq", "rit", true, "addiu $at, $0, %2\nbeq $%1, $at, %3"),
+    ("bne", "rit", true, "addiu $at, $0, %2\nbne $%1, $at, %3"),
 ];
 
 /// What is advised in place of a statement.
@@ -209,6 +306,24 @@ pub fn of_other<'a>(name: &'a str, operands: &Operands<'a>) -> Option<Statement<
         }
     }
     example
+}
+
+/// What is advised in place of an instruction whose operands aren't its own. None if nothing is known of such operands.
+pub fn of_reshaped<'a>(name: &str, operands: &Operands<'a>) -> Option<Statement<'a>> {
+    for (names, letters, is_sure, written) in RESHAPED {
+        if !has_name(names, name) {
+            continue;
+        }
+        if let Some(filled) = fill(written, letters, operands) {
+            return Some(Statement {
+                name: "",
+                letters,
+                is_sure: *is_sure,
+                filled,
+            });
+        }
+    }
+    None
 }
 
 /// Whether something is known of a name.

@@ -6,7 +6,7 @@ pub(crate) static COMMANDS: &[CommandForm] = &[
     CommandForm {
         name: "load",
         form: "load BANK ADDR HEX",
-        range: "ADDR 0 to 16777215; HEX has two hexadecimal digits a byte",
+        range: "ADDR 0 to 16777215; HEX has two hexadecimal digits a byte, no 0x and no blanks",
     },
     CommandForm {
         name: "asm",
@@ -129,7 +129,7 @@ pub(crate) static FAULTS: &[FaultText] = &[
     FaultText {
         number: 21,
         cause: "the address has a breakpoint",
-        help: "leave the line out: it is set",
+        help: "leave the line out: it is set already",
     },
     FaultText {
         number: 22,
@@ -169,7 +169,7 @@ pub(crate) static FAULTS: &[FaultText] = &[
     FaultText {
         number: 31,
         cause: "a word isn't a number in its range, or isn't HEX",
-        help: "numbers are decimal, or 0x and hexadecimal; addresses in IMEM are multiples of 4",
+        help: "numbers are decimal, or 0x and hexadecimal",
     },
     FaultText {
         number: 32,

@@ -117,13 +117,13 @@ const SUBCOMMANDS: [SubcommandForm; 3] = [
         name: "asm",
         about: "Assembles source text into a file of words, high byte first",
         arguments: &ASM,
-        after: "",
+        after: "Example:\n  rsp asm my.s my.bin --explain\n",
     },
     SubcommandForm {
         name: "dis",
         about: "Prints a file of words, high byte first, as assembly text",
         arguments: &DIS,
-        after: "",
+        after: "Example:\n  rsp dis my.bin --labels\n",
     },
 ];
 

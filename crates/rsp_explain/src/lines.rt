@@ -2,9 +2,9 @@
 
 use crate::allowed::{Allowed, kind_of};
 use rsp_advice::{
-    Label, Labelled, Operands, Visible, is_instruction, nearest_statement, of_accumulator,
-    of_apart, of_comment, of_extra, of_line, of_name, of_operand, of_other, respelled,
-    respelled_in_range,
+    Label, Labelled, Operands, Visible, is_instruction, lacks_comma, nearest_statement,
+    of_accumulator, of_apart, of_comment, of_extra, of_lanes, of_line, of_name, of_operand,
+    of_other, of_reshaped, respelled, respelled_in_range, respelled_label,
 };
 use rsp_asm::{
     AsmFaultKind, Expected, FaultyOperand, OperandFault, operand_fault, operand_text,
@@ -17,6 +17,9 @@ use std::str;
 
 /// More operands than a line of 256 bytes has.
 const OPERANDS: usize = 260;
+
+const PAST_END: &str =
+    "the last word of IMEM is at 4092: shorten the text, or begin at a lower address";
 
 /// What `--explain` says of a line that the first pass refuses: its text, and what is wrong in it. For an operand that is its number,
 /// its text, and what may be there, each time; for a statement whose name is unknown, the name. Then what to write or what helps, where
@@ -43,7 +46,7 @@ pub(crate) fn refused_operand(
     fault: AsmFaultKind,
 ) -> Result<String, AllocError> {
     let mut said = line_text(alloc, line)?;
-    let reason = operand_reason(alloc, line, faulty, fault)?;
+    let reason = operand_reason(alloc, line, faulty, fault, "")?;
     said.push_str(reason.as_str())?;
     Ok(said)
 }
@@ -103,6 +106,10 @@ fn statement_reason(alloc: Global, line: &str, fault: AsmFaultKind) -> Result<St
             let advice = Labelled(Label::Help, of_line(line));
             format!(in alloc; "{advice}")
         }
+        AsmFaultKind::PastEnd => {
+            let advice = Labelled(Label::Help, PAST_END);
+            format!(in alloc; "{advice}")
+        }
         _ => Ok(String::new(alloc)),
     }
 }
@@ -118,12 +125,18 @@ fn meant(alloc: Global, line: &str) -> Result<(Label, String), AllocError> {
         return Ok((Label::Help, String::from_str(alloc, known)?));
     }
     let text = match nearest_statement(alloc, name)? {
-        Some(nearest) if has_form(alloc, nearest, line)? => {
-            format!(in alloc; "is `{nearest}` meant?")?
-        }
+        Some(nearest) if has_form(alloc, nearest, line)? => asked(alloc, nearest, line)?,
         _ => String::new(alloc),
     };
     Ok((Label::Help, text))
+}
+
+/// The question whether a name was meant. If no statement has this name, what to write then.
+fn asked(alloc: Global, name: &str, line: &str) -> Result<String, AllocError> {
+    match of_other(name, &operands_of(line)) {
+        Some(statement) => format!(in alloc; "is `{name}` meant? Then write:\n{statement}"),
+        None => format!(in alloc; "is `{name}` meant?"),
+    }
 }
 
 /// Whether the operands of a line are those of the statement with this name.
@@ -157,7 +170,7 @@ fn has_faulty_operand(line: &str) -> bool {
 }
 
 /// What is wrong with each operand of a line that is refused. One too many is said only if no other is wrong: an operand that is written
-/// as two may be the cause.
+/// as two may be the cause. If one explains those after it, they aren't said.
 fn operand_reasons(alloc: Global, line: &str) -> Result<String, AllocError> {
     let mut said = String::new(alloc);
     for index in 0..OPERANDS {
@@ -171,25 +184,44 @@ fn operand_reasons(alloc: Global, line: &str) -> Result<String, AllocError> {
             break;
         }
         let number = index + 1;
-        let reason = operand_reason(alloc, line, FaultyOperand { number, expected }, kind)?;
+        let faulty = FaultyOperand { number, expected };
+        let reason = operand_reason(alloc, line, faulty, kind, said.as_str())?;
         said.push_str(reason.as_str())?;
+        if explains_others(line, faulty) {
+            break;
+        }
     }
     Ok(said)
 }
 
-/// An operand that is at fault, what may be there, and what to write.
+/// Whether an operand at fault explains those after it.
+fn explains_others(line: &str, faulty: FaultyOperand) -> bool {
+    let FaultyOperand { number, expected } = faulty;
+    let is_lane = matches!(expected, Expected::Kind(Operand::VectorLane));
+    lacks_comma(operand(line, number))
+        || is_lane && of_lanes(name_of(line), &operands_of(line)).is_some()
+}
+
+/// An operand that is at fault, what may be there, and what to write, unless that is said already.
 fn operand_reason(
     alloc: Global,
     line: &str,
     faulty: FaultyOperand,
     fault: AsmFaultKind,
+    said: &str,
 ) -> Result<String, AllocError> {
     let FaultyOperand { number, expected } = faulty;
     let shown = Visible(found_operand(line, number).unwrap_or("(none)"));
     let allowed = Allowed { expected, fault };
     let (label, text) = written(alloc, line, faulty, fault)?;
     let advice = Labelled(label, text.as_str());
-    format!(in alloc; "\n  operand {number}: {shown}\n  expected: {allowed}{advice}")
+    let advice = format!(in alloc; "{advice}")?;
+    let new = if said.contains(advice.as_str()) {
+        ""
+    } else {
+        advice.as_str()
+    };
+    format!(in alloc; "\n  operand {number}: {shown}\n  expected: {allowed}{new}")
 }
 
 /// What to write in place of an operand; empty if there is nothing to say.
@@ -207,7 +239,10 @@ fn written(
             Some(spelling) => labelled(alloc, spelling.is_sure(), spelling),
             None => nothing(alloc),
         },
-        (_, Some(_)) => nothing(alloc),
+        (_, Some(_)) => match respelled_label(text) {
+            Some(spelling) => labelled(alloc, spelling.is_sure(), spelling),
+            None => nothing(alloc),
+        },
         (_, None) => extra(alloc, line, number),
     }
 }
@@ -222,10 +257,19 @@ fn unread(
     if let Some(spelling) = respelled(kind, text) {
         return labelled(alloc, spelling.is_sure(), spelling);
     }
+    let (name, operands) = (name_of(line), operands_of(line));
     if let Operand::ScalarMemory | Operand::VectorMemory(_) = kind {
-        if let Some(apart) = of_apart(kind, &operands_of(line)) {
+        if let Some(apart) = of_apart(kind, &operands) {
             return labelled(alloc, apart.is_sure(), apart);
         }
+    }
+    if let Operand::VectorLane = kind {
+        if let Some(lanes) = of_lanes(name, &operands) {
+            return labelled(alloc, false, lanes);
+        }
+    }
+    if let Some(statement) = of_reshaped(name, &operands) {
+        return labelled(alloc, statement.is_sure(), statement);
     }
     match of_accumulator(text) {
         "" => labelled(alloc, false, of_operand(kind, text)),

@@ -13,7 +13,7 @@ use crate::places::{Place, Places, without_newline};
 use crate::texts::{explain_text, push_fault};
 use rsp_advice::{
     CommandForm, FaultText, Label, Labelled, NO_MARK, Visible, command_forms, command_named,
-    fault_numbered, is_instruction, is_other, nearest_command,
+    fault_numbered, is_instruction, is_other, nearest_command, of_number, of_words, sp_number,
 };
 use rsp_asm::{AsmFault, AsmFaultKind};
 use std::alloc::{AllocError, Global};
@@ -163,7 +163,7 @@ fn said_of_line(
 fn line_reason(alloc: Global, line: &str, reply: &[u8]) -> Result<String, AllocError> {
     let (words, _) = line.split_once('#').unwrap_or((line, ""));
     match fault_number(reply) {
-        BAD_COMMAND => command_reason(alloc, first_word(words)),
+        BAD_COMMAND => command_reason(alloc, words),
         BAD_NUMBER => number_reason(alloc, words),
         number => fault_reason(alloc, number, words),
     }
@@ -183,12 +183,13 @@ fn first_word(line: &str) -> &str {
 }
 
 /// What is wrong with a line that is no command: of a known name its form, otherwise what was probably meant.
-fn command_reason(alloc: Global, name: &str) -> Result<String, AllocError> {
+fn command_reason(alloc: Global, words: &str) -> Result<String, AllocError> {
+    let name = first_word(words);
     if let Some(help) = help_of(name) {
         return labelled(alloc, Label::Help, help);
     }
     if let Some(command) = command_named(name) {
-        return form_reason(alloc, command);
+        return form_reason(alloc, command, words);
     }
     if is_statement(name) {
         return labelled(
@@ -209,7 +210,7 @@ fn command_reason(alloc: Global, name: &str) -> Result<String, AllocError> {
 /// What helps with a name that is no command, but is known.
 fn help_of(name: &str) -> Option<&'static str> {
     match name {
-        "end" => Some("end comes only after asm ADDR and the lines of its block"),
+        "end" | "END" | "End" => Some("end comes only after asm ADDR and the lines of its block"),
         "quit" | "exit" | "q" | "bye" => Some("Ctrl-D ends the script"),
         _ => None,
     }
@@ -226,15 +227,32 @@ fn labelled(alloc: Global, label: Label, text: &str) -> Result<String, AllocErro
     format!(in alloc; "{line}")
 }
 
-/// The form of a command.
-fn form_reason(alloc: Global, command: CommandForm) -> Result<String, AllocError> {
+/// The form of a command, and what helps with these words.
+fn form_reason(alloc: Global, command: CommandForm, words: &str) -> Result<String, AllocError> {
     let form = command.form;
     let banks = if form.contains(" BANK ") {
         ", and BANK is dmem, imem or rdram"
     } else {
         ""
     };
-    format!(in alloc; "\n  expected: {form}{banks}")
+    if form == "step" {
+        if let Some(count) = count_of(words) {
+            return format!(in alloc;
+                "\n  expected: {form}\n  help: run {count} makes {count} steps"
+            );
+        }
+    }
+    let help = Labelled(Label::Help, of_words(words));
+    format!(in alloc; "\n  expected: {form}{banks}{help}")
+}
+
+/// The second word, if it is a number other than 0.
+fn count_of(words: &str) -> Option<u32> {
+    let word = words.split_ascii_whitespace().nth(1)?;
+    match word.parse::<u32>() {
+        Ok(0) | Err(_) => None,
+        Ok(count) => Some(count),
+    }
 }
 
 /// The names of all commands, in lines of at most 80 characters.
@@ -267,9 +285,14 @@ fn number_reason(alloc: Global, words: &str) -> Result<String, AllocError> {
             "\n  expected: {form}: {range}\n  help: {word} is {number} in decimal; hexadecimal numbers begin with 0x"
         );
     }
-    let help = match fault_numbered(BAD_NUMBER) {
-        Some(fault) => fault.help,
-        None => "",
+    if let Some((command, register, number)) = with_register(words) {
+        return format!(in alloc;
+            "\n  expected: {form}: {range}\n  help: {register} is SP register {number}: {command} {number}"
+        );
+    }
+    let help = match (of_number(words), fault_numbered(BAD_NUMBER)) {
+        ("", Some(fault)) => fault.help,
+        (help, _) => help,
     };
     format!(in alloc; "\n  expected: {form}: {range}\n  help: {help}")
 }
@@ -284,6 +307,17 @@ fn with_zeros(words: &str) -> Option<(&str, u64)> {
         }
     }
     None
+}
+
+/// The command, the name and the number of an SP register that is a command's second word.
+fn with_register(words: &str) -> Option<(&str, &str, usize)> {
+    let mut words = words.split_ascii_whitespace();
+    let (command, register) = (words.next()?, words.next()?);
+    if matches!(command, "read" | "write") {
+        Some((command, register, sp_number(register)?))
+    } else {
+        None
+    }
 }
 
 /// What is known of another fault.
@@ -327,14 +361,21 @@ fn line_count(text: &str) -> usize
     text.lines().count()
 }
 
+/// Whether a line was meant to close a block: `end` in either case, maybe with more after it.
+fn is_end(line: &str) -> bool {
+    let (text, _) = line.split_once('#').unwrap_or((line, ""));
+    let (text, _) = text.split_once(';').unwrap_or((text, ""));
+    first_word(text).eq_ignore_ascii_case("end")
+}
+
 /// What closes the open block after the `asm` in the line of this number: `end`, or the line in which it has more words.
 fn open_reason(alloc: Global, number: usize, text: &str) -> Result<String, AllocError> {
     let mut at = number;
     for line in text.lines() {
         at = at.saturating_add(1);
-        if first_word(line) == "end" {
+        if is_end(line) {
             return format!(in alloc;
-                "\n  | (none)\n  expected: end, for the block of line {number}\n  help: write end alone in line {at}, which is: {}",
+                "\n  | (none)\n  expected: end, for the block of line {number}\n  help: write end in lower case, alone in line {at}, which is: {}",
                 Visible(line)
             );
         }

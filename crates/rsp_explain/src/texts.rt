@@ -52,10 +52,49 @@ fn explain_each(
 {
     let mut said = String::new(alloc);
     for fault in faults {
-        let reason = refused_line(alloc, numbered_line(text, fault.line), fault.kind)?;
+        let reason = first_reason(alloc, before, text, *fault)?;
         push_fault(alloc, &mut said, head, before, *fault, &reason)?;
     }
     Ok(said)
+}
+
+/// What is wrong with a line that the first pass refuses, and the line before it that has the same label.
+fn first_reason(
+    alloc: Global,
+    before: usize,
+    text: &str,
+    fault: AsmFault,
+) -> Result<String, AllocError> {
+    let line = numbered_line(text, fault.line);
+    let mut reason = refused_line(alloc, line, fault.kind)?;
+    if let (AsmFaultKind::LabelTwice, Some(label)) = (fault.kind, label_of(line)) {
+        let number = before.saturating_add(labelled_line(text, label));
+        let other = format!(in alloc; "\n  help: line {number} has the label {label}: rename one")?;
+        reason.push_str(other.as_str())?;
+    }
+    Ok(reason)
+}
+
+/// The number, from 1, of the first line with this label.
+fn labelled_line(text: &str, label: &str) -> usize {
+    let mut number = 0_usize;
+    for line in text.lines() {
+        number = number.saturating_add(1);
+        if label_of(line) == Some(label) {
+            break;
+        }
+    }
+    number
+}
+
+/// The label of a line. None if the line has none, or more bytes or other ones than a line may have.
+fn label_of(line: &str) -> Option<&str> {
+    if line.len() > 256 || !line.bytes().all(|byte| matches!(byte, b'\t' | b' '..=b'~')) {
+        return None;
+    }
+    let (code, _) = line.split_once(['#', ';']).unwrap_or((line, ""));
+    let (label, _) = code.split_once(':')?;
+    Some(label.trim())
 }
 
 /// Appends how many faults more there are.

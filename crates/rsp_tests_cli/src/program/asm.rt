@@ -39,7 +39,7 @@ static CASES: [Case; 10] = [
         line: "rsp asm --explain image words",
         image: b"lvq $v1, 0($2)\nnop\nx: jr 5\n",
         message: Some(
-            b"image:1: fault 11 UnknownName line 1\n  | lvq $v1, 0($2)\n  name: lvq\n  help: is `lqv` meant?\nimage:3: fault 12 BadOperand line 3\n  | x: jr 5\n  operand 1: 5\n  expected: a scalar register, $0 to $31 or as $t0, but not $v0 and $v1\n  help: write each operand, here a register; addiu, andi, ori and xori take a number last\n",
+            b"image:1: fault 11 UnknownName line 1\n  | lvq $v1, 0($2)\n  name: lvq\n  help: is `lqv` meant?\nimage:3: fault 12 BadOperand line 3\n  | x: jr 5\n  operand 1: 5\n  expected: a scalar register, $0 to $31 or as $t0, but not $v0 and $v1\n  help: a register begins with $, as $8\n",
         ),
         ..FAULTED
     },

@@ -206,7 +206,7 @@ static CASES: [Case; 26] = [
         image: b"asm 0\nend 1",
         status: Status::Faulted,
         message: Some(
-            b"image:3: fault 10 BadLine line 2\n  | (none)\n  expected: end, for the block of line 1\n  help: write end alone in line 2, which is: end 1\nrsp: faults in replies: 1, the first in line 3: fault 10 BadLine line 2\n",
+            b"image:3: fault 10 BadLine line 2\n  | (none)\n  expected: end, for the block of line 1\n  help: write end in lower case, alone in line 2, which is: end 1\nrsp: faults in replies: 1, the first in line 3: fault 10 BadLine line 2\n",
         ),
         output: Some(b"fault 10 BadLine line 2\n"),
         ..FILE
