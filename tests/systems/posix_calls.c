@@ -113,6 +113,15 @@ static ssize hold(const char *path, int is_shared)
     at = MapViewOfFile(map, FILE_MAP_WRITE, 0, 0, 0);
     return at ? 0 : -1;
 }
+
+/* Opens a pipe that nobody writes any more. */
+static ssize open_pipe(int *file)
+{
+    HANDLE from, to;
+    if (!CreatePipe(&from, &to, NULL, 0)) return -1;
+    *file = (int)(size_t)from;
+    return CloseHandle(to) - 1;
+}
 #endif
 
 /* An argument of the program. -9 if a byte after the room was written. */
@@ -138,6 +147,7 @@ static ssize call(const char *name)
     if (same(name, "arg")) return argument(number(path), (size_t)n);
 #ifdef _WIN32
     if (same(name, "hold")) return hold(path, *text == 's');
+    if (same(name, "pipe")) return open_pipe(&files[*path - '0']);
 #endif
 #define MADE(type, call, parameters, given) \
     if (same(name, #call)) return posix_##call given;
