@@ -49,13 +49,20 @@ int their_open(const char *path, int flags, int mode)
     return (int)syscall(SYS_openat, AT_FDCWD, path, ours, mode);
 }
 
-/* F_FULLFSYNC. Folders stand for files on a disk that has no such command. */
+/* F_FULLFSYNC. Folders stand for files on a disk that has no such command. Only for these fsync has to do, which leaves the bytes in the disk's memory. */
 int their_fcntl(int file, int command) __asm__("fcntl");
 int their_fcntl(int file, int command)
 {
     struct stat it;
     if (command != 51 || fstatat(file, "", &it, AT_EMPTY_PATH)) return errno = EBADF, -1;
-    return S_ISDIR(it.st_mode) ? (errno = ENOTTY, -1) : fsync(file);
+    return S_ISDIR(it.st_mode) ? (errno = ENOTTY, -1) : fdatasync(file);
+}
+
+int their_fsync(int file) __asm__("fsync");
+int their_fsync(int file)
+{
+    struct stat it;
+    return fstatat(file, "", &it, AT_EMPTY_PATH) || S_ISDIR(it.st_mode) ? fdatasync(file) : (errno = EIO, -1);
 }
 
 static int found(int file, const char *path, int flags, struct theirs *to)

@@ -26,7 +26,7 @@ struct statx {
     CALL(ssize, lseek, (int, long long, int), (file, n, (int)number(word[3])))    \
     CALL(int, unlink, (const char *), (path))                                     \
     CALL(int, rename, (const char *, const char *), (path, text))                 \
-    CALL(int, chown, (const char *, unsigned, unsigned), (path, (unsigned)n, ~0u)) \
+    CALL(int, chown, (const char *, unsigned, unsigned), (path, (unsigned)n, (unsigned)number(word[3]))) \
     CALL(ssize, readlink, (const char *, char *, size_t), (path, bytes, (size_t)n))
 #define DECLARED(type, name, parameters, given) type posix_##name parameters;
 CALLS(DECLARED)
@@ -94,6 +94,7 @@ static ssize status(int file, const char *path, int flag, const char *field)
     if (same(field, "hidden")) return it.mode >> 1 & 1;
     if (same(field, "size")) return (ssize)it.size;
     if (same(field, "user")) return (ssize)it.user;
+    if (same(field, "group")) return (ssize)it.group;
     if (posix_statx(files[number(field)], "", 0x1000, 0x7ff, &of_file) || it.device_minor != of_file.device_minor) return -1;
     return it.inode == of_file.inode && it.device_major == of_file.device_major;
 }
@@ -112,7 +113,24 @@ static ssize hold(const char *path, int is_shared)
     at = MapViewOfFile(map, FILE_MAP_WRITE, 0, 0, 0);
     return at ? 0 : -1;
 }
+
+/* Opens a pipe that nobody writes any more. */
+static ssize open_pipe(int *file)
+{
+    HANDLE from, to;
+    if (!CreatePipe(&from, &to, NULL, 0)) return -1;
+    *file = (int)(size_t)from;
+    return CloseHandle(to) - 1;
+}
 #endif
+
+/* An argument of the program. -9 if a byte after the room was written. */
+static ssize argument(long at, size_t room)
+{
+    bytes[room] = 1;
+    ssize len = rattle_arg((size_t)at, bytes, room);
+    return bytes[room] == 1 ? len : -9;
+}
 
 static ssize call(const char *name)
 {
@@ -126,9 +144,10 @@ static ssize call(const char *name)
     if (same(name, "fill")) return repeated(file, bytes, (size_t)n, 0);
     if (same(name, "count")) return repeated(file, bytes, sizeof bytes, 1);
     if (same(name, "errno")) return rattle_set_errno((int)number(path)), rattle_errno();
-    if (same(name, "arg")) return rattle_arg((size_t)number(path), bytes, (size_t)n);
+    if (same(name, "arg")) return argument(number(path), (size_t)n);
 #ifdef _WIN32
     if (same(name, "hold")) return hold(path, *text == 's');
+    if (same(name, "pipe")) return open_pipe(&files[*path - '0']);
 #endif
 #define MADE(type, call, parameters, given) \
     if (same(name, #call)) return posix_##call given;

@@ -42,7 +42,8 @@ def parts_of(call: str, expected: str) -> Iterator[Tuple[str, str]]:
 
 def calls_on(system: str, folder: Path) -> Iterator[Tuple[str, str]]:
     """The calls of posix_calls.txt for a system, and what each returns there."""
-    words = {"long": "n" * 255, "longer": "n" * 256, "user": os.getuid(), "whole": f"//?/Z:{folder}"}
+    words = {"long": "n" * 255, "longer": "n" * 256, "whole": f"//?/Z:{folder}"}
+    words.update(user=str(os.getuid() or 1), group=str(os.getgid() or 2))
     systems: List[str] = []
     for line in (SOURCES / "posix_calls.txt").read_text().format(**words).splitlines():
         if line.startswith("["):
@@ -61,7 +62,8 @@ def check_calls(program: Path, system: str, folder: Path) -> None:
     os.link(folder / "own/twin", folder / "own/twin2")
     calls = [*calls_on(system, folder / "own")]
     script = "".join("".join(f"{word}\t" for word in shlex.split(call)) + "\n" for call, _ in calls)
-    result = run_program(program, ARGUMENTS, script.encode(), cwd=folder / "own")
+    limited = ["--fsize=131072", program, *ARGUMENTS]
+    result = run_program("prlimit", limited, script.encode(), cwd=folder / "own", umask=0o022)
     said = re.sub(r"(?m)^-1 (\d+)$", lambda it: f"-1 {errorcode.get(int(it[1]))}", result.output.decode())
     found = said.splitlines()
     assert (result.status, result.errors, len(found)) == (0, b"", len(calls))

@@ -73,10 +73,11 @@ def test_npm(made: Path, kind: List[str], folder: Path) -> None:
 
 
 @pytest.mark.needs("cc", "valgrind")
-def test_allocator(folder: Path) -> None:
-    """The allocator natively, beside a list."""
+@pytest.mark.parametrize("name", ("allocator", "heap"))
+def test_allocator(name: str, folder: Path) -> None:
+    """The allocator natively, beside a list, and the kit's functions over one that has nothing left."""
     names = ("-Dmalloc=heap_malloc", "-Drealloc=heap_realloc", "-Dfree=heap_free", "-ffreestanding")
     words = ("-std=c11", "-O2", "-g", "-Wall", "-Wextra", "-Werror")
-    part = compiled(folder / "part.o", *words, *names, "-c", places.PARTS / "allocator.c")
-    made = compiled(folder / "allocator", *words, TESTS / "systems/allocator.c", part)
+    part = compiled(folder / "part.o", *words, *names, "-c", places.PARTS / f"{name}.c")
+    made = compiled(folder / name, *words, TESTS / f"systems/{name}.c", part)
     assert_all_passed(succeeds("valgrind", "-q", "--error-exitcode=9", made))

@@ -74,7 +74,7 @@ int rattle_errno(void)
 
 void rattle_set_errno(int error)
 {
-    *__error() = error == LINUX_TOO_LONG ? TOO_LONG : error;
+    *__error() = error;
 }
 
 /* Linux's O_CREAT, O_EXCL, O_NOCTTY, O_TRUNC and O_CLOEXEC beside those of macOS. No other flag is asked for. */
