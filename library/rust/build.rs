@@ -2,7 +2,7 @@
 //! - the folder that RSP_LIB_DIR names;
 //! - lib/TARGET/, where the release archives have the library, and for Linux on x86-64 also lib/;
 //! - in the repository, except for MSVC, a folder of cargo's, where `library/c/build` makes it by the C compiler for the target;
-//! - the folder that pkg-config names, where `library/c/install` has put it.
+//! - the folder that pkg-config names, where `cmake --install` has put it.
 
 use std::env;
 use std::fs;
@@ -103,7 +103,7 @@ fn main() {
     let target = env::var("TARGET").expect("cargo names the target");
     let (file, name) = names(&target);
     let folder = folder(&target).unwrap_or_else(|| {
-        panic!("{file} for {target} isn't found: put it into lib/{target} of the crate, or name its folder by RSP_LIB_DIR; library/c/install also makes it")
+        panic!("{file} for {target} isn't found: put it into lib/{target} of the crate, or name its folder by RSP_LIB_DIR")
     });
     let library = folder.join(file);
     println!("cargo:rerun-if-changed={}", library.display());

@@ -17,7 +17,7 @@ from lib.install.needed_packages import typed_blocks
 from lib.page_blocks import Block, blocks_in, check_typed
 from lib.pages import page
 from lib.processes import succeeds
-from lib.user import User
+from lib.user import User, prints
 
 pytestmark = [
     pytest.mark.outside("it takes a quarter of an hour; ./release runs it"),
@@ -58,7 +58,8 @@ def test_two_commands(stranger: User, record_property: Callable[[str, object], N
 @pytest.fixture(scope="session")
 def installed(stranger: User) -> User:
     """The same, after the installation into PREFIX of the pages."""
-    assert stranger.types("mkdir ~/prefix && library/c/install ~/prefix").returncode == 0
+    prints(stranger, "cmake -S . -B ~/out -DCMAKE_INSTALL_LIBDIR=lib && cmake --build ~/out")
+    prints(stranger, "cmake --install ~/out --prefix ~/prefix")
     return stranger
 
 

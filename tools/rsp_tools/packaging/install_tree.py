@@ -1,9 +1,9 @@
-"""The files of an installation below its prefix: library/c/install writes them, the release packs them."""
+"""The files of an installation below its prefix, which the release packs."""
 
 import os
 import tempfile
 from pathlib import Path
-from typing import Callable, Iterable, Iterator, List, NamedTuple, NoReturn, Optional, Tuple, Union
+from typing import Callable, Iterable, Iterator, NamedTuple, NoReturn, Optional, Tuple, Union
 
 from rsp_tools import TOOLS, TOP
 from rsp_tools.systems import header
@@ -96,13 +96,6 @@ def version() -> Tuple[str, str]:
 def soname() -> str:
     """The name of the shared library, with the version of its interface."""
     return f"libbrsp.so.{header.interface()}"
-
-
-def names() -> List[str]:
-    """The names of all files that an installation may have."""
-    libraries = ("lib/libbrsp.a", f"lib/{soname()}", "lib/libbrsp.so")
-    shares = (file.name for file in shared())
-    return [*(f"include/{name}" for name in HEADERS), *libraries, *TEMPLATES, *shares, "bin/rsp"]
 
 
 def headers() -> Iterator[File]:
