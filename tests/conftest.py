@@ -29,8 +29,6 @@ os.environ.pop("PYTHONSAFEPATH", None)
 def pytest_addoption(parser: pytest.Parser) -> None:
     parser.addoption("--program", type=os.path.abspath, help="the program under test (the built one)")
     parser.addoption("--plugin", type=os.path.abspath, help="the plugin under test (one that is built)")
-    archives = "an archive of ./release to test, or a folder of them (tests/install makes one)"
-    parser.addoption("--archive", action="append", type=os.path.abspath, default=[], help=archives)
 
 
 @pytest.hookimpl(optionalhook=True)

@@ -167,8 +167,7 @@ def refusal_of(program: str) -> Optional[str]:
     try:
         ended = subprocess.run([program, "run"], input=b"pc 0\n", capture_output=True)
     except FileNotFoundError:
-        hint = "name another program, such as bin/rsp of the archive for Linux"
-        return f"{program} can't be started, because it isn't there: {hint}"
+        return f"{program} can't be started, because it isn't there: name another program"
     except OSError as fault:
         return f"{program} can't be started: {fault.strerror}"
     if ended.stdout == b"ok\n":

@@ -1,8 +1,7 @@
 """conformance/run [--program PROGRAM] [FOLDER] [NAME..]: runs test vectors on a program that answers scripts
 as rsp does, and names what differs. It fails if a state does.
 
-The default of PROGRAM is the file rsp in the folder above, which a clone and an archive for Linux have. The
-archive of the vectors has none: name bin/rsp of an archive for Linux. FOLDER is one that
+The default of PROGRAM is the file rsp in the folder above, which a clone has. FOLDER is one that
 `conformance/generate` made (vectors/ beside this command). NAME is an instruction; without one all
 instructions of FOLDER are run. The last line is `N passed, M failed`, of cases and of whole programs. The
 status is 0 if none failed and one passed. This is also an example of a runner: one for another machine only

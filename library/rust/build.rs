@@ -1,8 +1,8 @@
 //! Finds libbrsp.a, or for MSVC brsp_static.lib. The first of these that has it counts:
 //! - the folder that RSP_LIB_DIR names;
-//! - lib/TARGET/, where the release archives have the library, and for Linux on x86-64 also lib/;
+//! - lib/TARGET/, where the archive for Windows has the library;
 //! - in the repository, except for MSVC, a folder of cargo's, where `library/c/build` makes it by the C compiler for the target;
-//! - the folder that pkg-config names, where `library/c/install` has put it.
+//! - the folder that pkg-config names, where `cmake --install` has put it.
 
 use std::env;
 use std::fs;
@@ -74,12 +74,9 @@ fn folder(target: &str) -> Option<PathBuf> {
         return Some(named.into());
     }
     let here = Path::new(env!("CARGO_MANIFEST_DIR"));
-    let mut beside = vec![here.join("lib").join(target)];
-    if target.starts_with("x86_64-") && target.contains("-linux-") {
-        beside.push(here.join("lib"));
-    }
-    if let Some(found) = beside.into_iter().find(|it| it.join(names(target).0).is_file()) {
-        return Some(found);
+    let beside = here.join("lib").join(target);
+    if beside.join(names(target).0).is_file() {
+        return Some(beside);
     }
     if SYSTEMS.iter().any(|it| target.contains(it.0)) && here.join(BUILD).is_file() {
         return Some(built(target));
@@ -103,7 +100,7 @@ fn main() {
     let target = env::var("TARGET").expect("cargo names the target");
     let (file, name) = names(&target);
     let folder = folder(&target).unwrap_or_else(|| {
-        panic!("{file} for {target} isn't found: put it into lib/{target} of the crate, or name its folder by RSP_LIB_DIR; library/c/install also makes it")
+        panic!("{file} for {target} isn't found: put it into lib/{target} of the crate, or name its folder by RSP_LIB_DIR")
     });
     let library = folder.join(file);
     println!("cargo:rerun-if-changed={}", library.display());

@@ -1,9 +1,7 @@
-"""The archives for Linux on x86-64 and of the test vectors: those of --archive, or those that ./release makes
-of HEAD in a clone."""
+"""What ./release makes of HEAD in a clone, and a stranger with a clone."""
 
 import fcntl
 import os
-import re
 import shutil
 import tempfile
 from pathlib import Path
@@ -12,10 +10,10 @@ from typing import Iterator
 import pytest
 
 from lib import TOP
-from lib.install.unpacked import archive_for, unpacked
 from lib.packages import need
 from lib.processes import succeeds
 from lib.user import User
+from rsp_tools.release import PROGRAMS
 
 
 def release(into: Path) -> None:
@@ -31,11 +29,9 @@ def release(into: Path) -> None:
 
 
 @pytest.fixture(scope="session")
-def released(request: pytest.FixtureRequest, tmp_path_factory: pytest.TempPathFactory) -> Path:
+def released(tmp_path_factory: pytest.TempPathFactory) -> Path:
     """A folder with both, which one of xdist's workers makes for all."""
-    if request.config.getoption("--archive"):
-        pytest.skip("the archives are given by --archive")
-    need("rt", "cc", "ar", "objdump", "clean-tree", "compiled")
+    need("clean-tree", "compiled", *(tool for tools in PROGRAMS.values() for tool in tools))
     root = tmp_path_factory.getbasetemp()
     root = root.parent if "PYTEST_XDIST_WORKER" in os.environ else root
     folder = root / "released"
@@ -58,41 +54,3 @@ def stranger() -> Iterator[User]:
         user = User(base / "a b/rsp", base / "home", base)
         assert user.types("! command -v rt").returncode == 0
         yield user
-
-
-@pytest.fixture(scope="session")
-def packed(request: pytest.FixtureRequest) -> Path:
-    """The archive for Linux on x86-64."""
-    return archive_for(request, "linux-x86_64")
-
-
-@pytest.fixture(scope="session")
-def archive(packed: Path) -> Iterator[Path]:
-    """The same, unpacked. Tests change nothing there."""
-    with tempfile.TemporaryDirectory() as folder:
-        top = unpacked(packed, Path(folder))
-        assert top.name.endswith("-linux-x86_64")
-        yield top
-
-
-@pytest.fixture(scope="session")
-def vectors(request: pytest.FixtureRequest) -> Path:
-    """The archive of the test vectors."""
-    return archive_for(request, "conformance")
-
-
-@pytest.fixture(scope="session")
-def suite(vectors: Path) -> Iterator[Path]:
-    """The same, unpacked. Tests change nothing there."""
-    with tempfile.TemporaryDirectory() as folder:
-        yield unpacked(vectors, Path(folder))
-
-
-@pytest.fixture(scope="session")
-def joined(archive: Path, suite: Path) -> Iterator[Path]:
-    """The archive for Linux with the vectors in it, by the line of their README. Tests leave it as it is."""
-    (line,) = re.findall(r"`(cp -R .*?)`", (suite / "README.md").read_text())
-    with tempfile.TemporaryDirectory() as folder:
-        to = Path(shutil.copytree(archive, f"{folder}/{archive.name}", symlinks=True))
-        succeeds("sh", "-c", line, cwd=shutil.copytree(suite, f"{folder}/{suite.name}"))
-        yield to

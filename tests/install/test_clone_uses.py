@@ -28,10 +28,9 @@ from lib.systems.runners import Runner
 from lib.systems.target_params import COMPILED, RUNNERS
 from lib.user import User, prints
 from rsp_tools import targets
-from rsp_tools.packaging import install_tree
 
 pytestmark = [pytest.mark.needs("git", "cc", "ar"), pytest.mark.xdist_group("uses")]
-REPLIES = page("examples/first.out")
+REPLIES, EMBEDDING = page("examples/first.out"), "docs/EMBEDDING.md"
 FIRST = 'run "$OLDPWD/examples/first.rsp"'
 # A project that takes the library in one of these ways.
 PROJECT = """cmake_minimum_required(VERSION 3.14)
@@ -87,20 +86,15 @@ def test_cmake_in_another_project(stranger: User, home: Path, how: str, compiler
 
 
 @pytest.mark.needs("cmake", "make", "clang", "pkg-config", "readelf", "objdump")
-@pytest.mark.parametrize(
-    "compiler, more", [("gcc", ""), ("clang", "-DCMAKE_INSTALL_LIBDIR=lib/x86_64-linux-gnu")]
-)
-def test_cmake_installs(stranger: User, home: Path, compiler: str, more: str) -> None:
-    """Otherwise only: that a file is missing that library/c/install installs, that CMake or pkg-config find
-    nothing in the folder of GNUInstallDirs, or that the program isn't hardened."""
-    out, prefix = "~/'an out'", home / "all/a prefix"
-    prints(stranger, f"CC={compiler} cmake -S . -B {out} {more} -DCMAKE_INSTALL_PREFIX=/none")
-    prints(stranger, f"cmake --build {out} && DESTDIR=~/all cmake --install {out} --prefix '/a prefix'")
-    prefix.rename(home / "prefix of mine")  # all finds itself
-    prefix, folder = home / "prefix of mine", more.partition("=")[2] or "lib"
-    found = {str(it.relative_to(prefix)) for it in prefix.rglob("*") if not it.is_dir()}
-    names = {re.sub("^lib/", f"{folder}/", it) for it in install_tree.names()}
-    assert found == {*names, f"{folder}/cmake/brsp/brspConfig-noconfig.cmake"}
+def test_cmake_installs(stranger: User, home: Path) -> None:
+    """Otherwise only: that CMake or pkg-config find nothing in the folder of GNUInstallDirs or in one that is
+    moved, or that the program isn't hardened."""
+    out, folder = "~/'an out'", "lib/x86_64-linux-gnu"
+    words = f"-DCMAKE_INSTALL_LIBDIR={folder} -DCMAKE_INSTALL_PREFIX=/none"
+    prints(stranger, f"CC=clang cmake -S . -B {out} {words} && cmake --build {out}")
+    prints(stranger, f"DESTDIR=~/all cmake --install {out} --prefix '/a prefix'")
+    prefix = (home / "all/a prefix").rename(home / "prefix of mine")
+    assert cmake.files_below(prefix) == sorted(it.replace("lib/", f"{folder}/", 1) for it in cmake.INSTALLED)
     program = prefix / "bin/rsp"
     assert prints(stranger, f"cd ~ && '{program}' {FIRST}") == REPLIES
     check_elf(program, is_program=True)
@@ -114,12 +108,14 @@ def test_cmake_installs(stranger: User, home: Path, compiler: str, more: str) ->
 
 @pytest.mark.needs("cmake", "make")
 def test_cmake_refuses_what_is_changed(stranger: User, home: Path) -> None:
-    """Otherwise only: that CMake builds the library of other sources, or counts an editor's file, or that an
-    update changes nothing whose files are older than what was built before."""
+    """Otherwise only: that CMake builds the library of other sources or for another processor, or counts an
+    editor's file, or that an update changes nothing whose files are older than what was built before."""
     configured, source = "cmake -S . -B ~/out", "crates/rsp_numbers/src/lib.rt"
     prints(stranger, f"echo more >{source}.orig; {configured}")
     ended = stranger.types(f"echo '// more' >>{source}; {configured}")
     assert ended.returncode and f"{source} isn't as it was" in " ".join(ended.stderr.split())
+    ended = stranger.types(f"cmake -S . -B ~/other {' '.join(cmake.system('Linux', 'riscv64'))}")
+    assert ended.returncode and "compiled/ has no file for Linux-riscv64" in " ".join(ended.stderr.split())
     prints(stranger, f"git checkout -q . && rm {source}.orig && {configured}")
     assembly, build = f"compiled/Linux-{platform.machine()}-lib.s", "cmake --build ~/out --target brsp_static"
     update = f"echo '.section .comment; .string \"update\"' >>{assembly} && touch -d 2001-1-1 {assembly}"
@@ -141,8 +137,7 @@ def test_cmake_for_another_system(system: str, folder: Path) -> None:
         succeeds("cmake", "-S", TOP, "-B", folder / "out", *words)
         succeeds("cmake", "--build", folder / "out", "--target", "install")
         runner.check_cmake()
-        if target.is_linux:
-            assert runner.run(prefix / "bin/rsp", "run", TOP / "examples/first.rsp").stdout == REPLIES
+        assert runner.run(prefix / target.program, "run", TOP / "examples/first.rsp").stdout == REPLIES
     finally:
         runner.stop()
 
@@ -177,8 +172,6 @@ def test_record_of_the_machine(machine: str, libc: str, monkeypatch: pytest.Monk
     monkeypatch.setattr("platform.machine", lambda: machine)
     monkeypatch.setattr("platform.libc_ver", lambda: (libc, ""))
     assert targets.here().wheel[0] == MACHINES[machine, libc]
-    version = next(it for it in install_tree.descriptions(targets.here(), "", "") if "Version" in it.name)
-    assert f'MATCHES "^({machine}|' in str(version.data)
     monkeypatch.setattr("platform.machine", lambda: "riscv64")
     pytest.raises(LookupError, targets.here)
 
@@ -198,14 +191,21 @@ def cargo(at: Path, script: str, **more: str) -> str:
 @pytest.mark.parametrize("how", ["--path", "--git"])
 def test_cargo(folder: Path, how: str) -> None:
     """Otherwise only: that cargo's checkout is written into, that an older library is linked after a source
-    has changed, or that a target of another processor gets this one's."""
-    clone, at = folder / "a b/rsp", folder / "uses"
+    has changed, that a target of another processor gets this one's, or that EMBEDDING's crate does otherwise
+    than it says."""
+    clone, at = folder / "a b/rsp", folder / "a b/uses"
     succeeds("git", "clone", "-q", TOP, clone)
     at.mkdir()
-    source = f"'{clone}/library/rust'" if how == "--path" else f"'file://{str(clone).replace(' ', '%20')}'"
-    added = f"cargo init -q --vcs none --name uses && cargo add -q rsp {how} {source}"
-    copied = f"cp '{clone}/library/rust/examples/lockstep.rs' src/main.rs"
-    assert cargo(at, f"{added} && {copied} && cargo run -q") == LOCKSTEP
+    lines, code = block_with(EMBEDDING, "[dependencies]\nrsp"), block_with(EMBEDDING, "fn main() -> Result")
+    address = f"'file://{str(clone).replace(' ', '%20')}'"
+    added = (
+        f"cargo add -q rsp --git {address}"
+        if how == "--git"
+        else f"echo '{lines.split(chr(10))[1]}' >>Cargo.toml"
+    )
+    cargo(at, f"cargo init -q --vcs none --name uses && {added}")
+    (at / "src/main.rs").write_text(code)
+    assert cargo(at, "cargo run -q") == "Halt 1234\n" and "It prints `Halt 1234`." in page(EMBEDDING)
     assert not [*folder.rglob("library/c/libbrsp*"), *folder.rglob("crates/rsp_c/out")]
     target = "aarch64-unknown-linux-gnu"
     check = f"cargo check --target {target} || true"  # rustc may have no library of its own for it
@@ -225,8 +225,8 @@ def test_cargo(folder: Path, how: str) -> None:
 def test_page(stranger: User, home: Path) -> None:
     """Served below a path; otherwise only: that a file is missing, or named by an address that is right only
     at the top of a server, or that another library is served than that of compiled/."""
-    prints(stranger, "RSP_OUT=$HOME tools/systems wasm64")
-    top = home / "systems/page"
+    prints(stranger, "./release page && mv dist/page ~ && rmdir dist")
+    top = home / "page"
     handler = functools.partial(SimpleHTTPRequestHandler, directory=str(top.parent))
     server = ThreadingHTTPServer(("127.0.0.1", 0), handler)
     Thread(target=server.serve_forever, daemon=True).start()

@@ -32,7 +32,8 @@ def prefix(tmp_path_factory: pytest.TempPathFactory) -> Path:
     """A prefix with the files, in which there is one file `text.s`."""
     folder = tmp_path_factory.mktemp("prefix")
     for file in install_tree.shared():
-        file.write(folder / file.name)
+        (folder / file.name).parent.mkdir(parents=True, exist_ok=True)
+        (folder / file.name).write_bytes(file.data)
     (folder / "text.s").write_text("nop\n")
     return folder
 

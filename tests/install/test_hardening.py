@@ -36,10 +36,13 @@ def test_library(compiler: Dict[str, str]) -> None:
 
 
 def test_plugin(compiler: Dict[str, str], folder: Path) -> None:
-    """Its C checks the stack and buffers, and where a call may lead begins with the mark of that."""
+    """It shows the interface's calls alone. Its C checks the stack and buffers, and where a call may lead
+    begins with the mark of that."""
     plugin = folder / "plugin.so"
     succeeds("plugin/build", plugin, env=compiler)
     check_elf(plugin)
+    calls = re.findall(r" g +DF \.text\s.* (\w+)$", succeeds("objdump", "-T", plugin), re.M)
+    assert {*calls} == PLUGIN_CALLS
     found = checks(plugin)
     assert "__stack_chk_fail" in found and len(found) > 1
     first = first_instructions(plugin)

@@ -1,7 +1,7 @@
-"""The library, installed and used as other libraries are.
+"""The library, installed by CMake and used as other libraries are.
 
-It fails if a user of the installed files gets another program or library, or a failed install changes
-something.
+It fails if a user of the installed files gets another program or library, or if an uninstallation leaves or
+removes another file.
 """
 
 import os
@@ -13,7 +13,7 @@ from pathlib import Path
 import pytest
 
 from lib import TESTS, TOP
-from lib.cmake import EXAMPLE, check_cmake
+from lib.cmake import EXAMPLE, INSTALLED, check_cmake, files_below
 from lib.hardening import check_needs
 from lib.library import LOCKSTEP
 from lib.packages import need
@@ -21,35 +21,34 @@ from lib.pages import page
 from lib.processes import compiled, run, succeeds
 from rsp_tools.systems import header
 
-pytestmark = [pytest.mark.needs("cc", "nm", "objdump", "objcopy"), pytest.mark.xdist_group("installed")]
-INSTALL, CRATE = TOP / "library/c/install", TOP / "library/rust"
-HERE = TESTS / "install/installation"
+pytestmark = [
+    pytest.mark.needs("cc", "cmake", "make", "nm", "objdump", "objcopy"),
+    pytest.mark.xdist_group("installed"),
+]
+CRATE = TOP / "library/rust"
 SONAME = f"libbrsp.so.{header.interface()}"
-FILES = f"""
-include/brsp.h include/brsp.hpp include/brsp_compare.h include/brsp_savestate.h
-lib/libbrsp.a lib/libbrsp.so lib/{SONAME} lib/pkgconfig/brsp.pc
-lib/cmake/brsp/brspConfig.cmake lib/cmake/brsp/brspConfigVersion.cmake
-share/man/man1/rsp.1 share/bash-completion/completions/rsp share/zsh/site-functions/_rsp
-share/fish/vendor_completions.d/rsp.fish
-""".split()
-FULL_DISK = """
-mount -t tmpfs -o size=160k none "$1" || exit 9
-"$0" "$1"; ended=$?; find "$1" -type f; exit $ended
-"""
+WITHOUT_RPATH = ["-DCMAKE_INSTALL_LIBDIR=lib", "-DCMAKE_SKIP_INSTALL_RPATH=ON"]
 
 
 @pytest.fixture(scope="module")
-def prefix(request: pytest.FixtureRequest, library: Path, tmp_path_factory: pytest.TempPathFactory) -> Path:
-    """A folder with what is installed, which tests leave as it is: `first`, or one of PREFIXES."""
-    to = tmp_path_factory.mktemp("installed") / str(getattr(request, "param", "first"))
-    succeeds(INSTALL, to)
+def out(library: Path, tmp_path_factory: pytest.TempPathFactory) -> Path:
+    """The folder in which CMake has built all."""
+    to = tmp_path_factory.mktemp("built") / "an out"
+    succeeds("cmake", "-S", TOP, "-B", to, "-DCMAKE_INSTALL_LIBDIR=lib")
+    succeeds("cmake", "--build", to)
     return to
 
 
-@pytest.fixture
-def own(prefix: Path, folder: Path) -> Path:
-    """A copy of such a folder."""
-    return Path(shutil.copytree(prefix, folder / "own", symlinks=True))
+def install(out: Path, prefix: Path, **how: object) -> None:
+    succeeds("cmake", "--install", out, "--prefix", prefix, **how)
+
+
+@pytest.fixture(scope="module")
+def prefix(request: pytest.FixtureRequest, out: Path, tmp_path_factory: pytest.TempPathFactory) -> Path:
+    """A folder with what is installed, which tests leave as it is: `first`, or one of PREFIXES."""
+    to = tmp_path_factory.mktemp("installed") / str(getattr(request, "param", "first"))
+    install(out, to)
+    return to
 
 
 PREFIXES = pytest.mark.parametrize("prefix", ["first", "a name"], indirect=True)
@@ -58,17 +57,6 @@ PREFIXES = pytest.mark.parametrize("prefix", ["first", "a name"], indirect=True)
 def with_prefix(prefix: Path) -> dict[str, str]:
     """An environment in which pkg-config finds the library of a prefix."""
     return {**os.environ, "PKG_CONFIG_PATH": str(prefix / "lib/pkgconfig")}
-
-
-def files_below(prefix: Path) -> set[str]:
-    return {str(path.relative_to(prefix)) for path in prefix.rglob("*") if not path.is_dir()}
-
-
-def check_refused(reason: str, *words: object) -> None:
-    """An install fails for a reason, which its only line says."""
-    ended = run(INSTALL, *words)
-    assert ended.returncode == 1
-    assert re.fullmatch(f"library/c/install: {reason}\n", ended.stdout), ended.stdout
 
 
 def test_static_library_shows_the_calls_alone(library: Path) -> None:
@@ -85,74 +73,58 @@ def test_shared_library(library: Path) -> None:
 
 
 def test_what_is_installed(prefix: Path) -> None:
-    assert files_below(prefix) - {"bin/rsp"} == {*FILES}
+    assert files_below(prefix) == sorted(INSTALLED)
     assert os.readlink(prefix / "lib/libbrsp.so") == SONAME
+    check_needs(prefix / "lib" / SONAME)
 
 
-def test_second_install(own: Path) -> None:
+def test_second_install(out: Path, folder: Path) -> None:
     """It replaces the files, adds none, and leaves a library in use as it is."""
-    found, installed = files_below(own), own / "include/brsp.h"
-    with (own / "lib" / SONAME).open("rb") as old:
+    install(out, folder)
+    installed, library = folder / "include/brsp.h", folder / "lib" / SONAME
+    with library.open("rb") as old:
         installed.write_text("old\n")
-        (own / "lib/mine").write_text("mine\n")
-        succeeds(INSTALL, own)
-        assert files_below(own) == found | {"lib/mine"}
+        os.utime(library, (1, 1))
+        install(out, folder)
+        assert files_below(folder) == sorted(INSTALLED)
         assert installed.read_text() == page("library/c/brsp.h")
-        assert os.fstat(old.fileno()).st_ino != (own / "lib" / SONAME).stat().st_ino
+        assert os.fstat(old.fileno()).st_ino != library.stat().st_ino
 
 
-def test_uninstall(own: Path) -> None:
-    """It removes what was installed, and nothing else."""
-    (own / "lib/mine").write_text("mine\n")
-    succeeds(INSTALL, own, "--uninstall")
-    assert files_below(own) == {"lib/mine"} and not (own / "lib/cmake/brsp").exists()
+def uninstalled(out: Path, **how: object) -> str:
+    """The words that the uninstallation prints, and whether it succeeds."""
+    ended = run("cmake", "--build", out, "--target", "uninstall", **how)
+    return " ".join([*ended.stdout.split(), str(ended.returncode == 0)])
 
 
-def test_package_of_a_distribution(library: Path, folder: Path) -> None:
-    """DESTDIR is where the files go, and PREFIX what brsp.pc names, without an rpath. PREFIX is none of the
-    system's folders, so that a faulty installation harms nobody."""
-    prefix, where = folder / "usr", {**os.environ, "DESTDIR": str(folder / "package")}
-    succeeds(INSTALL, prefix, "--no-rpath", env=where)
-    package = folder / f"package{prefix}"
-    assert files_below(package) - {"bin/rsp"} == {*FILES}
-    text = (package / "lib/pkgconfig/brsp.pc").read_text()
-    assert text.startswith(f"prefix={prefix}\n") and "rpath" not in text
-    succeeds(INSTALL, prefix, "--uninstall", env=where)
-    assert files_below(folder / "package") == set()
+def test_uninstall(out: Path, folder: Path) -> None:
+    """It removes what was installed, with the folder that is its own, and nothing else. What can't be removed
+    is named."""
+    install(out, folder)
+    (folder / "lib/mine").write_text("mine\n")
+    assert uninstalled(out).endswith(" True")
+    assert files_below(folder) == ["lib/mine"] and not (folder / "lib/cmake/brsp").exists()
+    (folder / "bin/rsp").mkdir()
+    (folder / "bin/rsp/mine").write_text("mine\n")
+    assert f"cannot remove {folder}/bin/rsp " in uninstalled(out)
+    (out / "install_manifest.txt").unlink()
+    assert "nothing was installed from " in uninstalled(out)
 
 
-def test_folder_in_the_place_of_a_file(own: Path) -> None:
-    man_page = own / "share/man/man1/rsp.1"
-    man_page.unlink()
-    man_page.mkdir()
-    check_refused("cannot write .*: Is a directory", own)
-    man_page.rmdir()
-    succeeds(INSTALL, own)
-
-
-def test_no_place_for_files(library: Path, folder: Path) -> None:
-    (folder / "file").write_text("mine\n")
-    check_refused("cannot write .*: File exists", folder / "file")
-    check_refused("cannot write /proc/self/rsp.*", "/proc/self/rsp")
-
-
-def test_empty_prefix(library: Path) -> None:
-    assert run(INSTALL, "").returncode == 2
-
-
-@pytest.mark.parametrize("name", ["a$b", "a(b", "a\nb"])
-def test_name_that_a_shell_would_read(library: Path, folder: Path, name: str) -> None:
-    check_refused("PREFIX has the character .*", folder / name)
-    assert not (folder / name).exists()
-
-
-def test_full_disk(library: Path, folder: Path) -> None:
-    """A disk that has room for the header, and not for the libraries: no file is left."""
-    ended = run("unshare", "--mount", "--map-root-user", "sh", "-c", FULL_DISK, INSTALL, folder)
-    if ended.returncode == 9 or ended.stdout.startswith("unshare:"):
-        pytest.skip(f"no full disk can be mounted here ({ended.stdout.strip()})")
-    reason = f"library/c/install: cannot write {folder}/lib/libbrsp.a: No space left on device\n"
-    assert (ended.returncode, ended.stdout) == (1, reason)
+@pytest.mark.needs("pkg-config")
+def test_package_of_a_distribution(out: Path, folder: Path) -> None:
+    """DESTDIR is where the files go, and brsp.pc has no rpath. PREFIX is none of the system's folders, so
+    that a faulty installation harms nobody."""
+    where, built = {**os.environ, "DESTDIR": str(folder / "package")}, folder / "out"
+    succeeds("cmake", "-S", TOP, "-B", built, f"-DCMAKE_INSTALL_PREFIX={folder}/usr", *WITHOUT_RPATH)
+    succeeds("cmake", "--build", built)
+    succeeds("cmake", "--install", built, env=where)
+    package = folder / f"package{folder}/usr"
+    assert files_below(package) == sorted(INSTALLED)
+    found = succeeds("pkg-config", "--libs", "--cflags", "brsp", env=with_prefix(package))
+    assert f"-I{package}/" in found and "rpath" not in found
+    assert "(RUNPATH)" not in succeeds("readelf", "-d", package / "bin/rsp")
+    assert uninstalled(built, env=where).endswith(" True") and files_below(folder / "package") == []
 
 
 @pytest.mark.needs("pkg-config")
@@ -195,7 +167,7 @@ def test_two_libraries_in_one_program(library: Path, folder: Path) -> None:
     succeeds("objcopy", *names, archive, folder / "other.a")
     libraries = (library / "libbrsp.a", folder / "other.a", heap)
     whole = ("-Wl,--whole-archive", *libraries, "-Wl,--no-whole-archive")
-    succeeds(compiled(folder / "two", f"-I{library}", HERE / "two.c", *whole))
+    succeeds(compiled(folder / "two", f"-I{library}", TESTS / "install/installation/two.c", *whole))
 
 
 def test_man_page_has_all_words(prefix: Path) -> None:
@@ -227,11 +199,14 @@ def test_crate(prefix: Path, folder: Path) -> None:
     assert succeeds(*words, cwd=crate, env=where) == LOCKSTEP
 
 
-def test_install_under_a_strict_umask(library: Path, folder: Path) -> None:
-    """All users may read what is installed, and run what can be run."""
-    succeeds(INSTALL, folder / "prefix", preexec_fn=lambda: os.umask(0o077))
-    installed = [folder / "prefix", *(folder / "prefix").rglob("*")]
+def test_install_under_a_strict_umask(out: Path, folder: Path) -> None:
+    """All users may read what is installed, and run what can be run. A folder keeps the mode that it has."""
+    own = folder / "prefix/share"
+    own.mkdir(mode=0o700, parents=True)
+    install(out, folder / "prefix", preexec_fn=lambda: os.umask(0o077))
+    assert stat.S_IMODE(own.stat().st_mode) == 0o700
+    installed = [path for path in (folder / "prefix").rglob("*") if path != own]
     modes = {path: stat.S_IMODE(path.stat().st_mode) for path in installed if not path.is_symlink()}
-    runs = {path for path in modes if path.is_dir() or path.parent.name == "bin" or ".so" in path.name}
+    runs = {path for path in modes if path.is_dir() or path.parent.name == "bin"}
     assert len(modes) > 10 and {modes[path] for path in runs} == {0o755}
     assert {mode for path, mode in modes.items() if path not in runs} <= {0o644, 0o755}

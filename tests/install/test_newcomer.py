@@ -17,16 +17,12 @@ from lib.install.needed_packages import typed_blocks
 from lib.page_blocks import Block, blocks_in, check_typed
 from lib.pages import page
 from lib.processes import succeeds
-from lib.user import User
+from lib.user import User, prints
 
-pytestmark = [
-    pytest.mark.outside("it takes a quarter of an hour; ./release runs it"),
-    pytest.mark.xdist_group("newcomer"),
-    pytest.mark.timeout(3700),
-]
-# These tests read neither names nor paths nor git, so in a clone they do the same.
+pytestmark = pytest.mark.xdist_group("newcomer")
+# These tests read neither names nor paths nor git, so in a clone they do the same; or they are those below.
 ELSEWHERE = """
-tests/mathematics tests/program/test_vectors.py tests/program/test_bad_input.py
+tests/install/test_newcomer.py tests/mathematics tests/program/test_vectors.py tests/program/test_bad_input.py
 tests/program/test_failing_allocations.py tests/docs/test_flags.py
 """.split()
 LEFT = f"-k 'not valgrind' {' '.join(f'--ignore={path}' for path in ELSEWHERE)}"
@@ -43,6 +39,8 @@ def stranger() -> Iterator[User]:
         yield user
 
 
+@pytest.mark.outside("it takes a quarter of an hour; ./release runs it")
+@pytest.mark.timeout(3700)
 def test_two_commands(stranger: User, record_property: Callable[[str, object], None]) -> None:
     """README's block as it is, except that tests which would do the same anywhere are left out. The report of
     this test has those that were skipped, for ./release."""
@@ -55,10 +53,11 @@ def test_two_commands(stranger: User, record_property: Callable[[str, object], N
         record_property("left out", skipped)
 
 
-@pytest.fixture(scope="session")
+@pytest.fixture(scope="module")
 def installed(stranger: User) -> User:
     """The same, after the installation into PREFIX of the pages."""
-    assert stranger.types("mkdir ~/prefix && library/c/install ~/prefix").returncode == 0
+    prints(stranger, "cmake -S . -B ~/out -DCMAKE_INSTALL_LIBDIR=lib && cmake --build ~/out")
+    prints(stranger, "cmake --install ~/out --prefix ~/prefix")
     return stranger
 
 

@@ -3,7 +3,6 @@
 It fails if something that is missing isn't named first, or if a page's block is typed without what it needs.
 """
 
-import re
 import shutil
 import sys
 from pathlib import Path
@@ -18,10 +17,10 @@ from lib.processes import run, succeeds
 from lib.user import User
 from rsp_tools import release
 from rsp_tools.build import LOGIC
-from rsp_tools.targets import CROSS
+from rsp_tools.systems.toolchain import Refused
+from rsp_tools.targets import CROSS, Target
 
 FEW = "sh dirname readlink python3".split()
-LINKERS = "git cc ar ld objcopy".split()
 SKIPPED = """
 import pytest
 
@@ -55,32 +54,63 @@ def path_with(folder: Path, *names: str) -> str:
     return str(folder)
 
 
-def test_unknown_system(folder: Path) -> None:
-    output = refused("--systems", "macos", "linux-arm", path=path_with(folder, *FEW))
-    assert re.fullmatch("release: there is no system linux-arm: the systems are .*\n", output)
+def test_unknown_name() -> None:
+    ended = run("./release", "macos")
+    names = ", ".join(release.NAMES)
+    assert ended.returncode == 2 and f"error: there is no macos: the names are {names}\n" in ended.stdout
 
 
-def test_no_kit() -> None:
-    output = refused("--untested", path="/usr/bin:/bin")
+@pytest.mark.parametrize("words", [["--untested"], ["windows-x86_64"], ["wheels"]], ids=str)
+def test_no_kit(words: list[str]) -> None:
+    output = refused(*words, path="/usr/bin:/bin")
     assert output.startswith("release: there is no `rt`, the command of the Rattle kit")
 
 
-COMPILERS = " ".join(target.packages[target.compiler] for target in CROSS if target.compiler)
+def packages_of(*names: str) -> str:
+    """The packages of Debian with the compilers of these systems."""
+    found: list[Target] = [target for target in CROSS if target.name in names]
+    return " ".join(target.packages[target.compiler] for target in found)
 
 
-@pytest.mark.needs(*LINKERS)
+LINUX = packages_of("linux-aarch64", "linux-x86_64-musl")
+WINDOWS = packages_of("windows-x86_64")
+
+
 @pytest.mark.parametrize(
-    "here, systems, packages",
+    "words, needed",
     [
-        ([], [], f"git gcc binutils {COMPILERS} cmark-gfm"),
-        (LINKERS, ["windows-x86_64"], "gcc-mingw-w64-x86-64"),
-        (LINKERS, ["page"], "cmark-gfm"),
+        (["--untested"], f"{WINDOWS} cmark-gfm binutils gcc {LINUX}"),
+        (["windows-x86_64"], WINDOWS),
+        (["page", "wasm64"], "cmark-gfm"),
+        (["wheels"], f"binutils gcc {LINUX} {WINDOWS}"),
     ],
+    ids=str,
 )
-def test_missing_packages(folder: Path, here: list[str], systems: list[str], packages: str) -> None:
-    """All are in one line: those that link, and those of each system. The page needs those of wasm64."""
-    output = refused("--untested", "--systems", *systems, path=path_with(folder, *FEW, *here))
-    assert output == f"release: packages of Debian are missing: apt-get install {packages}\n"
+def test_missing_packages(folder: Path, words: list[str], needed: str) -> None:
+    """All are in one line."""
+    output = refused(*words, path=path_with(folder, *FEW))
+    assert output == f"release: packages of Debian are missing: apt-get install {needed}\n"
+
+
+def test_made_again(folder: Path, monkeypatch: pytest.MonkeyPatch) -> None:
+    """The new folder takes the place of the old one."""
+    monkeypatch.setattr(release, "TOP", folder)
+    (folder / "dist/wasm64").mkdir(parents=True)
+    (folder / "dist/wasm64/old.js").touch()
+    release.put_folders(["wasm64"])
+    assert {it.name for it in (folder / "dist/wasm64").iterdir()} >= {"rsp.js", "rsp.wasm"}
+    assert [it.name for it in folder.rglob("*") if it.name in ("old.js", "old")] == []
+
+
+def test_other_sources(folder: Path, monkeypatch: pytest.MonkeyPatch) -> None:
+    """Nothing is made of another state of the sources, and what was in dist stays."""
+    monkeypatch.setattr(release, "TOP", folder)
+    monkeypatch.setattr(release.folders.build, "is_made", lambda _: False)
+    (folder / "dist/page").mkdir(parents=True)
+    for name in "page", "wheels":
+        with pytest.raises(Refused, match="compiled/ isn't made of the sources as they are"):
+            release.put_folders([name])
+    assert [*folder.rglob("*")] == [folder / "dist", folder / "dist/page"]
 
 
 def test_packages_of_the_newcomer(monkeypatch: pytest.MonkeyPatch) -> None:

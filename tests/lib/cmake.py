@@ -1,4 +1,4 @@
-"""Programs over an installed library, as another project builds them."""
+"""What CMake installs of a clone, and programs over it, as another project builds them."""
 
 import re
 import shutil
@@ -12,11 +12,23 @@ from rsp_tools.systems import header
 
 PROJECT = TESTS / "install/installation/CMakeLists.txt"
 EXAMPLE = TOP / "examples/c/lockstep.c"
+INSTALLED = f"""
+include/brsp.h include/brsp.hpp include/brsp_compare.h include/brsp_savestate.h
+lib/libbrsp.a lib/libbrsp.so lib/libbrsp.so.{header.interface()} lib/pkgconfig/brsp.pc
+lib/cmake/brsp/brspConfig.cmake lib/cmake/brsp/brspConfig-noconfig.cmake
+lib/cmake/brsp/brspConfigVersion.cmake share/man/man1/rsp.1
+share/bash-completion/completions/rsp share/zsh/site-functions/_rsp
+share/fish/vendor_completions.d/rsp.fish bin/rsp
+""".split()
 
 
 def system(name: str, processor: str) -> List[str]:
     """The words by which CMake builds for a system."""
     return [f"-DCMAKE_SYSTEM_NAME={name}", f"-DCMAKE_SYSTEM_PROCESSOR={processor}"]
+
+
+def files_below(prefix: Path) -> List[str]:
+    return sorted(str(path.relative_to(prefix)) for path in prefix.rglob("*") if not path.is_dir())
 
 
 def configured(prefix: Path, folder: Path, out: str, *words: str) -> "Ended[str]":

@@ -1,6 +1,5 @@
 """The links of pages, in the repository and in an archive that is unpacked: those that lead nowhere."""
 
-import os
 import re
 from pathlib import Path
 from typing import Iterator, List, Tuple
@@ -34,22 +33,13 @@ def broken_in(page: Path) -> List[str]:
     return broken_links
 
 
-def elsewhere(archive: Path) -> str:
-    """The part of an archive's README that lists the files that aren't in the archive."""
-    (listed,) = re.findall(r"files that aren't here: (.*)\. All", (archive / "README.md").read_text())
-    return str(listed)
-
-
 def broken_everywhere(archive: Path, least: int) -> List[str]:
-    """The links of an archive's pages that lead nowhere, except to files that the README names and that the
-    repository has at that place. All pages must have at least so many links."""
-    named = tuple(re.findall("`(.*?)`", elsewhere(archive)))
-    assert not [name for name in named if (archive / name).exists()]
+    """The links of an archive's pages that lead nowhere in the repository, either, or to a heading that the
+    archive's file lacks. All pages must have at least so many links."""
     pages, lost = pages_below(archive), []
     assert sum(len([*links_of(page)]) for page in pages) >= least, f"{archive} has fewer than {least} links"
     for page, link in ((page, link) for page in pages for link in broken_in(page)):
-        at = page.relative_to(archive)
-        target = os.path.normpath(at.parent / link.partition("#")[0])
-        if link in broken_in(TOP / at) or not f"{target}/".startswith(named):
+        at, file = page.relative_to(archive), link.partition("#")[0]
+        if (page.parent / file).exists() or not (TOP / at.parent / file).exists():
             lost.append(f"{page}: {link}")
     return lost

@@ -24,7 +24,7 @@ from rsp_tools.systems import wasm
 def page(folder: Path) -> Path:
     """A folder with the page's modules, the library, and run_worker.js."""
     need("compiled", "node")
-    wasm.make(folder / "rsp", folder)
+    wasm.make(folder / "rsp")
     for path in (*(TOP / "page").glob("*.js"), TESTS / "page/run_worker.js"):
         shutil.copy(path, folder)
     (folder / "package.json").write_text('{ "type": "module" }')

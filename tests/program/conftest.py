@@ -13,7 +13,7 @@ TRACED = "strace sees no call of this program, and failing_posix.c ends it at ea
 LINUX = [it.name for it in CROSS if it.is_linux]
 # The tests of each system that must fail, by the beginning of their names.
 LEFT_OUT: Dict[str, Dict[str, str]] = {
-    **{it: {} for it in ("archive", "macos", *LINUX)},
+    **{it: {} for it in ("released", "macos", *LINUX)},
     "windows-x86_64": {
         "scripts.py::test_refused[run --save \\": NO_TEXT,
         "saves.py::test_limit_": "the signal of the limit ends wine",

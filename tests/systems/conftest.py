@@ -1,4 +1,4 @@
-"""What the tests of other systems share. They test what `tools/systems NAME` has made in library/systems."""
+"""What the tests of other systems share: what C compilers make of compiled/ for each of them."""
 
 import tempfile
 from contextlib import closing, suppress
@@ -13,10 +13,10 @@ from lib.systems.browser import PROGRAMS, start_chromium
 from lib.systems.target_params import RUNNERS
 from lib.systems.page_driver import Host, Page
 from lib.systems.runners import Runner, target_of
-from rsp_tools.systems import manual, places, web_page
-from rsp_tools.targets import NATIVE
+from rsp_tools.systems import folders, manual, web_page
+from rsp_tools.targets import NATIVE, TARGETS, Target
 
-WHY = "what tools/systems makes takes minutes, and wants cross compilers and emulators"
+WHY = "it takes minutes, and wants cross compilers, emulators and a browser"
 
 
 def pytest_collection_modifyitems(items: Any) -> None:
@@ -24,14 +24,6 @@ def pytest_collection_modifyitems(items: Any) -> None:
         item.add_marker(pytest.mark.outside(WHY))
         if not item.get_closest_marker("timeout"):
             item.add_marker(pytest.mark.timeout(1800))
-
-
-def folder_of(system: str) -> Path:
-    """What tools/systems has made for a system."""
-    folder = places.MADE / system
-    if not folder.is_dir():
-        pytest.skip(f"there is no library/systems/{system}: type tools/systems {system}")
-    return folder
 
 
 @pytest.fixture(scope="session")
@@ -42,18 +34,27 @@ def at() -> Iterator[Path]:
         yield Path(name)
 
 
+def folder_of(target: Target, at: Path) -> Path:
+    """The folder of a system, which is made once."""
+    need("compiled", *filter(None, [target.compiler]), *["rt"] * (target.python in ("win32", "darwin")))
+    folder = at / "systems" / target.name
+    if not folder.exists():
+        folders.make(target.name, folder)
+    return folder
+
+
 @pytest.fixture
-def made(request: pytest.FixtureRequest) -> Path:
-    """The folder of a system's library."""
+def made(request: pytest.FixtureRequest, at: Path) -> Path:
+    """The folder of a system."""
     need("rt")
-    return folder_of(request.param)
+    return folder_of(TARGETS[request.param], at)
 
 
 @pytest.fixture(scope="session")
 def runner(request: pytest.FixtureRequest, at: Path) -> Iterator[Runner]:
     """What compiles and runs programs for a system."""
     name = request.param
-    folder = folder_of(target_of(name).name)
+    folder = folder_of(target_of(name), at)
     (at / name).mkdir(exist_ok=True)
     runner = RUNNERS[name](name, folder, at / name)
     yield runner
@@ -65,16 +66,14 @@ def native(library: Path, at: Path) -> Runner:
     """What runs programs here, over the library of the clone."""
     folder = at / "native"
     folder.mkdir()
-    for name in "include", "lib":
-        (folder / name).symlink_to(library)
+    (folder / "lib").symlink_to(library)
     return Runner(NATIVE.name, folder, folder)
 
 
 @pytest.fixture(scope="session")
 def host(at: Path) -> Iterator[Host]:
     """The page that answers scripts, on a server."""
-    need(manual.CONVERTER)
-    folder_of("wasm64")
+    need("compiled", manual.CONVERTER)
     web_page.make(at / "page")
     with closing(Host(at / "page")) as host:
         yield host

@@ -1,15 +1,15 @@
 """What the library computes on each system: all test vectors, and ten million steps of random programs of all
 instructions, DMA, undo, traces and watches among them, in lock step with Linux on x86-64.
 
-A library with one constant of the module changed has to be found by both.
+A library with a wrong table has to be found by both.
 """
 
 import ctypes
 import re
+import shutil
 import struct
 from functools import lru_cache
 from itertools import zip_longest
-from pathlib import Path
 from typing import Any, Callable, Dict, List, Tuple
 
 import pytest
@@ -17,7 +17,7 @@ import pytest
 import rsp
 from lib import TESTS, TOP
 from lib.systems.browser import Chromium
-from lib.systems.target_params import RUNNERS, on
+from lib.systems.target_params import COMPILED, MACOS, RUNNERS, on
 from lib.systems.node import Node
 from lib.systems.runners import Runner
 from rsp_conformance import bench, library_states, steps
@@ -25,8 +25,6 @@ from rsp_conformance.seeded_random import Random
 from rsp_conformance.corrupt import spoilt_entries
 from rsp_conformance.states import numbers_of, texts_of
 from rsp_conformance.vectors import VECTORS, entries_in, names_in
-from rsp_tools.systems import modules
-from rsp_tools.systems.__main__ import SYSTEMS
 
 pytestmark = pytest.mark.timeout(3600)
 DATA = TESTS / "systems"
@@ -37,9 +35,9 @@ RESULT = 8 + STATE + 2 * 4096 + bench.WINDOW_LENGTH
 SEEDS = range(1, 11)
 STEPS = 1000000  # of each seed
 FEW = 20000  # steps of each seed that have to find the planted constant
-# The lower bound of a clamp: for ARM selected beside the upper one, for x86-64 put where that one is put.
-PUT = r'VReg::splat"\(ptr (%r\d+), i16 -32768\)(?=(?:.*\n){1,12}?.*VReg::splat"\(ptr \1, i16 32767\))'
-FORMS = {"aarch64": r"splat \(i16 -32768\)(?=, <8 x i16> splat \(i16 32767\))", "x86_64": PUT}
+# The table of VRCP, as an assembly has it, and its beginning in docs/data.
+TABLE = re.compile(r'(?m)^(\t\.asciz\t")((?:\\377){2})(\\000\\377\\001.*)"$')
+ENTRIES = bytes.fromhex("".join((TOP / "docs/data/reciprocal.hex").read_text().split()))
 Entry = Dict[str, Any]
 Lines = Callable[..., List[str]]
 
@@ -75,14 +73,14 @@ def complaints(entry: Entry, result: bytes) -> List[str]:
     return list(steps.complaints(entry, found))
 
 
-def results(runner: Runner) -> List[Tuple[Entry, bytes]]:
-    """Each case with a library's result."""
+def results(runner: Runner, library: Any = None) -> List[Tuple[Entry, bytes]]:
+    """Each case with the result of the library, or of another one."""
     entries = [it for name in names_in(VECTORS, []) for it in entries_in(VECTORS, name)]
     (runner.at / "cases").write_bytes(b"".join(map(encoded, entries)))
     if isinstance(runner, (Chromium, Node)):
-        found = runner.test("vectors.js", "/at/cases")
+        found = runner.test("vectors.js", "/at/cases", library=library or "/library")
     else:
-        ended = runner.run(runner.compile(DATA / "vectors.c"), "cases", "results")
+        ended = runner.run(runner.compile(DATA / "vectors.c", library=library), "cases", "results")
         assert ended.returncode == 0, ended.stdout
         found = (runner.at / "results").read_bytes()
     assert len(found) == RESULT * len(entries)
@@ -109,9 +107,9 @@ def test_vectors(runner: Runner) -> None:
 # Random programs, with a line for each thousand steps, and a last one of the instructions that were traced.
 
 
-def program_of(runner: Runner) -> Lines:
+def program_of(runner: Runner, library: Any = None) -> Lines:
     """The lines of a seed on a system."""
-    made = runner.compile(DATA / "digests.c")
+    made = runner.compile(DATA / "digests.c", library=library)
     return lru_cache(None)(lambda seed, steps: runner.run(made, seed, steps).stdout.splitlines())
 
 
@@ -140,32 +138,33 @@ def test_all_instructions_are_traced(expected: Lines) -> None:
     assert {it.split("\t")[0].lower() for it in table} - traced == set()
 
 
-# A library with a wrong instruction: one constant of the module is another one.
+# A library whose table for VRCP begins with its second entry.
 
 
-def changed(processor: str, at: Path) -> modules.Module:
-    """The module of a processor in which a clamp has another bound."""
-    made, text = modules.module(processor), at / f"{processor}.ll"
-    planted, number = re.subn(
-        FORMS[processor], lambda it: str(it[0]).replace("-32768", "-32767"), made.text.read_text()
-    )
-    assert number, "the module has the constant"
-    text.write_text(planted)
-    return made._replace(text=text, given=text)
+def is_found(runner: Runner, library: object) -> bool:
+    """Whether the vectors find a library."""
+    return any(complaints(*it) for it in results(runner, library))
 
 
-@on()
-def test_planted_constant(runner: Runner, expected: Lines) -> None:
+@on(*COMPILED, *MACOS)
+def test_planted_table(runner: Runner, expected: Lines) -> None:
     """Vectors and random programs find it."""
-    at = runner.at / "planted"
-    (at / "way").mkdir(parents=True)
-    SYSTEMS[runner.target.name].make(at / "library", at / "way", lambda processor: changed(processor, at))
-    planted = RUNNERS[runner.name](runner.name, at / "library", at)
-    if isinstance(planted, Chromium):
-        planted.way = at / "way"
-    try:
-        assert any(complaints(*it) for it in results(planted))
-        result = program_of(planted)
-        assert any(result(seed, FEW)[:-1] != expected(seed, FEW)[:-1] for seed in SEEDS)
-    finally:
-        planted.stop()
+    planted = runner.at / "planted.s"
+    text, count = TABLE.subn(r'\1\3\2"', runner.assembly("lib").read_text())
+    assert count == 1
+    planted.write_text(text)
+    library = runner.library_of(planted)
+    assert is_found(runner, library)
+    result = program_of(runner, library)
+    assert any(result(seed, FEW)[:-1] != expected(seed, FEW)[:-1] for seed in SEEDS)
+
+
+@on("wasm64", "wasm64-node")
+def test_planted_table_in_wasm(runner: Runner) -> None:
+    """Vectors find it."""
+    at, table = runner.at / "planted", struct.pack("<512H", *struct.unpack(">512H", ENTRIES))
+    shutil.copytree(runner.folder, at)
+    data = (at / "rsp.wasm").read_bytes()
+    assert data.count(table) == 1
+    (at / "rsp.wasm").write_bytes(data.replace(table, table[2:] + table[:2]))
+    assert is_found(runner, "/at/planted")

@@ -1,24 +1,23 @@
-"""What tools/systems has made for each system: which symbols the files show, what they need, what a dylib's
-load commands contain, and the wheel.
-
-They fail as well if another make of the same sources gives other bytes.
-"""
+"""What is made for each system: which symbols the files show, what they need, what a dylib's load commands
+contain, and what pip installs of the wheel."""
 
 import re
+import sys
 from pathlib import Path
-from typing import List
+from typing import Any, List
 
 import pytest
 
+from lib import TOP
 from lib.hardening import check_elf
+from lib.pages import page
 from lib.processes import succeeds
-from lib.systems.built_files import check_wheel, symbol_names
-from lib.systems.target_params import LINUX, of
+from lib.systems.built_files import symbol_names
+from lib.systems.target_params import COMPILED, LINUX, of, on
+from rsp_tools.packaging import archives
 from rsp_tools.systems import header
-from rsp_tools.systems.__main__ import SYSTEMS
-from rsp_tools.systems.modules import module
 from rsp_tools.systems.toolchain import llvm
-from rsp_tools.targets import CROSS, PROCESSORS
+from rsp_tools.targets import PROCESSORS, TARGETS
 
 OLDEST = (2, 17)  # the glibc of manylinux2014
 # What the library needs of macOS, and for each processor what sets bytes to zero.
@@ -26,34 +25,47 @@ MACOS = {"_free", "_malloc", "_memcpy", "_memmove", "_memset", "_realloc"}
 ZEROS = {"x86_64": "___bzero", "arm64": "_bzero"}
 
 
-@of(*SYSTEMS)
-def test_made_again(made: Path, folder: Path) -> None:
-    (folder / "way").mkdir()
-    SYSTEMS[made.name].make(folder / "again", folder / "way", module)
-    again, before = (
-        {str(it.relative_to(at)): it.read_bytes() for it in at.rglob("*") if it.is_file()}
-        for at in (folder / "again", made)
+@pytest.mark.needs("python:pip")
+@on(*COMPILED)
+def test_wheel_installed(runner: Any) -> None:
+    """By this machine's pip, for the other system, whose Python isn't here. Its command is run."""
+    target, to = runner.target, runner.at / "wheel"
+    wheel = archives.wheel(target, runner.folder)
+    (runner.at / wheel.name).write_bytes(wheel.data)
+    words = (
+        "--no-index",
+        "--disable-pip-version-check",
+        "--only-binary=:all:",
+        "--platform",
+        target.wheel[0],
     )
-    assert again and sorted(it for it in {*again, *before} if again.get(it) != before.get(it)) == []
-
-
-@of(*(it.name for it in CROSS if it.wheel))
-def test_wheel(made: Path) -> None:
-    check_wheel(made.name, made)
+    succeeds(sys.executable, "-m", "pip", "install", "-q", *words, "--target", to, runner.at / wheel.name)
+    assert (to / "rsp/__init__.py").is_file()
+    ended = runner.run(to / "bin" / Path(target.program).name, "run", TOP / "examples/first.rsp")
+    assert ended.stdout == page("examples/first.out")
 
 
 @of("macos")
-@pytest.mark.parametrize("name", ("libbrsp.dylib", "libbrsp.a"))
-def test_macos_symbols(made: Path, name: str, folder: Path) -> None:
-    """Both processors are in each file, and nothing else."""
-    processors = {it.apple for it in PROCESSORS.values()}
-    assert {*llvm("llvm-lipo", "-archs", made / "lib" / name).split()} == processors
+def test_macos_symbols(made: Path, folder: Path) -> None:
+    """Both processors are in the library, and nothing else."""
+    processors, library = {it.apple for it in PROCESSORS.values()}, made / "lib/libbrsp.dylib"
+    assert {*llvm("llvm-lipo", "-archs", library).split()} == processors
     for processor in processors:
         part = folder / processor
-        llvm("llvm-lipo", made / "lib" / name, "-thin", processor, "-output", part)
+        llvm("llvm-lipo", library, "-thin", processor, "-output", part)
         assert symbol_names("-g", "--defined-only", part) == {f"_{it}" for it in header.calls()}
         needed = symbol_names("-u", part) - {"dyld_stub_binder"}
         assert needed and needed <= {*MACOS, ZEROS[processor]}, processor
+
+
+@pytest.mark.needs("rt")
+@pytest.mark.parametrize("triple", TARGETS["macos"].triples.values())
+def test_macos_is_assembled(folder: Path, triple: str) -> None:
+    """The object, of which a static library is made, shows the calls alone."""
+    source = TOP / f"compiled/Darwin-{triple.partition('-')[0]}-lib.s"
+    llvm("clang", f"--target={triple}", "-c", source, "-o", folder / "brsp.o")
+    symbols = llvm("llvm-nm", "-g", "--defined-only", folder / "brsp.o")
+    assert {*re.findall(r" T _(\w+)$", symbols, re.M)} == {*header.calls()}
 
 
 @of("macos")

@@ -169,7 +169,7 @@ VERSIONS = """[probes.style(document.documentElement).getPropertyValue("--versio
 def write_version(site: Path, number: int) -> None:
     """Writes the page, changed so that three of its files show a version number, into a folder. The times of
     the files are of 1973 and 1976, so that browsers cache them for years."""
-    files = web_page.parts(web_page.LIBRARY)
+    files = web_page.parts()
     files["style.css"] += f":root {{ --version: {number}; }}\n".encode()
     files["page.js"] += f'document.documentElement.dataset.version = "{number}";\n'.encode()
     end, more = b"replies.push(session.end());", f'replies.push(new TextEncoder().encode("{number}\\n"));'
@@ -200,6 +200,6 @@ def test_reload_after_an_upgrade(page: Page, folder: Path, keeps_old_files: bool
 
 def test_folder_name(host: Host) -> None:
     """The folder's name changes with each single file."""
-    files = web_page.parts(web_page.LIBRARY)
+    files = web_page.parts()
     changed = {web_page.name_of({**files, name: content + b" "}) for name, content in files.items()}
     assert len({web_page.name_of(files), *changed}) == len(files) + 1

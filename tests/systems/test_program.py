@@ -1,4 +1,4 @@
-"""The programs that tools/systems makes, by the tests of the program of Linux on x86-64, except what a system
+"""The programs for other systems, by the tests of the program of Linux on x86-64, except what a system
 can't have (tests/program/conftest.py)."""
 
 import sys
@@ -7,9 +7,8 @@ from typing import Any
 
 import pytest
 
-from lib import TESTS, TOP, cmake
-from lib.processes import run, succeeds
-from lib.program import run_program
+from lib import TESTS
+from lib.processes import run
 from lib.systems.target_params import COMPILED, MACOS, on
 
 FILES = [TESTS / f"program/test_{it}.py" for it in ("scripts", "bad_input", "saves", "texts")]
@@ -36,15 +35,3 @@ def test_mounts(runner: Any, folder: Path) -> None:
     program.write_text(program.read_text().replace(" wine ", alone))
     runner.release()
     check_by_tests(program, runner.target.name, "test_mount")
-
-
-@pytest.mark.needs("cmake")
-@on("windows-x86_64")
-def test_by_cmake(runner: Any, folder: Path) -> None:
-    """CMake makes rsp.exe of a clone. It answers the first example."""
-    words = [*cmake.system("Windows", "x86_64"), f"-DCMAKE_C_COMPILER={runner.compiler}"]
-    succeeds("cmake", "-S", TOP, "-B", folder / "out", *words)
-    succeeds("cmake", "--build", folder / "out", "--target", "rsp")
-    program = runner.started(folder, folder / "out/rsp.exe")
-    expected = (0, (TOP / "examples/first.out").read_bytes(), b"")
-    assert run_program(program, ["run", TOP / "examples/first.rsp"]) == expected

@@ -1,5 +1,4 @@
-"""The Rust crate's build script finds the library of a target, and names the target if there is none. Its
-tests are run where Debian has Rust's own library for the system."""
+"""The Rust crate for Windows: its tests are run where Debian has Rust's own library for that."""
 
 import os
 import shutil
@@ -9,9 +8,9 @@ from typing import Any
 import pytest
 
 from lib.processes import run, succeeds
-from lib.systems.rust import TARGETS, build_script
-from lib.systems.target_params import of, on
-from rsp_tools.systems import header, places
+from lib.systems.target_params import on
+from rsp_tools.systems import places
+from rsp_tools.targets import TARGETS
 
 # The target for which the crate's tests are run, and Debian's package with Rust's own library for it.
 TESTED, PACKAGE = "x86_64-pc-windows-gnu", "libstd-rust-dev-windows"
@@ -21,26 +20,7 @@ TESTED, PACKAGE = "x86_64-pc-windows-gnu", "libstd-rust-dev-windows"
 def test_targets() -> None:
     """rustc knows the targets by these names."""
     known = succeeds("rustc", "--print", "target-list").split()
-    for system, targets in TARGETS.items():
-        assert [it for it in targets if it not in known or ("musl" in it) != ("musl" in system)] == []
-
-
-@pytest.mark.needs("rustc")
-@of(*TARGETS)
-def test_build_script(made: Path, folder: Path) -> None:
-    """Each target of a system, without its library and with it."""
-    script, crate = folder / "build-script", folder / "crate"
-    env = {**os.environ, "CARGO_MANIFEST_DIR": str(crate), "CARGO_PKG_VERSION": header.version()}
-    succeeds("rustc", "--edition", "2021", "-o", script, places.RUST / "build.rs", env=env)
-    for target, name in TARGETS[made.name].items():
-        status, text = build_script(script, target)
-        assert status != 0 and f"{name} for {target} isn't found" in text
-        (crate / "lib" / target).mkdir(parents=True)
-        shutil.copy(made / "lib" / name, crate / "lib" / target / name)
-        linked = "brsp_static" if target.endswith("-msvc") else "brsp"
-        expected = f"native={crate}/lib/{target}\ncargo:rustc-link-lib=static={linked}\n"
-        status, text = build_script(script, target)
-        assert status == 0 and text.endswith(f"cargo:rustc-link-search={expected}")
+    assert {*TARGETS["windows-x86_64"].rust} <= {*known}
 
 
 def rust_for_target() -> str:

@@ -1,18 +1,20 @@
 """How the library in WebAssembly is made, its allocator, and what npm makes of its folder. Its calls are
 tested in tests/library/js."""
 
+import json
 from pathlib import Path
 from typing import List
 
 import pytest
 
 from lib import TESTS
+from lib.library.typescript import OPTIONS, USE
 from lib.processes import compiled, succeeds
 from lib.systems import node
 from lib.systems.target_params import of
 from lib.systems.runners import assert_all_passed
+from rsp_tools.packaging import archives
 from rsp_tools.systems import places, wasm
-from rsp_tools.systems.modules import Module
 from rsp_tools.systems.rewriting import PSHUFB, rewritten, with_unwind_tables, without_stack_probes
 from rsp_tools.systems.toolchain import Refused, llvm
 
@@ -51,14 +53,9 @@ def test_changes(folder: Path) -> None:
     assert instructions.count("i8x16.swizzle") == 1 and "v128.and" in instructions
 
 
-@pytest.mark.needs("rt")
-def test_another_intrinsic(folder: Path) -> None:
-    module, out, way = folder / "foreign.ll", folder / "refused", folder / "way"
-    module.write_text(SMALL.replace("  %c = call", f"  {FOREIGN}\n  %c = call"))
-    way.mkdir()
+def test_another_intrinsic() -> None:
     with pytest.raises(Refused, match="has the intrinsic llvm.x86.rsp.add, which no rule names"):
-        wasm.make(out, way, lambda _: Module(module, ["-O3"]))
-    assert not out.exists() and not [*way.iterdir()]
+        rewritten(SMALL.replace("  %c = call", f"  {FOREIGN}\n  %c = call"), {PSHUFB}, wasm.CHANGES)
 
 
 @pytest.mark.needs("npm", "node")
@@ -70,6 +67,20 @@ def test_npm(made: Path, kind: List[str], folder: Path) -> None:
     held = {it.name for it in (project / "node_modules/rsp").glob("*")}
     assert held == {it.name for it in made.iterdir()}
     node.check_use(project)
+
+
+@pytest.mark.needs("npm", "node", "tsc")
+@of("wasm64")
+def test_archive(made: Path, folder: Path) -> None:
+    """npm takes it, Node runs it, and tsc finds the declarations."""
+    archive = archives.packed("wasm64", made, "0" * 40)
+    (folder / archive.name).write_bytes(archive.data)
+    project = node.installed(folder, folder / archive.name)
+    node.check_use(project)
+    options = {name: it for name, it in OPTIONS.items() if name != "paths"}
+    (project / "tsconfig.json").write_text(json.dumps({"compilerOptions": options, "files": ["use.ts"]}))
+    (project / "use.ts").write_text(USE)
+    assert succeeds("tsc", "-p", ".", cwd=project) == ""
 
 
 @pytest.mark.needs("cc", "valgrind")

@@ -1,5 +1,5 @@
 """What the library for Windows shows and needs, and how programs are linked with it: by the words of
-pkg-config, and by lld-link for MSVC. tests/install links them by CMake."""
+pkg-config, by CMake, and by lld-link for MSVC."""
 
 import os
 import re
@@ -10,10 +10,11 @@ from xml.etree import ElementTree
 
 import pytest
 
-from lib import TESTS
+from lib import TESTS, TOP
 from lib.cmake import EXAMPLE
 from lib.hardening import SMASHED, check_pe
-from lib.processes import succeeds
+from lib.pages import page
+from lib.processes import run, succeeds
 from lib.systems.built_files import symbol_names
 from lib.systems.target_params import of, on
 from rsp_tools import hardening
@@ -105,6 +106,24 @@ def test_pkg_config(runner: Any) -> None:
     for words, is_shared in ((), True), (("-static",), False):
         made = runner.compile(EXAMPLE, *words, name=f"pkg-config {is_shared}", library=found)
         runner.check_lockstep(made, is_shared)
+
+
+@pytest.mark.needs("cmake", "make")
+@on("windows-x86_64")
+def test_cmake(runner: Any) -> None:
+    runner.check_cmake()
+
+
+@on("windows-x86_64")
+def test_first_line(runner: Any, folder: Path) -> None:
+    """The README's, by the command interpreter, in a folder as that of the archive."""
+    line = r"bin\rsp run examples\first.rsp"
+    assert f"`{line}`" in page("tools/packaging/readme/windows-x86_64.md")
+    (folder / "bin").symlink_to(runner.folder / "bin")
+    (folder / "examples").symlink_to(TOP / "examples")
+    assert run(*runner.start, "cmd", "/c", line, cwd=folder, env=runner.env).stdout == page(
+        "examples/first.out"
+    )
 
 
 @of("windows-x86_64")

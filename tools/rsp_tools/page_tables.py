@@ -141,14 +141,13 @@ fault_numbers = {numbers} ∷ []
 
 def systems() -> str:
     """The rows of the systems that have tests of their own."""
-    titles = [(NATIVE.title, NATIVE), *((f"{system.title}, `{system.name}`", system) for system in CROSS)]
-    return "".join(f"| {title} | {it.holds} | {it.tested} |\n" for title, it in titles if it.tested)
+    return "".join(f"| {it.title} | {it.tier} | {it.command} |\n" for it in (NATIVE, *CROSS))
 
 
 def made() -> Dict[str, str]:
     """Each file as this module writes it, by its name."""
     layers = "".join(f"{name:19} {comment}\n" for name, (comment, _) in reversed(crates().items()))
-    head_of_systems = r"(?m)^\| System \| What .*\n\|[-|]+\|\n((?:\|.*\n)+)"
+    head_of_systems = r"(?m)^\| System \| Its .*\n\|[-|]+\|\n((?:\|.*\n)+)"
     return {
         **{file: with_table(page(file), name) for name, file in TABLES.items()},
         LAYERS: with_group(page(LAYERS), r"(?ms)^## Layers\n.*?^```text\n(.*?)^```$", layers),

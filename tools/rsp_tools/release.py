@@ -1,50 +1,48 @@
-"""./release: makes the release archives in dist/, which a user downloads and runs without the kit.
+"""./release [NAME..]: makes in dist/ what a clone can't be:
 
-It packs what ./rsp and library/c/build build:
+  windows-x86_64  rsp.exe and brsp.dll, with libraries for mingw and MSVC
+  wasm64          the npm package
+  page            the page that answers scripts, for a web server
+  wheels          for Python on Linux (x86-64 and ARM, and with musl), Windows and macOS
 
-  linux-x86_64     .tar.gz: the program, linked again for any Linux since 2014, what library/c/install
-                   installs, the Python wheel, the Rust crate, the plugin of mupen64plus, pages, examples,
-                   microcode
-  conformance      .tar.gz: the test vectors with their tools, for all systems
-  source           .tar.gz: the repository
-
-With --systems it also makes the archives for other systems, after tools/systems has made their libraries:
-
-{systems}
-
-Each archive has its README.md, CHANGELOG.md, SHA256SUMS of its files, and COMMIT. dist/SHA256SUMS has the
-sums of what this run made. Two runs from one commit give the same bytes. Before it makes anything it names
-the packages of Debian that are missing, in one line of apt-get. It fails if the work tree isn't clean, a copy
-of the version differs, VERSION has a day and the commit no tag or the other way round, the newcomer's tests
-fail, or a system isn't made. Then it leaves what was in dist. The last lines say what was left out, and why.
+With names it makes these of the tree as it is, each as a folder dist/NAME: in seconds, and for wasm64 and
+page without the kit. Without names it makes all of them of HEAD, packed: archives with README.md,
+CHANGELOG.md, SHA256SUMS of their files, and COMMIT; the wheels; and dist/SHA256SUMS. Two runs from one commit
+give the same bytes. All is made of compiled/. Before it makes anything it names the packages of Debian that
+are missing, in one line of apt-get. It fails if the work tree isn't clean, a copy of the version differs,
+VERSION has a day and the commit no tag or the other way round, or the newcomer's tests fail. Then it leaves
+what was in dist. The last lines say what was left out, and why.
 """
 
 import argparse
 import re
 import shutil
+import signal
 import subprocess
 import sys
 import tempfile
 from pathlib import Path
-from typing import Iterator, List, NoReturn
+from typing import Dict, Iterator, List, NoReturn, Tuple
 from xml.etree import ElementTree
 
 from rsp_tools import TOP
-from rsp_tools.packaging import release_info, archives, install_tree, archive_formats
-from rsp_tools.packaging.release_info import About
-from rsp_tools.packaging.archives import Archive
+from rsp_tools.packaging import archives, install_tree
 from rsp_tools.packaging.install_tree import File, put_all
-from rsp_tools.packaging.link import linked_program
 from rsp_tools.packaging.repository import output_of
-from rsp_tools.systems import header, places
-from rsp_tools.systems.__main__ import SYSTEMS
-from rsp_tools.systems.toolchain import missing
-from rsp_tools.targets import CROSS, PAGE, listed
+from rsp_tools.systems import folders, header
+from rsp_tools.systems.toolchain import Refused, missing
+from rsp_tools.targets import CROSS, NATIVE, TARGETS
 
-OTHERS = [*SYSTEMS, PAGE.name]
+ARCHIVES = [name for name, target in TARGETS.items() if target.ending]
+WHEELS = {it.name: it for it in (NATIVE, *CROSS) if it.wheel}
+NAMES = [*ARCHIVES, "wheels"]
 NEWCOMER = "tests/install/test_newcomer.py"
-# What links and packs, for any system.
-PROGRAMS = "git cc ar ld objcopy".split()
+# What each of them needs beside Python, of Debian's packages or the kit.
+PROGRAMS: Dict[str, Tuple[str, ...]] = {
+    "windows-x86_64": (TARGETS["windows-x86_64"].compiler, "rt"),
+    "page": ("cmark-gfm",),
+    "wheels": ("ar", *(it.compiler for it in WHEELS.values() if it.compiler), "rt"),
+}
 HOW = b"# sha256sum --ignore-missing -c SHA256SUMS checks those of these files that are here\n"
 # The copies of what is in VERSION: with its day, and without.
 DATED = {
@@ -61,12 +59,6 @@ NUMBERS = {
 
 def fail(text: str) -> NoReturn:
     sys.exit(f"release: {text}")
-
-
-def run(*words: str, reason: str) -> None:
-    """Runs a command, and ends with a reason if the command fails."""
-    if subprocess.run(words, cwd=TOP, stdin=subprocess.DEVNULL).returncode:
-        fail(reason)
 
 
 def check_versions() -> None:
@@ -86,17 +78,12 @@ def check_day(day: str, tags: List[str]) -> None:
         fail(f"VERSION says {day}, and the commit has {'the' if tag in tags else 'no'} tag {tag}")
 
 
-def libraries_of(names: List[str]) -> List[str]:
-    """The systems whose libraries these archives have. The page has that for WebAssembly."""
-    return [name for name in SYSTEMS if name in names or (name == "wasm64" and "page" in names)]
-
-
 def check_packages(names: List[str], is_tested: bool) -> None:
-    """Ends if the kit or a package is missing that makes an archive, or that the newcomer's commands need."""
-    if not shutil.which("rt"):
+    """Ends if the kit or a package is missing that makes these, or that the newcomer's commands need."""
+    programs = [it for name in names for it in PROGRAMS.get(name, ())]
+    if "rt" in programs and not shutil.which("rt"):
         fail("there is no `rt`, the command of the Rattle kit (README.md names its version)")
-    programs = [program for name in libraries_of(names) for program in SYSTEMS[name].programs]
-    packages = missing(*PROGRAMS, *programs)
+    packages = missing(*programs)
     more = output_of("tools/python", "lib.install.needed_packages") if is_tested else ""
     if packages:
         both = " ".join(dict.fromkeys([*packages.split(), *more.split()]))
@@ -119,63 +106,76 @@ def run_newcomer() -> List[str]:
     """Runs the newcomer's tests, and returns what they left out."""
     with tempfile.TemporaryDirectory() as folder:
         report = Path(folder, "report.xml")
-        reason = f"tests/all {NEWCOMER} failed, so nothing is made"
-        run("tests/all", NEWCOMER, f"--junitxml={report}", reason=reason)
+        words = ["tests/all", NEWCOMER, f"--junitxml={report}"]
+        if subprocess.run(words, cwd=TOP, stdin=subprocess.DEVNULL).returncode:
+            fail(f"tests/all {NEWCOMER} failed, so nothing is made")
         return left_out(report)
 
 
-def plugin() -> bytes:
-    """The plugin of mupen64plus."""
-    with tempfile.TemporaryDirectory() as folder:
-        run("plugin/build", f"{folder}/plugin.so", reason="plugin/build has built nothing")
-        return Path(folder, "plugin.so").read_bytes()
+def wheels_in(at: Path) -> Iterator[File]:
+    """The wheels, of the folders of their systems, which are made in `at` if they aren't there."""
+    for name, target in WHEELS.items():
+        if not (at / name).exists():
+            folders.make(name, at / name)
+        yield archives.wheel(target, at / name)
 
 
-def all_archives(program: bytes, names: List[str], release: About) -> Iterator[Archive]:
-    """The archives, with those of these other systems."""
-    libraries = libraries_of(names)
-    if libraries:  # each is made anew, so no archive has the library of another commit
-        run("tools/systems", *libraries, reason="tools/systems failed, so nothing is made")
-    yield archives.of_native(program, plugin(), release)
-    yield archives.of_conformance(release)
-    yield archives.of_source(release)
+def put_folders(names: List[str]) -> None:
+    """Makes folders in dist/ beside their places, and then moves them."""
+    (TOP / "dist").mkdir(exist_ok=True)
     for name in names:
-        yield archives.of_system(name, places.MADE / name, release)
+        with tempfile.TemporaryDirectory(dir=TOP / "dist", prefix=".rsp-") as beside:
+            at, to = Path(beside), TOP / "dist" / name
+            if name == "wheels":
+                put_all(at / name, wheels_in(at), fail)
+            else:
+                folders.make(name, at / name)
+            if to.exists():
+                to.rename(at / "old")
+            (at / name).rename(to)
+        print(f"dist/{name} is made")
 
 
-def arguments() -> argparse.Namespace:
-    form, text = argparse.RawDescriptionHelpFormatter, str(__doc__).format(systems=listed(*CROSS, PAGE))
-    parser = argparse.ArgumentParser(prog="./release", description=text, formatter_class=form)
-    parser.add_argument("--untested", action="store_true", help=f"leave out tests/all {NEWCOMER}")
-    more = "also the archives of these systems, or of all if none is named"
-    parser.add_argument("--systems", nargs="*", metavar="NAME", help=more)
-    return parser.parse_args()
+def put_archives(commit: str) -> None:
+    """Writes all that is packed, with the sums."""
+    with tempfile.TemporaryDirectory() as folder:
+        files, at = [], Path(folder)
+        for name in ARCHIVES:
+            folders.make(name, at / name)
+            files.append(archives.packed(name, at / name, commit))
+        files += wheels_in(at)
+    put_all(TOP / "dist", [*files, File("SHA256SUMS", HOW + archives.sums(files))], fail)
+    for file in files:
+        print(f"dist/{file.name}: {len(file.data)} bytes, commit {commit[:12]}")
+
+
+def release(is_tested: bool) -> None:
+    """Makes all of HEAD."""
+    if output_of("git", "status", "--porcelain"):
+        fail("the work tree differs from its commit")
+    check_versions()
+    check_day(install_tree.version()[1], output_of("git", "tag", "--points-at", "HEAD").split())
+    reasons = run_newcomer() if is_tested else [f"{NEWCOMER}: --untested"]
+    put_archives(output_of("git", "rev-parse", "HEAD"))
+    for reason in reasons:
+        print(f"left out: {reason}")
 
 
 def main() -> None:
-    options = arguments()
-    names = [] if options.systems is None else [*dict.fromkeys(options.systems)] or OTHERS
-    for name in {*names} - {*OTHERS}:
-        fail(f"there is no system {name}: the systems are {', '.join(OTHERS)}")
-    check_packages(names, not options.untested)
-    if output_of("git", "status", "--porcelain"):
-        fail("the work tree differs from its commit")
-    version, day = install_tree.version()
-    check_versions()
-    check_day(day, output_of("git", "tag", "--points-at", "HEAD").split())
-    program = linked_program()
-    if not program:
-        fail("compiled/ isn't made of the sources as they are: tools/assemble makes it")
-    run("library/c/build", reason="library/c/build has built nothing")
-    reasons = [f"{NEWCOMER}: --untested"] if options.untested else run_newcomer()
-    release = release_info.of_head()
-    packed = {archive.name: archive.packed() for archive in all_archives(program, names, release)}
-    files = {**packed, "SHA256SUMS": HOW + archive_formats.sums(packed)}
-    put_all(TOP / "dist", [File(name, data) for name, data in files.items()], fail)
-    for name, data in packed.items():
-        print(f"dist/{name}: {len(data)} bytes, version {version}, commit {release.commit[:12]}")
-    for reason in reasons:
-        print(f"left out: {reason}")
+    signal.signal(signal.SIGINT, lambda *_: sys.exit(130))
+    form = argparse.RawDescriptionHelpFormatter
+    parser = argparse.ArgumentParser(prog="./release", description=__doc__, formatter_class=form)
+    parser.add_argument("--untested", action="store_true", help=f"leave out tests/all {NEWCOMER}")
+    parser.add_argument("names", nargs="*", metavar="NAME")
+    options = parser.parse_args()
+    for name in {*options.names} - {*NAMES}:
+        parser.error(f"there is no {name}: the names are {', '.join(NAMES)}")
+    is_tested = not options.untested and not options.names
+    check_packages(options.names or NAMES, is_tested)
+    try:
+        put_folders(options.names) if options.names else release(is_tested)
+    except (Refused, OSError) as reason:
+        fail(str(reason))
 
 
 if __name__ == "__main__":

@@ -1,8 +1,7 @@
-"""The systems for which rsp is released, a record each, and the processors for which the kit makes modules.
+"""The systems on which rsp runs, a record each, and the processors for which the kit makes modules.
 
-tools/rsp_tools/systems makes their libraries, tools/rsp_tools/packaging their archives, and tests/lib/systems
-runs programs for them. A further Linux on one of these processors is a record here, its start file, and the
-README tools/packaging/readme/NAME.md.
+tools/rsp_tools/systems makes their folders, ./release packs some of these, and tests/lib/systems runs
+programs for them. A further Linux on one of these processors is a record here and its start file.
 """
 
 import platform
@@ -30,11 +29,11 @@ PROCESSORS: Dict[str, Processor] = {
 class Target(NamedTuple):
     """A system. Fields that a system has no use for are empty."""
 
-    name: str  # of the archive, and of the folder of library/systems
-    title: str  # what pages call it
-    holds: str  # what there is for it
-    tested: str = ""  # where its tests were run
-    ending: str = "tar.gz"  # of the archive's file
+    name: str  # of its folder and of its archive
+    title: str  # what SYSTEMS.md calls it
+    tier: str = ""  # how its tests were run
+    command: str = ""  # what who has a clone types
+    ending: str = ""  # of the archive's file, if ./release makes one
     triples: Mapping[str, str] = {}  # what clang calls the system, for each processor
     # The file of rsp_tools/systems by which the program begins, and the words that link it.
     start: str = ""
@@ -65,32 +64,30 @@ class Target(NamedTuple):
 NATIVE = Target(
     name="linux-x86_64",
     title="Linux on x86-64-v2",
-    holds="everything in this repository",
-    tested="natively: all tests of the repository",
+    tier="natively: all tests of the repository",
+    command="`./rsp`",
     triples={"x86_64": "x86_64-unknown-linux-gnu"},
     start="start_x86_64.c",
     linked="-fPIE -pie -nostartfiles",
     shared="lib/libbrsp.so",
     program="bin/rsp",
-    rust={"x86_64-unknown-linux-gnu": "libbrsp.a"},
     cmake=("Linux", "x86_64|AMD64|amd64"),
     python="linux",
     wheel=("manylinux_2_17_x86_64", "manylinux2014_x86_64"),
     compiler="cc",
 )
-# Those that tools/systems makes.
+# Those with tests of their own, tests/systems.
 CROSS: Tuple[Target, ...] = (
     Target(
         name="linux-aarch64",
         title="Linux on ARM",
-        holds="`rsp`; `libbrsp.a`, `libbrsp.so.1`; glibc 2.17 or newer",
-        tested="in the emulator qemu-aarch64, not on an ARM processor",
+        tier="in an emulator, qemu-aarch64",
+        command="`./rsp`",
         triples={"aarch64": "aarch64-unknown-linux-gnu"},
         start="start_aarch64.c",
         linked="-fPIE -pie -nostartfiles",
         shared="lib/libbrsp.so",
         program="bin/rsp",
-        rust={"aarch64-unknown-linux-gnu": "libbrsp.a"},
         cmake=("Linux", "aarch64|arm64"),
         python="linux",
         wheel=("manylinux_2_17_aarch64", "manylinux2014_aarch64"),
@@ -105,15 +102,14 @@ CROSS: Tuple[Target, ...] = (
     Target(
         name="linux-x86_64-musl",
         title="Linux on x86-64-v2 with musl",
-        holds="`rsp`, which needs no other file; `libbrsp.a`, `libbrsp.so.1`",
-        tested="natively, with musl 1.2.3",
+        tier="natively, with musl 1.2.3",
+        command="`CC=musl-gcc ./rsp`",
         triples={"x86_64": "x86_64-unknown-linux-musl"},
         start="start.c",
         # A program that is static and can be at any address. musl's words for gcc have no such kind.
         linked="-fPIE -pie -nostartfiles -l:rcrt1.o -Wl,-static,--no-dynamic-linker,-z,text,--wrap=main",
         shared="lib/libbrsp.so",
         program="bin/rsp",
-        rust={"x86_64-unknown-linux-musl": "libbrsp.a"},
         cmake=("Linux", "x86_64|AMD64|amd64"),
         python="linux",
         wheel=("musllinux_1_2_x86_64",),
@@ -123,8 +119,8 @@ CROSS: Tuple[Target, ...] = (
     Target(
         name="windows-x86_64",
         title="Windows on x86-64-v2",
-        holds="`rsp.exe`; `brsp.dll`, import and static libraries for mingw and MSVC",
-        tested="under wine, not on Windows",
+        tier="in an emulator, wine",
+        command="`./release windows-x86_64`, or CMake with mingw",
         ending="zip",
         triples={"x86_64": "x86_64-w64-windows-gnu"},
         start="posix_windows.c",
@@ -147,13 +143,12 @@ CROSS: Tuple[Target, ...] = (
     Target(
         name="macos",
         title="macOS 11 on ARM and x86-64-v2",
-        holds="`rsp`, `libbrsp.dylib` and `libbrsp.a`, each for both processors",
-        tested="on Linux, never on a Mac: their code was taken out, and the code for ARM ran in qemu-aarch64",
+        tier="only assembled: nothing ran on a Mac, but the code was taken out and ran on Linux",
+        command="CMake with clang",
         triples={"x86_64": "x86_64-apple-macosx11.0.0", "aarch64": "arm64-apple-macosx11.0.0"},
         start="posix_macos.c",
         shared="lib/libbrsp.dylib",
         program="bin/rsp",
-        rust={"aarch64-apple-darwin": "libbrsp.a", "x86_64-apple-darwin": "libbrsp.a"},
         cmake=("Darwin", "x86_64|arm64"),
         python="darwin",
         wheel=("macosx_11_0_universal2",),
@@ -161,16 +156,13 @@ CROSS: Tuple[Target, ...] = (
     Target(
         name="wasm64",
         title="browsers, Node, Deno",
-        holds="`rsp.wasm` with an ES module and its types, as an npm package",
-        tested="in Chromium and in Node 20",
+        tier="natively, in Chromium and in Node 20",
+        command="`./release wasm64`, `npm install ./dist/wasm64`",
         ending="tgz",
-        packages={"cmark-gfm": "cmark-gfm", "node": "nodejs"},
+        packages={"node": "nodejs"},
     ),
 )
-# Made with the library of wasm64.
-PAGE = Target(
-    name="page", title="a web server", holds="static files that answer scripts in a browser", ending="zip"
-)
+PAGE = Target(name="page", title="a web server", ending="zip", packages={"cmark-gfm": "cmark-gfm"})
 TARGETS: Dict[str, Target] = {it.name: it for it in (NATIVE, *CROSS, PAGE)}
 
 
@@ -182,8 +174,3 @@ def here() -> Target:
     if (name := f"{system}-{platform.machine()}{libc}") not in known:
         raise LookupError(f"this machine is {name}, and only these are known: {', '.join(known)}")
     return known[name]
-
-
-def listed(*targets: Target) -> str:
-    """The targets for a program's --help, a line each."""
-    return "\n".join(f"  {it.name:18} {it.holds.replace('`', '')}" for it in targets)

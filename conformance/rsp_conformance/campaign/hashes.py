@@ -19,18 +19,16 @@ from . import CampaignFault, words_of
 
 SOURCES = HERE / "campaigns"
 HEADER = TOP / "library/c/brsp.h"
-PACKED, BUILD = TOP / "lib/libbrsp.a", TOP / "library/c/build"
+BUILD = TOP / "library/c/build"
 
 
 @functools.lru_cache(None)
 def library() -> Path:
-    """The library of a release archive, otherwise the one that the repository makes of its sources."""
-    if PACKED.is_file() or not BUILD.exists():
-        return PACKED
-    made = subprocess.run([BUILD, "--folder"], stdout=subprocess.PIPE, text=True)
-    if made.returncode:
+    """The one that the repository makes of its sources."""
+    made = BUILD.exists() and subprocess.run([BUILD, "--folder"], stdout=subprocess.PIPE, text=True)
+    if not made or made.returncode:
         raise CampaignFault("library/c/build has made no library")
-    return Path(made.stdout.rstrip("\n"), PACKED.name)
+    return Path(made.stdout.rstrip("\n"), "libbrsp.a")
 
 
 def find_module(name: str) -> Optional[ModuleSpec]:

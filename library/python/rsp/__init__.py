@@ -274,10 +274,10 @@ _NAME = {"win32": "brsp.dll", "darwin": "libbrsp.dylib"}.get(sys.platform, "libb
 
 
 def _library() -> str:
-    """The library in the package; otherwise that of the release archive, or the one that library/c/build
+    """The library in the package; otherwise that of the archive for Windows, or the one that library/c/build
     has made or makes."""
     here = os.path.dirname(os.path.abspath(__file__))
-    for folder in ("", "../../../lib", "../../../bin", "../../c"):
+    for folder in ("", "../../../bin", "../../c"):
         place = os.path.join(here, folder, _NAME)
         if os.path.exists(place):
             return place

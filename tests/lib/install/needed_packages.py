@@ -7,12 +7,10 @@ it makes anything.
 from lib.packages import packages
 from lib.page_blocks import Block, all_blocks
 
-TEMPLATES = "tools/packaging/readme/"
-
 
 def typed_blocks() -> list[Block]:
-    """The blocks that a user types in a clone: those of all pages except the READMEs of archives."""
-    return [block for block in all_blocks() if block.is_typed and not block.page.startswith(TEMPLATES)]
+    """The blocks that a user types in a clone."""
+    return [block for block in all_blocks() if block.is_typed]
 
 
 def missing() -> list[str]:

@@ -92,14 +92,13 @@ class Server(ThreadingHTTPServer):
 
 class Chromium(Runner):
     """WebAssembly in a browser. `folder` is the library's, with rsp.js. Programs in C are linked with the
-    objects of which the library was linked: those of the folder `way`, or else they are made again."""
+    objects of which the library was linked, which are made again."""
 
     programs = PROGRAMS
 
     def __init__(self, name: str, folder: Path, at: Path) -> None:
         super().__init__(name, folder, at)
         self.ending = ".wasm"
-        self.way: Optional[Path] = None
         self.server = Server({"tests": PAGES, "at": at, "library": folder})
         for header in HEADERS:
             (at / f"{header}.h").write_text('#include "libc.h"\n')
@@ -114,8 +113,6 @@ class Chromium(Runner):
     @cached_property
     def objects(self) -> List[Path]:
         """What the library was linked of."""
-        if self.way:
-            return [self.way / f"{it}.o" for it in wasm.PARTS]
         need("rt")
         (self.at / "way").mkdir()
         return wasm.objects(self.at / "way")

@@ -1,4 +1,4 @@
-"""The names in the files of a system, and its wheel."""
+"""The names in the files of a system, and wheels."""
 
 import base64
 import hashlib
@@ -12,7 +12,7 @@ from typing import Dict, Set
 from lib.processes import run
 from rsp_tools.systems import header, places
 from rsp_tools.systems.toolchain import llvm
-from rsp_tools.targets import TARGETS
+from rsp_tools.targets import Target
 
 # A program that imports the module on a system, up to what it would load.
 IMPORTED = """import ctypes, sys
@@ -41,11 +41,9 @@ def check_record(text: str, files: Dict[str, bytes]) -> None:
     assert sorted(text.splitlines()) == sorted(expected)
 
 
-def check_wheel(system: str, folder: Path) -> None:
-    """The wheel's tags, its files, its record, and that its library is the one beside it."""
-    info, target = f"rsp-{header.version()}.dist-info", TARGETS[system]
-    (path,) = (folder / "python").glob("*.whl")
-    assert path.name == f"rsp-{header.version()}-py3-none-{'.'.join(target.wheel)}.whl"
+def check_wheel(target: Target, path: Path) -> None:
+    """A wheel's tags, its files, and its record."""
+    info = f"rsp-{header.version()}.dist-info"
     for tag in target.wheel:  # of which pip takes one that names its own system and processor
         libc = "musl" if "musl" in target.name else "many"
         assert re.fullmatch(TAGS[target.python].format(libc, target.processor), tag)
@@ -57,14 +55,10 @@ def check_wheel(system: str, folder: Path) -> None:
         wheel.extractall(at)
         output = run(sys.executable, "-c", IMPORTED, target.python, cwd=at).stdout
         assert output == f"loads {Path(at).resolve()}/{library}\n"
-    commands = {f"rsp-{header.version()}.data/scripts/{it}": it for it in [Path(target.program).name] if it}
-    expected = modules | {library} | {f"{info}/{it}" for it in ("METADATA", "WHEEL", "RECORD")} | {*commands}
-    if target.is_linux:
+    command = f"rsp-{header.version()}.data/scripts/{Path(target.program).name}"
+    expected = modules | {library, command, *(f"{info}/{it}" for it in ("METADATA", "WHEEL", "RECORD"))}
+    if target.python == "linux":
         expected.add(f"{info}/entry_points.txt")  # of rsp-gdb
     assert {*files} == expected
-    are_same = [files[it] == (folder / "bin" / name).read_bytes() for it, name in commands.items()]
-    assert all(are_same), "the wheel has another program"
-    is_same = files[library] == (folder / target.shared).read_bytes()
-    assert is_same, "the wheel has another library"
     assert re.findall(r"(?m)^Tag: py3-none-(.*)$", files[f"{info}/WHEEL"].decode()) == [*target.wheel]
     check_record(files[f"{info}/RECORD"].decode(), files)

@@ -33,7 +33,7 @@ def target_of(name: str) -> Target:
 
 class Runner:
     """Compiles and runs programs for a system. `name` is the target's, or begins with it. `folder` is the
-    library's, with include/ and lib/; `at` is one for the programs and their files."""
+    system's; `at` is one for the programs and their files."""
 
     threads: Tuple[str, ...] = ("-pthread",)  # what is linked for threads
 
@@ -95,7 +95,7 @@ class Runner:
     def compile(self, source: Path, *words: str, name: str = "", library: Optional[List[str]] = None) -> Path:
         """Compiles a program, or fails with the compiler's output."""
         made = self.at / f"{name or source.stem}{self.ending}"
-        options = (*STRICT, f"-I{self.folder}/include", f"-I{self.folder}", "-o", made, source, *words)
+        options = (*STRICT, f"-I{TOP}/library/c", "-o", made, source, *words)
         succeeds(self.compiler, *options, *(self.static() if library is None else library))
         return made
 
@@ -104,9 +104,15 @@ class Runner:
         """The proved program."""
         return self.folder / self.target.program
 
-    def assembly(self) -> Path:
-        """That of the proved program."""
-        return TOP / f"compiled/{self.target.cmake[0]}-{self.target.processor}-rsp.s"
+    def assembly(self, kind: str = "rsp") -> Path:
+        """That of the proved program, or of the library (`lib`)."""
+        return TOP / f"compiled/{self.target.cmake[0]}-{self.target.processor}-{kind}.s"
+
+    def library_of(self, assembly: Path) -> List[str]:
+        """The words that link a library of an assembly."""
+        made = assembly.with_suffix(".o")
+        succeeds(self.compiler, "-c", "-o", made, assembly)
+        return [str(made)]
 
     def started(self, folder: Path, program: Optional[Path] = None) -> Path:
         """A script of the shell that runs a program, or the proved one, as if it were one of this system."""
@@ -200,8 +206,19 @@ class MacOS(Runner):
         succeeds(self.compiler, "-O1", "-o", to, *words, TESTS / "systems/libsystem_on_linux.c")
         return to
 
-    def assembly(self) -> Path:
-        return TOP / f"compiled/{self.target.cmake[0]}-{self.architecture}-rsp.s"
+    def assembly(self, kind: str = "rsp") -> Path:
+        return TOP / f"compiled/{self.target.cmake[0]}-{self.architecture}-{kind}.s"
+
+    @property
+    def triple(self) -> str:
+        return next(it for it in self.target.triples.values() if it.startswith(self.architecture))
+
+    def library_of(self, assembly: Path) -> List[str]:
+        at = self.at / "library"
+        at.mkdir()
+        macos.link_library(at / "thin", self.triple, assembly)
+        llvm("llvm-lipo", "-create", at / "thin", "-output", at / "fat")
+        return macho.taken_out(at / "fat", self.architecture, at)
 
     @property
     def rsp(self) -> Path:
@@ -210,8 +227,8 @@ class MacOS(Runner):
 
     def linked(self, name: str, *parts: Path) -> Path:
         """A program of posix_macos.c and these parts."""
-        triple = next(it for it in self.target.triples.values() if it.startswith(self.architecture))
-        made = macos.link_program(self.at / f"{name}.macho", triple, *parts)
+        made = self.at / f"{name}.macho"
+        macos.link_program(made, self.triple, *parts)
         llvm("llvm-lipo", "-create", made, "-output", made.with_suffix(".fat"))
         return self.for_linux(made.with_suffix(".fat"), self.at / name)
 

@@ -31,5 +31,5 @@ def on(*names: str, fixture: str = "runner") -> pytest.MarkDecorator:
 
 
 def of(*names: str) -> pytest.MarkDecorator:
-    """Runs a test with the fixture `made` of these systems: the folder that tools/systems has made."""
+    """Runs a test with the fixture `made` of these systems: the folder that is made."""
     return on(*names, fixture="made")

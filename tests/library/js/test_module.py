@@ -36,7 +36,7 @@ def runner(request: pytest.FixtureRequest) -> Iterator[Runner]:
     need("compiled")
     with tempfile.TemporaryDirectory() as name:
         folder = Path(name)
-        wasm.make(folder / "library", folder)
+        wasm.make(folder / "library")
         (folder / "at").mkdir()
         runner = RUNNERS[request.param](request.param, folder / "library", folder / "at")
         yield runner

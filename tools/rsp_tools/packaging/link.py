@@ -1,4 +1,4 @@
-"""What cc makes of compiled/ on this machine, to be installed or packed."""
+"""What C compilers make of compiled/, for a system or for this machine, to be packed or installed by pip."""
 
 import os
 import shlex
@@ -30,6 +30,16 @@ def linked_program(target: Optional[Target] = None, *more: Word) -> Optional[byt
         parts = places.PARTS / target.start, TOP / f"compiled/{target.cmake[0]}-{target.processor}-rsp.s"
         call(*compiler, *words, "-o", made, *parts, *more)
         return made.read_bytes()
+
+
+def put_program(out: Path, target: Target, *more: Word) -> None:
+    """Writes the program into a system's folder."""
+    made, path = linked_program(target, "-s", *more), out / target.program
+    if not made:
+        raise Refused(STALE)
+    path.parent.mkdir(exist_ok=True)
+    path.write_bytes(made)
+    path.chmod(0o755)
 
 
 def library(**environment: str) -> Path:

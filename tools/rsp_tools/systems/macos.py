@@ -1,63 +1,57 @@
-"""The library and the proved program for macOS 11, each for Intel and ARM in one file. The library is made of
-the modules of Linux on both processors, compiled for macOS; the program of compiled/. Both are linked against
-the names that libSystem.tbd lists."""
+"""The library and the proved program for macOS 11, each for Intel and ARM in one file, made of compiled/ and
+linked against the names that libSystem.tbd lists."""
 
+import tempfile
 from pathlib import Path
-from typing import List
+from typing import Callable, Dict, List, Tuple
 
-from rsp_tools import build, hardening
-from rsp_tools.packaging.link import STALE
-from rsp_tools.targets import PROCESSORS, TARGETS
+from rsp_tools import hardening
+from rsp_tools.targets import TARGETS
 
-from . import header, packages, places
-from .modules import Source, module
-from .objects import compiled
-from .toolchain import Refused, Word, llvm
+from . import header, places
+from .toolchain import Word, llvm
 
 OLDEST, TARGET = "11.0", TARGETS["macos"]
 
 
-def link(architecture: str, made: Path, at: Path) -> Path:
-    """A shared library for one processor. lld signs that for ARM, without which macOS doesn't load it."""
-    exports, to = at / "exports", at / f"{architecture}.dylib"
+def link(to: Path, triple: str, *words: Word) -> None:
+    """Links a file for one processor. lld signs that for ARM, without which macOS doesn't load it."""
+    more: List[Word] = ["-platform_version", "macos", OLDEST, OLDEST, "-dead_strip", "-o", to]
+    llvm("ld64.lld", "-arch", triple.partition("-")[0], *words, places.PARTS / "libSystem.tbd", *more)
+
+
+def link_library(to: Path, triple: str, assembly: Path) -> None:
+    """A shared library for one processor."""
+    made, exports = to.with_suffix(".o"), to.with_suffix(".exports")
+    llvm("clang", f"--target={triple}", "-c", "-o", made, assembly)
     exports.write_text("".join(f"_{it}\n" for it in header.calls()))
-    words: List[Word] = ["-dylib", "-arch", architecture, "-platform_version", "macos", OLDEST, OLDEST]
-    words += ["-install_name", "@rpath/libbrsp.dylib", "-current_version", header.version()]
+    words: List[Word] = ["-install_name", "@rpath/libbrsp.dylib", "-current_version", header.version()]
     words += ["-compatibility_version", header.interface(), "-exported_symbols_list", exports]
-    llvm("ld64.lld", *words, "-dead_strip", "-o", to, made, places.PARTS / "libSystem.tbd")
-    return to
+    link(to, triple, "-dylib", *words, made)
 
 
-def link_program(to: Path, triple: str, *parts: Path) -> Path:
-    """A program of posix_macos.c and parts in C or assembly, for one processor. lld signs that for ARM."""
+def link_program(to: Path, triple: str, *parts: Path) -> None:
+    """A program of posix_macos.c and parts in C or assembly, for one processor."""
     objects, words = [], ["-std=c11", "-O2", "-ffreestanding", *hardening.words(TARGET.name, "compile")]
     for part in (places.PARTS / TARGET.start, *parts):
         objects.append(to.with_name(f"{to.name}-{part.stem}.o"))
         words_of_part = words if part.suffix == ".c" else []
         llvm("clang", f"--target={triple}", *words_of_part, "-c", "-o", objects[-1], part)
-    words = ["-arch", triple.partition("-")[0], "-platform_version", "macos", OLDEST, OLDEST, "-dead_strip"]
-    llvm("ld64.lld", *words, "-o", to, *objects, places.PARTS / "libSystem.tbd")
-    return to
+    link(to, triple, *objects)
 
 
-def make(out: Path, at: Path, source: Source = module) -> None:
-    """Writes the library's folder, from the modules of a source. `at` is for files on the way."""
-    if not build.is_made("compiled/rsp_main.made"):
-        raise Refused(STALE)
-    target, shared, static, programs = TARGET, [], [], []
-    for processor, triple in target.triples.items():
-        architecture = PROCESSORS[processor].apple
-        made = compiled(source(processor), processor, triple, at)
-        shared.append(link(architecture, made, at))
-        static.append(at / f"{architecture}.a")
-        llvm("llvm-ar", "rcsD", "--format=darwin", static[-1], made)
-        assembly = places.TOP / f"compiled/Darwin-{architecture}-rsp.s"
-        programs.append(link_program(at / f"{architecture}.rsp", triple, assembly))
-    for folder in ("bin", "lib"):
-        (out / folder).mkdir(parents=True)
-    llvm("llvm-lipo", "-create", *programs, "-output", out / target.program)
-    llvm("llvm-lipo", "-create", *shared, "-output", out / "lib" / "libbrsp.dylib")
-    llvm("llvm-lipo", "-create", *static, "-output", out / "lib" / "libbrsp.a")
-    packages.describe(out, target, "libbrsp.dylib", "@rpath/libbrsp.dylib")
-    library = out / "lib" / "libbrsp.dylib"
-    packages.wheel(out, library, library.name, target.wheel, out / target.program)
+MADE: Dict[str, Tuple[str, Callable[[Path, str, Path], None]]] = {
+    TARGET.shared: ("lib", link_library),
+    TARGET.program: ("rsp", link_program),
+}
+
+
+def make(out: Path) -> None:
+    """Writes the folder's files."""
+    for name, (kind, link_kind) in MADE.items():
+        (out / name).parent.mkdir(parents=True)
+        with tempfile.TemporaryDirectory() as at:
+            thin = {triple: Path(at, triple.partition("-")[0]) for triple in TARGET.triples.values()}
+            for triple, to in thin.items():
+                link_kind(to, triple, places.TOP / f"compiled/Darwin-{to.name}-{kind}.s")
+            llvm("llvm-lipo", "-create", *thin.values(), "-output", out / name)

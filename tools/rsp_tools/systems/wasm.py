@@ -5,14 +5,10 @@ import shutil
 from pathlib import Path
 from typing import List
 
-from rsp_tools import build
-from rsp_tools.packaging.link import STALE
-
 from . import header, places
-from .modules import Source
-from .modules import module as module_of
+from .modules import module
 from .rewriting import PSHUFB, rewritten, with_swizzle, without_processor
-from .toolchain import Refused, llvm
+from .toolchain import llvm
 
 CLANG = ["--target=wasm64-unknown-unknown", "-msimd128", "-mbulk-memory", "-ffreestanding"]
 # Without the name of the processor, because heap.c would ask it for its instruction sets.
@@ -30,12 +26,12 @@ def as_ir(source: Path, to: Path) -> None:
     to.write_text(rewritten(to.read_text(), set(), [without_processor]))
 
 
-def objects(at: Path, source: Source = module_of) -> List[Path]:
+def objects(at: Path) -> List[Path]:
     """Compiles the library with its heap and its memory, in a folder. The files to be linked."""
-    module = source("x86_64")
-    (at / "rsp.ll").write_text(rewritten(module.text.read_text(), {PSHUFB}, CHANGES))
+    made = module("x86_64")
+    (at / "rsp.ll").write_text(rewritten(made.text.read_text(), {PSHUFB}, CHANGES))
     as_ir(places.PARTS / "heap.c", at / "heap.ll")
-    flags = [*CLANG, *module.flags, "-Wno-override-module", "-c", "-o"]
+    flags = [*CLANG, *made.flags, "-Wno-override-module", "-c", "-o"]
     for name in PARTS[:2]:
         llvm("clang", *flags, at / f"{name}.o", "-x", "ir", at / f"{name}.ll")
     for name in PARTS[2:]:
@@ -58,15 +54,7 @@ def write_scripts(out: Path) -> None:
         shutil.copyfile(path, out / path.name)
 
 
-def make(out: Path, at: Path, source: Source = module_of) -> None:
-    """Writes the library's folder: compiled/ has what the kit's module gives, and of another source it is
-    compiled here. `at` is for files on the way."""
-    if source != module_of:
-        files = objects(at, source)
-        write_scripts(out)
-        link(out / "rsp.wasm", files)
-        return
-    if not build.is_made("compiled/rsp_c.made"):
-        raise Refused(STALE)
+def make(out: Path) -> None:
+    """Writes the library's folder: compiled/ has what the kit makes."""
     write_scripts(out)
     shutil.copyfile(places.TOP / "compiled/rsp.wasm", out / "rsp.wasm")

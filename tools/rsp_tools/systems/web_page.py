@@ -9,10 +9,9 @@ from typing import Dict
 
 from rsp_tools.page_tables import data
 
-from . import examples, header, manual, places
+from . import examples, header, manual, places, wasm
 
 SOURCES = places.TOP / "page"
-LIBRARY = places.MADE / "wasm64"
 START = "index.html"
 Files = Dict[str, bytes]
 
@@ -20,7 +19,7 @@ Files = Dict[str, bytes]
 def module(about: str, **values: str) -> bytes:
     """A module of JavaScript that exports these values."""
     lines = "".join(f"export const {name} = {value};\n" for name, value in values.items())
-    return f"/** {about}: made by tools/systems. */\n\n{lines}".encode()
+    return f"/** {about}: made by ./release. */\n\n{lines}".encode()
 
 
 def scripts() -> bytes:
@@ -38,10 +37,10 @@ def names() -> bytes:
     return module("Names in scripts", **sets)
 
 
-def parts(library: Path) -> Files:
+def parts() -> Files:
     """All files but index.html, by their names in the folder."""
     found: Files = {it.name: it.read_bytes() for it in [*SOURCES.glob("*.js"), SOURCES / "style.css"]}
-    for path in [*library.glob("*.js"), library / "rsp.wasm"]:
+    for path in [*wasm.SCRIPTS.glob("*.js"), places.TOP / "compiled/rsp.wasm"]:
         found[f"rsp/{path.name}"] = path.read_bytes()
     for name, content in manual.made().items():
         found[f"help/{name}"] = content
@@ -64,6 +63,6 @@ def write(folder: Path, files: Files) -> None:
     (folder / START).write_text(text)
 
 
-def make(folder: Path, library: Path = LIBRARY) -> None:
+def make(folder: Path) -> None:
     """Writes the whole folder, beside which the page needs nothing."""
-    write(folder, parts(library))
+    write(folder, parts())

@@ -1,16 +1,16 @@
-"""The library for Windows on x86-64: the module of Linux on the same processor, compiled for mingw and for
-MSVC. One brsp.dll is for both, because no call takes or returns what belongs to a C library, such as a FILE;
-each has an import library and a static one. Then the proved program, of compiled/."""
+"""The library for Windows on x86-64, made of compiled/ by mingw. One brsp.dll is for mingw and for MSVC,
+because no call takes or returns what belongs to a C library, such as a FILE; each has an import library and a
+static one. Then the proved program, and what pkg-config and CMake read."""
 
+import shutil
+import tempfile
 from pathlib import Path
 
 from rsp_tools import hardening
+from rsp_tools.packaging import link
 from rsp_tools.targets import TARGETS
 
-from . import header, packages, places
-from .modules import Source, module
-from .objects import compiled
-from .rewriting import with_unwind_tables, without_stack_probes
+from . import header, places
 from .toolchain import call, llvm
 
 TARGET = TARGETS["windows-x86_64"]
@@ -19,6 +19,10 @@ GNU, MSVC = TARGET.triples["x86_64"], "x86_64-pc-windows-msvc"
 SAME = "-Wl,--no-insert-timestamp"
 BASE = "-Wl,--image-base,0x180000000"
 SMALL = "-Wl,--gc-sections"
+TEMPLATES = {
+    "lib/pkgconfig": "brsp.pc",
+    "lib/cmake/brsp": "brspConfig.cmake brspConfigVersion.cmake",
+}
 
 
 def resources(at: Path, file: str, kind: str) -> Path:
@@ -36,28 +40,45 @@ def resources(at: Path, file: str, kind: str) -> Path:
     return made
 
 
-def link_dll(to: Path, at: Path, made: Path, exports: Path) -> None:
-    """Links brsp.dll of an object of the library."""
-    words = ["-shared", "-static-libgcc", "-s", SAME, BASE, SMALL, *hardening.words(TARGET.name, "link")]
-    properties = resources(at, to.name, "VFT_DLL")
-    call(TARGET.compiler, *words, "-o", to, made, properties, exports)
-
-
-def make(out: Path, at: Path, source: Source = module) -> None:
-    """Writes the library's folder, from the modules of a source. `at` is for files on the way."""
-    made = source("x86_64")
-    changes = [without_stack_probes, with_unwind_tables]
-    gnu, msvc = (compiled(made, "x86_64", it, at, changes) for it in (GNU, MSVC))
-    for folder in ("bin", "lib"):
-        (out / folder).mkdir(parents=True)
+def make_library(out: Path, at: Path) -> None:
+    """Writes brsp.dll and the four libraries. MSVC has another name for the function that grows the stack."""
+    # GNU's assembler would show this mark of an object to programs.
+    text = (places.TOP / "compiled/Windows-x86_64-lib.s").read_text().replace("\t.globl\t@feat.00\n", "")
+    for name, of_name in ("gnu", text), ("msvc", text.replace("___chkstk_ms", "__chkstk")):
+        (at / f"{name}.s").write_text(of_name)
+        call(TARGET.compiler, "-c", "-o", at / f"{name}.o", at / f"{name}.s")
     exports = at / "rsp.def"
     exports.write_text("".join(f"{it}\n" for it in ("LIBRARY brsp.dll", "EXPORTS", *header.calls())))
-    link_dll(out / "bin" / "brsp.dll", at, gnu, exports)
+    words = ["-shared", "-static-libgcc", "-s", SAME, BASE, SMALL, *hardening.words(TARGET.name, "link")]
+    parts = at / "gnu.o", resources(at, "brsp.dll", "VFT_DLL"), exports
+    call(TARGET.compiler, *words, "-o", out / TARGET.shared, *parts)
     words = ["-m", "i386:x86-64", "-D", "brsp.dll"]
-    llvm("llvm-dlltool", *words, "-d", exports, "-l", out / "lib" / "libbrsp.dll.a")
+    llvm("llvm-dlltool", *words, "-d", exports, "-l", out / "lib/libbrsp.dll.a")
     llvm("llvm-lib", "/machine:x64", f"/def:{exports}", f"/out:{out}/lib/brsp.lib")
-    llvm("llvm-ar", "rcsD", out / "lib" / "libbrsp.a", gnu)
-    llvm("llvm-ar", "rcsD", "--format=coff", out / "lib" / "brsp_static.lib", msvc)
-    program = packages.program(out, TARGET, resources(at, "rsp.exe", "VFT_APP"))
-    packages.describe(out, TARGET, rpath="")
-    packages.wheel(out, out / "bin" / "brsp.dll", "brsp.dll", TARGET.wheel, program)
+    llvm("llvm-ar", "rcsD", out / "lib/libbrsp.a", at / "gnu.o")
+    llvm("llvm-ar", "rcsD", "--format=coff", out / "lib/brsp_static.lib", at / "msvc.o")
+
+
+def describe(out: Path) -> None:
+    """Writes the headers, and what pkg-config and CMake read."""
+    (out / "include").mkdir()
+    for path in places.HEADER.parent.glob("*.h*"):
+        shutil.copyfile(path, out / "include" / path.name)
+    system, processors = TARGET.cmake
+    words = {"PREFIX": "${pcfiledir}/../..", "INCLUDEDIR": "${prefix}/include", "LIBDIR": "${prefix}/lib"}
+    words.update(SYSTEM=system, PROCESSORS=processors, RPATH="")
+    for folder, names in TEMPLATES.items():
+        (out / folder).mkdir(parents=True)
+        for name in names.split():
+            text = header.filled(places.TOP / f"tools/packaging/{name}.in", **words)
+            (out / folder / name).write_text(text)
+
+
+def make(out: Path) -> None:
+    """Writes the folder's files."""
+    for name in "bin", "lib":
+        (out / name).mkdir(parents=True)
+    with tempfile.TemporaryDirectory() as at:
+        make_library(out, Path(at))
+        link.put_program(out, TARGET, resources(Path(at), "rsp.exe", "VFT_APP"))
+    describe(out)
