@@ -2,7 +2,7 @@
 
 Each is made in a copy of the work tree, where its tests run. It is found if a test that passes without it
 fails or doesn't end; a test that isn't collected, or whose fixture fails, finds nothing. A mutation whose
-tests are skipped for want of a tool, or of what tools/systems makes, is skipped. The last line counts what
+tests are skipped for want of a tool is skipped. The last line counts what
 was found and what wasn't, and the status is 1 if anything wasn't.
 
 tests/mutations/MODULE.txt has blocks with an empty line between them, of the lines `file:`; `old:`, which is
@@ -35,6 +35,7 @@ KEYS = [["module", "file", "old", "new", *more] for more in (["tests", "harm"], 
 Mutation = Dict[str, str]  # its lines, and the module in whose file it is
 MOST_DRAWN = 90  # processor seconds after which --drawn begins no other
 KNOWN = ("found", "skipped", "not drawn")
+OTHERS = ("windows-x86_64", "macos-x86_64")  # systems whose tests are outside the gate, so --drawn draws none
 # Without the paths by which tools/python has modules come from here.
 ENV = {name: value for name, value in os.environ.items() if not name.startswith("PYTHON")}
 
@@ -69,7 +70,6 @@ def copy_tree(to: Path) -> Path:
             shutil.copy(TOP / name, to / name)
     git(to, "add", "-A")
     git(to, "commit", "-q", "--allow-empty", "-m", "the work tree")
-    (to / "library/systems").symlink_to(TOP / "library/systems")  # git ignores what tools/systems has made
     return to
 
 
@@ -123,7 +123,8 @@ def main() -> int:
     parser.add_argument("--drawn", action="store_true", help="two processor minutes, drawn by the commit")
     options = parser.parse_args()
     groups: Dict[str, List[Mutation]] = {}
-    for it in (it for name in options.modules or FILES for it in stored(name) if "tests" in it):
+    tried = [it for name in options.modules or FILES for it in stored(name) if "tests" in it]
+    for it in (it for it in tried if not options.drawn or not any(name in it["tests"] for name in OTHERS)):
         groups.setdefault(str(it) if options.drawn else it["tests"], []).append(it)
     order, most = [*groups.values()], MOST_DRAWN if options.drawn else float("inf")
     if options.drawn:
