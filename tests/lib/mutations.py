@@ -2,8 +2,8 @@
 
 Each is made in a copy of the work tree, where its tests run. It is found if a test that passes without it
 fails or doesn't end; a test that isn't collected, or whose fixture fails, finds nothing. A mutation whose
-tests are skipped for want of a tool is skipped. The last line counts what
-was found and what wasn't, and the status is 1 if anything wasn't.
+tests are skipped for want of a tool is skipped. The last line counts what was found and what wasn't, and the
+status is 1 if anything wasn't.
 
 tests/mutations/MODULE.txt has blocks with an empty line between them, of the lines `file:`; `old:`, which is
 there exactly once; `new:`, in its place; `tests:`, the words of tests/all; `harm:`, what a user would suffer.
