@@ -157,15 +157,13 @@ def test_cmake(prefix: Path, folder: Path) -> None:
     check_cmake(prefix, folder / "mine")
 
 
-@pytest.mark.needs("rt")
+@pytest.mark.needs("objcopy")
 def test_two_libraries_in_one_program(library: Path, folder: Path) -> None:
-    """libbrsp.a beside its code as `rt lib` leaves it, like any library of the kit, with calls other_*."""
-    if not (archive := TOP / "crates/rsp_c/out/librsp_c.a").is_file():
-        pytest.skip("the kit's own archive isn't here, which `rt ci` and ./prove make")
-    heap = Path(succeeds("rt", "doc").strip()).parent / "c/liblibc_c.a"
+    """libbrsp.a beside a copy of it with calls other_*, like another library of the kit: each shows its calls
+    alone."""
     names = [f"--redefine-sym={name}=other{name[4:]}" for name in header.calls()]
-    succeeds("objcopy", *names, archive, folder / "other.a")
-    libraries = (library / "libbrsp.a", folder / "other.a", heap)
+    succeeds("objcopy", *names, library / "libbrsp.a", folder / "other.a")
+    libraries = (library / "libbrsp.a", folder / "other.a")
     whole = ("-Wl,--whole-archive", *libraries, "-Wl,--no-whole-archive")
     succeeds(compiled(folder / "two", f"-I{library}", TESTS / "install/installation/two.c", *whole))
 

@@ -2,7 +2,6 @@
 
 import os
 import re
-import shutil
 from pathlib import Path
 from typing import Any, List
 
@@ -91,18 +90,10 @@ def test_under_sanitizers(bench: Bench, folder: Path) -> None:
     assert ended.returncode == 0 and ended.stdout.count("\n") > 100, ended.stdout[-3000:]
 
 
-@pytest.mark.parametrize(
-    "words, status, expected",
-    [
-        ("", 1, "plugin/build: library/c/libbrsp.a isn't there: run library/c/build first\n"),
-        ("--what", 2, "plugin/build [OUT]: makes"),
-        ("--help", 0, "plugin/build [OUT]: makes"),
-    ],
-)
-def test_build_without_library(words: str, status: int, expected: str, folder: Path) -> None:
-    shutil.copytree(TOP / "plugin", folder / "plugin", ignore=shutil.ignore_patterns("*.so"))
-    ended = run(folder / "plugin/build", *words.split())
-    assert (ended.returncode, ended.stdout[: len(expected)]) == (status, expected)
+@pytest.mark.parametrize("word, status", [("--what", 2), ("--help", 0)])
+def test_words_of_build(word: str, status: int) -> None:
+    ended = run(TOP / "plugin/build", word)
+    assert ended.returncode == status and ended.stdout.startswith("plugin/build [OUT]: makes")
 
 
 @pytest.mark.needs(str(HEADERS))

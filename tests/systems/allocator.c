@@ -47,7 +47,7 @@ char *heap_more(size_t len, size_t *got)
 {
     size_t gap = has_gaps && below(2) ? PAGE : 0, more = (len + PAGE - 1) / PAGE * PAGE;
     if (len > ARENA || handed + gap + more > allowed) return NULL;
-    if (gap && mprotect(arena + handed, gap, PROT_NONE)) return NULL; /* the gap is nobody's */
+    if (gap && mprotect(arena + handed, gap, PROT_READ)) return NULL; /* the gap is nobody's; a sanitizer looks for leaks there */
     *got = more;
     handed += gap + more;
     return arena + handed - more;

@@ -1,20 +1,8 @@
-"""What the modules of the kit refuse: it is said in a line."""
-
-from pathlib import Path
+"""What the tools of the kit refuse: it is said in a line."""
 
 import pytest
 
-from rsp_tools.systems import modules, toolchain
-
-
-def test_sources_that_are_not_proved(monkeypatch: pytest.MonkeyPatch, folder: Path) -> None:
-    """Nothing in compiled/ is made of what was built of other sources."""
-    monkeypatch.setattr(modules.build.Build, "is_built", lambda _: False)
-    monkeypatch.setattr(modules, "TOOLS", folder)
-    (folder / "build").symlink_to("/bin/false")
-    for crate in modules.LIBRARY, modules.PROGRAM:
-        with pytest.raises(toolchain.Refused, match=f"{crate.name} isn't proved"):
-            modules.mark(crate)
+from rsp_tools.systems import toolchain
 
 
 @pytest.mark.needs("rt")
