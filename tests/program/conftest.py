@@ -16,6 +16,10 @@ LEFT_OUT: Dict[str, Dict[str, str]] = {
     **{it: {} for it in ("released", "macos", *LINUX)},
     "windows-x86_64": {
         "scripts.py::test_refused[run --save \\": NO_TEXT,
+        "scripts.py::test_files[no folder, explained": "Windows gives other causes (docs/SYSTEMS.md)",
+        "scripts.py::test_files[folder, explained": "Windows gives other causes (docs/SYSTEMS.md)",
+        "scripts.py::test_files[words to a stream": "wine shows Linux's /dev, whose streams aren't its own",
+        "scripts.py::test_input_is_kept[run --save": "Windows has no name for standard input",
         "saves.py::test_limit_": "the signal of the limit ends wine",
         "saves.py::test_link_to_nothing": "wine shows no link that leads to nothing",
         "saves.py::test_stdout_to_a_pipe": "Windows has no such files",
