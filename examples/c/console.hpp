@@ -1,7 +1,11 @@
 // A console that owns RDRAM and the registers of the RDP, for the machine of brsp.hpp (C++17). See docs/EMBEDDING.md.
 // A Unit is uint8_t, or uint32_t for RDRAM as words of the host.
+#pragma once
 #include "brsp.hpp"
-#include <algorithm>
+#include <algorithm> // (std::min) has parentheses because windows.h of Microsoft makes min a macro
+#include <cstddef>
+#include <cstdint>
+#include <vector>
 
 template <class Unit> class Console {
 public:
@@ -15,7 +19,7 @@ public:
     {
         uint32_t left = budget;
         while (left) {
-            brsp_reached event = machine.event(std::min(left, 1000000u), 0xff00, 0xff00 | BRSP_STATUS_WRITES);
+            brsp_reached event = machine.event((std::min)(left, 1000000u), 0xff00, 0xff00 | BRSP_STATUS_WRITES);
             left -= event.at.stop.steps;
             if (event.at.stop.reason == BRSP_AT_LIMIT || event.at.stop.reason == BRSP_AT_STATUS) continue;
             if (event.at.stop.reason != BRSP_AT_DMA && event.at.stop.reason != BRSP_AT_MOVE) break;
@@ -32,7 +36,7 @@ public:
     }
 
     // Whether the RSP's interrupt is raised. The CPU clears it by SP_STATUS.
-    bool interrupt()
+    [[nodiscard]] bool interrupt() noexcept
     {
         brsp_sp_words sp;
         return brsp_sp(machine.handle(), &sp) == BRSP_OK && sp.interrupt;
@@ -52,7 +56,7 @@ public:
     }
 
     // All of the console as bytes: the machine's savestate, dpc, rdram; the same bytes for each Unit.
-    brsp::machine::bytes save()
+    [[nodiscard]] brsp::machine::bytes save()
     {
         brsp::machine::bytes out = machine.save_state();
         size_t begin = out.size();
@@ -84,7 +88,7 @@ private:
         for (uint32_t row = 0; row < dma.rows; row++, at += dma.skip)
             for (uint32_t left = dma.length; left; left -= n, sp = (sp + n) % 4096, at += n) {
                 at %= PAST_END;
-                n = std::min({ left, 4096 - sp, (at < SIZE ? SIZE : PAST_END) - at });
+                n = (std::min)({ left, 4096 - sp, (at < SIZE ? SIZE : PAST_END) - at });
                 if (!dma.to_rdram) put(dma.bank, sp, at < SIZE ? &rdram[at / sizeof(Unit)] : ZEROS, n);
                 else if (at < SIZE) get(dma.bank, sp, &rdram[at / sizeof(Unit)], n);
             }

@@ -19,6 +19,9 @@
  *   - No signal handler makes a call. If a process with more than one thread forks, no call in the child
  *     makes or frees a handle, reads a text, or uses a session, because these calls allocate or free memory.
  *   - A call has BRSP_STACK bytes of stack.
+ * To find a call that breaks one, run the program in valgrind. Compilers' sanitizers don't see what the
+ * library itself reads and writes, because it is assembly without their checks: under AddressSanitizer a
+ * call with a machine that was freed can return BRSP_OK.
  *
  * Postconditions: every call returns, whatever numbers it gets, and all calls except brsp_version, brsp_free
  * and brsp_session_free return a status. If the status isn't BRSP_OK, no machine has changed, and neither

@@ -22,7 +22,7 @@
 #if defined(__GNUC__)
 #pragma GCC diagnostic pop
 #endif
-#include <algorithm>
+#include <algorithm> /* (std::min) has parentheses because windows.h of Microsoft makes min a macro */
 #include <cstddef>
 #include <cstdio>
 #include <cstdlib>
@@ -107,6 +107,15 @@ struct call {
     const char *owner = "machine";
 };
 
+/* The texts as one. It is used where a `+` would have a temporary after a literal, because gcc 12 warns of
+ * that without cause (-Wrestrict, at -O3 from C++20 on). */
+inline std::string joined(std::initializer_list<std::string_view> texts)
+{
+    std::string out;
+    for (const std::string_view it : texts) out += it;
+    return out;
+}
+
 inline std::string shown(const argument &it)
 {
     static const char *const names[] = { "DMEM", "IMEM", "RDRAM" };
@@ -122,7 +131,7 @@ inline std::string out_of_range(const call &of)
             return std::string(it.name) + " is " + std::to_string(it.number) + ", not " + r.text;
     }
     for (const argument &it : of.given) {
-        const std::string name = "{" + std::string(it.name) + "}";
+        const std::string name = joined({ "{", it.name, "}" });
         const size_t at = text.find(name);
         if (at != std::string::npos) text.replace(at, name.size(), shown(it));
     }
@@ -134,7 +143,7 @@ inline std::string sentence(uint32_t status, const call &of)
 {
     const std::string n = of.given.size() ? std::to_string(of.given.begin()->number) : "it";
     switch (status) {
-    case BRSP_NO_MACHINE: return "the " + std::string(of.owner) + " is gone: it was moved from";
+    case BRSP_NO_MACHINE: return joined({ "the ", of.owner, " is gone: it was moved from" });
     case BRSP_NO_MEMORY: return "an allocation failed";
     case BRSP_OUT_OF_RANGE: return out_of_range(of);
     case BRSP_NO_MEANING: return "the text isn't UTF-8";
@@ -181,13 +190,13 @@ inline uint32_t ended(uint32_t status, const char *name, const char *together = 
 }
 
 /* The first element of a buffer, which is never null. */
-template <class Data> inline auto at(Data &data) -> decltype(data.data())
+template <class Data> inline auto at(Data &data) noexcept -> decltype(data.data())
 {
     static typename Data::value_type none;
     return data.empty() ? &none : data.data();
 }
 
-inline const uint8_t *at(std::string_view text)
+inline const uint8_t *at(std::string_view text) noexcept
 {
     return reinterpret_cast<const uint8_t *>(text.empty() ? "" : text.data());
 }
@@ -229,7 +238,7 @@ inline std::string printable(std::string_view text, size_t line)
 {
     std::string out;
     char hex[5];
-    for (; line > 1; line--) text.remove_prefix(std::min(text.find('\n'), text.size() - 1) + 1);
+    for (; line > 1; line--) text.remove_prefix((std::min)(text.find('\n'), text.size() - 1) + 1);
     text = text.substr(0, text.find('\n'));
     const size_t first = text.find_first_not_of(" \t\r"), last = text.find_last_not_of(" \t\r");
     if (first == std::string_view::npos) return out;
@@ -249,11 +258,11 @@ inline std::string allowed(const brsp_operand &found, uint32_t fault)
     if (!found.number) return span;
     if (fault == BRSP_FAULT_LABEL_MISSING) form = "the label of a line, or";
     if (found.step) span = std::to_string(found.low) + " to " + std::to_string(found.high);
-    if (found.step > 1) span += ", a multiple of " + std::to_string(found.step);
+    if (found.step > 1) span += joined({ ", a multiple of ", std::to_string(found.step) });
     if (!form.empty() && !span.empty()) form += " ";
     if (is_form && (found.kind == BRSP_OPERAND_SCALAR_MEMORY || found.kind == BRSP_OPERAND_VECTOR_MEMORY))
         span += ", and a scalar register in parentheses";
-    return "operand " + std::to_string(found.number) + " may be " + form + span;
+    return joined({ "operand ", std::to_string(found.number), " may be ", form, span });
 }
 
 [[noreturn]] inline void refuse_text(std::string_view text, uint32_t origin, const brsp_assembled &about)
@@ -290,7 +299,7 @@ public:
     }
     ~owner() { release(&it); }
     /* The handle, for calls of brsp.h. It holds nothing after a move. */
-    [[nodiscard]] Handle *handle() const { return &it; }
+    [[nodiscard]] Handle *handle() const noexcept { return &it; }
 
 protected:
     mutable Handle it = BRSP_NONE;
@@ -397,23 +406,26 @@ protected:
 /* The lines of `regs`, `vregs`, `acc` and `flags` of a script. */
 [[nodiscard]] inline std::string to_string(const brsp_state &s)
 {
-    using detail::hex;
-    const auto number = [](unsigned n) { return (n < 10 ? "0" : "") + std::to_string(n); };
-    std::string out = "pc " + hex(s.pc, 3) + " npc " + hex(s.npc, 3);
+    using detail::hex, detail::joined;
+    const auto number = [](unsigned n) { return joined({ n < 10 ? "0" : "", std::to_string(n) }); };
+    std::string out = joined({ "pc ", hex(s.pc, 3), " npc ", hex(s.npc, 3) });
     for (unsigned n = 0; n < 32; n++) {
-        if (n % 4 == 0) out += "\nr" + number(n);
-        out += " " + hex(s.words[n], 8);
+        if (n % 4 == 0) out += joined({ "\nr", number(n) });
+        out += joined({ " ", hex(s.words[n], 8) });
     }
     for (unsigned n = 0; n < 32; n++) {
-        out += "\nv" + number(n);
-        for (const uint16_t lane : s.vectors[n]) out += " " + hex(lane, 4);
+        out += joined({ "\nv", number(n) });
+        for (const uint16_t lane : s.vectors[n]) out += joined({ " ", hex(lane, 4) });
     }
     const brsp_accumulators &a = s.accumulators;
-    for (unsigned n = 0; n < 8; n++)
-        out += "\na" + std::to_string(n) + " " + hex(a.high[n], 4) + hex(a.middle[n], 4) + hex(a.low[n], 4);
+    for (unsigned n = 0; n < 8; n++) {
+        out += joined({ "\na", std::to_string(n), " " });
+        out += joined({ hex(a.high[n], 4), hex(a.middle[n], 4), hex(a.low[n], 4) });
+    }
     const brsp_flag_bits &f = s.flags;
-    out += "\nvco " + hex(f.differ, 2) + hex(f.carry, 2) + " vcc " + hex(f.clip, 2) + hex(f.compare, 2);
-    out += " vce " + hex(f.extra, 2) + " in " + hex(s.divider.input, 4) + " out " + hex(s.divider.output, 4);
+    out += joined({ "\nvco ", hex(f.differ, 2), hex(f.carry, 2) });
+    out += joined({ " vcc ", hex(f.clip, 2), hex(f.compare, 2), " vce ", hex(f.extra, 2) });
+    out += joined({ " in ", hex(s.divider.input, 4), " out ", hex(s.divider.output, 4) });
     return out + " loaded " + hex(s.divider.loaded, 1);
 }
 
@@ -450,7 +462,8 @@ public:
     void set(const brsp_state &state)
     {
         const uint32_t status = brsp_set(&it, &state);
-        if (status == BRSP_OUT_OF_RANGE) detail::refuse(rsp_error(status, "set: " + refusal(state)));
+        if (status == BRSP_OUT_OF_RANGE)
+            detail::refuse(rsp_error(status, detail::joined({ "set: ", refusal(state) })));
         detail::done(status, { "set", {} });
     }
     [[nodiscard]] size_t image_length() const { return filled<size_t>("image_length", brsp_image_length); }
@@ -693,8 +706,8 @@ private:
         }
         brsp_part part{};
         const uint64_t value = brsp_compare_part(&s, BRSP_COMPARE_PARTS - 17 + n, &part);
-        return "sp[" + std::to_string(n) + "] is 0x" + detail::hex(value, 1) + ", which " + part.name +
-               " can't hold";
+        return detail::joined({ "sp[", std::to_string(n), "] is 0x", detail::hex(value, 1), ", which ",
+                                part.name, " can't hold" });
     }
 };
 
@@ -759,13 +772,14 @@ struct step_difference {
  * emulator`. */
 [[nodiscard]] inline std::string to_string(const step_difference &it)
 {
-    const std::string place = detail::hex(it.line.address, 3);
-    std::string out = "step " + std::to_string(it.step) + ", " + place + ": " + it.line.text;
+    using detail::joined;
+    const std::string place = detail::hex(it.line.address, 3), step = std::to_string(it.step);
+    std::string out = joined({ "step ", step, ", ", place, ": ", it.line.text });
     if (it.steps != 1)
-        out = "steps " + std::to_string(it.step - it.steps + 1) + " to " + std::to_string(it.step) +
-              ", from " + place + " on: no step alone differs, so get and set leave something out";
+        out = joined({ "steps ", std::to_string(it.step - it.steps + 1), " to ", step, ", from ", place,
+                       " on: no step alone differs, so get and set leave something out" });
     for (const brsp_part &part : it.parts)
-        out += "\n  " + to_string(part, "on the machine", "in the emulator");
+        out += joined({ "\n  ", to_string(part, "on the machine", "in the emulator") });
     return out;
 }
 
@@ -801,7 +815,7 @@ template <class Emulator> struct emulated {
         out.memory = [](void *self, uint32_t bank, uint32_t address, uint8_t *to, size_t length) {
             make(self, [&](Emulator &e) {
                 const bytes found = e.memory(bank, address, length);
-                if (!found.empty()) std::memcpy(to, found.data(), std::min(found.size(), length));
+                if (!found.empty()) std::memcpy(to, found.data(), (std::min)(found.size(), length));
             });
         };
         out.load = [](void *self, uint32_t bank, uint32_t address, const uint8_t *from, size_t length) {
@@ -839,7 +853,7 @@ template <class Emulator>
 }
 
 /* The version of the library's interface, which should be BRSP_VERSION. */
-[[nodiscard]] inline uint32_t version() { return brsp_version(); }
+[[nodiscard]] inline uint32_t version() noexcept { return brsp_version(); }
 
 } // namespace brsp
 

@@ -377,6 +377,9 @@ static inline uint32_t brsp_compare_sides_of(brsp_compare_sides *s, uint32_t eve
  *
  * Returns BRSP_NO_MACHINE; BRSP_OUT_OF_RANGE unless `every` is 1 to 1000000; BRSP_NO_MEMORY. With any status
  * `out` is filled, and brsp_difference_free frees what it holds. */
+#ifdef __GNUC__
+__attribute__((__warn_unused_result__)) /* without memory out->count is 0, as without a difference */
+#endif
 static inline uint32_t brsp_first_difference(brsp_machine *m, const brsp_emulator *e, uint32_t every,
                                              uint32_t limit, brsp_difference *out)
 {

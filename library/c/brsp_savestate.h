@@ -113,7 +113,8 @@ static inline uint32_t brsp_save_state(brsp_machine *m, uint8_t *bytes, size_t c
     brsp_state state;
     if (status != BRSP_OK) return status;
     *length = BRSP_SAVESTATE_BYTES + image;
-    if (capacity < *length) return BRSP_NO_ROOM;
+    /* In this form gcc sees that nothing is written to a null `bytes`, and doesn't warn (-Warray-bounds). */
+    if (capacity < BRSP_SAVESTATE_BYTES || capacity - BRSP_SAVESTATE_BYTES < image) return BRSP_NO_ROOM;
     head[0] = 0x52535053; /* RSPS */
     head[1] = BRSP_SAVESTATE_VERSION;
     head[2] = (uint32_t)image;

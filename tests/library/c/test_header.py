@@ -1,20 +1,36 @@
 """brsp.h has the calls, numbers, layouts and names of crates/rsp_c, and libbrsp.so exports its calls.
 
-They fail if one differs, or a call of brsp.h has no comment.
+They fail if one differs, if a call of brsp.h has no comment, or if a compiler warns of a header.
 """
 
 import re
+from itertools import product
 from pathlib import Path
 from typing import Dict
 
 import pytest
 
+from lib import TOP
 from lib.library import shapes
 from lib.library.programs import main_of, output_of
-from lib.pages import page
-from lib.processes import succeeds
+from lib.packages import need
+from lib.pages import data, page
+from lib.processes import STRICT, compiled, succeeds
 
 HEADER = page("library/c/brsp.h")
+FOLDERS = [f"-I{TOP / it}" for it in ("examples/c", "conformance/campaigns")]
+# How files that use the headers are compiled: for one standard at each level, and for each standard at one
+# level, because all levels of all standards take minutes.
+LEVELS = ("-O0", "-O1", "-O2", "-O3", "-Os")
+OF_C = ("-std=c99 -O0", "-std=c17 -O0", "-std=c2x -O0", "-std=c11 -O1 -fsanitize=address,undefined")
+OF_CPP = ("-std=c++17 -O0", "-std=c++2b -O0", "-std=c++17 -O1 -fno-exceptions")
+C_FILES = ("tests/library/c/uses.c", "conformance/campaigns/library.c")
+USES = [
+    *product(C_FILES, ("gcc", "clang"), [f"-std=c11 {it}" for it in LEVELS]),
+    *product(C_FILES, ("gcc", "clang"), OF_C),
+    *product(["tests/library/c/uses.cpp"], ("g++", "clang++"), [f"-std=c++20 {it}" for it in LEVELS]),
+    *product(["tests/library/c/uses.cpp"], ("g++", "clang++"), OF_CPP),
+]
 
 
 def test_calls() -> None:
@@ -79,3 +95,18 @@ def test_names(library: Path, folder: Path) -> None:
         names = {value: name for name, value in known.items()}
         expected += [f"{kind} {n} {names.get(n, 'unknown')}" for n in range(150)]
     assert output_of(folder, main_of("\n".join(lines))).splitlines() == expected
+
+
+@pytest.mark.parametrize("source, compiler, way", USES)
+def test_warnings(source: str, compiler: str, way: str, folder: Path) -> None:
+    """A header of which gcc warns at one level, and not at another, breaks a user's build with -Werror."""
+    need(compiler)
+    words = (*STRICT, "-Wpedantic", "-Wconversion", "-Wshadow", *FOLDERS, *way.split(), "-c", TOP / source)
+    compiled(folder / "object", *words, compiler=compiler)
+
+
+def test_uses() -> None:
+    """What is compiled for warnings uses each name of brsp.hpp, and each function that brsp.h defines."""
+    used = re.findall(r"\w+", page("tests/library/c/uses.c") + page("tests/library/c/uses.cpp"))
+    names = [row["C++"].rpartition("::")[2].strip("~-") for row in data("calls")]
+    assert {*names, *re.findall(r"static inline .*(brsp_\w+)\(", HEADER)} - {*used, ""} == set()
