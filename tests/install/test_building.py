@@ -167,6 +167,8 @@ def test_edits_while_it_proves(program_repository: ToyRepository, folder: Path) 
 def test_another_kit(library_repository: ToyRepository, folder: Path) -> None:
     """One of another logic is refused. Without functions that tools/build calls, `rt` alone proves all."""
     repository = library_repository.copied(folder)
+    with repository.changed(DECODE, faulty):
+        assert "rsp_decode isn't proved, for the reason above" in repository.run(C, "other version").last
     repository.edit(DECODE, "0", "1")
     result = repository.run(C, "other logic")
     assert result.status == 1 and "the kit here is `rattle-kit-0 logic 0`" in result.last

@@ -69,6 +69,14 @@ def prove(crate: Any, jobs: int) -> int:
             return 2
 
 
+def prove_alone(name: str) -> int:
+    """Proves a library by `rt lib`. Returns the status."""
+    folder = CRATES / name
+    (folder / "out").mkdir(exist_ok=True)
+    with (folder / "out/proof.log").open("w") as log:
+        return subprocess.run(["rt", "lib"], cwd=folder, stdout=log, stderr=log).returncode
+
+
 class Proof:
     """The libraries that are left to prove, and those that are being proved."""
 
@@ -125,7 +133,7 @@ def prove_below(tops: Sequence[str], say: Callable[[str], None]) -> str:
     names = [*dict.fromkeys(name for top in tops for name in with_below(top)[:-1])]
     rtlib = program()
     if not rtlib:
-        return next((it for it in names if subprocess.run(["rt", "lib"], cwd=CRATES / it).returncode), "")
+        return next(filter(prove_alone, names), "")
     guarded()
     known: Dict[str, Any] = {}
     crates = [rtlib.Crate(str(CRATES / name), str(TOP), known) for name in [*names, *tops]]
