@@ -7,3 +7,4 @@ pub mod Walks
 pub mod Words
 pub mod Stores
 pub mod Events
+pub mod DmaWrites

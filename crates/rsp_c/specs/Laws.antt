@@ -1,7 +1,8 @@
--- What C gets it can set, and what it sets it gets. What C does at a DMA is a step.
+-- What C gets it can set, and what it sets it gets. What C does at a DMA is a step, or the write that starts the DMA.
 use Rattle.std.specs.Prelude.{◌≡◌, ◌<◌, ℕ, List, length, slice_index, IsOkAnd}
 use Rattle.rsp_machine.specs.State.{State, IsState}
 use Rattle.rsp_machine.specs.Registers.{registers_of, with_registers}
+use Rattle.rsp_machine.specs.Host.{register_written}
 use Rattle.rsp_machine.specs.Step.{step_of}
 use Rattle.rsp_machine.specs.Pass.{pass_dma_of}
 use Rattle.rsp_machine.specs.DescribedDmas.{moved_as_described}
@@ -10,6 +11,7 @@ use Rattle.rsp_c.specs.declared.c_structs.RspState.{RspState}
 use Rattle.rsp_c.specs.States.{c_state, registers_from_c}
 use Rattle.rsp_c.specs.Faults.{state_fault}
 use Rattle.rsp_c.specs.Events.{event_of, after_event}
+use Rattle.rsp_c.specs.DmaWrites.{dma_written, dma_of_write}
 
 -- The registers of a machine, as brsp_get gives them, have no fault, and set again in it they leave it.
 abbrev pub SetAsGot : Type 0
@@ -44,3 +46,8 @@ abbrev pub EventsAreSteps : Type 0
 EventsAreSteps = (n reads writes : ℕ) (d : Debugging) →
     let event = event_of n reads writes d in let s = (after_event n reads writes d).state in
     IsState s → event.at.stop.reason ≡ 6 → IsOkAnd (pass_dma_of s) (λ t. moved_as_described event.dma t ≡ (step_of s).1)
+
+-- What brsp_write_dma leaves is, once the bytes are copied as the call describes them, what brsp_write leaves. If the write starts no DMA, the
+-- zeros describe no bytes.
+abbrev pub DmaWritesAreWrites : Type 0
+DmaWritesAreWrites = (n value : ℕ) (s : State) → IsState s → moved_as_described (dma_of_write n value s) (dma_written n value s) ≡ register_written n value s

@@ -2,6 +2,7 @@ pub mod Answers
 pub mod Bytes
 pub mod Calls
 pub mod Changes
+pub mod DmaWrites
 pub mod Events
 pub mod Explained
 pub mod Faults

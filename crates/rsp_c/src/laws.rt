@@ -2,7 +2,7 @@
 
 ghost use Rattle.rsp_c.specs.Statuses.{AreNumbers};
 ghost use Rattle.rsp_c.specs.Changes.{ChangesShowStores};
-ghost use Rattle.rsp_c.specs.Laws.{SetAsGot, GotAsSet, EventsAreSteps};
+ghost use Rattle.rsp_c.specs.Laws.{SetAsGot, GotAsSet, EventsAreSteps, DmaWritesAreWrites};
 
 /// What `brsp_get` gives, `brsp_set` takes, and the machine stays as it is.
 pub fn set_as_got()
@@ -31,4 +31,10 @@ pub fn changes_show_stores()
 #[tactic(auto, using(crate::proofs::Events::events))]
 pub fn events_are_steps()
     ensures { EventsAreSteps }
+{}
+
+/// What `brsp_write_dma` leaves is, once a host has copied the bytes as the call describes them, what `brsp_write` leaves.
+#[tactic(auto, using(crate::proofs::DmaWrites::dma_writes))]
+pub fn dma_writes_are_writes()
+    ensures { DmaWritesAreWrites }
 {}
