@@ -1,9 +1,9 @@
 /** Loads rsp.wasm, or says in a sentence why there is none. */
 
-const NEEDED = "rsp needs WebAssembly with 64-bit memories: Chrome and Edge have them since 133, Firefox since 134, "
-  + "Node since 24, or since 20 with --experimental-wasm-memory64; Safari hasn't";
-/** The least module with a 64-bit memory: the head of all modules, and a section with one memory of no pages. */
-const HEAD = [0, 0x61, 0x73, 0x6d, 1, 0, 0, 0], MEMORY = [5, 3, 1, 4, 0];
+const NEEDED = "rsp needs WebAssembly with SIMD: Chrome and Edge have it since 91, Firefox since 89, Safari since 16.4";
+/** The head of all modules, and the rest of a small one: a function that makes lanes of a number, by SIMD. */
+const HEAD = [0, 0x61, 0x73, 0x6d, 1, 0, 0, 0];
+const SIMD = [1, 4, 1, 0x60, 0, 0, 3, 2, 1, 0, 10, 9, 1, 7, 0, 0x41, 0, 0xfd, 0x0f, 0x1a, 0x0b];
 
 /** The bytes of the module: from the disk in Node, else as they are served, with any type. */
 async function compiled(url) {
@@ -18,7 +18,7 @@ async function compiled(url) {
 
 /** Why these bytes aren't a module here. */
 function fault_of(bytes) {
-  if (!WebAssembly.validate(new Uint8Array([...HEAD, ...MEMORY]))) return NEEDED;
+  if (!WebAssembly.validate(new Uint8Array([...HEAD, ...SIMD]))) return NEEDED;
   if (HEAD.every((it, n) => it === bytes[n])) {
     return `rsp.wasm isn't whole: ${bytes.length} bytes came, which are no module`;
   }

@@ -34,7 +34,7 @@ library/rust/Cargo.toml library/rust/build.rs library/rust/src/lib.rs library/c/
 docs/SYSTEMS.md examples/c/lockstep.c microcode/copy.s
 library/rust/lib/x86_64-pc-windows-gnu/libbrsp.a library/rust/lib/x86_64-pc-windows-msvc/brsp_static.lib
 """,
-    "wasm64": """
+    "wasm": """
 package.json rsp.js rsp.d.ts rsp.wasm docs/EMBEDDING.md examples/js/lockstep.js microcode/copy.s
 """,
     "page": "index.html",
@@ -75,7 +75,7 @@ def test_archive(released: Path, folder: Path, name: str) -> None:
     check_pack(archive)
     check_date(archive)
     top = unpacked(archive, folder)
-    assert top.name == ("package" if name == "wasm64" else f"rsp-{NUMBER}-{name}")  # npm wants that
+    assert top.name == ("package" if name == "wasm" else f"rsp-{NUMBER}-{name}")  # npm wants that
     check_common(top)
     assert broken_everywhere(top, 0 if name == "page" else 21) == []
     assert [it for it in HELD[name].split() if not (top / it).is_file()] == []
@@ -90,7 +90,7 @@ def test_archive(released: Path, folder: Path, name: str) -> None:
 
 def test_package(released: Path, folder: Path) -> None:
     """Each file that package.json names is there."""
-    top = unpacked(released / f"first/rsp-{NUMBER}-wasm64.tgz", folder)
+    top = unpacked(released / f"first/rsp-{NUMBER}-wasm.tgz", folder)
     described = json.loads((top / "package.json").read_text())
     named = [described["types"], described["exports"]["."]["default"], described["exports"]["./rsp.wasm"]]
     assert [name for name in named if not (top / name).is_file()] == []

@@ -6,7 +6,7 @@ is assembled than the kit's, if ./prove passes what is stale, or if NOTICE leave
 
 import re
 from pathlib import Path
-from typing import Tuple
+from typing import Dict, Tuple
 
 import pytest
 
@@ -97,6 +97,23 @@ def test_what_prove_says(
     assert run("kit 2", "sum 2", b"2\n") == (1, "2 passed, 3 failed")
     (folder / "b.s").write_bytes(b"2\n")
     assert run("kit 2", "sum 1", b"2\n", LIBRARY) == (1, "4 passed, 1 failed")
+
+
+def test_other_tools(monkeypatch: pytest.MonkeyPatch, folder: Path) -> None:
+    """With other versions of binaryen and wabt rsp.wasm stays, except if it is of another module."""
+
+    def made(version: str, module: bytes) -> Dict[str, bytes]:
+        monkeypatch.setattr(assemble, "COMPILED", folder)
+        monkeypatch.setattr(assemble, "versions", lambda: version)
+        monkeypatch.setattr(assemble, "lowered", lambda it: version.encode() + it)
+        return assemble.with_short_memory(module)
+
+    first = made("1", b"a")
+    assert first["rsp.wasm"] == b"1a" and first["rsp.wasm.made"].startswith(b"1\n")
+    for name, data in first.items():
+        (folder / name).write_bytes(data)
+    assert made("2", b"a") == first
+    assert made("2", b"b")["rsp.wasm"] == b"2b"
 
 
 def test_mutations(folder: Path) -> None:

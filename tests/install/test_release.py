@@ -81,7 +81,7 @@ WINDOWS = packages_of("windows-x86_64")
     [
         (["--untested"], f"{WINDOWS} cmark-gfm binutils gcc {LINUX}"),
         (["windows-x86_64"], WINDOWS),
-        (["page", "wasm64"], "cmark-gfm"),
+        (["page", "wasm"], "cmark-gfm"),
         (["wheels"], f"binutils gcc {LINUX} {WINDOWS}"),
     ],
     ids=str,
@@ -95,10 +95,10 @@ def test_missing_packages(folder: Path, words: list[str], needed: str) -> None:
 def test_made_again(folder: Path, monkeypatch: pytest.MonkeyPatch) -> None:
     """The new folder takes the place of the old one."""
     monkeypatch.setattr(release, "TOP", folder)
-    (folder / "dist/wasm64").mkdir(parents=True)
-    (folder / "dist/wasm64/old.js").touch()
-    release.put_folders(["wasm64"])
-    assert {it.name for it in (folder / "dist/wasm64").iterdir()} >= {"rsp.js", "rsp.wasm"}
+    (folder / "dist/wasm").mkdir(parents=True)
+    (folder / "dist/wasm/old.js").touch()
+    release.put_folders(["wasm"])
+    assert {it.name for it in (folder / "dist/wasm").iterdir()} >= {"rsp.js", "rsp.wasm"}
     assert [it.name for it in folder.rglob("*") if it.name in ("old.js", "old")] == []
 
 

@@ -179,7 +179,7 @@ def test_unproved_files() -> None:
     files = {name for name in rows if name.endswith(".c")}
     assert {name.rpartition("/")[2] for name in files} == linked()
     # What changes the kit's module before or after clang compiles it.
-    changing = {"tools/rsp_tools/systems/rewriting.py", "tools/rsp_tools/systems/objects.py"}
+    changing = {f"tools/rsp_tools/systems/{it}.py" for it in ("rewriting", "objects", "lowering")}
     assert {*rows} == files | headers() | changing
     tests = {name: re.findall(r"`(tests/[^`]*)`", cell) for name, cell in rows.items()}
     assert [name for name, paths in tests.items() if not paths] == []

@@ -29,7 +29,7 @@ def test_lockstep(runner: Any) -> None:
         assert runner.run(made).stdout == LOCKSTEP, kind
 
 
-@on(*COMPILED, "wasm64")
+@on(*COMPILED, "wasm")
 def test_failing_allocations(runner: Any) -> None:
     words = ("-Dmain=all_calls", "-DQUIET", "-c")
     part = runner.compile(SOURCES / "calls.c", *words, name="all_calls.o", library=[])
@@ -42,6 +42,6 @@ def test_limits(runner: Any, name: str) -> None:
     runner.passes(runner.compile(SOURCES / f"{name}.c", *runner.threads))
 
 
-@on("wasm64")
+@on("wasm")
 def test_memory_is_given_back(runner: Any) -> None:
     runner.passes(runner.compile(SOURCES / "balance.c", COUNTED))

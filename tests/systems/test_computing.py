@@ -159,7 +159,7 @@ def test_planted_table(runner: Runner, expected: Lines) -> None:
     assert any(result(seed, FEW)[:-1] != expected(seed, FEW)[:-1] for seed in SEEDS)
 
 
-@on("wasm64", "wasm64-node")
+@on("wasm", "wasm-node")
 def test_planted_table_in_wasm(runner: Runner) -> None:
     """Vectors find it."""
     at, table = runner.at / "planted", struct.pack("<512H", *struct.unpack(">512H", ENTRIES))

@@ -100,23 +100,22 @@ def lacking(host: Host, folder: Path) -> Path:
 
 HTML, ABSENT = b"<!doctype html>\n<title>Not here</title>\n", "isn't served: 404 File not found."
 NEWER = "A newer page may be there: reload it."
-NO_MEMORIES = (
-    "rsp needs WebAssembly with 64-bit memories: Chrome and Edge have them since 133, Firefox since 134, "
+NO_SIMD = (
+    "rsp needs WebAssembly with SIMD: Chrome and Edge have it since 91, Firefox since 89, Safari since 16.4."
 )
-NO_MEMORIES += "Node since 24, or since 20 with --experimental-wasm-memory64; Safari hasn't."
 NO_MODULE = (
     'rsp.wasm isn\'t a module of WebAssembly: it begins with "<!doctype html>\\n", so something else was '
 )
 NO_MODULE += "served."
-# A kind of memory that no browser has, as 64 bits are for older ones: the library asks for it, and has it.
-NONE = bytes([5, 3, 1, 68, 0])
-MEMORIES = {
-    "rsp/module.js": lambda it: it.replace(b"[5, 3, 1, 4, 0]", str([*NONE]).encode()),
+# An instruction that no browser has, as SIMD is for older ones: the library asks for it, and its module has it.
+NONE = bytes([10, 6, 1, 4, 0, 253, 255, 11])
+LATER = {
+    "rsp/module.js": lambda it: it.replace(b"const SIMD = [", f"const SIMD = {[*NONE]}; [".encode()),
     "rsp/rsp.wasm": lambda it: it[:8] + NONE,
 }
 # What is made of files of the page, None for those that aren't there, and what the page says then.
 LACKING: List[Tuple[Dict[str, Any], str]] = [
-    (MEMORIES, NO_MEMORIES),
+    (LATER, NO_SIMD),
     ({"rsp/rsp.wasm": None}, f"rsp.wasm {ABSENT}"),
     ({"rsp/rsp.wasm": lambda it: it[:9999]}, "rsp.wasm isn't whole: 9999 bytes came, which are no module."),
     ({"rsp/rsp.wasm": lambda _: HTML}, NO_MODULE),

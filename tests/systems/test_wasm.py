@@ -2,6 +2,7 @@
 tested in tests/library/js."""
 
 import json
+import re
 from pathlib import Path
 from typing import List
 
@@ -14,7 +15,7 @@ from lib.systems import node
 from lib.systems.target_params import of
 from lib.systems.runners import assert_all_passed
 from rsp_tools.packaging import archives
-from rsp_tools.systems import places, wasm
+from rsp_tools.systems import lowering, places, wasm
 from rsp_tools.systems.rewriting import PSHUFB, rewritten, with_unwind_tables, without_stack_probes
 from rsp_tools.systems.toolchain import Refused, llvm
 
@@ -58,8 +59,40 @@ def test_another_intrinsic() -> None:
         rewritten(SMALL.replace("  %c = call", f"  {FOREIGN}\n  %c = call"), {PSHUFB}, wasm.CHANGES)
 
 
+# Each kind of access that with_short_addresses finds, at 8, after the bytes 0 to 15 were stored at 0.
+FORGOTTEN = """
+(module (memory i64 1) (func (export "sum") (param $at i64) (result i64) (local $v v128)
+  (v128.store (i64.const 0)
+    (v128.const i8x16 0 1 2 3 4 5 6 7 8 9 10 11 12 13 14 15))
+  (local.set $v (v128.load32_zero (local.get $at)))
+  (local.set $v (v128.load16_lane 7 (local.get $at) (local.get $v)))
+  (v128.store8_lane 1 (i64.const 3) (local.get $v))
+  (i64.add (i64.load (i64.const 0))
+    (i64x2.extract_lane 1 (i64x2.add (local.get $v) (v128.load8_splat (local.get $at)))))))
+"""
+SUM = 0x0706050409020100 + 0x0908000000000000 + 0x0808080808080808
+CALLED = """
+const module = new WebAssembly.Module(require("fs").readFileSync("short.wasm"));
+console.log(new WebAssembly.Instance(module).exports.sum(8n));
+"""
+
+
+@pytest.mark.needs("node", "wasm-opt", "wat2wasm")
+def test_lowering(folder: Path, monkeypatch: pytest.MonkeyPatch) -> None:
+    """Each address is shortened, and a module in which one isn't is refused."""
+    (folder / "wide.wat").write_text(FORGOTTEN)
+    succeeds("wat2wasm", "--enable-memory64", folder / "wide.wat", "-o", folder / "wide.wasm")
+    wide = (folder / "wide.wasm").read_bytes()
+    (folder / "short.wasm").write_bytes(lowering.lowered(wide))
+    assert succeeds("node", "-e", CALLED, cwd=folder) == f"{SUM}n\n"
+    for form in ("LAST", "BEFORE_VECTOR"):
+        with monkeypatch.context() as patch, pytest.raises(Refused, match="expected \\[i32"):
+            patch.setattr(lowering, form, re.compile("(?!)"))
+            lowering.lowered(wide)
+
+
 @pytest.mark.needs("npm", "node")
-@of("wasm64")
+@of("wasm")
 @pytest.mark.parametrize("kind", ([], ["--install-links"]), ids=("a link", "a copy of what it packs"))
 def test_npm(made: Path, kind: List[str], folder: Path) -> None:
     """npm takes the folder, and Node runs it."""
@@ -70,10 +103,10 @@ def test_npm(made: Path, kind: List[str], folder: Path) -> None:
 
 
 @pytest.mark.needs("npm", "node", "tsc")
-@of("wasm64")
+@of("wasm")
 def test_archive(made: Path, folder: Path) -> None:
     """npm takes it, Node runs it, and tsc finds the declarations."""
-    archive = archives.packed("wasm64", made, "0" * 40)
+    archive = archives.packed("wasm", made, "0" * 40)
     (folder / archive.name).write_bytes(archive.data)
     project = node.installed(folder, folder / archive.name)
     node.check_use(project)

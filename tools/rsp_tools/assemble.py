@@ -35,6 +35,7 @@ from rsp_tools.packaging.install_tree import File, put_all
 from rsp_tools.proof import guarded, prove_below
 from rsp_tools.record import made_of, record
 from rsp_tools.systems import places, wasm
+from rsp_tools.systems.lowering import lowered, versions
 from rsp_tools.systems.modules import LIBRARY, PROGRAM, Crate, Module, module
 from rsp_tools.systems.objects import common, compiled, for_linux
 from rsp_tools.systems.rewriting import with_own_calls, with_unwind_tables, without_stack_probes
@@ -77,11 +78,24 @@ def assembly(crate: Crate, processor: str, triple: str) -> bytes:
         return for_other(made, crate, processor, triple, Path(at)).encode()
 
 
-def web() -> bytes:
+def web() -> Files:
     """The library as WebAssembly."""
     with tempfile.TemporaryDirectory() as at:
         wasm.link(Path(at, "rsp.wasm"), wasm.objects(Path(at)))
-        return Path(at, "rsp.wasm").read_bytes()
+        return with_short_memory(Path(at, "rsp.wasm").read_bytes())
+
+
+def with_short_memory(module: bytes) -> Files:
+    """rsp.wasm with a 32-bit memory, and its mark: what lowered it, and the sum of the module that was
+    lowered. Other versions of these tools may write other bytes, so with them the file that is there stays
+    if its mark has that sum."""
+    of = line_of("rsp.wasm with a 64-bit memory", module)
+    there = {name: COMPILED / name for name in ("rsp.wasm", "rsp.wasm.made")}
+    if all(path.is_file() for path in there.values()):
+        tools, _, made_of = there["rsp.wasm.made"].read_text().partition("\n")
+        if made_of == of and tools != versions():
+            return {name: path.read_bytes() for name, path in there.items()}
+    return {"rsp.wasm": lowered(module), "rsp.wasm.made": f"{versions()}\n{of}".encode()}
 
 
 def make() -> Dict[Crate, Files]:
@@ -91,8 +105,10 @@ def make() -> Dict[Crate, Files]:
             crate: {name: pool.submit(assembly, crate, *it) for name, it in triples(crate).items()}
             for crate in CRATES
         }
-        going[LIBRARY]["rsp.wasm"] = pool.submit(web)
-        return {crate: {name: it.result() for name, it in files.items()} for crate, files in going.items()}
+        with_web = pool.submit(web)
+        made = {crate: {name: it.result() for name, it in files.items()} for crate, files in going.items()}
+        made[LIBRARY].update(with_web.result())
+        return made
 
 
 def mark(crate: Crate, files: Files, folder: str = "compiled") -> str:

@@ -1,11 +1,11 @@
 """./release [NAME..]: makes in dist/ what a clone can't be:
 
   windows-x86_64  rsp.exe and brsp.dll, with libraries for mingw and MSVC
-  wasm64          the npm package
+  wasm          the npm package
   page            the page that answers scripts, for a web server
   wheels          for Python on Linux (x86-64 and ARM, and with musl), Windows and macOS
 
-With names it makes these of the tree as it is, each as a folder dist/NAME: in seconds, and for wasm64 and
+With names it makes these of the tree as it is, each as a folder dist/NAME: in seconds, and for wasm and
 page without the kit. Without names it makes all of them of HEAD, packed: archives with README.md,
 CHANGELOG.md, SHA256SUMS of their files, and COMMIT; the wheels; and dist/SHA256SUMS. Two runs from one commit
 give the same bytes. All is made of compiled/. Before it makes anything it names the packages of Debian that

@@ -154,10 +154,11 @@ CROSS: Tuple[Target, ...] = (
         wheel=("macosx_11_0_universal2",),
     ),
     Target(
-        name="wasm64",
+        name="wasm",
         title="browsers, Node, Deno",
-        tier="natively, in Chromium and in Node 20",
-        command="`./release wasm64`, `npm install ./dist/wasm64`",
+        tier="natively, in Chromium and in Node 20, both without 64-bit memories, because Safari has none; "
+        "not in Safari",
+        command="`./release wasm`, `npm install ./dist/wasm`",
         ending="tgz",
         packages={"node": "nodejs"},
     ),

@@ -12,15 +12,16 @@ from lib.packages import need
 from lib.processes import Ended
 from lib.systems.runners import Runner
 from rsp_tools.systems import places, wasm
+from rsp_tools.systems.lowering import lowered
 from rsp_tools.systems.toolchain import llvm
 
 PAGES = places.TOP / "tests/systems/wasm"
 PROGRAMS = ("chromium", "chromedriver", "python:selenium")
 # As root Chromium has no sandbox of its own; a small window, with room for replies beside scripts, is painted
-# sooner; gc() is for machines that are dropped.
+# sooner; gc() is for machines that are dropped; Safari has no 64-bit memories.
 WORDS = """
 --headless=new --no-sandbox --disable-gpu --disable-dev-shm-usage --no-first-run
---window-size=1000,400 --js-flags=--expose-gc
+--window-size=1000,400 --js-flags=--expose-gc,--no-experimental-wasm-memory64
 """.split()
 LONGEST = 1800  # seconds that a script in a page may take
 PROBES = places.TOP / "tests/systems/page/probes.js"  # what tests ask of a page
@@ -143,6 +144,7 @@ class Chromium(Runner):
         more = [Path(it) for it in [*words, *libraries] if it.endswith(".o")]
         made = self.at / f"{name or source.stem}{self.ending}"
         wasm.link(made, [part, *more], "--export=test_main", "--import-undefined", *linked)
+        made.write_bytes(lowered(made.read_bytes()))
         return made
 
     def does(self, url: str, library: str, *words: object) -> Tuple[bytes, int]:

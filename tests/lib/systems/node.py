@@ -9,14 +9,12 @@ from typing import List
 
 import pytest
 
-from lib.processes import run, run_bytes, succeeds
+from lib.processes import run_bytes, succeeds
 from lib.systems.browser import PAGES
 from lib.systems.runners import LONGEST, Runner
 
 
-OLDEST, PLAIN = 20, 24  # the Node that has 64-bit memories with tables by a flag, and the one without a flag
-FLAG = "--experimental-wasm-memory64"
-WITHOUT = "rsp needs WebAssembly with 64-bit memories: Chrome and Edge have them since 133, Firefox since 134"
+OLDEST = 20  # the first Node in which a module reads files as library/js/module.js does
 USE = 'import { Reason, Machine } from "rsp"; console.log(Reason[new Machine().run(5).reason]);'
 
 
@@ -27,10 +25,10 @@ def version() -> int:
 
 
 def command() -> List[str]:
-    """The words that start this machine's Node with 64-bit memories. An older one skips the test."""
+    """The words that start this machine's Node. An older one skips the test."""
     if version() < OLDEST:
-        pytest.skip(f"this is Node {version()}, and 64-bit memories need {OLDEST} (Debian's package nodejs)")
-    return ["node", *[FLAG] * (version() < PLAIN)]
+        pytest.skip(f"this is Node {version()}, and the library needs {OLDEST} (Debian's package nodejs)")
+    return ["node"]
 
 
 def installed(folder: Path, package: Path, *kind: str) -> Path:
@@ -43,14 +41,9 @@ def installed(folder: Path, package: Path, *kind: str) -> Path:
 
 
 def check_use(project: Path) -> None:
-    """Node runs the package that npm has installed. Without the flag an older one names the flag."""
+    """Node runs the package that npm has installed."""
     (project / "use.mjs").write_text(USE)
     assert succeeds(*command(), "use.mjs", cwd=project).splitlines()[-1] == "LIMIT"
-    if version() < PLAIN:
-        ended = run("node", "use.mjs", cwd=project)
-        assert ended.returncode == 1
-        # V8's own error, which follows, names the flag too.
-        assert WITHOUT in ended.stdout and f"or since 20 with {FLAG};" in ended.stdout
 
 
 class Node(Runner):
@@ -72,8 +65,8 @@ class Node(Runner):
 
     def test(self, name: str, *words: object, library: str = "/library") -> bytes:
         """The output of a test in JavaScript, which has to end well."""
-        program, *flags = command()
-        arguments = [*flags, "--expose-gc", "node.mjs", name, *map(self.url, (library, *words))]
+        (program,) = command()
+        arguments = ["--expose-gc", "node.mjs", name, *map(self.url, (library, *words))]
         ended = run_bytes(program, arguments, cwd=self.at / "tests", timeout=LONGEST)
         assert ended.returncode == 0, f"{name}: {ended.stdout[-1000:]!r}{ended.stderr[-2000:]!r}"
         return ended.stdout

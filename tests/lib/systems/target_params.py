@@ -14,13 +14,13 @@ from rsp_tools.targets import CROSS, PROCESSORS, TARGETS
 RUNNERS: Dict[str, Type[Runner]] = {
     **{it.name: Windows if it.python == "win32" else Runner for it in CROSS if it.compiler},
     **{f"macos-{PROCESSORS[it].apple}": MacOS for it in TARGETS["macos"].triples},
-    "wasm64": Chromium,
-    "wasm64-node": Node,
+    "wasm": Chromium,
+    "wasm-node": Node,
 }
 LINUX = tuple(it.name for it in CROSS if it.is_linux)
 COMPILED = tuple(it.name for it in CROSS if it.compiler)  # those with a compiler, an emulator and a program
 MACOS = tuple(it for it, kind in RUNNERS.items() if kind is MacOS)
-OF_C = tuple(it for it in RUNNERS if it != "wasm64-node")  # those on which programs in C run
+OF_C = tuple(it for it in RUNNERS if it != "wasm-node")  # those on which programs in C run
 
 
 def on(*names: str, fixture: str = "runner") -> pytest.MarkDecorator:

@@ -30,7 +30,7 @@ PARTS: Dict[str, List[str]] = {
         "library/python/README.md",
         "library/rust",
     ],
-    "wasm64": PAGES,
+    "wasm": PAGES,
     "page": ["CHANGELOG.md"],
 }
 NOT_THERE = ("docs/PLUGIN.md", "docs/CAMPAIGN.md")
@@ -94,7 +94,7 @@ def packed(name: str, made: Path, commit: str) -> File:
     """The archive of a system, whose folder is made. npm packs into a folder `package`."""
     target, folder = TARGETS[name], f"rsp-{install_tree.version()[0]}-{name}"
     pack = zipped if target.ending == "zip" else tarred
-    data = pack("package" if name == "wasm64" else folder, contents(target, made, commit))
+    data = pack("package" if name == "wasm" else folder, contents(target, made, commit))
     return File(f"{folder}.{target.ending}", data)
 
 

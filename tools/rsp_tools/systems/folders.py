@@ -10,7 +10,7 @@ from rsp_tools.targets import TARGETS
 from . import macos, wasm, web_page, windows
 from .toolchain import Refused
 
-MAKERS = {"windows-x86_64": windows.make, "macos": macos.make, "wasm64": wasm.make, "page": web_page.make}
+MAKERS = {"windows-x86_64": windows.make, "macos": macos.make, "wasm": wasm.make, "page": web_page.make}
 
 
 def make(name: str, out: Path) -> None:

@@ -1,7 +1,7 @@
 /* Where allocator.c has its memory in WebAssembly, and four functions that the library calls. */
 typedef __SIZE_TYPE__ size;
 
-enum { PAGE = 65536, UNIT = 16, LEAST = 64 };
+enum { PAGE = 65536, MOST_PAGES = 65536, UNIT = 16, LEAST = 64 };
 
 /* The linker's: the end of stack and data, and that of the memory at the start. */
 extern char __heap_base, __heap_end;
@@ -13,7 +13,8 @@ void *memset(void *to, int byte, size len);
 void __multi3(unsigned long long *product, unsigned long long a, unsigned long long a_high, unsigned long long b,
               unsigned long long b_high);
 
-/* At first what the memory has after the data. Others may have grown it before. */
+/* At first what the memory has after the data. Others may have grown it before. Lowering to a 32-bit memory cuts the
+ * number of pages to 32 bits, and then a memory that can't grow returns 2^32 - 1 and not 2^64 - 1. */
 char *heap_more(size len, size *got)
 {
     static int is_begun;
@@ -24,9 +25,10 @@ char *heap_more(size len, size *got)
         *got = end - first;
         return (char *)first;
     }
+    if (pages > MOST_PAGES) return 0;
     first = __builtin_wasm_memory_grow(0, pages);
     *got = pages * PAGE;
-    return first == ~(size)0 ? 0 : (char *)(first * PAGE);
+    return first > MOST_PAGES ? 0 : (char *)(first * PAGE);
 }
 
 void *memcpy(void *to, const void *from, size len) { return __builtin_memcpy(to, from, len); }

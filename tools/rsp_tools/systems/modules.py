@@ -9,7 +9,7 @@ import shutil
 import subprocess
 import tempfile
 from pathlib import Path
-from typing import Callable, List, NamedTuple
+from typing import List, NamedTuple
 
 from rsp_tools import build
 from rsp_tools.proof import guarded
@@ -27,10 +27,6 @@ class Module(NamedTuple):
     flags: List[str]
     given: Path = Path()
     words: List[str] = []
-
-
-# What gives the module for a processor.
-Source = Callable[[str], Module]
 
 
 class Crate(NamedTuple):

@@ -18,6 +18,8 @@ PACKAGES: Dict[str, str] = {
     "ar": "binutils",
     "ld": "binutils",
     "objcopy": "binutils",
+    "wasm-opt": "binaryen",
+    **dict.fromkeys(["wasm2wat", "wat2wasm", "wasm-validate"], "wabt"),
     **{program: package for target in TARGETS.values() for program, package in target.packages.items()},
 }
 

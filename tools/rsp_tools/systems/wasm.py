@@ -1,5 +1,5 @@
-"""The library for browsers, Node and Deno: a module of WebAssembly with 64-bit memories and SIMD, and the ES
-module over it. The module is that for x86-64, changed where WebAssembly differs."""
+"""The library for browsers, Node and Deno: a module of WebAssembly with SIMD, and the ES module over it. The
+module is that for x86-64, changed where WebAssembly differs; lowering.py then shortens its 64-bit memory."""
 
 import shutil
 from pathlib import Path
