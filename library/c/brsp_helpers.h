@@ -108,6 +108,12 @@ typedef struct brsp_part {
 size_t brsp_structure_parts(uint32_t kind, const void *structure, const void *other, brsp_part *parts,
                             size_t capacity);
 
+/* Gives the quadwords in which `len` bytes of a memory differ, at most `capacity` of them, and returns how
+ * many there are. The bytes are those of a brsp_bank from its beginning, and `len` is a multiple of 8. With a
+ * capacity of 0 `parts` may be null. */
+size_t brsp_memory_parts(uint32_t bank, const uint8_t *bytes, const uint8_t *other, size_t len,
+                         brsp_part *parts, size_t capacity);
+
 /* The sentence `$3 is fffffff0 HERE and 3ffffff0 THERE`. */
 size_t brsp_part_text(const brsp_part *part, const char *here, const char *there, char *text,
                       size_t capacity);
