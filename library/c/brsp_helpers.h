@@ -205,8 +205,7 @@ void brsp_search_parts(const uint8_t *search, brsp_part *parts);
 
 /* A difference in at most twenty lines: one for the step, such as `step 3, 008: vadd $v2, $v2, $v1`, and
  * one for each part, with two spaces before it: `$3 is fffffff0 on the machine and 3ffffff0 in the
- * emulator`. If there are more parts, the last line says how many: `and 300 more`. It is empty if
- * found->count is 0. */
+ * emulator`. If there are more parts, the last line says how many: `and 300 more`. */
 size_t brsp_difference_text(const brsp_difference *found, char *text, size_t capacity);
 
 /* ---- Refusals in a sentence. docs/FAULTS.md lists the sentences. ---- */

@@ -366,7 +366,7 @@ static void put_head(writer *w, const brsp_difference *found)
     if (found->steps == 1) {
         put_text(w, ": ");
         put_text(w, found->line.text);
-    } else if (begins(found->parts->name, "RDRAM ")) {
+    } else if (found->count && begins(found->parts->name, "RDRAM ")) {
         put_text(w, " on: RDRAM differs where no DMA wrote: repeat with a smaller limit");
     } else {
         put_text(w, " on: no step alone differs, so get and set leave something out: repeat with every = 1");
@@ -377,7 +377,6 @@ size_t brsp_difference_text(const brsp_difference *found, char *text, size_t cap
 {
     writer w = { text, capacity, 0 };
     const size_t shown = found->count < LINES ? found->count : LINES - 2;
-    if (!found->count) return ended(&w);
     put_head(&w, found);
     for (size_t n = 0; n < shown; n++) {
         char line[160];

@@ -1,4 +1,4 @@
-"""What library/c/brsp.h declares, the version of the project, and templates with both."""
+"""What library/c/brsp.h and brsp_helpers.h declare, the version of the project, and templates with both."""
 
 import re
 from pathlib import Path
@@ -16,8 +16,10 @@ def found(form: str, path: Path) -> Tuple[str, ...]:
 
 
 def calls() -> List[str]:
-    """The names of the calls that the header declares."""
-    return re.findall(r"^(?:uint32_t|void) (brsp_\w+)\(", places.HEADER.read_text(), re.M)
+    """The names of the calls that the headers declare."""
+    form = r"^(?:uint32_t |size_t |void |const char \*)(brsp_\w+)\("
+    texts = (it.read_text() for it in (places.HEADER, places.HELPERS))
+    return [name for text in texts for name in re.findall(form, text, re.M)]
 
 
 def interface() -> str:
