@@ -205,3 +205,49 @@ def test_wrong_emulator(message: str) -> None:
     (machine, _), (methods, kind) = machines(), WRONG[message]
     assert_raises(kind, message, rsp.first_difference, machine, emulator_with(Faulty, **methods))
     assert machine.get() == alone(0)
+
+
+class Interrupts(rsp.Rsp):
+    """An emulator in whose n-th call Ctrl-C comes."""
+
+    left = 0
+
+    def _count(self) -> None:
+        self.left -= 1
+        if self.left < 0:
+            raise KeyboardInterrupt
+
+    def run(self, steps: int) -> Any:
+        self._count()
+        return super().run(steps)
+
+    def get(self) -> rsp.State:
+        self._count()
+        return super().get()
+
+    def set(self, state: rsp.State) -> None:
+        self._count()
+        super().set(state)
+
+    def memory(self, bank: int, address: int, length: int) -> bytes:
+        self._count()
+        return super().memory(bank, address, length)
+
+    def load(self, bank: int, address: int, data: bytes) -> None:
+        self._count()
+        super().load(bank, address, data)
+
+
+def test_interrupted() -> None:
+    """Ctrl-C in any call of the emulator comes out, and the machine goes on from there."""
+    interrupted = 0
+    for calls in range(100):
+        (machine, _), other = machines(), Interrupts(IMAGE)
+        other.left = calls
+        try:
+            assert rsp.first_difference(machine, other, limit=20) is None
+        except KeyboardInterrupt:
+            interrupted += 1
+        assert rsp.first_difference(machine, Faulty(IMAGE)) is None
+        assert machine.step() is rsp.Status.HALTED
+    assert 20 < interrupted < 100

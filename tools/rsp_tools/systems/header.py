@@ -15,11 +15,19 @@ def found(form: str, path: Path) -> Tuple[str, ...]:
     return match.groups()
 
 
+def declared(path: Path) -> List[str]:
+    """The names of the functions that a header declares."""
+    return re.findall(r"^(?:uint32_t |size_t |void |const char \*)(brsp_\w+)\(", path.read_text(), re.M)
+
+
+def helpers() -> List[str]:
+    """Those of the helpers."""
+    return declared(places.HELPERS)
+
+
 def calls() -> List[str]:
-    """The names of the calls that the headers declare."""
-    form = r"^(?:uint32_t |size_t |void |const char \*)(brsp_\w+)\("
-    texts = (it.read_text() for it in (places.HEADER, places.HELPERS))
-    return [name for text in texts for name in re.findall(form, text, re.M)]
+    """All that the library exports."""
+    return declared(places.HEADER) + helpers()
 
 
 def interface() -> str:
