@@ -178,12 +178,15 @@ static void random_cases(void)
 static const uint32_t transfer[] = { 0x34010040, 0x40810800, 0x3c020080, 0x3442200f, 0x40821800, 0x25290001, 0, 0, 0, 13 };
 enum { TRANSFER = 5, ADD = 6, STEPS = 10 }; /* its steps: rows of 16 bytes, 3 of them, 8 bytes between two: 64, 88, 112 */
 
+/* The program that both sides run. */
+static uint32_t program[STEPS];
+
 static void differs(const char *what, const emulator *wrong, uint32_t every, uint32_t limit, uint32_t step, uint32_t steps, const char *part)
 {
     brsp_machine m = BRSP_NONE;
     emulator e;
     brsp_difference found;
-    begin(&m, &e, transfer, STEPS);
+    begin(&m, &e, program, STEPS);
     e.where = wrong->where, e.at = wrong->at, e.bit = wrong->bit;
     e.step_at = wrong->step_at, e.lies = wrong->lies, e.lies_at = wrong->lies_at, e.skips = wrong->skips;
     {
@@ -214,6 +217,7 @@ static void wrong_emulators(void)
 {
     static const uint32_t lengths[] = { 1, 3, 64 };
     emulator whole;
+    memcpy(program, transfer, sizeof program);
     for (size_t i = 0; i < 3; i++) {
         const uint32_t every = lengths[i];
         emulator e = fault(4 * (ADD - 1), IN_IMEM, 0x805);
@@ -245,6 +249,25 @@ static void wrong_emulators(void)
     whole = fault(0, NOWHERE, 0);
     whole.skips = 1;
     differs("a stretch whose last step it leaves out", &whole, 64, 100, TRANSFER - 1, TRANSFER - 1, "pc");
+}
+
+/* Rows that wrap around 2^24, or pass RDRAM's end. */
+static void ends_of_rdram(void)
+{
+    emulator e = fault(4 * (TRANSFER - 1), IN_RDRAM, 3);
+    memcpy(program, transfer, sizeof program);
+    program[0] = 0x3c0100ff; /* lui $1, 0xff */
+    program[1] = 0x3421fff8; /* ori $1, $1, 0xfff8 */
+    program[2] = 0x40810800; /* mtc0 $1, $c1 */
+    program[3] = 0x3402000f; /* ori $2, $0, 15: a row of 16 bytes */
+    differs("a row that wraps", &e, 64, 100, TRANSFER, 1, "RDRAM 000");
+    e.at = 8;
+    differs("past a row that wraps", &e, 64, 100, STEPS, STEPS, "RDRAM 000");
+    program[0] = 0x3c010000, program[1] = 0x34211000; /* $1 = 4096 */
+    e.at = IMAGE - 1;
+    differs("a row that passes the end", &e, 64, 100, TRANSFER, 1, "RDRAM 1000");
+    program[1] = 0x34212000; /* $1 = 8192 */
+    differs("a row past the end", &e, 64, 100, STEPS, STEPS, "RDRAM 1000");
 }
 
 /* ---- The calls one by one ---- */
@@ -434,6 +457,7 @@ int main(void)
 {
     random_cases();
     wrong_emulators();
+    ends_of_rdram();
     moved_search();
     asked_bytes();
     texts();
