@@ -289,6 +289,15 @@ struct thrower : emulator {
     void load(uint32_t bank, uint32_t address, const bytes &data) { count(), m.load(bank, address, data); }
 };
 
+// An emulator that gives no bytes of DMEM after its first answer.
+struct silent : emulator {
+    int answers = 0;
+    bytes memory(uint32_t bank, uint32_t address, size_t length)
+    {
+        return bank == BRSP_DMEM && answers++ ? bytes() : m.memory(bank, address, length);
+    }
+};
+
 // What an emulator throws comes out, whichever call it is, and the machine goes on.
 static void test_throwing()
 {
@@ -306,6 +315,11 @@ static void test_throwing()
         }
     }
     see("each call throws", thrown > 20 && thrown < 100);
+    machine m = made("ori $1, $0, 7\nsw $1, 0($0)\nbreak\n");
+    silent other;
+    m.load(BRSP_DMEM, 16, { 1 });
+    const auto found = brsp::first_difference(m, other);
+    see("no bytes are zeros", found && found->step == 1 && std::string(found->parts[0].name) == "DMEM 010");
 }
 
 // The guilty step amid others of its stretch, each of which changes parts that the step before it didn't; and all that differs after it.
