@@ -109,7 +109,7 @@ def test_other_tools(monkeypatch: pytest.MonkeyPatch, folder: Path) -> None:
         return assemble.with_short_memory(module)
 
     first = made("1", b"a")
-    assert first["rsp.wasm"] == b"1a" and first["rsp.wasm.made"].startswith(b"1\n")
+    assert first["rsp.wasm"] == b"1a" and first["lowering"].startswith(b"1\n")
     for name, data in first.items():
         (folder / name).write_bytes(data)
     assert made("2", b"a") == first

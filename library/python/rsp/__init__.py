@@ -27,7 +27,7 @@ from typing import Sequence, Tuple, TypeVar, Union, cast
 
 from . import errors as _errors
 from . import fields as _fields
-from . import savestate as _savestate
+from . import helpers as _helpers
 from .compare import Emulator, FirstDifference, first_difference
 from .script import Ran, ScriptError
 from .script import strict_replies as _strict_replies
@@ -128,8 +128,6 @@ _REASONS = (*Reason,)  # by their numbers
 _HALTED = (Status.HALTED,)
 _STEP_ENDS = {status.value: status for status in (Status.OK, Status.HALTED, Status.RESERVED)}
 
-# The fields of a state that have values which no machine can have, by their numbers.
-_FIELDS = {**dict(enumerate(_errors.FIELDS, 1)), **{16 + n: f"sp[{n}]" for n in range(8)}}
 
 
 class RspError(Exception):
@@ -328,7 +326,8 @@ _CALLS = {
     "brsp_session_memory": [_M, _U, _U, c_void_p, _Z],
 }  # fmt: skip
 VERSION = 1
-_missing = [_name for _name in (*_CALLS, "brsp_free", "brsp_session_free") if not hasattr(_lib, _name)]
+_names = (*_CALLS, "brsp_free", "brsp_session_free", *_helpers.CALLS)
+_missing = [_name for _name in _names if not hasattr(_lib, _name)]
 _found = VERSION if "brsp_version" in _missing else _lib.brsp_version()
 if _found != VERSION:
     raise ImportError(f"{_NAME} has version {_found} of the interface, and this module is for {VERSION}")
@@ -339,6 +338,9 @@ for _dll in _lib, _quick:
         getattr(_dll, _name).argtypes, getattr(_dll, _name).restype = _types, _U
     for _name in "brsp_free", "brsp_session_free":
         getattr(_dll, _name).argtypes, getattr(_dll, _name).restype = [_M], None
+    for _name, (_result, _arguments) in _helpers.CALLS.items():
+        getattr(_dll, _name).argtypes, getattr(_dll, _name).restype = _arguments, _result
+_helpers.use(_quick)
 
 _ZEROS = bytes(1 << 22)  # a session's image if none is given; no page of it is written
 _REPLIES, _ROOM = 16384, 65536  # what the library asks for, and what a session has
@@ -347,7 +349,7 @@ _REPLIES, _ROOM = 16384, 65536  # what the library asks for, and what a session 
 def _check(status: int, call: str = "", numbers: Sequence[int] = (), owner: str = "machine") -> None:
     """Raises RspError unless the status is OK. The message names the call and these numbers."""
     if status:
-        raise RspError(Status(status), _errors.refusal(status, call, numbers, owner) if call else "")
+        raise RspError(Status(status), _helpers.refusal(status, call, numbers, owner) if call else "")
 
 
 def _numbers(call: str, *given: Any, most: int = (1 << 32) - 1) -> Tuple[int, ...]:
@@ -384,7 +386,7 @@ def _word_array(call: str, words: Iterable[int]) -> Any:
     except (OverflowError, TypeError):
         for n, number in enumerate(_errors.integers(call, items, "words[{}]")):
             if not 0 <= number < 1 << 32:
-                text = f"{call}: words[{n}] is {number}, not {_errors.WORD.text}"
+                text = f"{call}: words[{n}] is {number}, not 0 to 4294967295"
                 raise RspError(Status.OUT_OF_RANGE, text) from None
         raise
 
@@ -440,7 +442,10 @@ def assemble(text: str, origin: int = 0, symbols: Optional[Mapping[str, int]] = 
         found = _errors.Operand()
         _lib.brsp_explain(origin, raw, len(raw), byref(found))  # without memory for it `found` stays zeros
         raise AssemblyError(
-            out.line, out.fault, text.split("\n")[out.line - 1].strip(), _errors.allowed(found, out.fault)
+            out.line,
+            out.fault,
+            text.split("\n")[out.line - 1].strip(),
+            _helpers.text("brsp_operand_text", byref(found), out.fault),
         )
     _check(status, "assemble", [origin])
     return Words(words[: out.count], raw, origin)
@@ -485,19 +490,19 @@ def state_fault(state: State) -> Optional[str]:
     """The first field for which `Machine.set` refuses a state, or None if it takes the state."""
     if not isinstance(state, State):
         raise TypeError(f"state_fault: state is of type {type(state).__name__}, not rsp.State")
-    out = c_uint32()
-    _check(_lib.brsp_state_fault(byref(state), byref(out)))
-    return _FIELDS[out.value] if out.value else None
+    return _state_refusal(state).partition(" ")[0] or None
+
+
+def _state_refusal(state: State) -> str:
+    """Why `Machine.set` refuses a state, which begins with the field; empty if it takes the state."""
+    return _helpers.text("brsp_state_refusal_text", byref(state))
 
 
 def _fill_handle(call: str, make: Any, handle: c_void_p, image: Any, *more: int) -> int:
     """Fills a handle by a call that takes an image, and returns the image's length."""
     data = _errors.bytes_of(call, "image", image)
-    status = make(byref(handle), data, len(data), *more)
-    if status == Status.OUT_OF_RANGE and (len(data) % 8 or not 64 <= len(data) <= 1 << 23):
-        text = f"{call}: image has {len(data)} bytes, not a multiple of 8 from 64 to 8388608"
-        raise RspError(Status(status), text)
-    _check(status, call, more)
+    numbers = _numbers(call, len(data), *more)
+    _check(make(byref(handle), data, *numbers), call, numbers)
     return len(data)
 
 
@@ -573,7 +578,6 @@ class Machine(_Owner):
     """
 
     def __init__(self, image: bytes = bytes(64), depth: int = 0) -> None:
-        (depth,) = _numbers("Machine", depth)
         self._hold()
         _fill_handle("Machine", _lib.brsp_new, self._handle, image, depth)
 
@@ -635,8 +639,7 @@ class Machine(_Owner):
         if not isinstance(state, State):
             raise TypeError(f"set: state is of type {type(state).__name__}, not rsp.State")
         if self._call("set", byref(state), ends=(Status.OUT_OF_RANGE,)):
-            text = f"set: {_errors.state_fault(state_fault(state) or '', state)}"
-            raise RspError(Status.OUT_OF_RANGE, text)
+            raise RspError(Status.OUT_OF_RANGE, f"set: {_state_refusal(state)}")
 
     @property
     def image_length(self) -> int:
@@ -683,37 +686,23 @@ class Machine(_Owner):
 
     def save_state(self) -> bytes:
         """A savestate: all registers and memories as bytes, which are the same in every language."""
-        length = self.image_length
-
-        def _read(at: int) -> bytes:
-            state, parts = unset(State), [(ctypes.c_uint8 * size)() for size in (4096, 4096, length)]
-            _check(_lib.brsp_get(at, byref(state)), "save_state")
-            for bank, part in enumerate(parts):
-                _check(_lib.brsp_memory(at, bank, 0, part, len(part)), "save_state")
-            return _savestate.saved(bytes(state), *map(bytes, parts))
-
-        return self._call_alone("save_state", _read)
+        length = c_size_t()
+        _quick.brsp_save_state(self._at, None, 0, byref(length))
+        out = (ctypes.c_uint8 * length.value)()
+        status = self._call_alone("save_state", _lib.brsp_save_state, out, len(out), byref(length))
+        self._check_done(status, "save_state")
+        return bytes(out)
 
     def load_state(self, data: bytes) -> None:
         """Sets all registers and memories from a savestate, and empties the history. Breakpoints and watches
         stay. OUT_OF_RANGE, and nothing is changed, for bytes that aren't a savestate of a machine with an
         image of this length."""
         raw = _errors.bytes_of("load_state", "data", data)
-        why = _savestate.refusal(raw, self.image_length)
-        if why:
+        status = self._call_alone("load_state", _lib.brsp_load_state, raw, len(raw))
+        if status == Status.OUT_OF_RANGE:
+            why = _helpers.text("brsp_savestate_refusal_text", raw, len(raw), self.image_length)
             raise RspError(Status.OUT_OF_RANGE, f"load_state: {why}")
-        state = State.from_buffer_copy(_savestate.state_of(raw))
-        field = state_fault(state)
-        if field or state.zero:
-            why = _errors.state_fault(field, state) if field else "byte 705 isn't 0"
-            raise RspError(Status.OUT_OF_RANGE, f"load_state: {why}")
-
-        def _write(at: int) -> None:
-            _check(_lib.brsp_set(at, byref(state)), "load_state")
-            for bank, part in enumerate(_savestate.memories_of(raw)):
-                _check(_lib.brsp_load(at, bank, 0, part, len(part)), "load_state")
-
-        self._call_alone("load_state", _write)
+        self._check_done(status, "load_state")
 
     def start_task(self, address: int) -> None:
         """Starts the task whose structure of 64 bytes is at an address of RDRAM, a multiple of 8, and empties

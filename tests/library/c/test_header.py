@@ -16,6 +16,7 @@ from lib.library.programs import main_of, output_of
 from lib.packages import need
 from lib.pages import data, page
 from lib.processes import STRICT, compiled, succeeds
+from rsp_tools.systems import header
 
 HEADER = page("library/c/brsp.h")
 FOLDERS = [f"-I{TOP / it}" for it in ("examples/c", "conformance/campaigns")]
@@ -45,7 +46,7 @@ def test_calls() -> None:
 def test_exports(library: Path) -> None:
     output = succeeds("nm", "-D", "--defined-only", "--without-symbol-versions", library / "libbrsp.so")
     names = {it.split()[-1] for it in output.splitlines()}
-    assert {it for it in names if not it.startswith("BRSP_")} == {name for name, *_ in shapes.exported()}
+    assert {it for it in names if not it.startswith("BRSP_")} == {*header.calls()}
 
 
 def named(prefix: str, text: str = HEADER) -> Dict[str, int]:

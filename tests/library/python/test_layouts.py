@@ -1,7 +1,16 @@
-"""The layouts, numbers and calls of the module rsp. They fail if one differs from crates/rsp_c."""
+"""The layouts, numbers and calls of the module rsp. They fail if one differs from crates/rsp_c, or from
+brsp_helpers.h.
+"""
+
+import ctypes
+from pathlib import Path
+
+import pytest
 
 import rsp
-from lib.library import shapes
+from lib.library import interface, shapes
+from lib.library.programs import main_of, output_of
+from rsp import helpers
 from rsp.errors import Operand
 
 STRUCTS = {
@@ -27,8 +36,35 @@ def test_numbers() -> None:
     assert {it.name: it.value for it in rsp.Bank} == shapes.BANKS
     assert {name: number for number, name in rsp.FAULTS.items()} == shapes.FAULTS
     assert {it.name: it.value for it in rsp.Reason} == shapes.REASONS
-    assert {*rsp._FIELDS} == {*shapes.FIELDS.values(), *range(16, 24)}
 
 
 def test_calls() -> None:
     assert {*rsp._CALLS, "brsp_free", "brsp_session_free"} == {name for name, *_ in shapes.exported()}
+
+
+def test_calls_of_helpers() -> None:
+    """Each that the module uses is declared with as many arguments, and a result as wide."""
+    widths = {"uint32_t": 4, "size_t": 8, "const char *": 8, "void": 0}
+    declared = {name: text.partition(" (") for name, text in interface.helpers()}
+    expected = {name: (widths[declared[name][0]], declared[name][2].count(",") + 1) for name in helpers.CALLS}
+    sizes = {name: (ctypes.sizeof(it) if it else 0, len(given)) for name, (it, given) in helpers.CALLS.items()}
+    assert sizes == expected
+
+
+@pytest.mark.needs("cc")
+@pytest.mark.usefixtures("library")
+def test_layouts_of_helpers(folder: Path) -> None:
+    """offsetof and sizeof, as the C compiler has them. The line of a difference is flat in Python."""
+    lines, expected = [], []
+    kinds = {"brsp_part": helpers._Part, "brsp_request": helpers.Request, "brsp_difference": helpers.Found}
+    flat = {"word", "address", "len", "text"}
+    for name, kind in kinds.items():
+        lines.append(f'printf("%zu\\n", sizeof({name}));')
+        expected.append(ctypes.sizeof(kind))
+        for field, _ in kind._fields_:
+            inner = f"line.{field}" if kind is helpers.Found and field in flat else field
+            lines.append(f'printf("%zu\\n", offsetof({name}, {inner}));')
+            expected.append(getattr(kind, field).offset)
+    assert [int(it) for it in output_of(folder, main_of("\n".join(lines))).split()] == expected
+    state, most = main_of('printf("%zu %d\\n", sizeof(brsp_state), BRSP_PARTS);'), helpers.MOST_PARTS
+    assert output_of(folder, state) == f"{ctypes.sizeof(rsp.State)} {most}\n"
