@@ -258,8 +258,15 @@ typedef struct brsp_line {
     char text[68];  /* the text, then zeros, at least four */
 } brsp_line;
 
-/* The version of this interface. It is raised when a call, a struct or a number changes its meaning. */
+/* The version of this interface. It is raised when a call, a struct or a number changes its meaning, or is
+ * removed. A call that is added doesn't raise it: a program that makes such a call needs a library of the
+ * release that has it, or of a later one with the same BRSP_VERSION. CHANGELOG.md says which release that
+ * is. With an older library the system's loader ends the program: at its start, or at the first such call if
+ * the loader looks for calls only then. */
 #define BRSP_VERSION 1
+
+/* The release of rsp that has this header. */
+#define BRSP_RELEASE "0.9.0"
 
 /* Returns the library's BRSP_VERSION. */
 uint32_t brsp_version(void);
