@@ -129,8 +129,15 @@ def test_universal(folder: Path) -> None:
     """For macOS; otherwise only: that a file with the code for both processors lacks one, or exports it."""
     tools, out = tools_of_macos(folder), folder / "out"
     env = {**os.environ, "PATH": f"{tools}:{os.environ['PATH']}"}
-    words = ["-DCMAKE_SYSTEM_NAME=Darwin", "-DCMAKE_OSX_ARCHITECTURES=arm64;x86_64", "-DCMAKE_C_COMPILER=clang"]
-    words += ["-DCMAKE_C_COMPILER_TARGET=arm64-apple-macos11", "-DCMAKE_ASM_COMPILER_TARGET=arm64-apple-macos11"]
+    words = [
+        "-DCMAKE_SYSTEM_NAME=Darwin",
+        "-DCMAKE_OSX_ARCHITECTURES=arm64;x86_64",
+        "-DCMAKE_C_COMPILER=clang",
+    ]
+    words += [
+        "-DCMAKE_C_COMPILER_TARGET=arm64-apple-macos11",
+        "-DCMAKE_ASM_COMPILER_TARGET=arm64-apple-macos11",
+    ]
     words += ["-DCMAKE_TRY_COMPILE_TARGET_TYPE=STATIC_LIBRARY", f"-DCMAKE_OSX_SYSROOT={folder}"]
     words += ["-DCMAKE_INSTALL_NAME_TOOL=true", f"-DCMAKE_AR={tools}/ar", f"-DCMAKE_RANLIB={tools}/ranlib"]
     succeeds("cmake", "-S", TOP, "-B", out, *words, env=env)
