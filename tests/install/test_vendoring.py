@@ -15,7 +15,6 @@ import pytest
 
 from lib import TESTS, TOP
 from lib.cmake import system
-from lib.packages import need
 from lib.processes import Ended, compiled, run, succeeds
 from rsp_tools.systems import header
 
@@ -105,7 +104,7 @@ def test_unknown_system(folder: Path) -> None:
     that is for another processor."""
     words = system("FreeBSD", "amd64")
     refused = " ".join(configured(folder / "none", *words).stdout.split())
-    assert f"no file for FreeBSD-x86_64. On a system that calls functions as Linux does" in refused
+    assert "no file for FreeBSD-x86_64. On a system that calls functions as Linux does" in refused
     refused = " ".join(configured(folder / "none", *words, "-DBRSP_ASSEMBLY=Plan9.s").stdout.split())
     assert f"BRSP_ASSEMBLY names {TOP}/compiled/Plan9.s, which isn't there" in refused
     assert versions(plugin(folder / "out", *words, f"-DBRSP_ASSEMBLY={LINUX}")) == "1"

@@ -1,4 +1,4 @@
-"""Files of different kinds, and of different versions, in one program of C++; and a library of another version.
+"""Files of different kinds and versions in one program of C++, and a library of another version.
 
 They fail if what a refused call does in a file depends on another file of the program or on their order, or
 if a program uses a library of another version before it says so.
@@ -33,9 +33,11 @@ KINDS: Dict[str, Tuple[Tuple[str, ...], int]] = {
     "refuse_without_exceptions": (("-DENDS=8", "-fno-exceptions"), 8),
     "abort": (("-fno-exceptions",), -6),
 }
-MAIN = "int in_{0}(int); int in_{1}(int);\nint main(int n, char **v) {{ return (n && *v[1] == '0' ? in_{0} : in_{1})(*v[2] == '1'); }}\n"
+MAIN = """int in_{0}(int); int in_{1}(int);
+int main(int n, char **v) {{ return (n && *v[1] == '0' ? in_{0} : in_{1})(*v[2] == '1'); }}
+"""
 REFUSED = ("set_pc: pc is 3, not a multiple", "load_state: the bytes don't begin with RSPS")
-OTHER = f"the library has version {{}} of the interface, and the headers, of rsp {header.version()}, have version {{}}"
+OTHER = f"version {{}} of the interface, and the headers, of rsp {header.version()}, have version {{}}"
 
 
 def made(folder: Path, kind: str, name: str, headers: Path = LIBRARY, console: Path = CONSOLE) -> Path:
