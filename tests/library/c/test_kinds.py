@@ -14,7 +14,6 @@ from typing import Dict, Tuple
 import pytest
 
 from lib import TOP
-from lib.library import shapes
 from lib.library.programs import HERE, assert_passes
 from lib.processes import compiled, run
 from rsp_tools.systems import header
@@ -98,7 +97,7 @@ def test_two_versions(order: int, kinds: Dict[str, Path], folder: Path) -> None:
 
 def older(folder: Path, *words: object, without: str = "") -> Path:
     """A library of version 2, perhaps without a call. All its other calls abort."""
-    names = {name for name, *_ in shapes.exported()} - {without, "brsp_version"}
+    names = {*header.calls()} - {without, "brsp_version"}
     calls = "".join(f"void {it}(void) {{ abort(); }}\n" for it in sorted(names))
     source = folder / "older.c"
     source.write_text(f"#include <stdlib.h>\nunsigned brsp_version(void) {{ return 2; }}\n{calls}")
