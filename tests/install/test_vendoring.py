@@ -15,6 +15,7 @@ import pytest
 
 from lib import TESTS, TOP
 from lib.cmake import system
+from lib.library import shapes
 from lib.processes import Ended, compiled, run, succeeds
 from rsp_tools.systems import header
 
@@ -113,36 +114,30 @@ def test_unknown_system(folder: Path) -> None:
     assert "this compiler makes code for another processor than" in built
 
 
-def tools_of_macos(folder: Path) -> Path:
-    """A folder of LLVM's tools by the names that clang and CMake look for."""
-    lipo = max(Path("/usr/lib").glob("llvm-*/bin/llvm-lipo"))
-    tools = folder / "tools"
-    tools.mkdir()
-    for name in "lipo", "ar", "ranlib", "nm":
-        (tools / name).symlink_to(lipo.with_name(f"llvm-{name}"))
-    return tools
+# How CMake builds for macOS by a clang of Linux.
+MACOS = {
+    "CMAKE_SYSTEM_NAME": "Darwin",
+    "CMAKE_OSX_ARCHITECTURES": "arm64;x86_64",
+    "CMAKE_C_COMPILER": "clang",
+    "CMAKE_C_COMPILER_TARGET": "arm64-apple-macos11",
+    "CMAKE_ASM_COMPILER_TARGET": "arm64-apple-macos11",
+    "CMAKE_TRY_COMPILE_TARGET_TYPE": "STATIC_LIBRARY",
+    "CMAKE_INSTALL_NAME_TOOL": "true",
+}
 
 
 @pytest.mark.needs("clang", "/usr/lib/llvm-*/bin/llvm-lipo")
 def test_universal(folder: Path) -> None:
     """For macOS; otherwise only: that a file with the code for both processors lacks one, or exports it."""
-    tools, out = tools_of_macos(folder), folder / "out"
-    env = {**os.environ, "PATH": f"{tools}:{os.environ['PATH']}"}
-    words = [
-        "-DCMAKE_SYSTEM_NAME=Darwin",
-        "-DCMAKE_OSX_ARCHITECTURES=arm64;x86_64",
-        "-DCMAKE_C_COMPILER=clang",
-    ]
-    words += [
-        "-DCMAKE_C_COMPILER_TARGET=arm64-apple-macos11",
-        "-DCMAKE_ASM_COMPILER_TARGET=arm64-apple-macos11",
-    ]
-    words += ["-DCMAKE_TRY_COMPILE_TARGET_TYPE=STATIC_LIBRARY", f"-DCMAKE_OSX_SYSROOT={folder}"]
-    words += ["-DCMAKE_INSTALL_NAME_TOOL=true", f"-DCMAKE_AR={tools}/ar", f"-DCMAKE_RANLIB={tools}/ranlib"]
-    succeeds("cmake", "-S", TOP, "-B", out, *words, env=env)
-    succeeds("cmake", "--build", out, "--target", "brsp_static", env=env)
-    made = [*out.glob("CMakeFiles/brsp_static.dir/**/*.o")]
+    lipo, out = max(Path("/usr/lib").glob("llvm-*/bin/llvm-lipo")), folder / "out"
+    (folder / "lipo").symlink_to(lipo)  # the name by which clang calls it
+    env = {**os.environ, "PATH": f"{folder}:{os.environ['PATH']}"}
+    words = [f"-D{name}={value}" for name, value in MACOS.items()]
+    succeeds("cmake", "-S", TOP, "-B", out, *words, f"-DCMAKE_OSX_SYSROOT={folder}", env=env)
+    succeeds("cmake", "--build", out, "--target", "brsp_static.o", env=env)
+    made = out / "CMakeFiles/brsp_static.dir/brsp_static.S.o"
+    expected = {f"_{name}" for name, *_ in shapes.exported()}
     for processor in "arm64", "x86_64":
-        names = succeeds(tools / "nm", "-m", f"--arch={processor}", *made)
+        names = succeeds(lipo.with_name("llvm-nm"), "-m", f"--arch={processor}", made)
         hidden = {it.split()[-1] for it in names.splitlines() if ") private external _brsp_" in it}
-        assert hidden == {f"_{it}" for it in header.calls()}
+        assert hidden == expected
