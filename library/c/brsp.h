@@ -262,13 +262,13 @@ typedef struct brsp_line {
 } brsp_line;
 
 /* The version of this interface. It is raised when a call, a struct or a number changes its meaning, or is
- * removed. A call that is added doesn't raise it: a program that makes such a call needs a library of the
- * release that has it, or of a later one with the same BRSP_VERSION. CHANGELOG.md says which release that
- * is. With an older library the system's loader ends the program: at its start, or at the first such call if
- * the loader looks for calls only then. */
+ * removed. A call that is added raises only the second number of BRSP_RELEASE: a program that makes such a
+ * call needs a library of that release, or of a later one with the same BRSP_VERSION. With an older library
+ * the system's loader ends the program: at its start, or at the first such call if the loader looks for
+ * calls only then. */
 #define BRSP_VERSION 1
 
-/* The release of rsp that has this header. */
+/* The release of rsp that this header belongs to. */
 #define BRSP_RELEASE "0.9.0"
 
 /* Returns the library's BRSP_VERSION. */
