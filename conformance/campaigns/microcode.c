@@ -1,10 +1,10 @@
 /* Any plugin of mupen64plus: nothing of it is known but the memories and SP registers, which are ours. A case becomes two programs of microcode:
  * SETTING, the word and BREAK, after which the memories are compared; and SETTING, the word and SAVING, which leaves the registers in DMEM.
- * build.py gives the words of both. Whatever can't be seen so is masked, and cases about it are UNSHOWN. */
+ * build.py gives the words of both. Whatever can't be seen so is masked, and cases about it are CASES_UNSHOWN. */
 #include "host.h"
 
 static const uint32_t setting[] = { SETTING }, saving[] = { SAVING }, BREAK = 0x0000000D;
-static uint8_t before[MEMORIES], after[MEMORIES];
+static uint8_t before[CASES_MEMORIES], after[CASES_MEMORIES];
 enum { SET = sizeof setting / 4, SAVE = sizeof saving / 4, COPY = 0x400000 };
 /* Where SETTING finds the registers in DMEM, and SAVING leaves them, counted in halves of words: as conformance/bench.py has it. */
 enum { VECTORS = 0, ACCUMULATORS = 0x100, ONES = 0x118, CONTROLS = 0x128, SCALARS = 0x140, HALVES = 0x180 };
@@ -12,7 +12,7 @@ enum { VECTORS = 0, ACCUMULATORS = 0x100, ONES = 0x118, CONTROLS = 0x128, SCALAR
 void *cases_open(const char *what, const uint8_t *memories)
 {
     if (!open_other(what)) return NULL;
-    memcpy(before, memories, MEMORIES);
+    memcpy(before, memories, CASES_MEMORIES);
     return &other;
 }
 
@@ -60,7 +60,7 @@ static void get(brsp_state *s) /* takes from DMEM what SAVING left */
 static void play(const brsp_case *in, const uint32_t *end, size_t length) /* SETTING, the word, and an end */
 {
     uint32_t *imem = other.memory[BRSP_IMEM];
-    swap(other.memory[BRSP_DMEM], before, RDRAM);
+    swap(other.memory[BRSP_DMEM], before, CASES_RDRAM);
     memcpy(other.memory[BRSP_RDRAM] + COPY / 4, other.memory[BRSP_DMEM], 2 * HALVES); /* SETTING ends with a DMA from there over its data */
     set(&in->state);
     memcpy(imem, setting, sizeof setting);
@@ -77,11 +77,11 @@ int cases_run(void *at, const brsp_case *in, brsp_end *out, size_t n)
 {
     (void)at;
     for (; n--; in++, out++) {
-        out->status = UNSHOWN;
+        out->status = CASES_UNSHOWN;
         if (!is_shown(in)) continue;
         play(in, &BREAK, 1);
         swap(after, other.memory[BRSP_DMEM], 4096);
-        out->changed = digest(before, after, 4096);
+        out->changed = cases_digest_of(before, after, 4096);
         play(in, saving, SAVE);
         get(&out->state);
         out->status = BRSP_OK;

@@ -2,17 +2,17 @@
  * step, by bit 5 of SP_STATUS. */
 #include "host.h"
 
-typedef int machine; /* z64 has one, which is its own */
+typedef int side_machine; /* z64 has one, which is its own */
 enum { STOPPED = HALTED | BROKE | SINGLE_STEP };
 
-static int make(machine *m, const char *what) { (void)m; return open_other(what) && other.is_z64; }
+static int side_make(side_machine *m, const char *what) { (void)m; return open_other(what) && other.is_z64; }
 
-static int is_shown(const brsp_case *in) /* an MTC0 that clears single step would run on */
+static int side_is_shown(const brsp_case *in) /* an MTC0 that clears single step would run on */
 {
     return (in->word & 0xFFE07800) != 0x40802000 || !(in->state.words[in->word >> 16 & 31] & 0x20);
 }
 
-static int set(machine *m, const brsp_state *s)
+static int side_set(side_machine *m, const brsp_state *s)
 {
     (void)m;
     memcpy(other.registers, s->sp, sizeof s->sp);
@@ -22,9 +22,9 @@ static int set(machine *m, const brsp_state *s)
     return 1;
 }
 
-static uint32_t step(machine *m) { (void)m; step_other(0); return BRSP_OK; }
+static uint32_t side_step(side_machine *m) { (void)m; step_other(0); return BRSP_OK; }
 
-static void get(machine *m, brsp_state *s)
+static void side_get(side_machine *m, brsp_state *s)
 {
     (void)m;
     get_z64(s);
@@ -34,23 +34,23 @@ static void get(machine *m, brsp_state *s)
     s->interrupt = other.registers[REGISTER_INTERRUPTS] & 1;
 }
 
-static void put(machine *m, uint32_t pc, uint32_t word) { (void)m; other.memory[BRSP_IMEM][pc / 4] = word; }
+static void side_put(side_machine *m, uint32_t pc, uint32_t word) { (void)m; other.memory[BRSP_IMEM][pc / 4] = word; }
 
-static void load(machine *m, const uint8_t *memories, size_t to)
+static void side_load(side_machine *m, const uint8_t *memories, size_t to)
 {
     (void)m;
-    swap(other.memory[BRSP_DMEM], memories, RDRAM);
-    if (to == RDRAM) return;
+    swap(other.memory[BRSP_DMEM], memories, CASES_RDRAM);
+    if (to == CASES_RDRAM) return;
     memset(other.memory[BRSP_DMEM] + 2048, 0, 16384); /* what an earlier DMA may have changed: z64's runs on after IMEM */
     madvise(other.memory[BRSP_RDRAM], RDRAM_SPACE, MADV_DONTNEED);
-    swap(other.memory[BRSP_RDRAM], memories + RDRAM, RDRAM_LENGTH);
+    swap(other.memory[BRSP_RDRAM], memories + CASES_RDRAM, CASES_RDRAM_LENGTH);
 }
 
-static void look(machine *m, uint8_t *memories, size_t to)
+static void side_look(side_machine *m, uint8_t *memories, size_t to)
 {
     (void)m;
-    swap(memories, other.memory[BRSP_DMEM], RDRAM);
-    if (to > RDRAM) swap(memories + RDRAM, other.memory[BRSP_RDRAM], RDRAM_LENGTH);
+    swap(memories, other.memory[BRSP_DMEM], CASES_RDRAM);
+    if (to > CASES_RDRAM) swap(memories + CASES_RDRAM, other.memory[BRSP_RDRAM], CASES_RDRAM_LENGTH);
 }
 
 #include "side.h"

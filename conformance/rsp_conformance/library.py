@@ -11,7 +11,7 @@ import sys
 from pathlib import Path
 from typing import Any, Iterable, Iterator
 
-from rsp_conformance import bench, steps
+from rsp_conformance import BUILD, WITHOUT_LIBRARY, bench, steps
 from rsp_conformance.bench import Observation, Observed
 from rsp_conformance.command_line import Complaints, parser_of, print_checks, printable
 from rsp_conformance.safe_files import FileFault
@@ -69,7 +69,7 @@ def main() -> None:
     try:
         import rsp
     except (ImportError, OSError) as fault:
-        sys.exit(f"library: {fault}")
+        sys.exit(f"library: {fault if BUILD.exists() else WITHOUT_LIBRARY}")
     try:
         with rsp.Machine(IMAGE) as machine:
             sys.exit(print_checks(run_rows(machine, args.folder, names_in(args.folder, args.names))))

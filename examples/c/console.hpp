@@ -7,6 +7,7 @@
 #include <cstdint>
 #include <vector>
 
+inline namespace BRSP_NAMES { // as brsp::machine
 template <class Unit> class Console {
 public:
     std::vector<Unit> rdram = std::vector<Unit>(SIZE / sizeof(Unit));
@@ -111,3 +112,4 @@ private:
         return from;
     }
 };
+} // namespace BRSP_NAMES

@@ -3,14 +3,14 @@
 #include "Vcore___024root.h"
 #include "cases.h"
 
-struct machine {
+struct side_machine {
     Vcore *top;
-    uint8_t rdram[RDRAM_LENGTH]; // the core has no DMA
+    uint8_t rdram[CASES_RDRAM_LENGTH]; // the core has no DMA
 };
 
 static void tick(Vcore *top) { top->clk = 1; top->eval(); top->clk = 0; top->eval(); }
 
-static int make(machine *m, const char *)
+static int side_make(side_machine *m, const char *)
 {
     m->top = new Vcore;
     m->top->reset = 1;
@@ -20,9 +20,9 @@ static int make(machine *m, const char *)
     return 1;
 }
 
-static int is_shown(const brsp_case *) { return 1; }
+static int side_is_shown(const brsp_case *) { return 1; }
 
-static int set(machine *m, const brsp_state *s)
+static int side_set(side_machine *m, const brsp_state *s)
 {
     memcpy(&m->top->loaded, s, sizeof *s);
     m->top->load = 1;
@@ -32,54 +32,54 @@ static int set(machine *m, const brsp_state *s)
     return 1;
 }
 
-static void get(machine *m, brsp_state *s) { m->top->eval(); memcpy(s, &m->top->state, sizeof *s); }
+static void side_get(side_machine *m, brsp_state *s) { m->top->eval(); memcpy(s, &m->top->state, sizeof *s); }
 
 // Issues instructions one after the other, and then empties the pipeline. The core lacks halted and single step, which are imitated.
-static uint32_t run(machine *m, uint32_t n, uint32_t *status)
+static uint32_t run(side_machine *m, uint32_t n, uint32_t *status)
 {
     Vcore *top = m->top;
     uint32_t done = 0;
     brsp_state s;
-    get(m, &s);
+    side_get(m, &s);
     *status = s.sp[4] & 1 ? BRSP_HALTED : BRSP_OK;
     if (s.sp[4] & 32 && n > 1) n = 1;
     for (top->go = 1, top->eval(); *status == BRSP_OK && done < n; tick(top), top->eval())
         if (top->issues) done++;
         else if (top->is_reserved) *status = BRSP_RESERVED;
     for (top->go = 0, top->eval(); top->is_busy;) tick(top);
-    get(m, &s);
+    side_get(m, &s);
     s.sp[4] |= done ? s.sp[4] >> 5 & 1 : 0;
-    if (done) set(m, &s);
+    if (done) side_set(m, &s);
     return done;
 }
 
-static uint32_t step(machine *m) { uint32_t status; run(m, 1, &status); return status; }
-static uint32_t steps(machine *m, uint32_t n) { uint32_t status; return run(m, n, &status); }
+static uint32_t side_step(side_machine *m) { uint32_t status; run(m, 1, &status); return status; }
+static uint32_t steps(side_machine *m, uint32_t n) { uint32_t status; return run(m, n, &status); }
 
-static void put(machine *m, uint32_t pc, uint32_t word) { m->top->rootp->core__DOT__imem[pc / 4] = word; m->top->eval(); }
+static void side_put(side_machine *m, uint32_t pc, uint32_t word) { m->top->rootp->core__DOT__imem[pc / 4] = word; m->top->eval(); }
 
-static void load(machine *m, const uint8_t *from, size_t to)
+static void side_load(side_machine *m, const uint8_t *from, size_t to)
 {
     auto *root = m->top->rootp;
-    for (int n = 0; n < 4096; n++) root->core__DOT__dmem[n] = from[DMEM + n];
+    for (int n = 0; n < 4096; n++) root->core__DOT__dmem[n] = from[CASES_DMEM + n];
     for (int n = 0; n < 1024; n++) {
         uint32_t word;
-        memcpy(&word, from + IMEM + 4 * n, 4);
+        memcpy(&word, from + CASES_IMEM + 4 * n, 4);
         root->core__DOT__imem[n] = __builtin_bswap32(word);
     }
-    if (to > RDRAM) memcpy(m->rdram, from + RDRAM, to - RDRAM);
+    if (to > CASES_RDRAM) memcpy(m->rdram, from + CASES_RDRAM, to - CASES_RDRAM);
     m->top->eval();
 }
 
-static void look(machine *m, uint8_t *into, size_t to)
+static void side_look(side_machine *m, uint8_t *into, size_t to)
 {
     auto *root = m->top->rootp;
-    for (int n = 0; n < 4096; n++) into[DMEM + n] = root->core__DOT__dmem[n];
+    for (int n = 0; n < 4096; n++) into[CASES_DMEM + n] = root->core__DOT__dmem[n];
     for (int n = 0; n < 1024; n++) {
         uint32_t word = __builtin_bswap32(root->core__DOT__imem[n]);
-        memcpy(into + IMEM + 4 * n, &word, 4);
+        memcpy(into + CASES_IMEM + 4 * n, &word, 4);
     }
-    if (to > RDRAM) memcpy(into + RDRAM, m->rdram, to - RDRAM);
+    if (to > CASES_RDRAM) memcpy(into + CASES_RDRAM, m->rdram, to - CASES_RDRAM);
 }
 
 #define SIDE_STEPS steps

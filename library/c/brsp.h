@@ -18,7 +18,7 @@
  *   - malloc, realloc and free are of one allocator, and align to 16 bytes, as the platform's do.
  *   - No signal handler makes a call. If a process with more than one thread forks, no call in the child
  *     makes or frees a handle, reads a text, or uses a session, because these calls allocate or free memory.
- *   - A call has BRSP_STACK bytes of stack.
+ *   - A call has BRSP_STACK bytes of stack, or if it takes a machine and isn't brsp_new, BRSP_MACHINE_STACK.
  * To find a call that breaks one, run the program in valgrind. Compilers' sanitizers don't see what the
  * library itself reads and writes, because it is assembly without their checks: under AddressSanitizer a
  * call with a machine that was freed can return BRSP_OK.
@@ -53,6 +53,9 @@ typedef struct brsp_machine {
 
 /* The most bytes of stack that a call needs. This is measured, not proved. */
 #define BRSP_STACK 131072
+
+/* The same of the calls that take a machine, except brsp_new. */
+#define BRSP_MACHINE_STACK 8192
 
 /* What a call returns. A status other than BRSP_OK is above 100, because the numbers of faults are below
  * 100. */
@@ -258,8 +261,15 @@ typedef struct brsp_line {
     char text[68];  /* the text, then zeros, at least four */
 } brsp_line;
 
-/* The version of this interface. It is raised when a call, a struct or a number changes its meaning. */
+/* The version of this interface. It is raised when a call, a struct or a number changes its meaning, or is
+ * removed. A call that is added raises only the second number of BRSP_RELEASE: a program that makes such a
+ * call needs a library of that release, or of a later one with the same BRSP_VERSION. With an older library
+ * the system's loader ends the program: at its start, or at the first such call if the loader looks for
+ * calls only then. */
 #define BRSP_VERSION 1
+
+/* The release of rsp that this header belongs to. */
+#define BRSP_RELEASE "0.9.0"
 
 /* Returns the library's BRSP_VERSION. */
 uint32_t brsp_version(void);

@@ -4,7 +4,10 @@
  *
  * A refused call throws brsp::rsp_error, and has changed nothing. To do something else, define
  * BRSP_REFUSE(error) above the #include: it gets the error, and must not return. Without exceptions
- * (-fno-exceptions) and without BRSP_REFUSE the message is written to stderr, and the program aborts. */
+ * (-fno-exceptions) and without BRSP_REFUSE the message is written to stderr, and the program aborts. Files
+ * of different kinds may be in one program, because the compiler gives the names here another prefix in
+ * each kind; so a function can't take a brsp::machine from a file of another kind. All files that define
+ * BRSP_REFUSE define the same. */
 #ifndef BRSP_HPP
 #define BRSP_HPP
 
@@ -34,20 +37,29 @@
 #include <utility>
 #include <vector>
 
-#ifndef BRSP_REFUSE
-#ifdef __cpp_exceptions
+#if defined(BRSP_REFUSE) && defined(__cpp_exceptions)
+#define BRSP_NAMES_IN(version) brsp_v##version##_refuse
+#elif defined(BRSP_REFUSE)
+#define BRSP_NAMES_IN(version) brsp_v##version##_refuse_without_exceptions
+#elif defined(__cpp_exceptions)
+#define BRSP_NAMES_IN(version) brsp_v##version##_throw
 #define BRSP_REFUSE(error) throw error
 #else
+#define BRSP_NAMES_IN(version) brsp_v##version##_abort
 #define BRSP_REFUSE(error) (std::fprintf(stderr, "%s\n", (error).what()), std::abort())
 #endif
-#endif
+/* The namespace of what differs between files of different kinds, and between versions of the interface. */
+#define BRSP_NAMES_OF(version) BRSP_NAMES_IN(version)
+#define BRSP_NAMES BRSP_NAMES_OF(BRSP_VERSION)
 
 namespace brsp {
+inline namespace BRSP_NAMES {
 
 using bytes = std::vector<uint8_t>;
 using words = std::vector<uint32_t>;
 
-/* What a refused call throws. what() names the call, the argument and its range. */
+/* What a refused call throws. what() names the call, the argument and its range. If the library has another
+ * version than these headers, the first use is refused with the status 100, which no call returns. */
 struct rsp_error : std::runtime_error {
     rsp_error(uint32_t why, const std::string &what) : std::runtime_error(what), status(why) {}
     uint32_t status;
@@ -121,6 +133,17 @@ inline void done(uint32_t status, const call &of)
     if (status != BRSP_OK) refuse(status, of);
 }
 
+/* Refuses a library of another version. A function that can be a program's first use calls this before all
+ * else, because its call could be missing in that library, or mean something else. */
+inline void check_version()
+{
+    const uint32_t found = brsp_version();
+    if (found == BRSP_VERSION) return;
+    const std::string its = std::to_string(found), mine = std::to_string(BRSP_VERSION);
+    refuse(rsp_error(100, joined({ "the library has version ", its, " of the interface, and the headers, of rsp ",
+                                   BRSP_RELEASE, ", have version ", mine })));
+}
+
 /* How a step ended: BRSP_OK, BRSP_HALTED or BRSP_RESERVED. */
 inline uint32_t ended(uint32_t status, const char *name)
 {
@@ -143,6 +166,7 @@ inline const uint8_t *at(std::string_view text) noexcept
 /* What a call says in a buffer. The call is made again if the buffer is too small for it. */
 template <class Make> std::string said(const call &of, Make make)
 {
+    check_version();
     bytes out(1024);
     size_t length = 0;
     uint32_t status = make(out.data(), out.size(), &length);
@@ -200,7 +224,7 @@ inline std::string printable(std::string_view text, size_t line)
 /* A handle that is freed, and moved. */
 template <class Handle, void (*release)(Handle *)> class owner {
 public:
-    owner() = default;
+    owner() { check_version(); } /* here, so that nothing is freed if it is refused */
     owner(owner &&from) noexcept : it(std::exchange(from.it, Handle BRSP_NONE)) {}
     owner &operator=(owner &&from) noexcept
     {
@@ -225,6 +249,7 @@ protected:
 /* The words of a text. The first is for the address `origin`. Throws assembly_error. */
 [[nodiscard]] inline words assemble(std::string_view text, uint32_t origin = 0)
 {
+    detail::check_version();
     words out(1024);
     brsp_assembled about{};
     const uint32_t status =
@@ -251,6 +276,7 @@ protected:
 /* The operand for which assemble refuses a text; its number is 0 if none is at fault. */
 [[nodiscard]] inline brsp_operand explain(std::string_view text, uint32_t origin = 0)
 {
+    detail::check_version();
     brsp_operand out{};
     detail::done(brsp_explain(origin, detail::at(text), text.size(), &out),
                  { "explain", { origin } });
@@ -280,6 +306,7 @@ protected:
 /* The disassembly of a word for an address of IMEM. */
 [[nodiscard]] inline std::string text(uint32_t word, uint32_t address = 0)
 {
+    detail::check_version();
     brsp_line out{};
     detail::done(brsp_text(word, address, &out), { "text", { word, address } });
     return { out.text, out.len };
@@ -290,6 +317,7 @@ protected:
 /* The first brsp_field for which machine::set refuses a state, or BRSP_FIELD_NONE if it takes the state. */
 [[nodiscard]] inline uint32_t state_fault(const brsp_state &state)
 {
+    detail::check_version();
     uint32_t out = BRSP_FIELD_NONE;
     detail::done(brsp_state_fault(&state, &out), { "state_fault" });
     return out;
@@ -692,6 +720,7 @@ template <class Emulator>
 /* The version of the library's interface, which should be BRSP_VERSION. */
 [[nodiscard]] inline uint32_t version() noexcept { return brsp_version(); }
 
+} // namespace BRSP_NAMES
 } // namespace brsp
 
 #endif

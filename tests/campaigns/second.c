@@ -10,7 +10,7 @@
 
 typedef struct core {
     brsp_state s;
-    uint8_t memory[RDRAM];  /* DMEM, then IMEM */
+    uint8_t memory[CASES_RDRAM];  /* DMEM, then IMEM */
     uint32_t rdram_length;
     uint32_t next;          /* what npc becomes */
     uint8_t rdram[1 << 17];
@@ -367,7 +367,7 @@ uint32_t core_step(core *m) {
     brsp_state *s = &m->s;
     uint32_t w = 0, single = s->sp[4] & 0x20;
     if (s->sp[4] & 1) return BRSP_HALTED;
-    for (int i = 0; i < 4; i++) w = w << 8 | m->memory[IMEM + s->pc + i];
+    for (int i = 0; i < 4; i++) w = w << 8 | m->memory[CASES_IMEM + s->pc + i];
     m->next = (s->npc + 4u) & 0xFFC;
     if (!execute(m, w)) return BRSP_RESERVED;
     s->pc = s->npc, s->npc = (uint16_t)m->next;
@@ -382,20 +382,20 @@ uint32_t core_until_halt(core *m, uint32_t steps) {
 }
 
 /* --- what side.h asks for */
-typedef core machine;
-static int make(core *m, const char *what) { (void)what; m->rdram_length = RDRAM_LENGTH; return 1; }
-static int is_shown(const brsp_case *in) { (void)in; return 1; }
-static int set(core *m, const brsp_state *s) { m->s = *s; return 1; }
-static uint32_t step(core *m) { return core_step(m); }
-static void get(core *m, brsp_state *s) { *s = m->s; }
-static void put(core *m, uint32_t pc, uint32_t word) { for (uint32_t i = 0; i < 4; i++) m->memory[IMEM + pc + i] = (uint8_t)(word >> (24 - 8 * i)); }
-static void load(core *m, const uint8_t *memories, size_t to) {
-    memcpy(m->memory, memories, RDRAM);
-    if (to > RDRAM) memcpy(m->rdram, memories + RDRAM, RDRAM_LENGTH);
+typedef core side_machine;
+static int side_make(core *m, const char *what) { (void)what; m->rdram_length = CASES_RDRAM_LENGTH; return 1; }
+static int side_is_shown(const brsp_case *in) { (void)in; return 1; }
+static int side_set(core *m, const brsp_state *s) { m->s = *s; return 1; }
+static uint32_t side_step(core *m) { return core_step(m); }
+static void side_get(core *m, brsp_state *s) { *s = m->s; }
+static void side_put(core *m, uint32_t pc, uint32_t word) { for (uint32_t i = 0; i < 4; i++) m->memory[CASES_IMEM + pc + i] = (uint8_t)(word >> (24 - 8 * i)); }
+static void side_load(core *m, const uint8_t *memories, size_t to) {
+    memcpy(m->memory, memories, CASES_RDRAM);
+    if (to > CASES_RDRAM) memcpy(m->rdram, memories + CASES_RDRAM, CASES_RDRAM_LENGTH);
 }
-static void look(core *m, uint8_t *memories, size_t to) {
-    memcpy(memories, m->memory, RDRAM);
-    if (to > RDRAM) memcpy(memories + RDRAM, m->rdram, RDRAM_LENGTH);
+static void side_look(core *m, uint8_t *memories, size_t to) {
+    memcpy(memories, m->memory, CASES_RDRAM);
+    if (to > CASES_RDRAM) memcpy(memories + CASES_RDRAM, m->rdram, CASES_RDRAM_LENGTH);
 }
 
 #include "side.h"

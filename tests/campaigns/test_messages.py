@@ -14,6 +14,9 @@ import pytest
 import rsp
 from lib.campaigns import agreed, campaign, counts_of, faulty, output_of, results_of
 from lib.packages import is_here
+from lib.pages import block_with
+from lib.processes import run, succeeds
+from rsp_conformance import WITHOUT_LIBRARY
 from rsp_conformance.campaign import workers
 from rsp_conformance.campaign.protocol import BATCH, SHOWN, Result
 from rsp_conformance.campaign.report import text_table
@@ -44,6 +47,16 @@ IGNORED = r"\.word 0x[0-9a-f]{8} \(SRA, with bits that are ignored\)"
 )
 def test_name_of_a_word(word: int, text: str) -> None:
     assert named(word, 0) == text
+
+
+@pytest.mark.needs("git")
+@pytest.mark.parametrize("command", ["campaign mine.so out --here", "library"])
+def test_vectors_alone(command: str, folder: Path) -> None:
+    """What the README packs has no library. Who needs it is told where it is."""
+    pack = block_with("conformance/README.md", "git archive").replace("-o ~/vectors.tar.gz", "").strip()
+    succeeds("sh", "-c", f"{pack} | tar -x -C '{folder}'")
+    ended = run("sh", "-c", f"conformance/{command}", cwd=folder)
+    assert ended.returncode == 1 and ended.stdout.startswith(f"{command.split()[0]}: {WITHOUT_LIBRARY}")
 
 
 @pytest.mark.parametrize("name", ROWS)

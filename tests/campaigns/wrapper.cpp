@@ -1,4 +1,9 @@
-// An emulator in C++ as a shared object of cases: a class over the library, and the calls that side.h asks for.
+// An emulator in C++ as a shared object of cases: a class over the library, and the calls that side.h asks for. The names before them are such as
+// emulators have, so cases.h and side.h may not have them.
+enum { DMEM, IMEM, RDRAM, RDRAM_LENGTH, MEMORIES, UNSHOWN };
+struct machine {};
+struct side {};
+int digest, is_dma, make, is_shown, set, step, get, put, load, look, one;
 #include "cases.h"
 #include <array>
 
@@ -21,20 +26,20 @@ public:
     }
 
 private:
-    static constexpr std::array<size_t, 4> starts{ DMEM, IMEM, RDRAM, MEMORIES };
-    std::array<uint8_t, RDRAM_LENGTH> image{};
+    static constexpr std::array<size_t, 4> starts{ CASES_DMEM, CASES_IMEM, CASES_RDRAM, CASES_MEMORIES };
+    std::array<uint8_t, CASES_RDRAM_LENGTH> image{};
     brsp_machine handle = BRSP_NONE;
 };
 
-using machine = Wrapped *;
+using side_machine = Wrapped *;
 
-static int make(machine *m, const char *) { *m = new Wrapped; return (*m)->open(); }
-static int is_shown(const brsp_case *) { return 1; }
-static int set(machine *m, const brsp_state *s) { return (*m)->set(*s); }
-static uint32_t step(machine *m) { return (*m)->step(); }
-static void get(machine *m, brsp_state *s) { (*m)->get(*s); }
-static void put(machine *m, uint32_t pc, uint32_t word) { (*m)->put(pc, word); }
-static void load(machine *m, const uint8_t *memories, size_t to) { (*m)->load(memories, to); }
-static void look(machine *m, uint8_t *memories, size_t to) { (*m)->look(memories, to); }
+static int side_make(side_machine *m, const char *) { *m = new Wrapped; return (*m)->open(); }
+static int side_is_shown(const brsp_case *) { return 1; }
+static int side_set(side_machine *m, const brsp_state *s) { return (*m)->set(*s); }
+static uint32_t side_step(side_machine *m) { return (*m)->step(); }
+static void side_get(side_machine *m, brsp_state *s) { (*m)->get(*s); }
+static void side_put(side_machine *m, uint32_t pc, uint32_t word) { (*m)->put(pc, word); }
+static void side_load(side_machine *m, const uint8_t *memories, size_t to) { (*m)->load(memories, to); }
+static void side_look(side_machine *m, uint8_t *memories, size_t to) { (*m)->look(memories, to); }
 
 #include "side.h"

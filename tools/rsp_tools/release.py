@@ -50,6 +50,7 @@ DATED = {
     "CHANGELOG.md": r"^## (.*)$",
 }
 NUMBERS = {
+    "library/c/brsp.h": r'^#define BRSP_RELEASE "(.*)"$',
     "library/python/pyproject.toml": r'^version = "(.*)"$',
     "library/python/rsp/__init__.py": r'^__version__ = "(.*)"$',
     "library/rust/Cargo.toml": r'^version = "(.*)"$',

@@ -219,9 +219,8 @@ def arguments() -> argparse.Namespace:
 def main() -> None:
     args = arguments()
     try:
-        import numpy  # noqa: F401
-
         library()
+        import numpy  # noqa: F401
         import rsp  # noqa: F401
     except (CampaignFault, ImportError) as fault:
         if getattr(fault, "name", "") == "numpy":

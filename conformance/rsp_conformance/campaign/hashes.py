@@ -13,20 +13,21 @@ from importlib.machinery import ModuleSpec, PathFinder
 from pathlib import Path
 from typing import Dict, Iterable, List, Optional
 
-from rsp_conformance import HERE, TOP
+from rsp_conformance import BUILD, HERE, TOP, WITHOUT_LIBRARY
 
 from . import CampaignFault, words_of
 
 SOURCES = HERE / "campaigns"
 HEADER = TOP / "library/c/brsp.h"
-BUILD = TOP / "library/c/build"
 
 
 @functools.lru_cache(None)
 def library() -> Path:
     """The one that the repository makes of its sources."""
-    made = BUILD.exists() and subprocess.run([BUILD, "--folder"], stdout=subprocess.PIPE, text=True)
-    if not made or made.returncode:
+    if not BUILD.exists():
+        raise CampaignFault(WITHOUT_LIBRARY)
+    made = subprocess.run([BUILD, "--folder"], stdout=subprocess.PIPE, text=True)
+    if made.returncode:
         raise CampaignFault("library/c/build has made no library")
     return Path(made.stdout.rstrip("\n"), "libbrsp.a")
 

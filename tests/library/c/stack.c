@@ -203,6 +203,16 @@ static void fill_text(void)
     }
 }
 
+/* How much brsp.h gives a call: the calls of texts and scripts, and the one that makes a machine, need more than all others. */
+static size_t limit_of(const char *name)
+{
+    static const char *const large[] = { "brsp_new", "brsp_assemble", "brsp_labels", "brsp_explain", "brsp_session" };
+    size_t n;
+    for (n = 0; n < sizeof large / sizeof *large; n++)
+        if (strncmp(name, large[n], strlen(large[n])) == 0) return BRSP_STACK;
+    return BRSP_MACHINE_STACK;
+}
+
 int main(int argc, char **argv)
 {
     size_t n, most = 0, none = 0;
@@ -217,9 +227,9 @@ int main(int argc, char **argv)
         if (n == 0) none = bytes_used;
         if (argc > 1) printf("%-20s %6zu, status %u\n", calls[n].name, bytes_used - none, (unsigned)word);
         if (bytes_used - none > most) most = bytes_used - none;
-        if (bytes_used - none > BRSP_STACK / 2) {
+        if (bytes_used - none > limit_of(calls[n].name) / 2) {
             failed++;
-            printf("FAIL %s uses %zu bytes of stack, more than half of BRSP_STACK\n", calls[n].name, bytes_used - none);
+            printf("FAIL %s uses %zu bytes of stack, more than half of %zu\n", calls[n].name, bytes_used - none, limit_of(calls[n].name));
         }
     }
     if (most < 512) failed++, printf("FAIL no call was seen to use stack\n");

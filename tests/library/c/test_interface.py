@@ -3,7 +3,9 @@
 They fail if a symbol, a layout or a number changes. As long as no version has a tag, store the interface anew
 (`tools/python lib.library.interface`). After that, a new symbol, number or struct raises the second part of
 the version, and a symbol also gets a new node of brsp.map, such as BRSP_1.1. Any other change raises the
-first part: BRSP_VERSION and VERSION of each language, and BRSP_N of brsp.map.
+first part: BRSP_VERSION and VERSION of each language, and BRSP_N of brsp.map. So does another field of a
+class in brsp.hpp, because files with headers of two versions may be in one program, by the number in their
+names.
 """
 
 import pytest
