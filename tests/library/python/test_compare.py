@@ -185,6 +185,7 @@ def test_state_that_is_kept() -> None:
 
     found = rsp.first_difference(machines()[0], Keeps(IMAGE))
     assert found and (found.step, found.before) == (1, alone(0))
+    assert [it[0] for it in parts_of(found)] == ["$v2 lane 5"], "the machine doesn't get what it changes"
 
 
 SHORT = {"memory": lambda it, *place: rsp.Rsp.memory(it, *place)[:8]}
