@@ -91,6 +91,7 @@ static void test_states()
     state.flags = { 1, 2, 4, 8, 16 };
     const std::string text = brsp::to_string(state), end = "\nvco 0201 vcc 0804 vce 10 in 0000 out 0000 loaded 0";
     see("a state as text", text.substr(0, 35) == "pc 000 npc 004\nr00 00000000 0000000" && text.find("\nr04 00000000 0000004d ") != text.npos);
+    see("its accumulators", text.find("\na0 000000000000\na1 ") != text.npos && text.find("\na7 000000000000\nvco ") != text.npos);
     see("its end", text.size() > end.size() && text.substr(text.size() - end.size()) == end);
     refuses(BRSP_OUT_OF_RANGE, "set_reg: register 0 holds 0, and not 9", [&] { m.set_reg(0, 9); });
     refuses(BRSP_OUT_OF_RANGE, "set_vreg: number is 32, not 0 to 31", [&] { m.set_vreg(32, brsp_lanes{}); });
