@@ -2,8 +2,8 @@
 import { word_of } from "./help.js";
 import { COMMANDS, INSTRUCTIONS, STATEMENTS } from "./names.js";
 
-/** How many lines tell what a text is: each key asks for it. */
-const MOST = 100;
+/** How many lines tell what a text is, and how many letters of each: it is asked for at each key. */
+const LINES = 1000, LETTERS = 100;
 /** A line of assembly text that has no name of ours: with a label, a directive, or a register. */
 const OTHER = /^[ \t]*(?:[.\w]+:|\.\w)|\$\w/;
 
@@ -20,8 +20,8 @@ function is_assembly(line) {
 export function is_bare(text) {
   if (text.has_source) return false;
   const lines = [];
-  for (let line = 0; line < text.count && lines.length < MOST; line++) {
-    const body = text.line(line).slice(0, MOST).replace(/[#;].*|\/[/*].*/s, "");
+  for (let line = 0; line < Math.min(text.count, LINES); line++) {
+    const body = text.line(line).slice(0, LETTERS).replace(/[#;].*|\/[/*].*/s, "");
     if (body.trim()) lines.push(body);
   }
   return lines.filter(is_assembly).length * 2 > lines.length;
