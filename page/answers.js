@@ -1,10 +1,11 @@
 /** What a run has answered: the reply to each line, the lines that are source text, and the faults, with what the
  * library says of them. */
 import { last_below } from "./elements.js";
+import { begins_with_zeros, compared, marked_rows } from "./marks.js";
 
 const LF = 10, TEXT = new TextDecoder();
-/** How many bytes of a line are shown. Longer lines are refused. */
-const WIDTH = 256;
+/** How many bytes of a line are shown. Longer lines are refused. And a reply that is shorter isn't compared. */
+const WIDTH = 256, SHORT = 12;
 
 /** A reply that is a fault: the line that is at fault, the one that has the reply, and the first one that is answered: of
  * a block its `asm`. Lines count from 0.
@@ -24,6 +25,9 @@ export class Answers {
   #block = -1;
   /** What was said of commands. @type {Set<string>} */
   #said = new Set();
+  /** The last line of each command whose replies are compared, and for each such line the one before it, or -1. */
+  #last = /** @type {Map<string, number>} */ (new Map());
+  #earlier = /** @type {Map<number, number>} */ (new Map());
 
   /** The reply to each line, and the one to the script's end, if there is one. @type {Uint8Array[]} */
   replies = [];
@@ -50,8 +54,26 @@ export class Answers {
     this.replies.push(reply);
     if (is_line) this.count++;
     this.#find_fault(line);
+    if (reply.length >= SHORT && !this.fault_at.has(line)) this.#compare(line);
     if (reply.length) this.#block = -1; // in a block only the last line has a reply
     else if (this.#block < 0 && /^[ \t]*asm[ \t]/.test(this.text(line))) this.#block = line;
+  }
+
+  /** Notes with which reply the one to a line is compared. @param {number} line */
+  #compare(line) {
+    const command = compared(this.text(line));
+    if (!command) return;
+    this.#earlier.set(line, this.#last.get(command) ?? -1);
+    this.#last.set(command, line);
+  }
+
+  /** The rows of the reply to a line in parts, if its command is compared, and whether this reply is.
+   * @param {number} line */
+  marked(line) {
+    const earlier = this.#earlier.get(line), command = compared(this.text(line));
+    if (earlier === undefined) return { is_compared: false };
+    const before = earlier < 0 ? undefined : this.lines(earlier);
+    return { rows: marked_rows(command, this.lines(line), before), is_compared: !!before || begins_with_zeros(command) };
   }
 
   /** Notes a line whose reply is a fault. In a block the reply says which line of it is meant. @param {number} answered */

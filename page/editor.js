@@ -3,7 +3,7 @@
  * is as high as its text: what scrolls is the surface, with the replies. */
 import { coloured } from "./colours.js";
 import { element, the } from "./elements.js";
-import { line_page } from "./help.js";
+import { line_help } from "./help.js";
 import { VirtualList, go_to, set, view } from "./virtual_list.js";
 import { Text } from "./text.js";
 
@@ -12,6 +12,10 @@ const LONGEST = 2000;
 /** How many lines before and after those in view are drawn. */
 const AROUND = 20;
 const LEAST_COLUMNS = 30;
+/** How many columns long comments leave to the replies. */
+const REPLIES = 80;
+/** What the foot of the page says of a line of which it knows nothing. */
+const START = "Put the caret in a line, and read here what it does.";
 
 export class Editor {
   #area = the("script");
@@ -26,8 +30,11 @@ export class Editor {
 
   constructor() {
     this.#area.addEventListener("scroll", () => this.#area.scrollTo(0, 0)); // the surface scrolls instead
-    document.addEventListener("selectionchange", () => requestAnimationFrame(() => this.#show_caret()));
-    this.draw();
+    document.addEventListener("selectionchange", () => requestAnimationFrame(() => {
+      this.#show_caret();
+      this.#show_hint();
+    }));
+    new ResizeObserver(() => this.draw()).observe(the("surface"));
   }
 
   /** Draws the text anew, before the page is painted next. */
@@ -62,10 +69,17 @@ export class Editor {
     go_to(at);
   }
 
-  /** The page that explains the line in which the caret is. */
+  /** What explains the line in which the caret is. */
   get help() {
     const line = this.text.line_at(this.#area.selectionStart);
-    return line_page(this.text.line(line), this.text.is_source(line));
+    return line_help(this.text.line(line), this.text.is_source(line));
+  }
+
+  /** Says at the foot of the page what the line with the caret does: no live region, which would speak at each step of the
+   * caret, because who hears the page has F1. */
+  #show_hint() {
+    const { hint: [form, effect] = ["", START], page } = this.help, [code, text, link] = the("hint").children;
+    [code.textContent, text.textContent, link.href, link.hidden] = [form, effect, page, !form];
   }
 
   /** Brings the caret out from below the replies, which stay where they are when the text goes sideways. */
@@ -82,12 +96,16 @@ export class Editor {
   #draw() {
     const { count, longest, widest } = this.text, same = (/** @type {number} */ it) => it;
     const items = { count, rows: count, begin: same, at: same };
+    const room = Math.floor(view.width / view.letter) - REPLIES;
+    view.code = Math.max(LEAST_COLUMNS, this.text.code, Math.min(widest, room));
+    set("--code", view.code);
     set("--columns", Math.max(LEAST_COLUMNS, widest));
     set("--digits", String(count).length);
     the("text").classList.add("plain");
     the("colours").replaceChildren();
     this.#colours.show(longest > LONGEST ? { ...items, count: 0 } : items);
     this.#numbers.show(items);
+    this.#show_hint();
     the("text").classList.toggle("plain", longest > LONGEST);
   }
 

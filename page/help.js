@@ -1,5 +1,5 @@
-/** Where the pages beside this one explain what somebody sees. */
-import { COMMANDS, INSTRUCTIONS } from "./names.js";
+/** What the page says of a line, and where the pages beside this one explain it. */
+import { COMMANDS, INSTRUCTIONS, STATEMENTS } from "./names.js";
 
 /** @param {string} page @param {string} anchor */
 function address(page, anchor = "") {
@@ -12,13 +12,16 @@ export function fault_page(reply) {
   return found ? address("FAULTS", `fault-${found[1]}`) : "";
 }
 
-/** The page on a line of a script: on its command, or in a block on its instruction.
- * @param {string} line @param {boolean} is_source whether it is source text, in a block */
-export function line_page(line, is_source) {
-  const word = line.replace(/[#;].*/s, "").replace(/^\s*\w+:/, "").trim().split(/\s/)[0];
-  if (is_source) {
-    const name = word.toLowerCase();
-    return INSTRUCTIONS.has(name) ? address("INSTRUCTIONS", name) : address("ASSEMBLY");
+/** The name of a line's command or of its instruction. @param {string} line */
+export function word_of(line) { return line.replace(/[#;].*/s, "").replace(/^\s*\w+:/, "").trim().split(/\s/)[0]; }
+
+/** Of a line of a script its form and what it does, if that is known, and the page with more: on its command, or on its
+ * instruction. @param {string} line @param {boolean} is_source whether it is source text, in a block */
+export function line_help(line, is_source) {
+  const word = word_of(line), name = word.toLowerCase();
+  if (COMMANDS.has(word) && (!is_source || word === "end")) {
+    return { hint: COMMANDS.get(word), page: address("SCRIPT", `command-${word}`) };
   }
-  return COMMANDS.has(word) ? address("SCRIPT", `command-${word}`) : address("SCRIPT", "commands");
+  if (INSTRUCTIONS.has(name)) return { hint: INSTRUCTIONS.get(name), page: address("INSTRUCTIONS", name) };
+  return { hint: STATEMENTS.get(name), page: is_source ? address("ASSEMBLY") : address("SCRIPT", "commands") };
 }

@@ -1,10 +1,10 @@
 /** The page: joins the script, the image of RDRAM, the runs and their replies. It shows what `rsp run` prints, and has
  * no commands of its own, which would be a second interface to learn. */
+import { is_bare } from "./assembly.js";
 import { ScriptSource } from "./script_source.js";
 import { Editor } from "./editor.js";
 import { grouped, the } from "./elements.js";
-import { EXAMPLES } from "./examples.js";
-import { line_page } from "./help.js";
+import { line_help } from "./help.js";
 import { Replies } from "./replies.js";
 import { RunControl, RunWorker } from "./running.js";
 import { LONGEST, Script } from "./script.js";
@@ -16,8 +16,14 @@ function say(sentence) { the("said").textContent = sentence; }
 const trials = new RunWorker();
 const script = new Script(the("script")), editor = new Editor(), replies = new Replies();
 const running = new RunControl(script, editor, replies, trials);
-const source = new ScriptSource(script, (is_other) => running.forget(is_other), say);
+const source = new ScriptSource(script, follow, say);
 const LONGEST_IMAGE = 1 << 23; // bytes
+
+/** The script is another one, or its text was changed. @param {boolean} is_other */
+function follow(is_other) {
+  running.forget(is_other);
+  the("block").hidden = !is_bare(editor.text);
+}
 
 /** Why the library can't begin with an image, or nothing if it can. @param {Uint8Array} [image] */
 async function fault_of(image) { return (await trials.run({ script: new Uint8Array(), image })).fault; }
@@ -33,9 +39,18 @@ async function take_image(bytes, name = "zeros") {
   say(`Runs begin with ${name}.`);
 }
 
+/** Browsers without popovers, such as Safari before version 17, have a menu that is hidden or isn't. */
+const menu = the("menu"), has_popovers = "showPopover" in menu;
+
+function close_menu() {
+  if (has_popovers) return menu.hidePopover();
+  if (!menu.hidden) the("more").focus();
+  menu.hidden = true;
+}
+
 function run() {
   say("");
-  the("menu").hidePopover();
+  close_menu();
   running.run();
 }
 
@@ -63,10 +78,18 @@ function on_script_key(event) {
 function on_key(event) {
   const { key, ctrlKey, metaKey } = event, is_script = document.activeElement === the("script");
   const is_all = key === "a" && (ctrlKey || metaKey) && !is_script;
+  if (key === "Escape") close_menu();
   if (key !== "F1" && !is_all) return;
   event.preventDefault();
   if (is_all) getSelection()?.selectAllChildren(the("replies"));
-  else open(is_script ? editor.help : line_page("", false), "help");
+  else open((is_script ? editor.help : line_help("", false)).page, "help");
+}
+
+/** Puts assembly text into a block, and runs it. The button for that goes. */
+function run_in_block() {
+  source.put_in_block();
+  the("script").focus({ preventScroll: true });
+  running.run_instead();
 }
 
 /** Has a button ask for a file, by an input. Its bytes are taken, or a sentence says why not.
@@ -97,11 +120,15 @@ function save(name, parts) {
 
 function listen() {
   the("example").onchange = () => source.choose() && running.run_instead();
-  the("script").oninput = () => source.edited();
+  the("script").oninput = () => {
+    say("");
+    source.edited();
+  };
   the("script").onkeydown = on_script_key;
   the("undo").onclick = () => source.undo();
   the("link").onclick = () => source.make_link();
-  the("explain").onclick = () => open(editor.help, "help");
+  the("explain").onclick = () => open(editor.help.page, "help");
+  the("block").onclick = run_in_block;
   the("run").onclick = run;
   the("stop").onclick = () => running.stop();
   the("faults").onclick = () => running.lead_to_fault();
@@ -121,26 +148,28 @@ function listen() {
   window.onbeforeprint = () => running.print(true);
   window.onafterprint = () => running.print(false);
   window.onkeydown = on_key;
-  window.onhashchange = () => source.show_linked();
-  window.onbeforeunload = (event) => { if (source.is_at_stake) event.preventDefault(); };
+  window.onhashchange = async () => { if (await source.show_linked()) running.run_instead(true); };
+  window.onbeforeunload = (event) => { if (source.is_at_stake && !source.keep()) event.preventDefault(); };
+  window.onpagehide = () => source.is_at_stake && source.keep(); // telephones don't ask before
+  menu.hidden = !has_popovers;
+  if (!has_popovers) the("more").onclick = () => (menu.hidden = !menu.hidden);
 }
 
-/** Begins with the script of a link, else with what the browser has kept of an older visit, else with the first example,
- * which alone is run. What the browser lacks is said at once. */
+/** Begins with the script of a link, which runs for a while; else with the draft of an earlier visit, which doesn't run; else
+ * with the first example. What the browser lacks is said at once. */
 async function begin() {
   the("absent").remove();
   the("ran").textContent = "";
+  window.name = "rsp"; // the help's scripts open here
   listen();
-  if (document.readyState !== "complete") await new Promise((done) => addEventListener("load", done));
-  await new Promise((done) => setTimeout(done)); // the browser puts back what it kept of an older visit
-  const is_first = ["", EXAMPLES[0].script].includes(the("script").value);
-  if (source.show_linked(false) || !is_first) {
+  const is_draft = source.show_draft();
+  if (await source.show_linked(false)) return running.run(true);
+  if (is_draft) {
     const fault = await fault_of();
     if (fault) say(`${fault}.`);
     return;
   }
   const said = the("said").textContent; // of a link that isn't whole
-  the("script").value = "";
   source.show_example(0);
   say(said);
   running.run();

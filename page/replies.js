@@ -4,13 +4,18 @@ import { Answers } from "./answers.js";
 import { coloured } from "./colours.js";
 import { element, grouped, last_below, the } from "./elements.js";
 import { fault_page } from "./help.js";
-import { VirtualList, go_to, set, show_whole, view } from "./virtual_list.js";
+import { VirtualList, bring, go_to, set, show_whole, view } from "./virtual_list.js";
+
+/** A row of a reply: its parts, the page on the fault that it is, and whether it goes on with the row before it.
+ * @typedef {{ parts: import("./marks.js").Part[], page?: string, is_rest?: boolean }} Row */
 
 /** How many rows are shown: no browser has a page of many millions. All replies can have hundreds of megabytes. And how
  * many around those in view are in the document: a short text as a whole, so a browser finds its words. */
 const MOST = 400000, AROUND = 200;
 /** The columns of a row: at most so many, and beside the script at least so many, where there is room for so many rem. */
-const WIDEST = 90, LEAST = 46, BESIDE = 44;
+const WIDEST = 90, LEAST = 52, BESIDE = 44;
+/** So many rows of a result come into view; and below its line no reply is folded that has fewer. */
+const RESULT = 9, FEW = 4;
 const LF = 10, TEXT = new TextDecoder();
 
 /** The rows of a line of text, which breaks between words if it can.
@@ -29,14 +34,28 @@ function rows_of(reply, columns) {
   return count;
 }
 
-/** The rows of a line of a reply. A fault leads to what it means. @param {string} text @param {number} columns */
+/** The rows of a line of a reply. A fault leads to what it means.
+ * @param {string} text @param {number} columns @returns {Row[]} */
 function reply_rows(text, columns) {
   const page = fault_page(text);
-  return broken(text, columns).map((it, n) => {
-    const row = element("samp", page ? "" : it, n ? "rest" : "");
-    if (page) Object.assign(row.appendChild(element("a", it)), { href: page, target: "help" });
-    return row;
-  });
+  return broken(text, columns).map((it, n) => ({ parts: [["", it]], page, is_rest: n > 0 }));
+}
+
+/** @param {Row} row */
+function row_element({ parts, page, is_rest }) {
+  const made = element("samp", "", is_rest ? "rest" : ""), link = page ? made.appendChild(element("a", "")) : made;
+  if (page) Object.assign(link, { href: page, target: "help" });
+  for (const [kind, text] of parts) link.append(kind ? element("span", text, kind) : text);
+  return made;
+}
+
+/** Whether a row has a value that has changed. @param {Row} row */
+function is_changed({ parts }) { return parts.some(([kind]) => kind.endsWith("changed")); }
+
+/** So many rows of a folded reply: those with a change first. @param {Row[]} rows @param {number} count */
+function chosen(rows, count) {
+  const changed = rows.filter(is_changed);
+  return new Set([...changed, ...rows.filter((it) => !changed.includes(it))].slice(0, count));
 }
 
 export class Replies {
@@ -110,6 +129,13 @@ export class Replies {
   /** Brings the answer to a line into view. @param {number} line */
   go_to(line) { go_to(this.#begins[Math.max(0, this.#items.findIndex((it) => it.line >= line))] ?? 0); }
 
+  /** Brings into view what a run has come to: the first fault, else the last reply. */
+  show_result() {
+    const [line] = this.answers.at_fault, first = this.#items.findIndex((it) => it.line >= line);
+    const item = first < 0 ? this.#told[this.#told.length - 1] : first, begin = this.#begins[item];
+    if (begin !== undefined) bring(begin, begin + Math.min(this.#items[item].shown, RESULT));
+  }
+
   /** Lays out for paper, each line with its whole reply below it; or for the screen again. @param {boolean} is */
   print(is) {
     show_whole(is);
@@ -135,8 +161,9 @@ export class Replies {
   #fit(is_paper = view.is_whole) {
     const { width, letter } = view, rem = parseFloat(getComputedStyle(document.documentElement).fontSize);
     const is_below = is_paper || width < BESIDE * rem; // the letters are smaller then
-    const text = the("numbers").offsetWidth + the("text").offsetWidth, { offsetWidth } = the("answers");
-    const beside = Math.max(LEAST, (width - text) / letter - String(this.answers.count).length - 4);
+    const { offsetWidth } = the("answers"), left = the("numbers").offsetWidth, text = left + the("text").offsetWidth;
+    const code = Math.min(text, left + view.code * letter + 2.5 * rem);
+    const beside = Math.max(LEAST, (width - code) / letter - String(this.answers.count).length - 4);
     const room = Math.floor(is_below ? width / letter - 2 : beside);
     const columns = is_paper ? WIDEST : Math.max(20, Math.min(WIDEST, room));
     the("answers").classList.toggle("over", text + offsetWidth > width + 1);
@@ -177,11 +204,20 @@ export class Replies {
       this.#told.push(this.#items.length);
       this.#told_begins.push(begin);
     }
-    this.#items.push({ line, whole, shown: whole });
+    const shown = this.is_below ? whole - this.#folded_below(line, count) : whole;
+    this.#items.push({ line, whole, shown });
     this.#begins.push(begin);
-    this.#end = begin + whole;
+    this.#end = begin + shown;
     const widest = count > 1 || why ? LEAST : this.answers.replies[line].length + 1;
     this.#widest = Math.max(this.#widest, Math.min(widest, this.#columns, LEAST));
+  }
+
+  /** How many rows of a reply that is below its line are folded: those without a change, if it is compared.
+   * @param {number} line @param {number} count of its rows */
+  #folded_below(line, count) {
+    const is_open = this.#is_whole || view.is_whole || this.#unfolded.has(line);
+    if (is_open || count < FEW || !this.answers.marked(line).is_compared) return 0;
+    return count - Math.max(1, this.#rows(line).filter(is_changed).length);
   }
 
   /** Folds the last reply as far as it would push down what is in this row. @param {number} row */
@@ -208,8 +244,15 @@ export class Replies {
   /** Why a line is at fault, in rows. @param {number} line */
   #why(line) { return (this.answers.why.get(line) ?? []).flatMap((it) => broken(it, this.#columns)); }
 
-  /** An item of the list: a reply, with its line where that isn't beside it, and why it is at fault. What is folded is
-   * there for who hears the page. @param {number} item */
+  /** The rows of the reply to a line. What is broken isn't compared. @param {number} line @returns {Row[]} */
+  #rows(line) {
+    const { answers } = this, lines = answers.lines(line), is_broken = lines.some((it) => it.length > this.#columns);
+    const marked = is_broken ? undefined : answers.marked(line).rows;
+    return marked?.map((parts) => ({ parts })) ?? lines.flatMap((it) => reply_rows(it, this.#columns));
+  }
+
+  /** An item of the list: a reply, with its line where that isn't beside it, and why it is at fault.
+   * @param {number} item */
   #item(item) {
     const { line, whole, shown } = this.#items[item], { answers } = this, is_end = answers.is_end(line);
     const folded = whole - shown, made = element("li", "", answers.fault_at.has(line) ? "fault" : "");
@@ -220,37 +263,39 @@ export class Replies {
       const text = coloured("code", answers.text(line), answers.is_source(line));
       made.append(is_end ? element("em", "the script's end") : text);
     }
-    const rows = answers.lines(line).flatMap((it) => reply_rows(it, this.#columns));
-    made.append(...rows.slice(0, shown), ...this.#why(line).map((it) => element("p", it.trimEnd())));
-    if (folded) {
-      const rest = rows.slice(shown).map((it) => it.textContent).join("\n");
-      made.append(this.#fold_button(line, folded, rows.length), element("samp", rest, "folded"));
-    } else if (this.#unfolded.has(line) && !this.is_below) {
-      rows[0].after(this.#fold_button(line, 0, rows.length));
+    const rows = this.#rows(line), seen = folded ? chosen(rows, rows.length - folded) : new Set(rows);
+    for (const row of rows) {
+      const last = made.lastElementChild, text = row.parts.map(([, it]) => it).join("");
+      if (seen.has(row)) made.append(row_element(row));
+      else if (last?.className === "folded") last.append(`\n${text}`);
+      else made.append(element("samp", text, "folded")); // for who hears the page
     }
+    made.append(...this.#why(line).map((it) => element("p", it.trimEnd())));
+    const hidden = rows.filter((it) => !seen.has(it)), first = this.is_below ? "code" : "samp:not(.folded)";
+    const button = folded || this.#unfolded.has(line) ? [this.#fold_button(line, hidden, rows.length)] : [];
+    made.querySelector(first)?.after(...button);
     return made;
   }
 
-  /** @param {number} line @param {number} folded how many rows @param {number} count of all */
+  /** @param {number} line @param {Row[]} folded the rows that aren't seen @param {number} count of all */
   #fold_button(line, folded, count) {
-    const made = element("button", folded ? `+${folded}` : "fold");
-    const does = folded ? `${folded} more of ${count} lines` : "fold its reply";
+    const { length } = folded, made = element("button", length ? `+${length}` : "fold");
+    const changed = folded.filter(is_changed).length, told = changed ? `, ${changed} of them changed` : "";
+    const does = length ? `${length} more of ${count} lines${told}` : "fold its reply";
     made.setAttribute("aria-label", `Line ${this.#row_of(line) + 1}: ${does}`);
-    made.setAttribute("aria-expanded", String(!folded));
+    made.setAttribute("aria-expanded", String(!length));
+    made.classList.toggle("changed", changed > 0);
     return made;
   }
 
-  /** Unfolds a reply, or folds it. A finger that reaches two buttons means the nearer one. @param {MouseEvent} event */
-  #toggle({ target, clientY, detail }) {
-    const pressed = /** @type {Element} */ (target).closest("button");
-    if (!pressed) return;
-    const distance = (/** @type {Element} */ it) => {
-      const { top, bottom } = it.getBoundingClientRect();
-      return Math.abs(top + bottom - 2 * clientY);
-    };
-    const buttons = [...the("replies").querySelectorAll("button")];
-    const nearest = buttons.reduce((a, b) => distance(b) < distance(a) ? b : a);
-    const place = (detail ? nearest : pressed).closest("li").getAttribute("aria-posinset");
+  /** Unfolds a reply by a click anywhere in its rows, unless that is to choose a part of it; or folds it by its button.
+   * @param {MouseEvent} event */
+  #toggle({ target }) {
+    const item = /** @type {Element} */ (target).closest("li"), button = item?.querySelector("button");
+    const is_folded = button?.getAttribute("aria-expanded") === "false";
+    const is_row = is_folded && getSelection()?.isCollapsed && !(/** @type {Element} */ (target).closest("code"));
+    if (!button || !(is_row || button.contains(/** @type {Node} */ (target)))) return;
+    const place = Number(item?.getAttribute("aria-posinset"));
     const { line, whole, shown } = this.#items[place - 1];
     this.#unfolded[whole > shown ? "add" : "delete"](line);
     this.#again();

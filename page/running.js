@@ -9,7 +9,7 @@ const WORKER = new URL("worker.js", import.meta.url);
  *   | { asked: import("./answers.js").Question[] }} Asked */
 /** What ended a run: its script's end, with the image that it left; a stop; or a fault, in a sentence. Of questions: what
  * is said of each.
- * @typedef {{ rdram?: Uint8Array, said?: string[], is_stopped?: boolean, fault?: string }} Ended */
+ * @typedef {{ rdram?: Uint8Array, said?: string[], is_stopped?: boolean, is_late?: boolean, fault?: string }} Ended */
 
 /** The worker stays for the next run. One that is stopped or fails takes it along, and the session that is in it. */
 export class RunWorker {
@@ -25,8 +25,8 @@ export class RunWorker {
     return this.#last;
   }
 
-  /** Stops the run that is under way. */
-  stop() { this.#end({ is_stopped: true }); }
+  /** Stops the run that is under way. @param {boolean} is_late whether its time is over */
+  stop(is_late = false) { this.#end({ is_stopped: true, is_late }); }
 
   /** @param {Asked} asked @param {(replies: Uint8Array[]) => void} hear @returns {Promise<Ended>} */
   async #answered(asked, hear) {
@@ -52,6 +52,7 @@ export class RunWorker {
 }
 
 const MOST = 20; // faults that are explained unasked, as by rsp run
+const LIMIT = 10; // seconds that a script runs which nobody has asked to run
 export class RunControl {
   #script;
   #editor;
@@ -59,8 +60,9 @@ export class RunControl {
   #trials;
   #runs = new RunWorker();
   #is_running = false;
-  /** Whether the script runs again when the run that is under way has ended. */
+  /** Whether the script runs again when the run that is under way has ended, and whether with a limit of time. */
   #is_next = false;
+  #is_next_limited = false;
   /** The text that was run, and whether it is still the script. */
   #ran = new Text("");
   #is_as_run = false;
@@ -71,6 +73,8 @@ export class RunControl {
    * @type {Uint8Array | undefined} */
   image;
   left = /** @type {Uint8Array | undefined} */ (undefined);
+  /** How far the surface was scrolled when a run began, or when its result came into view. */
+  #top = 0;
   /** Whether the replies are shown where there is no room beside the script. */
   is_read = false;
 
@@ -81,29 +85,39 @@ export class RunControl {
     [this.#script, this.#editor, this.#replies, this.#trials] = [script, editor, replies, trials];
   }
 
-  /** Runs the script, unless a run is under way. */
-  async run() {
+  /** Runs the script, unless a run is under way. @param {boolean} is_limited whether it has a limit of time */
+  async run(is_limited = false) {
     if (this.#is_running) return;
     const script = this.#script.bytes, is_strict = the("strict").checked, { image } = this;
+    const limit = is_limited ? setTimeout(() => this.#runs.stop(true), 1000 * LIMIT) : undefined;
     [this.left, this.#led, this.#known, this.#is_next] = [undefined, -1, 0, false];
-    [this.#ran, this.#is_as_run] = [this.#editor.text, true];
+    [this.#ran, this.#is_as_run, this.#top] = [this.#editor.text, true, the("surface").scrollTop];
     this.#set_running(true);
     this.#editor.mark([]);
     this.#replies.begin(script);
     this.#tell("Running");
     this.show_replies(true);
     const ended = await this.#runs.run({ script, image, is_strict }, (given) => this.#hear(given));
+    clearTimeout(limit);
     this.left = ended.rdram;
     this.#set_running(false);
     this.#tell(this.#end_of(ended, is_strict), is_strict);
-    if (this.#is_next) this.run();
+    if (this.#is_next) this.run(this.#is_next_limited);
+    else this.#show_result();
   }
 
-  /** Runs the script. A run that is under way is stopped before. */
-  run_instead() {
-    this.#is_next = true;
-    if (this.#is_running) this.stop();
-    else this.run();
+  /** Brings the result into view, unless somebody has scrolled meanwhile, or changed the text. */
+  #show_result() {
+    if (this.#is_running || !this.#is_as_run || the("surface").scrollTop !== this.#top) return;
+    this.#replies.show_result();
+    this.#top = the("surface").scrollTop;
+  }
+
+  /** Runs the script. A run that is under way is stopped before. @param {boolean} is_limited */
+  run_instead(is_limited = false) {
+    if (!this.#is_running) return this.run(is_limited);
+    [this.#is_next, this.#is_next_limited] = [true, is_limited];
+    this.stop();
   }
 
   stop() { this.#runs.stop(); }
@@ -172,6 +186,7 @@ export class RunControl {
     if (!said || answers !== this.#replies.answers) return;
     this.#replies.explain(faults, said, is_asked);
     this.#mark();
+    if (!is_asked) this.#show_result();
   }
 
   /** Marks the lines at fault in the script, if it is the one that was run, and counts them. */
@@ -192,8 +207,9 @@ export class RunControl {
   }
 
   /** How a run has ended. @param {Ended} ended @param {boolean} is_strict */
-  #end_of({ is_stopped, fault }, is_strict) {
+  #end_of({ is_stopped, is_late, fault }, is_strict) {
     const { count, faults } = this.#replies.answers, lines = counted(count, "line");
+    if (is_late) return `Stopped after ${LIMIT} seconds and ${lines}, because it came by a link. Run has no limit.`;
     if (is_stopped) return `Stopped after ${lines}. The machine is gone: there is no RDRAM to save.`;
     if (fault) return `${fault}.${count ? ` Answered: ${lines}.` : ""}`;
     return is_strict && faults.length ? `Stopped at line ${faults[0].line + 1}.` : `Done: ${lines}.`;

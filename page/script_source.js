@@ -1,46 +1,21 @@
 /** Where the script is from: an example, a link, a file, or undo. */
+import { in_block } from "./assembly.js";
 import { element, grouped, the } from "./elements.js";
 import { EXAMPLES } from "./examples.js";
+import { fragment_of, script_of } from "./link.js";
 
 const KEPT = "This script has bytes that its text can't hold, as CR. It keeps them until you change the text.";
-
-/** A link carries a script after the # of an address: its length, and its bytes in base64, with - and _ for + and /. By
- * the length one sees that a link was cut off on its way. */
-/** How many bytes of a script a link carries, and how many characters they become. */
-const LONGEST = 24000, MOST = LONGEST / 3 * 4;
-
-/** The part of an address that carries a script. @param {Uint8Array} script */
-function fragment_of(script) {
-  if (script.length > LONGEST) {
-    const most = `a link carries at most ${grouped(LONGEST)}`;
-    throw new RangeError(`The script has ${grouped(script.length)} bytes, and ${most}: save it instead.`);
-  }
-  const base64 = btoa(String.fromCharCode(...script)).replaceAll("+", "-").replaceAll("/", "_");
-  return `#bytes=${script.length}&script=${base64.replaceAll("=", "")}`;
-}
-
-/** The script that such a part carries, or null if it carries none. @param {string} fragment */
-function script_of(fragment) {
-  const words = new URLSearchParams(fragment.slice(1)), base64 = words.get("script");
-  if (base64 === null) return null;
-  if (base64.length > MOST) {
-    const read = `at most ${grouped(MOST)} are read`;
-    throw new RangeError(`The link has ${grouped(base64.length)} characters of a script, and ${read}.`);
-  }
-  let text = "";
-  try {
-    text = atob(base64.replaceAll("-", "+").replaceAll("_", "/"));
-  } catch { /* it isn't base64 */ }
-  if (words.get("bytes") !== String(text.length)) {
-    throw new RangeError("The link isn't whole: its script hasn't as many bytes as it says.");
-  }
-  return Uint8Array.from(text, (it) => it.charCodeAt(0));
-}
+/** The draft's name in the browser's storage, and after how many milliseconds without a change it is put there. */
+const DRAFT = "rsp-draft", PAUSE = 500;
+/** A comment that is alone in its line: the window's title, which without one is the page's. */
+const COMMENT = /^[ \t]*#+[ \t]*(\S.*)$/m, { title: TITLE } = document;
 
 export class ScriptSource {
   #script;
   #follow;
   #say;
+  /** The timer that puts the draft into storage. */
+  #due = 0;
 
   /** @param {import("./script.js").Script} script
    * @param {(is_other: boolean) => void} follow is called when the script is another one, or its text was changed
@@ -57,7 +32,37 @@ export class ScriptSource {
 
   /** Whether the script would be lost. */
   get is_at_stake() { return this.#script.is_changed && the("script").value !== ""; }
-  #may_replace() { return !this.is_at_stake || confirm("You have changed the script. Replace it?"); }
+
+  /** Whether the script may be replaced. One that was changed isn't the draft then. */
+  #may_replace() {
+    const is_asked = this.is_at_stake, may = !is_asked || confirm("You have changed the script. Replace it?");
+    if (is_asked && may) this.keep("");
+    return may;
+  }
+
+  /** Puts a draft into the browser's storage, where the next visit finds it. Whether there is room.
+   * @param {string} draft */
+  keep(draft = the("script").value) {
+    clearTimeout(this.#due);
+    try {
+      localStorage.setItem(DRAFT, draft);
+      return true;
+    } catch {
+      return false;
+    }
+  }
+
+  /** Shows the script that was kept on an earlier visit. Whether there is one. */
+  show_draft() {
+    try {
+      the("script").value = localStorage.getItem(DRAFT) ?? "";
+    } catch { /* this browser stores nothing */ }
+    if (!the("script").value) return false;
+    this.#changed("", true);
+    this.#say("This is your script as you left it.");
+    return true;
+  }
+
   #forget_link() { if (location.hash) history.replaceState(null, "", location.pathname + location.search); }
 
   /** Shows another script, and says where it is from.
@@ -73,6 +78,8 @@ export class ScriptSource {
     the("example").value = example;
     the("kept").textContent = this.#script.is_kept ? KEPT : "";
     the("undo").disabled = !this.#script.can_undo();
+    const { value } = the("script"), title = value.match(COMMENT)?.[1].trim().slice(0, 80);
+    document.title = title ? `${title} - rsp` : TITLE;
     this.#follow(is_other);
   }
 
@@ -80,6 +87,15 @@ export class ScriptSource {
   edited(is_other = false) {
     this.#forget_link();
     this.#changed("", is_other);
+    clearTimeout(this.#due);
+    this.#due = setTimeout(() => this.keep(), PAUSE);
+  }
+
+  /** Puts assembly text into a block, with a run after it. Undo takes it back. */
+  put_in_block() {
+    const sentence = "The text is between asm 0 and end. Ctrl+Z, or More, takes it back.";
+    this.#show(new TextEncoder().encode(in_block(the("script").value)), sentence);
+    this.edited(true);
   }
 
   /** @param {boolean} is_redo */
@@ -102,16 +118,16 @@ export class ScriptSource {
     return true;
   }
 
-  /** Shows the script of a link, which runs only when somebody asks. Whether there is one. */
-  show_linked(is_asking = true) {
+  /** Shows the script of a link, if there is one and it may. Whether it is shown. */
+  async show_linked(is_asking = true) {
     try {
-      const linked = script_of(location.hash);
+      const linked = await script_of(location.hash);
       if (!linked) return false;
       if (is_asking && !this.#may_replace()) {
         this.#forget_link();
         return false;
       }
-      this.#show(linked, "This script came by a link. Read it before you run it.");
+      this.#show(linked, "This script came by a link.");
       return true;
     } catch (fault) {
       this.#say(fault.message);
@@ -121,11 +137,11 @@ export class ScriptSource {
 
   /** Puts the script into the page's address. */
   async make_link() {
-    const { bytes } = this.#script, told = `${grouped(bytes.length)} of at most ${grouped(LONGEST)} bytes`;
     try {
-      history.replaceState(null, "", fragment_of(bytes));
+      history.replaceState(null, "", await fragment_of(this.#script.bytes));
       const is_copied = await navigator.clipboard?.writeText(location.href).then(() => true, () => false);
-      this.#say(`The link to this script is ${is_copied ? "copied" : "in the address bar"} (${told}).`);
+      const where = is_copied ? "copied" : "in the address bar", length = grouped(location.href.length);
+      this.#say(`The link to this script is ${where}: ${length} characters. Who opens it sees the replies, too.`);
     } catch (fault) {
       this.#say(fault.message);
     }

@@ -5,6 +5,9 @@ const TAB = 9, BLANK = 32, LF = "\n";
 /** A block of source text is opened by such a line. Whether its address is a multiple of 4 doesn't matter here. */
 const OPENS = /^[ \t]*asm[ \t]+(?:0x[\da-f]{1,8}|\d{1,10})[ \t]*(?:#|$)/i;
 
+/** What is before a comment or the bytes of a `load`, and up to which column these are beside the replies. */
+const CODE = /^(?:\s*load\s+\w+\s+\w+\s|[^#;]*(?=[#;]))/, COMMENT = 64;
+
 export class Text {
   all;
   /** Where each line begins. @type {number[]} */
@@ -14,8 +17,10 @@ export class Text {
 
   /** How many characters the longest line has. */
   longest = 0;
-  /** How many columns that are. */
+  /** How many columns that are, and how many have the replies beside them: a long comment and the bytes of a `load` go on
+   * below the replies. */
   widest = 0;
+  code = 0;
 
   /** @param {string} text */
   constructor(text) {
@@ -26,6 +31,7 @@ export class Text {
       this.#begins.push(begin);
       this.longest = Math.max(this.longest, end - begin);
       if (8 * (end - begin) > this.widest) this.widest = Math.max(this.widest, this.columns(begin, end));
+      if (8 * (end - begin) > this.code) this.code = Math.max(this.code, this.#code_columns(begin, end));
       if (is_block) this.#source.add(line);
       const first = is_block ? "e" : "a";
       if (text[this.#word(begin)] === first) {
@@ -52,7 +58,16 @@ export class Text {
     return at;
   }
 
+  /** How many columns of a line the replies leave to it. @param {number} begin @param {number} end */
+  #code_columns(begin, end) {
+    const columns = this.columns(begin, end);
+    if (columns <= COMMENT) return columns;
+    const code = this.all.slice(begin, end).match(CODE)?.[0].trimEnd();
+    return code === undefined ? columns : Math.max(COMMENT, this.columns(begin, begin + code.length));
+  }
+
   get count() { return this.#begins.length; }
+  get has_source() { return this.#source.size > 0; }
   /** @param {number} line */
   is_source(line) { return this.#source.has(line); }
 

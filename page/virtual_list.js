@@ -5,14 +5,15 @@ import { the } from "./elements.js";
 /** How few rows around those in view may be left in the document while somebody scrolls. */
 const LEAST = 8, surface = the("surface");
 /** In pixels: how wide a letter is and how high a row, as they are drawn, and what is in view. A browser that is asked for
- * them lays out the whole text first: so it isn't when a key was pressed. */
-export const view = { letter: 1, row: 1, width: 0, height: 0, top: 0, is_whole: false };
+ * them lays out the whole text first: so it isn't when a key was pressed. And the columns of code beside the replies. */
+export const view = { letter: 1, row: 1, width: 0, height: 0, top: 0, code: 0, is_whole: false };
 const lists = /** @type {VirtualList[]} */ ([]);
 
 function measure() {
   const { width, height } = the("probe").getBoundingClientRect();
   Object.assign(view, { letter: width / 10 || 1, row: height || 1 });
   [view.width, view.height] = [surface.clientWidth, surface.clientHeight];
+  set("--view", view.width);
   for (const it of lists) it.show();
 }
 
@@ -24,6 +25,13 @@ export function show_whole(is) {
 
 /** Brings a row into view, with some before it. @param {number} row */
 export function go_to(row) { surface.scrollTo(0, Math.max(0, row - 3) * view.row); }
+
+/** Brings rows into view, or the first ones of them. @param {number} begin @param {number} end */
+export function bring(begin, end) {
+  const top = begin * view.row, bottom = (end + 1) * view.row;
+  if (top < surface.scrollTop) go_to(begin);
+  else if (bottom > surface.scrollTop + view.height) surface.scrollTo(0, Math.min(top, bottom - view.height));
+}
 
 /** Sets a number of the style. @param {string} name @param {number} value */
 export function set(name, value) {

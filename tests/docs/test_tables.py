@@ -109,6 +109,15 @@ def differing(look: Dict[str, Any], cell: str) -> Iterator[str]:
             yield f"{key} is {actual}, not {value}"
 
 
+def test_forms() -> None:
+    """The form of each instruction's text has its name, and the operands that its example has."""
+    for line in data("instructions"):
+        form, example = (
+            (it.split()[0], *map(it.count, ",($"), "$v" in it) for it in (line["Text"], line["Example"])
+        )
+        assert form == example
+
+
 @pytest.mark.xdist_group("docs/data/instructions.tsv")
 class TestInstructions:
     def test_all(self) -> None:

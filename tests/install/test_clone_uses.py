@@ -223,9 +223,10 @@ def test_cargo(folder: Path, how: str) -> None:
 
 @pytest.mark.needs("cmark-gfm")
 def test_page(stranger: User, home: Path) -> None:
-    """Served below a path; otherwise only: that a file is missing, or named by an address that is right only
-    at the top of a server, or that another library is served than that of compiled/."""
-    prints(stranger, "./release page && mv dist/page ~ && rmdir dist")
+    """Made in five seconds, and served below a path; otherwise only: that a file is missing, or named by an
+    address that is right only at the top of a server, or that another library is served than that of
+    compiled/."""
+    prints(stranger, "timeout 5 ./release page && mv dist/page ~ && rmdir dist")
     top = home / "page"
     handler = functools.partial(SimpleHTTPRequestHandler, directory=str(top.parent))
     server = ThreadingHTTPServer(("127.0.0.1", 0), handler)
@@ -236,7 +237,8 @@ def test_page(stranger: User, home: Path) -> None:
         url = left.pop()
         fetched[url] = urlopen(url).read()
         text = fetched[url].decode(errors="replace") if url.endswith((".html", ".js")) else ""
-        left += {urljoin(url, it) for it in NAMED.findall(text)} - {*fetched, *left}
+        named = (re.sub("/$", "/index.html", it) for it in NAMED.findall(text))
+        left += {urljoin(url, it) for it in named} - {*fetched, *left}
     server.shutdown()
     files = {f"{base}{it.relative_to(top)}": it.read_bytes() for it in top.rglob("*") if it.is_file()}
     assert fetched == files and (TOP / "compiled/rsp.wasm").read_bytes() in files.values()

@@ -38,7 +38,7 @@ TIMED = """(() => {
   return performance.now() - begun;
 })()"""
 IMPORTED = """import { parts_of } from "./colours.js";
-import { line_page } from "./help.js";
+import { line_help } from "./help.js";
 """
 
 
@@ -89,7 +89,7 @@ def test_long_lines_take_no_time(line: str, evaluate: Evaluate) -> None:
 @pytest.mark.needs("node")
 def test_comment_is_not_explained(evaluate: Evaluate) -> None:
     """A comment is a line's whole rest."""
-    pages = evaluate('["# \u2028add", "lui # \u2028add"].map((it) => line_page(it, true))')
+    pages = evaluate('["# \u2028add", "lui # \u2028add"].map((it) => line_help(it, true).page)')
     assert [it.rpartition("/")[2] for it in pages] == ["ASSEMBLY.html", "INSTRUCTIONS.html#lui"]
 
 
@@ -100,15 +100,15 @@ LENIENT: Dict[str, Any] = {
     "noImplicitAny": False,
     "useUnknownInCatchVariables": False,
 }
-GLOBAL = (
-    "declare function why_not(url: URL): Promise<string>; interface HTMLElement { hidePopover(): void }\n"
-)
+GLOBAL = """declare function why_not(url: URL): Promise<string>;
+declare class CompressionStream extends TransformStream { constructor(form: string) }
+declare class DecompressionStream extends CompressionStream {}
+"""
 
 
 @pytest.mark.needs("tsc")
 def test_types(modules: Path) -> None:
-    """tsc, which takes a tag of a comment only where a line begins, finds no fault in the page's modules, and
-    one that is planted."""
+    """tsc, which takes a tag only where a line begins, finds no fault, and one that is planted."""
     for path in modules.glob("*.js"):
         path.write_text(re.sub(r" (?=@(?:param|returns|type)\b)", "\n * ", path.read_text()))
     (modules / "global.d.ts").write_text(GLOBAL)

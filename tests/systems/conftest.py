@@ -90,22 +90,12 @@ def driver(at: Path) -> Iterator[Any]:
 
 
 @pytest.fixture
-def forgetful(at: Path, folder: Path) -> Iterator[Page]:
-    """The tab of a browser that keeps only what was typed for who goes back to a page."""
-    need(*PROGRAMS)
-    page = Page(start_chromium(folder, "--disable-features=BackForwardCache"), folder)
-    yield page
-    page.driver.quit()
-
-
-@pytest.fixture
 def page(host: Host, driver: Any, at: Path) -> Iterator[Page]:
     """The page, which has just been opened in a tab. No dialog is left open."""
     from selenium.common.exceptions import NoAlertPresentException
 
     page = Page(driver, at / "saved")
-    page.open(host.url)
-    page.ready()
+    page.visit(host)
     yield page
     with suppress(NoAlertPresentException):
         driver.switch_to.alert.accept()

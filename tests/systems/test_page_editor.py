@@ -8,7 +8,8 @@ where the text area has it.
 import pytest
 
 from lib.pages import page as text_of
-from lib.systems.page_driver import CONTROL, F1, FIRST, SHIFT, Host, Page
+from lib.systems.page_driver import CONTROL, F1, FIRST, SHIFT, Page, replies_to
+from rsp_tools.page_tables import data
 from rsp_tools.systems import header
 
 pytestmark = pytest.mark.xdist_group("page")
@@ -20,25 +21,12 @@ def test_first_example(page: Page) -> None:
     assert page.script == script
     assert page.value("the('example').selectedOptions[0].textContent") == FIRST
     assert page.replies() == replies
-    assert page.text("ran") == "Done: 14 lines."
+    assert page.text("ran") == "Done: 18 lines."
     assert page.text("version") == header.dated_version()
     assert page.value("scrollY") == 0
     page.call("Page.reload")
     page.ready()
     assert page.replies() == replies
-
-
-def test_text_is_kept(forgetful: Page, host: Host) -> None:
-    """What somebody has typed is there if the browser has kept it, and doesn't run by itself."""
-    forgetful.open(host.url)
-    forgetful.ready()
-    forgetful.type("step # mine\n")
-    forgetful.open("about:blank")
-    forgetful.driver.back()
-    forgetful.until("document.readyState === 'complete' && !the('absent')")
-    forgetful.settle()
-    assert forgetful.script == "step # mine\n"
-    assert forgetful.text("ran") == ""
 
 
 # The parts of a line that have a colour, each after its kind. U+2028 ends a line for a browser, and not for a
@@ -88,8 +76,7 @@ def test_lines_are_side_by_side(text: int, pixel: float, page: Page) -> None:
 
 
 def test_sideways(page: Page) -> None:
-    """A long line is wholly in the text area, whose surface goes sideways: numbers and replies stay in view,
-    and the caret comes out from below the replies."""
+    """Numbers and replies stay in view beside a long line, and the caret comes out from below the replies."""
     page.type("# " + 40 * "abc\tdef " + "\n")
     page.run()
     page.painted()
@@ -106,8 +93,7 @@ def test_sideways(page: Page) -> None:
 
 @pytest.mark.parametrize("fault, line", ((0, "# " + 300000 * "x"), (1, "# mine")), ids=("long", "failing"))
 def test_own_letters(fault: int, line: str, page: Page) -> None:
-    """A text with a line that no browser colours in time, or whose drawing fails, has the text area's own
-    letters, and nothing is drawn below them."""
+    """A text that is too long to colour, or isn't drawn, has the text area's own letters, alone."""
     if fault:
         page.value("(document.createElement = () => { throw Error('planted'); }, 0)")
     page.type(f"step\n{line}")
@@ -159,6 +145,24 @@ def test_undo_of_typing(page: Page) -> None:
         page.press("z", CONTROL)
 
 
+PASTED = "# mine\nstart: li $1, 5\n  addiu $2, $0, 7\n  vxor $v1, $v1, $v1\n  break"
+# Texts that aren't pasted assembly: commands, a block, half of each, nothing.
+OTHER = "step\nbreak 0\n", "asm 0\nbreak\nbreak\nbreak\nend\n", "break\nx\n", "# add $1, $1, $1\n", ""
+
+
+def test_pasted_assembly(page: Page) -> None:
+    """A button puts it into a block, runs it and shows the registers; undo takes it back."""
+    for text in OTHER:
+        page.type(text)
+        assert page.value("the('block').hidden"), text
+    page.type(PASTED)
+    assert not page.value("the('block').hidden")
+    page.click("block")
+    assert page.replies() == replies_to(f"asm 0\n{PASTED}\nend\nrun 1000\nregs\nvregs\n")
+    page.press("z", CONTROL)
+    assert page.script == PASTED
+
+
 def opened(page: Page) -> str:
     """The address in the tab of help, which is closed then."""
     mine = page.driver.current_window_handle
@@ -172,33 +176,33 @@ def opened(page: Page) -> str:
     return address
 
 
+SHORT = {it["Instruction"]: it["Text"] + it["In short"] for it in data("instructions")}
+SHORT.update({it["Command"].split()[0]: it["Command"] + it["In short"] for it in data("commands")})
+# Of each line the page on it, and what the foot says of it.
 PAGES = {
-    0: "SCRIPT.html#command-load",
-    1: "SCRIPT.html#commands",
-    3: "INSTRUCTIONS.html#vmulf",
-    4: "ASSEMBLY.html",
+    "load dmem 0 00": ("SCRIPT.html#command-load", SHORT["load"]),
+    "foo": ("SCRIPT.html#commands", None),
+    "VADD $v1, $v2, $v3": ("INSTRUCTIONS.html#vadd", SHORT["VADD"]),
+    "asm 0": ("SCRIPT.html#command-asm", SHORT["asm"]),
+    "x: vmulf $v1, $v2, $v3": ("INSTRUCTIONS.html#vmulf", SHORT["VMULF"]),
+    "fooo": ("ASSEMBLY.html", None),
+    "break": ("INSTRUCTIONS.html#break", SHORT["BREAK"]),
+    "end": ("SCRIPT.html#command-end", SHORT["end"]),
 }
 
 
 @pytest.mark.parametrize("line", PAGES)
-def test_help(line: int, page: Page) -> None:
-    """F1 explains the line that has the caret, and so does a button, for those who have no such key."""
-    script = "load dmem 0 00\nfoo\nasm 0\nx: vmulf $v1, $v2, $v3\nfoo\nend\n"
-    page.type(script)
-    page.select(sum(map(len, script.splitlines(keepends=True)[:line])))
-    page.press(F1)
-    assert opened(page).endswith(f"/help/{PAGES[line]}")
-    page.click("explain")
-    assert opened(page).endswith(f"/help/{PAGES[line]}")
-
-
-def test_help_on_a_fault(page: Page) -> None:
-    """A fault among the replies leads to what it means."""
-    page.type("foo\n")
-    assert page.run() == "fault 30 BadCommand\n"
-    page.value("document.querySelector('#replies a').click()")
-    page.settle()
-    assert opened(page).endswith("/help/FAULTS.html#fault-30")
+def test_help(line: str, page: Page) -> None:
+    """The foot says what the line with the caret does; a link, F1 and a button lead to its rule."""
+    address, short = PAGES[line]
+    page.type("\n".join(PAGES))
+    page.select("\n".join(["", *PAGES]).index(f"\n{line}\n" if line != "end" else "\nend"))
+    page.until(f"the('hint').lastElementChild.href.endsWith('{address}')")
+    is_hidden = page.value("the('hint').lastElementChild.hidden")
+    assert is_hidden if short is None else page.text("hint") == f"{short}Details"
+    for act in (lambda: page.press(F1), lambda: page.click("explain")):
+        act()
+        assert opened(page).endswith(f"/help/{address}")
 
 
 @pytest.mark.parametrize("word", ("command", "mnemonic", "register", "number"))

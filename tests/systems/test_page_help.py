@@ -1,5 +1,4 @@
-"""The pages beside the page that answers scripts: made of the repository's Markdown, each link leads
-somewhere, and nothing is cut off."""
+"""The pages of help: made of Markdown, their links lead somewhere, their scripts run, nothing is cut off."""
 
 import re
 from pathlib import Path
@@ -7,9 +6,10 @@ from typing import Iterator, Set, Tuple
 
 import pytest
 
+from lib.page_blocks import blocks_in
 from lib.pages import blocks_of
 from lib.pages import page as text_of
-from lib.systems.page_driver import Host, Page
+from lib.systems.page_driver import Host, Page, replies_to
 from rsp_tools.page_tables import ANCHOR, data
 from rsp_tools.systems import manual
 
@@ -40,7 +40,7 @@ def links(path: Path) -> Iterator[Tuple[Path, str]]:
     """The files to which a page's links lead, each with its anchor."""
     for target in re.findall(r'\b(?:href|src)="([^"]+)"', path.read_text()):
         name, _, anchor = target.partition("#")
-        if not target.startswith("data:"):
+        if not target.startswith("../../#block="):
             yield path.parent / name if name else path, anchor
 
 
@@ -73,9 +73,34 @@ def test_words(name: str, page: Page, host: Host) -> None:
     assert "".join(code).split() == "".join(blocks_of(text)).split()
     for form, instead in PLAIN:
         text = re.sub(form, instead, text)
+    page.value("all('.run').forEach((it) => it.remove())")
     shown = page.value("document.querySelector('main').textContent")
     expected, found = (re.findall(r"[A-Za-z0-9]+", it) for it in (text, shown))
     assert len(expected) > 1000 and found == expected
+
+
+@pytest.mark.parametrize("name", manual.PAGES)
+def test_scripts_run(name: str, page: Page, host: Host) -> None:
+    """A link below each script runs it in the page's own tab, after those that it continues."""
+    blocks, session = [it for it in blocks_in(f"docs/{name}.md") if it.kind == "rsp"], ""
+    assert name != "TUTORIAL" or len(blocks) == 12
+    mine = page.driver.current_window_handle
+    page.value(f"(open('{host.url_of(f'help/{name}.html')}', 'help'), 0)")
+    (other,) = {*page.driver.window_handles} - {mine}
+    page.driver.switch_to.window(other)
+    links = "document.querySelectorAll('pre + .run > a')"
+    page.until(f"document.querySelector('.help') && {links}.length === {len(blocks)}")
+    for number, block in enumerate(blocks):
+        session = session * (block.option == "continues") + block.text
+        page.driver.switch_to.window(other)
+        page.value(f"{links}[{number}].click()")
+        page.driver.switch_to.window(mine)
+        page.until(f"location.hash === '#block={name}-{number + 1}' && the('said').textContent")
+        assert page.replies() == replies_to(page.script)
+        assert page.script.partition("\n")[2] == session
+    page.driver.switch_to.window(other)
+    page.driver.close()
+    page.driver.switch_to.window(mine)
 
 
 @pytest.mark.parametrize("width", (320, 360, 1280))

@@ -3,6 +3,8 @@ it is upgraded: files of two versions are never used together."""
 
 import json
 import os
+import random
+import re
 import shutil
 from contextlib import closing
 from pathlib import Path
@@ -11,7 +13,7 @@ from typing import Any, Dict, List, Tuple
 import pytest
 
 from lib.systems.browser import Server
-from lib.systems.page_driver import Host, Page, linked
+from lib.systems.page_driver import ESCAPE, Host, Page, linked
 from rsp_tools.systems import web_page
 
 pytestmark = pytest.mark.xdist_group("page")
@@ -26,58 +28,55 @@ def test_file_too_long(page: Page) -> None:
 
 
 def test_script_too_long(page: Page) -> None:
+    page.open_file("script-file", b"step\n" + b"#" * (LONGEST - 5))
+    assert page.run() == "step Done pc 004\nfault 32 LineTooLong\n"
     page.type("step\n" + "#" * (LONGEST - 4))
     assert page.run() == "step Done pc 004\n"
     assert page.text("ran") == "rsp: fault 42 ScriptTooLong. Answered: 1 line."
     assert page.value("the('save-image').disabled")
 
 
-def test_longest_script(page: Page) -> None:
-    top = page.address
-    page.open_file("script-file", b"step\n" + b"#" * (LONGEST - 5))
-    assert page.run() == "step Done pc 004\nfault 32 LineTooLong\n"
-    message = page.message_after(lambda: page.click("link"))
-    assert message == "The script has 1,048,576 bytes, and a link carries at most 24,000: save it instead."
-    assert page.address == top
+NOISE = random.Random(1).randbytes(24003)  # which can't be packed
 
 
-WHOLE = linked(b"step\n")
-CUT = "The link isn't whole: its script hasn't as many bytes as it says."
-LINKS = {
-    "a character less": (WHOLE[:-1], CUT),
-    "two characters less": (WHOLE[:-2], CUT),
-    "no length": (WHOLE.replace("bytes=5&", ""), CUT),
-    "a false character": (WHOLE + "!", CUT),
-    "too long": (
-        linked(bytes(24003)),
-        "The link has 32,004 characters of a script, and at most 32,000 are read.",
-    ),
-}
+def test_script_too_long_for_a_link(page: Page) -> None:
+    for script in NOISE.decode("latin1"), "#" * (LONGEST + 1):
+        page.type(script)
+        said = "Packed, the script has more than 24,000 bytes, which no link carries: save it."
+        assert page.message_after(lambda: page.click("link")) == said and "#" not in page.address
 
 
-@pytest.mark.parametrize("fragment, message", LINKS.values(), ids=LINKS)
+CUT = "The link isn't whole, so its script can't be read: copy all of it, up to its end."
+MANY = "The link has 32,018 characters of a script, and at most 32,000 are read."
+LARGE = "The link's script has more than 1,048,576 bytes: it isn't taken."
+LINKS = {linked(NOISE): MANY, linked(bytes(LONGEST + 1)): LARGE, linked(bytes(1 << 24)): LARGE}
+for whole in linked(b"step\n" * 9), linked(b"step\n" * 9, "script"):
+    cuts = whole[:-1], whole[:-2], whole[:-9], f"{whole}!", whole.replace("bytes=45&", "")
+    LINKS.update(dict.fromkeys(cuts, CUT))
+
+
+@pytest.mark.parametrize("fragment, message", LINKS.items(), ids=range(len(LINKS)))
 def test_link(fragment: str, message: str, page: Page) -> None:
-    top = page.address
+    """What is there stays: also a draft, if the link is opened on another visit."""
+    page.type("step # mine\n")
     assert page.open_link(fragment) == message
-    page.open(top + fragment)
+    page.open(page.address.partition("#")[0] + fragment)
     page.ready()
-    assert page.text("said") == message
+    assert (page.text("said"), page.script) == (message, "step # mine\n")
 
 
-@pytest.mark.parametrize("length", (0, 56, 60, 68, 8388604, 8388616))
-def test_image(length: int, page: Page) -> None:
-    """It isn't taken, and the one that is there stays."""
+def test_image(page: Page) -> None:
+    """One that isn't taken leaves the one that is there."""
     page.open_image(bytes(64))
-    why = f"Session: image has {length} bytes, not a multiple of 8 from 64 to 8388608."
-    if length > 8388608:
-        why = "it has 8,388,616 bytes, and at most 8,388,608 fit."
-    assert page.open_file("image-file", bytes(length), "bad.bin") == f"bad.bin isn't taken: {why}"
-    assert page.text("image") == "given.bin, 64 bytes"
+    why = dict.fromkeys(
+        (0, 56, 60, 68, 8388604), "Session: image has {} bytes, not a multiple of 8 from 64 to 8388608."
+    )
+    for length, form in {**why, 8388616: "it has {:,} bytes, and at most 8,388,608 fit."}.items():
+        said = page.open_file("image-file", bytes(length), "bad.bin")
+        assert said == f"bad.bin isn't taken: {form.format(length)}"
+        assert page.text("image") == "given.bin, 64 bytes"
     page.type("mem rdram 63 1\nmem rdram 64 1\n")
     assert page.run() == "00003f: 00\nfault 6 RangeFault\n"
-
-
-def test_longest_image(page: Page) -> None:
     page.open_image(bytes(8388608))
     page.type("mem rdram 8388607 1\n")
     assert page.run() == "7fffff: 00\n"
@@ -100,13 +99,11 @@ def lacking(host: Host, folder: Path) -> Path:
 
 HTML, ABSENT = b"<!doctype html>\n<title>Not here</title>\n", "isn't served: 404 File not found."
 NEWER = "A newer page may be there: reload it."
-NO_SIMD = (
-    "rsp needs WebAssembly with SIMD: Chrome and Edge have it since 91, Firefox since 89, Safari since 16.4."
-)
-NO_MODULE = (
-    'rsp.wasm isn\'t a module of WebAssembly: it begins with "<!doctype html>\\n", so something else was '
-)
-NO_MODULE += "served."
+NOT_TAKEN = "is served, but the browser hasn't taken it, or a module that it imports."
+NO_SIMD = """rsp needs WebAssembly with SIMD: Chrome and Edge have it since 91, Firefox since 89, Safari \
+since 16.4."""
+NO_MODULE = """rsp.wasm isn't a module of WebAssembly: it begins with "<!doctype html>\\n", so something \
+else was served."""
 # An instruction that no browser has, as SIMD is for older ones: the library asks for it, and its module has it.
 NONE = bytes([10, 6, 1, 4, 0, 253, 255, 11])
 LATER = {
@@ -122,10 +119,7 @@ LACKING: List[Tuple[Dict[str, Any], str]] = [
     ({"worker.js": None}, f"worker.js {ABSENT} {NEWER}"),
     ({"worker.js": lambda _: HTML}, "worker.js isn't served: the server has answered with HTML."),
     ({"rsp/rsp.js": None}, f"rsp.js {ABSENT} {NEWER}"),
-    (
-        {"rsp/errors.js": None},
-        "rsp.js is served, but the browser hasn't taken it, or a module that it imports.",
-    ),
+    ({"rsp/errors.js": None}, f"rsp.js {NOT_TAKEN}"),
 ]
 
 
@@ -140,7 +134,8 @@ def test_without(changes: Dict[str, Any], message: str, page: Page, lacking: Pat
         page.until(f"the('ran').textContent === {json.dumps(message)}")
         page.click("run")
         assert page.ended() == message
-        page.open(host.url + linked(b"step\n"))
+        page.type("step # a draft, which doesn't run\n")
+        page.open(host.url)
         page.until(f"the('said').textContent === {json.dumps(message)}")
 
 
@@ -158,6 +153,23 @@ def test_wrong_type(name: str, page: Page, lacking: Path) -> None:
         server.server_close()
 
 
+@pytest.mark.parametrize("scheme, ground", (("light", 255), ("dark", 23)))
+def test_older_browser(scheme: str, ground: int, page: Page, lacking: Path) -> None:
+    """Without popovers and light-dark(), as Safari before 17, the menu is opened, closed, and can be read."""
+    for path in (lacking / "index.html", *lacking.glob("*/style.css"), *lacking.glob("*/page.js")):
+        path.write_text(re.sub("(?i)popover|light-dark", "gone", path.read_text()))
+    with closing(Host(lacking)) as host, page.preferring(prefers_color_scheme=scheme):
+        page.visit(host)
+        heights = [page.value("the('menu').offsetHeight")]
+        for act in (lambda: page.click("more"), lambda: page.press(ESCAPE)) * 2:
+            act()
+            heights.append(page.value("the('menu').offsetHeight"))
+            contrast = page.value("probes.contrast()")
+            assert contrast >= 4.5
+        assert page.value("probes.style(document.body).backgroundColor").startswith(f"rgb({ground},")
+    assert [it > 100 for it in heights] == [False, True, False, True, False]
+
+
 # Upgrades: index.html names the files of its version, in a folder whose name is a hash of their contents.
 
 # The version of the style, of the page's script, and of the worker, which adds it to the replies.
@@ -166,8 +178,7 @@ VERSIONS = """[probes.style(document.documentElement).getPropertyValue("--versio
 
 
 def write_version(site: Path, number: int) -> None:
-    """Writes the page, changed so that three of its files show a version number, into a folder. The times of
-    the files are of 1973 and 1976, so that browsers cache them for years."""
+    """Writes the page with a version number in three files, so old that browsers keep them for years."""
     files = web_page.parts()
     files["style.css"] += f":root {{ --version: {number}; }}\n".encode()
     files["page.js"] += f'document.documentElement.dataset.version = "{number}";\n'.encode()

@@ -1,5 +1,4 @@
-"""Whom the page that answers scripts reaches: by keys, on a narrow screen, in light and dark, read aloud. And
-whom it asks."""
+"""Whom the page reaches: by keys, on a narrow screen, in light and dark, read aloud. And whom it asks."""
 
 import time
 from typing import List
@@ -10,9 +9,8 @@ from lib.systems.page_driver import CONTROL, DOWN, ENDLESS, ENTER, ESCAPE, TAB, 
 from rsp_tools.systems import manual
 
 pytestmark = pytest.mark.xdist_group("page")
-# Every control that is enabled when the page has been opened, in the order of the key Tab: links by their
-# words.
-CONTROLS = ["run", "example", "link", "more", "script", "answers"]
+# Every control that is enabled when the page has been opened, in the order of the key Tab.
+CONTROLS = ["run", "example", "link", "more", "tutorial", "script", "answers"]
 MENU = "open-script save-script explain strict whole save-replies open-image save-image".split()
 MENU += ["Tutorial", "Commands", "Instructions", "Faults"]
 
@@ -63,6 +61,11 @@ def test_run_by_keys(page: Page) -> None:
     assert page.value("the('example').value") == "1"
     page.ended()
     go_to(page, "script")
+    page.type(ENDLESS)
+    page.press(ENTER, CONTROL)
+    go_to(page, "stop")
+    page.press(ENTER)
+    assert page.ended().startswith("Stopped after ") and focus(page) == "run"
     page.type("step\n")
     page.press(ENTER, CONTROL)
     assert page.replies() == "step Done pc 004\n"
@@ -73,17 +76,6 @@ def test_run_by_keys(page: Page) -> None:
     go_to(page, "more", "save-replies")
     page.press(" ")
     assert page.download("replies.txt") == b"step Done pc 004\nstep Done pc 008\n"
-
-
-def test_stop_by_keys(page: Page) -> None:
-    go_to(page, "script")
-    page.type(ENDLESS)
-    page.press(ENTER, CONTROL)
-    go_to(page, "stop")
-    page.press(ENTER)
-    page.replies()
-    assert page.text("ran").startswith("Stopped after ")
-    assert focus(page) == "run"
 
 
 @pytest.mark.parametrize("name", ("open-script", "open-image"))
@@ -99,31 +91,14 @@ def test_files_by_keys(name: str, page: Page) -> None:
 
 
 # Each command with replies, a fault, and source text; the widest replies and lines.
-ALL = """# walk
-walk
-asm 0
-lqv $v1[0], 0($0) # a
-vadd $v3, $v1, $v2[0h]
-x: bne $1, $0, x
-sqv $v3[0], 16($0)
-end
-asm 4
-li $1, 5
-end
-regs
-vregs
-acc
-flags
-sp
-mem dmem 0 64
-dis 0 8
-"""
+BLOCK = "asm 0\nlqv $v1[0], 0($0) # a\nvadd $v3, $v1, $v2[0h]\nx: bne $1, $0, x\nsqv $v3[0], 16($0)\nend\n"
+SHOWN = "asm 4\nli $1, 5\nend\nregs\nvregs\nacc\nflags\nsp\nmem dmem 0 64\ndis 0 8\n"
 
 
 @pytest.fixture
 def filled(page: Page) -> Page:
     """The page with replies of all kinds, and a long line."""
-    page.type(ALL + "# " + 120 * "ab" + "\n")
+    page.type(f"# walk\nwalk\n{BLOCK}{SHOWN}# {120 * 'ab'}\n")
     page.run()
     page.until("all('#replies p').length > 1")
     return page
@@ -159,8 +134,7 @@ def test_contrast_of_help(scheme: str, page: Page, host: Host) -> None:
 @pytest.mark.parametrize("text", (100, 200))
 @pytest.mark.parametrize("width", (320, 360, 412, 768, 960, 1280, 2560))
 def test_nothing_is_cut_off(width: int, text: int, filled: Page) -> None:
-    """Each reply's last letter can be reached, all other texts are painted whole, and the page itself isn't
-    wider than the screen."""
+    """Each reply can be reached whole, other texts are painted, the page isn't wider than the screen."""
     height = {320: 568, 360: 740, 412: 915, 768: 1024}.get(width, 800)
     with filled.sized(width, height, text=text, is_mobile=width < 900):
         wide, cut_off = filled.value("document.documentElement.scrollWidth"), filled.value("probes.cut_off()")
@@ -181,8 +155,7 @@ def test_size_for_a_finger(page: Page) -> None:
 
 
 def test_read_aloud(filled: Page) -> None:
-    """Each control has a name, and there are live regions. The script is a text area with its text, and what
-    is drawn below it isn't read."""
+    """Each control has a name, there are live regions; the script is read, not what is drawn below it."""
     nodes = filled.read_aloud()
     roles = {"button", "combobox", "textbox", "checkbox", "link", "region", "navigation", "status", "heading"}
     named = [(role, name) for role, name, _ in nodes if role in roles]
@@ -197,8 +170,7 @@ def test_read_aloud(filled: Page) -> None:
 
 @pytest.mark.parametrize("count", (5, 18000))
 def test_many_lines_are_read_aloud(count: int, page: Page) -> None:
-    """With a program that reads the page aloud a run of 162,000 lines takes no minute, and what isn't
-    near the view isn't in its tree."""
+    """A run of 162,000 lines takes no minute then, and what isn't near the view isn't in the tree."""
     page.call("Accessibility.enable")
     page.type("regs\n" * count)
     begun = time.monotonic()
@@ -223,15 +195,14 @@ def test_sources(page: Page, host: Host) -> None:
     assert host.url_of("page.js") in urls
 
 
-REFUSED = """
-base-uri connect-src form-action frame-src img-src script-src-elem style-src-elem worker-src
-""".split()
+REFUSED = (
+    "base-uri connect-src form-action frame-src img-src script-src-elem style-src-elem worker-src".split()
+)
 
 
 @pytest.mark.parametrize("name", ("index.html", "help/SCRIPT.html"))
 def test_rules(name: str, page: Page, host: Host) -> None:
-    """The rules refuse what no page needs. That they allow what a page needs all other tests show, except for
-    the icon."""
+    """They refuse what no page needs. That they allow what is needed other tests show, except the icon."""
     page.open(host.url_of(name))
     title = page.value("document.title")
     assert page.value("probes.image()")

@@ -18,7 +18,7 @@ MARKED = "[...the('numbers').querySelectorAll('.fault')].map((it) => Number(it.t
 BESIDE = "probes.beside()"  # the line of each reply, and how far below that line it is, in rows
 BUTTONS = "all('#replies button')"
 FOLDS = f"{BUTTONS}.map((it) => it.textContent)"
-TOP = "probes.box(the('surface')).top"
+ROW = "the('replies').children[2]"
 CHANGE_VIEW = "the('view').offsetWidth && the('view').click()"  # on a narrow screen: to replies or back
 SAID = "all('#replies p').map((it) => it.textContent).join(' ')"
 LONG = "asm 0\n" + "nop\n" * 1000 + "end\n" + "#\n" * 1000
@@ -56,15 +56,12 @@ def test_replies_go_with_their_lines(page: Page) -> None:
 
 @pytest.mark.parametrize("width, most", ((1400, 60), (360, 120)))
 def test_first_line(width: int, most: int, page: Page) -> None:
-    """The script begins near the top, also when a run has had faults, and then its replies do."""
+    """The replies begin near the top, also when a run has had faults, and so does the script."""
     with page.sized(width, 740, is_mobile=width < 400):
-        page.value(CHANGE_VIEW)
-        top = page.value("probes.box(the('text')).top")
         page.answered("foo\nstep\nfoo\n")
-        after = page.value(TOP)
-        page.value(CHANGE_VIEW)
-        again = page.value(TOP)
-    assert 30 < top <= most and max(after, again) <= most
+        for _ in range(2):
+            assert 30 < page.value("probes.box(the('surface')).top") <= most
+            page.value(CHANGE_VIEW)
 
 
 @pytest.mark.parametrize("width", (655, 690, 705, 715))
@@ -76,8 +73,7 @@ def test_room_is_taken_once(width: int, page: Page) -> None:
 
 @pytest.mark.parametrize("width, height", ((360, 740), (640, 400)), ids=("telephone", "zoom of 200 %"))
 def test_run_on_a_small_screen(width: int, height: int, page: Page) -> None:
-    """Run is in view at first; then each reply is below its line, whole; a fault comes into view; a line
-    leads back to the script."""
+    """Then replies are below their lines, with what has changed; a line leads back to the script."""
     with page.sized(width, height, is_mobile=True):
         run = page.value("probes.box(the('run')).bottom")
         page.click("view")
@@ -94,7 +90,7 @@ def test_run_on_a_small_screen(width: int, height: int, page: Page) -> None:
     assert run < height
     lines = enumerate(("# a", "", "step", "regs", "asm 0", "nop"), 1)
     assert [it[:2] for it in items] == [*([str(n), line] for n, line in lines), ["", "the script's end"]]
-    assert [len(it) - 2 for it in items] == [0, 0, 1, 9, 0, 0, 1]
+    assert [len(it) - 2 for it in items] == [0, 0, 1, 2, 0, 0, 1] and items[3][2] == "pc 004 npc 008"
     assert is_seen and chosen == ["script", "x"]
 
 
@@ -115,38 +111,77 @@ def test_next_reply(page: Page) -> None:
 
 def test_long_line_goes_on(page: Page) -> None:
     """A line that goes on below the replies is seen to: it fades there."""
-    with page.sized(768, 800):
+    with page.sized(832, 800):
         for script, fades in (f"load dmem 0 {'00' * 40}\nvregs\n", True), ("vregs\n", False):
             page.answered(script)
             assert (page.value("getComputedStyle(the('answers'), '::before').content") != "none") == fades
 
 
-@pytest.mark.parametrize("button, off, line", ((0, -20, 2), (1, 10, 3), (2, 20, 4)))
-def test_fold_by_a_finger(button: int, off: int, line: int, page: Page) -> None:
-    """A finger beside a button for folding means it, also where it reaches the one of the next line."""
+def test_fold_by_a_finger(page: Page) -> None:
+    """A finger anywhere on the row of a folded reply unfolds it, and on its button folds it again."""
     with page.preferring(pointer="coarse"), page.sized(768, 800):
-        page.answered("step\nvregs\nregs\nsp\nstep\nstep\n")
-        box = page.value(f"probes.box({BUTTONS}[{button}]).toJSON()")
+        page.answered("step\nvregs\nregs\nstep\nstep\n")
         row = page.value("probes.box(the('probe')).height")
-        page.tap(box["x"] + box["width"] / 2, box["y"] + box["height"] / 2 + off)
-        found = page.value(f"{BUTTONS}.filter((it) => it.textContent === 'fold').map((it) => it.ariaLabel)")
-    assert row >= 24 and found == [f"Line {line}: fold its reply"]
+        for target, from_right, fold in (ROW, 20, "fold"), (ROW, 20, "fold"), (f"{BUTTONS}[1]", 5, "+8"):
+            box = page.value(f"probes.box({target}).toJSON()")
+            page.tap(box["right"] - from_right, box["y"] + row / 2)
+            assert page.value(FOLDS) == ["+31", fold]
+    assert row >= 24
 
 
-def test_folded_replies_are_heard(page: Page) -> None:
-    """A folded reply is whole for a program that reads the page aloud, and isn't seen."""
-    page.answered("vregs\nstep\n")
+# Values change once, and then they don't. What each folded reply shows of it, and the parts that are marked.
+STORY = "asm 0\nmtc2 $5, $v9[2]\naddiu $1, $0, 1\naddiu $5, $0, 0x12\nend\nregs # as zeros\nrun 3\nregs\n"
+STORY += "write 4 4\npc 0\nrun 3\nvregs\nmem dmem 0 20\nload dmem 17 ff\nmem dmem 0 20\nmem dmem 9999 1\n"
+STORY += "mem dmem 0 20\nregs\nstep\n"
+ZEROS = f"000000: {'00' * 16}"
+SHOWN = ["pc 000 npc 004", "r00 00000000 00000001 00000000 00000000", f"v09 0000 0012{' 0000' * 6}"]
+SHOWN += [ZEROS, "000010: 00ff0000", ZEROS, "pc 00c npc 010"]
+MARKS = "00000001", "+8", "0012", "00ff"
+
+
+def test_changes_are_marked(page: Page) -> None:
+    """Values that differ from the command's earlier reply, or at first from zeros. All is heard in order."""
+    page.answered(STORY)
+    assert page.value("all('li:has([aria-expanded]) samp:not(.folded)').map((it) => it.textContent)") == SHOWN
+    assert page.value("all('.changed').map((it) => it.textContent)") == [*MARKS]
+    inks = "all('samp, .zero').map((it) => probes.style(it).color)"
+    assert page.value(f"new Set({inks}).size") == 3
     heard = " ".join(name for role, name, _ in page.read_aloud() if role == "StaticText")
-    assert page.value(FOLDS) == ["+31"]
-    assert all(re.search(rf"\bv{n:02} 0000", heard) for n in range(32))
+    assert re.findall(r"\bv(\d\d) +0000", heard) == [f"{n:02}" for n in range(32)]
     assert page.value("probes.style(document.querySelector('.folded')).clipPath") == "inset(50%)"
-    assert page.value("the('surface').scrollHeight <= the('surface').clientHeight")
+
+
+def test_result_comes_into_view(page: Page) -> None:
+    """The last reply after a run, or else the first fault; but not if somebody has scrolled meanwhile."""
+    for script in f"{LONG}regs\n", f"{LONG}x\n{LONG}":
+        page.answered(script)
+        assert is_in_view(page, "#replies > .fault samp, #replies > li:last-child samp"), script[-9:]
+    page.until(SAID)
+    page.scroll("0")
+    page.click("faults")
+    page.painted()
+    assert is_in_view(page, "#numbers .fault") and is_in_view(page, "#replies .fault")
+    page.type(f"{ENDLESS[:150]}\n{LONG}step\n")
+    page.click("run")
+    page.scroll("40")
+    page.ended()
+    assert page.value("the('surface').scrollTop") == 40
+
+
+@pytest.mark.parametrize(
+    "width, script", ((704, "flags\n"), (1000, f"# {62 * 'a'}\n"), (1000, f"# {200 * 'a'}\n"))
+)
+def test_room(width: int, script: str, page: Page) -> None:
+    """A reply of `flags` is in one row from 704 px on, and a long comment takes no room from replies."""
+    with page.sized(width, 600):
+        page.answered(f"{script}step\n")
+        assert page.value("all('#replies samp').length") == 2 - script.startswith("#")
+        assert width == 704 or 500 < page.value("probes.box(the('answers')).left") < 620
 
 
 @pytest.mark.parametrize("width", (1000, 360))
 def test_copying(width: int, page: Page) -> None:
-    """Replies are copied whole, without lines of the script and words of the page; parts of a row as they
-    are."""
+    """Replies are copied whole, and without lines of the script; parts of a row as they are."""
     script = "step\nvregs\nregs\nfoo\nstep\n"
     rows = replies_to(script).splitlines()
     with page.sized(width, 600, is_mobile=width < 400):
@@ -177,8 +212,7 @@ def test_copying_of_replies_that_are_far(page: Page) -> None:
 
 @pytest.mark.parametrize("changed", ("", "# more\n"))
 def test_printing(changed: str, page: Page) -> None:
-    """On paper each line has its whole reply below it, however far; a script that was changed is there
-    alone."""
+    """On paper each line has its whole reply below it, however far; or a changed script is there alone."""
     script = "vregs\nstep\n" * 150
     page.answered(script)
     if changed:
@@ -200,9 +234,9 @@ def test_printing(changed: str, page: Page) -> None:
 
 
 def test_faults(page: Page) -> None:
-    """Each fault is marked at its line of the script, those of blocks within them, and counted; the button
-    leads from one to the next."""
+    """Each fault is marked at its line, also in a block, and counted; the button leads to the next one."""
     page.answered("step\nload rom 0 00\n\nasm 0\nnop\nli $1, 5\nend\nstep\nasm 8\n")
+    assert page.value("document.querySelector('#replies a').href").endswith("/help/FAULTS.html#fault-30")
     assert page.text("ran") == "Done: 9 lines."
     assert page.text("faults") == "3 faults"
     assert page.value(MARKED) == [2, 6, 10]
@@ -214,15 +248,6 @@ def test_faults(page: Page) -> None:
     assert page.value(MARKED) == []
     page.answered("step\n")
     assert page.value("the('faults').offsetHeight") == 0
-
-
-def test_fault_far_below(page: Page) -> None:
-    """A fault that isn't in view comes into view, in the script and in the replies."""
-    page.answered("regs\n" * 600 + "step 5\n")
-    page.click("faults")
-    page.painted()
-    assert page.value(MARKED) == [601]
-    assert is_in_view(page, "#numbers .fault") and is_in_view(page, "#replies .fault")
 
 
 def test_edited_while_it_runs(page: Page) -> None:
@@ -284,5 +309,5 @@ def test_example_during_a_run(page: Page) -> None:
     page.until("probes.count() > 1")
     page.choose(0)
     page.answer(True)
-    page.until("the('ran').textContent === 'Done: 14 lines.'")
+    page.until("the('ran').textContent === 'Done: 18 lines.'")
     assert page.replies() == replies_to(page.script)

@@ -1,9 +1,12 @@
-"""What the page that answers scripts answers, and saves; where a script comes from, and what becomes of it.
+"""What the page answers, and saves; where a script comes from, and what becomes of it.
 
-They fail if the replies to a script of the repository aren't those that are stored for `rsp run`, or the
-image isn't the one that the library for Linux leaves; scripts are typed, opened as files, and come by links.
+They fail if the replies to a script of the repository aren't those of `rsp run`, or the image isn't the one
+that the library for Linux leaves; scripts are typed, opened as files, and come by links.
 """
 
+import base64
+import re
+import zlib
 from pathlib import Path
 from typing import Any, Tuple
 
@@ -11,7 +14,7 @@ import pytest
 
 import rsp
 from lib.script_cases import ScriptCase, all_cases
-from lib.systems.page_driver import ENDLESS, ENTER, FIRST, LINKED, Host, Page, linked, replies_to, way_of
+from lib.systems.page_driver import ENDLESS, ENTER, FIRST, Host, Page, linked, replies_to, way_of
 from rsp_tools.systems import places
 
 pytestmark = pytest.mark.xdist_group("page")
@@ -25,8 +28,7 @@ GIVEN = sorted(((way_of(n, it.script), it) for n, it in enumerate(ANSWERED)), ke
 def opened(host: Host, driver: Any, at: Path, request: pytest.FixtureRequest) -> Tuple[Page, str]:
     """The page, opened once for all scripts that are given in one way, and the way."""
     page = Page(driver, at / "saved")
-    page.open(host.url)
-    page.ready()
+    page.visit(host)
     return page, request.param
 
 
@@ -47,17 +49,19 @@ def test_stored(opened: Tuple[Page, str], script: ScriptCase) -> None:
 
 
 def test_examples(page: Page) -> None:
-    """Each has a name by the words of the pages, and is a script of the repository, or assembles."""
+    """Each is named by the words of the pages, is the repository's or assembles, and has a short link."""
     groups = page.value("all('#example optgroup').map((it) => it.label)")
     assert groups[:4] == ["First steps", "Vectors", "DMA and tasks", "Debugging"]
     names = page.value("all('#example option').slice(1).map((it) => it.textContent)")
-    assert {FIRST, "back: a watch and steps back", "scalar: adds up three words"} <= {*names}
+    assert {FIRST, "A watch and steps back (back)", "Adds up three words (scalar)"} <= {*names}
     assert len(names) == len({*names})
     held, found = {it.script for it in all_cases()}, []
     for number, name in enumerate(names):
         page.choose(number)
         script = page.saved_script()
         found.append(script)
+        page.message_after(lambda: page.click("link"))
+        assert len(page.address.partition("#")[2]) < 2000, name
         if script not in held:
             words = len(script.splitlines()) - len(["a comment", "asm", "end", "dis"])
             first, *listed = page.run().splitlines()
@@ -72,7 +76,6 @@ def test_many_replies(page: Page) -> None:
     script = "vregs\n" * 13000
     page.answered(script)
     expected = replies_to(script.encode())
-    assert page.count() == 13000 and page.text("unshown") == ""
     page.click("whole")
     assert page.count() == MOST // 32
     message = f"Line {MOST // 32 + 1:,} and those after it aren't shown. Save replies saves all."
@@ -106,23 +109,37 @@ def test_stop(page: Page) -> None:
     assert is_new, "the machine isn't new"
 
 
-@pytest.mark.parametrize("script", (b"step\n", b"step", bytes(range(256)), b"", b"#" * LINKED), ids=len)
+@pytest.mark.parametrize("script", (b"step\n", b"step", bytes(range(256)), b"", b"#" * (1 << 20)), ids=len)
 def test_link(script: bytes, page: Page) -> None:
-    """A link carries a script there and back. It is shown, and runs only when it is asked to."""
+    """A link carries a script there and back, packed, and shows its replies."""
     top = page.address
     page.open_file("script-file", script)
-    carried = f"({len(script):,} of at most 24,000 bytes)."
-    assert page.message_after(lambda: page.click("link")).endswith(carried)
-    assert page.address == top + linked(script)
+    said = page.message_after(lambda: page.click("link"))
+    head, packed = page.address.removeprefix(top).split("&packed=")
+    assert f" {len(page.address):,} characters." in said and head == f"#bytes={len(script)}"
+    assert zlib.decompress(base64.urlsafe_b64decode(f"{packed}=="), -15) == script
     page.open(page.address)
     page.ready()
-    assert page.text("said") == "This script came by a link. Read it before you run it."
-    assert page.text("ran") == "" and page.text("replies") == ""
+    assert page.replies() == replies_to(script)
     assert page.saved_script() == script
-    assert page.run() == replies_to(script)
-    assert page.text("said") == ""
     page.type("step\n")
     assert page.address == top
+
+
+def test_link_without_end(page: Page) -> None:
+    """It runs for ten seconds by itself."""
+    page.open_link(linked(ENDLESS.encode()))
+    page.until("!the('stop').hidden")
+    said = r"Stopped after 10 seconds and [1-9]\d+ lines, because it came by a link\. Run has no limit\."
+    assert re.fullmatch(said, page.ended())
+
+
+def test_title(page: Page, host: Host) -> None:
+    """The first comment that is alone in its line; the page's own one if there is none."""
+    (own,) = re.findall("<title>(.*)</title>", (host.folder / "index.html").read_text())
+    for script, title in ("step # 1\n#\n  ## two # 3\n# 4", "two # 3 - rsp"), ("step # 1\n", own):
+        page.type(script)
+        assert page.value("document.title") == title
 
 
 def test_bytes_are_kept(page: Page) -> None:
@@ -138,26 +155,40 @@ def test_bytes_are_kept(page: Page) -> None:
     assert page.run() == replies_to(text.encode())
 
 
-@pytest.mark.parametrize("is_accepted", (False, True), ids=("refused", "accepted"))
 @pytest.mark.parametrize("way", ("an example", "a link", "a file"))
-def test_edited_script(way: str, is_accepted: bool, page: Page) -> None:
-    """A script that was changed isn't replaced without a question."""
+def test_edited_script(way: str, page: Page) -> None:
+    """A script that was changed isn't replaced without a question, and isn't the draft then."""
     page.type("step # mine\n")
-    if way == "an example":
-        page.choose(3)
-    elif way == "a link":
-        page.value(f"(location.hash = '{linked(b'regs')}')")
-    else:
-        other = page.folder / "other.rsp"
-        other.write_bytes(b"regs\n")
-        page.give_file("script-file", other)
-    assert page.answer(is_accepted) == "You have changed the script. Replace it?"
-    page.settle()
-    assert (page.script == "step # mine\n") is not is_accepted
+    (page.folder / "other.rsp").write_bytes(b"regs\n")
+    for is_accepted in False, True:
+        if way == "an example":
+            page.choose(3)
+        elif way == "a link":
+            page.value(f"(location.hash = '{linked(b'regs')}')")
+        else:
+            page.give_file("script-file", page.folder / "other.rsp")
+        assert page.answer(is_accepted) == "You have changed the script. Replace it?"
+        page.settle()
+        assert (page.script == "step # mine\n") is not is_accepted
+    page.open(page.address.partition("#")[0])
+    assert page.script != "step # mine\n"
+
+
+def test_draft(page: Page, host: Host) -> None:
+    """What was typed is there on the next visit, and doesn't run. It comes back after a link, too."""
+    page.type("step # mine\n")
+    page.call("Page.reload")
+    page.until("the('said')?.textContent === 'This is your script as you left it.'")
+    assert page.script == "step # mine\n" and page.text("ran") == ""
+    page.open(host.url + linked(b"regs\n"))
+    page.ready()
+    page.click("undo")
+    assert page.script == "step # mine\n"
 
 
 def test_edited_script_is_left(page: Page) -> None:
-    """A page whose script was changed isn't left without a question, which Chromium asks after a key."""
+    """Without a question, if it can't be kept, a page isn't left. Chromium asks it after a key."""
+    page.value("(Storage.prototype.setItem = () => { throw Error('full'); }, 0)")
     page.type("step # mine")
     page.press(ENTER)
     page.call("Page.reload")

@@ -2,7 +2,8 @@
 
 `tools/python rsp_tools.page_tables` writes
 
-  docs/SCRIPT.md, docs/FAULTS.md   the columns of a table of docs/data that the page's head names
+  docs/SCRIPT.md, docs/FAULTS.md, docs/INSTRUCTIONS.md
+                                   the columns of a table of docs/data that the page's head names
   crates/rsp_advice/src/tables.rt  what `--explain` says, from the same tables
   crates/rsp_advice/specs/Tables.antt  the names and the numbers in them
   docs/ARCHITECTURE.md             the list of crates, from crates.txt
@@ -21,7 +22,7 @@ from rsp_tools import TOP
 from rsp_tools.targets import CROSS, NATIVE
 
 DATA = TOP / "docs/data"
-TABLES = {"commands": "docs/SCRIPT.md", "faults": "docs/FAULTS.md"}
+TABLES = {"commands": "docs/SCRIPT.md", "faults": "docs/FAULTS.md", "instructions": "docs/INSTRUCTIONS.md"}
 ANCHOR = re.compile(r'<a id="([\w-]+)"></a>')  # by which a link leads to a place that isn't a heading
 ADVICE, KNOWN = "crates/rsp_advice/src/tables.rt", "crates/rsp_advice/specs/Tables.antt"
 MADE = "Made by `tools/python rsp_tools.page_tables` of docs/data."
@@ -64,15 +65,18 @@ def with_group(text: str, pattern: str, new: str) -> str:
 
 
 def cell_of(line: Dict[str, str], column: str) -> str:
-    """A cell of docs/data as a page has it."""
+    """A cell of docs/data as a page has it: an instruction leads to its rule."""
     cell = line[column]
-    return f"`{cell}`" if column in ("Fault", "Command", "Example") and cell != "-" else cell
+    if column == "Instruction":
+        return f"[{cell}](#{cell.lower()})"
+    return f"`{cell}`" if column in ("Fault", "Command", "Example", "Text") and cell != "-" else cell
 
 
 def with_table(text: str, name: str) -> str:
-    """A page's text with its table of docs/data."""
+    """A page's text with its table of docs/data: the first one whose columns all are there."""
     lines = data(name)
-    head = re.findall(rf"(?m)^\| {next(iter(lines[0]))} \|.*$", text)[0]
+    heads = re.findall(rf"(?m)^\| {next(iter(lines[0]))} \|.*$", text)
+    head = next(it for it in heads if {*it[2:-2].split(" | ")} <= {*lines[0]})
     columns = head[2:-2].split(" | ")
     rows = (" | ".join(cell_of(line, column) for column in columns) for line in lines)
     table = "".join(f"| {row} |\n".replace("|  |", "| |") for row in rows)

@@ -6,26 +6,28 @@ import re
 import subprocess
 import sys
 import time
+import zlib
 from contextlib import contextmanager
 from pathlib import Path
 from typing import Any, Callable, Iterator, List, Tuple, Union
 
 import rsp
 
-LINKED = 24000  # bytes of a script that a link carries
+LINKED = 24000  # bytes of a script that an older link carries
 TYPED = 4000  # bytes that are typed: Chromium takes long for more
 LONGEST = 60  # seconds that the page may take
 # What Selenium calls these keys.
-TAB, ENTER, SHIFT, CONTROL, DOWN, F1 = "\ue004", "\ue007", "\ue008", "\ue009", "\ue015", "\ue031"
-ESCAPE = "\ue00c"
+TAB, ENTER, SHIFT, CONTROL, DOWN, F1, ESCAPE = [*"\ue004\ue007\ue008\ue009\ue015\ue031\ue00c"]
 FIRST = "Eight sums at once"  # the example that is there at first
 ENDLESS = "asm 0\nj 0\nnop\nend\n" + 5000 * "run 1000000\n"
 SELECTED = "the('script').value.slice(the('script').selectionStart, the('script').selectionEnd)"
 
 
-def linked(script: bytes) -> str:
-    """The part of an address that carries a script."""
-    return f"#bytes={len(script)}&script={base64.urlsafe_b64encode(script).decode().rstrip('=')}"
+def linked(script: bytes, name: str = "packed") -> str:
+    """The part of an address that carries a script, packed; or as it is, named `script`, as older ones."""
+    packer = zlib.compressobj(9, zlib.DEFLATED, -15)
+    data = packer.compress(script) + packer.flush() if name == "packed" else script
+    return f"#bytes={len(script)}&{name}={base64.urlsafe_b64encode(data).decode().rstrip('=')}"
 
 
 def way_of(number: int, script: bytes) -> str:
@@ -42,7 +44,7 @@ def replies_to(script: Union[str, bytes]) -> str:
 
 
 class Host:
-    """A folder, served by the command that the page names, at a port that is free."""
+    """A folder, served below a path by the command that the page names, at a port that is free."""
 
     def __init__(self, folder: Path) -> None:
         command = re.findall(r"<kbd>(.*?)</kbd>", (folder / "index.html").read_text())[0]
@@ -50,9 +52,9 @@ class Host:
         assert program == "python3", command
         self.folder = folder
         words, out, err = [sys.executable, "-u", *words, "0"], subprocess.PIPE, subprocess.DEVNULL
-        self.process = subprocess.Popen(words, cwd=folder, stdout=out, stderr=err, text=True)
+        self.process = subprocess.Popen(words, cwd=folder.parent, stdout=out, stderr=err, text=True)
         assert self.process.stdout
-        self.url = re.findall(r"http://\S+/", self.process.stdout.readline())[0]
+        self.url = f"{re.findall(r'http://[^ ]+/', self.process.stdout.readline())[0]}{folder.name}/"
 
     def url_of(self, name: str) -> str:
         """The address of a page, which may be in the folder that is named by its contents."""
@@ -76,8 +78,7 @@ class Page:
         return self.driver.execute_cdp_cmd(method, params)
 
     def value(self, expression: str) -> Any:
-        """The value in the page of an expression, which may use `the`, `all` and `probes` of probes.js; None
-        if it opens a dialog. That costs a third of Selenium's execute_script."""
+        """The value of an expression, which may use `the`, `all`, `probes`; None if a dialog opens."""
         function = f"(({{ the, all }}) => ({expression}))(globalThis.probes ?? {{}})"
         found = self.call("Runtime.evaluate", expression=function, awaitPromise=True, returnByValue=True)
         assert "exceptionDetails" not in (found or {}), f"{expression}: {found}"
@@ -97,6 +98,14 @@ class Page:
             self.driver.get("about:blank")
         self.driver.get(url)
         self.until("document.readyState === 'complete'")
+
+    def visit(self, host: Host) -> None:
+        """Opens the page in a browser that has no draft."""
+        self.open(host.url)
+        if self.value("localStorage.length"):
+            self.value("(onpagehide = null, localStorage.clear())")
+            self.open(host.url)
+        self.ready()
 
     def ready(self) -> None:
         """Waits until the page has begun, and its first example is answered."""
@@ -146,12 +155,10 @@ class Page:
         """Presses a key while others are held, and lets them go."""
         from selenium.webdriver import ActionChains
 
-        keys = ActionChains(self.driver, duration=0)
-        for it in held:
-            keys.key_down(it)
-        keys.send_keys(key)
-        for it in held:
-            keys.key_up(it)
+        keys: Any = ActionChains(self.driver, duration=0)
+        for act, given in (keys.key_down, held), (keys.send_keys, (key,)), (keys.key_up, held):
+            for it in given:
+                act(it)
         keys.perform()
 
     def tap(self, x: float, y: float) -> None:
@@ -207,7 +214,8 @@ class Page:
         if way == "typed":
             self.type(script.decode())
         elif way == "link":
-            self.open_link(linked(script))
+            self.open_link(linked(script, "script"))
+            self.ended()
         else:
             self.open_file("script-file", script)
 
@@ -295,8 +303,7 @@ class Page:
 
     @contextmanager
     def preferring(self, **features: str) -> Iterator[None]:
-        """A browser whose user or screen has features, as a scheme of colours, by their names in CSS. With a
-        pointer the screen is touched."""
+        """A browser with features, such as a scheme of colours, by their names in CSS; or a touched one."""
         given = [{"name": name.replace("_", "-"), "value": value} for name, value in features.items()]
         self.call("Emulation.setEmulatedMedia", features=given)
         self.call("Emulation.setTouchEmulationEnabled", enabled="pointer" in features)

@@ -186,9 +186,9 @@
     return [document.title, [...refused].sort()];
   };
 
-  /** Whether an image is shown that is in an address, as the page's empty icon is. */
+  /** Whether the icon is shown. */
   probes.image = () => new Promise((done) => Object.assign(new Image(), {
-    src: "data:image/gif;base64,R0lGODlhAQABAAAAACwAAAAAAQABAAA=",
+    src: document.querySelector("link[rel=icon]").href,
     onload: () => done(true),
     onerror: () => done(false),
   }));

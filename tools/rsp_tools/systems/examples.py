@@ -25,7 +25,8 @@ def example(group: str, name: str, script: str) -> Example:
     """An entry. A script that isn't ASCII would have other bytes in the page."""
     if not script.isascii() or "\r" in script:
         raise Refused(f"the script {name} isn't ASCII text")
-    return {"group": group, "name": " ".join(name.split()), "script": script}
+    words = " ".join(name.split())
+    return {"group": group, "name": words[0].upper() + words[1:], "script": script}
 
 
 def first(page: str) -> Example:
@@ -45,7 +46,7 @@ def scripts(page: str) -> Iterator[Example]:
     if missing := texts.keys() - {*" ".join(GROUPS.values()).split()}:
         raise Refused(f"examples/{min(missing)}.rsp is in no group of examples.py")
     for group, names in GROUPS.items():
-        yield from (example(group, f"{it}: {described[it]}", texts[it]) for it in names.split())
+        yield from (example(group, f"{described[it]} ({it})", texts[it]) for it in names.split())
 
 
 def idioms(page: str) -> Iterator[Example]:
@@ -64,10 +65,10 @@ def idioms(page: str) -> Iterator[Example]:
 
 def routine(path: Path) -> Example:
     """A routine of microcode, by the first line of its text."""
-    head = re.match(r"# (\w+: .*)\.\n", path.with_suffix(".s").read_text())
+    head = re.match(r"# (\w+): (.*)\.\n", path.with_suffix(".s").read_text())
     if not head:
         raise Refused(f"the first line of microcode/{path.stem}.s doesn't say what it does")
-    return example("Routines of microcode", head[1].partition(". ")[0], path.read_text())
+    return example("Routines of microcode", f"{head[2].partition('. ')[0]} ({head[1]})", path.read_text())
 
 
 def examples() -> List[Example]:

@@ -4,7 +4,8 @@ Debian's cmark-gfm, which reads Markdown as the usual viewers do."""
 import html
 import posixpath
 import re
-from typing import Dict, Match
+from itertools import count
+from typing import Dict, Iterator, Match
 
 from rsp_tools.page_tables import anchor, data
 
@@ -15,6 +16,7 @@ CONVERTER = "cmark-gfm"
 DOCS = places.TOP / "docs"
 TEMPLATE = places.TOP / "page" / "help.html"
 LINK = re.compile(r"!?\[([^\]]*)\]\(([^)\s#]*)[^)\s]*\)")
+BLOCKS = re.compile(r"(?ms)^#+ (.*?)$|^```rsp( continues)?\n(.*?)^```$")
 # The pages in the order in which each of them names all.
 PAGES = "SCRIPT INSTRUCTIONS FAULTS ASSEMBLY MACHINE COOKBOOK TUTORIAL GLOSSARY".split()
 
@@ -42,15 +44,42 @@ def is_here(target: str) -> bool:
     return not target or "://" in target or is_picture or name in {f"{it}.md" for it in PAGES}
 
 
-def converted(text: str) -> str:
+def scripts(text: str) -> Iterator[str]:
+    """The scripts of a page, each below the heading that it is under, with those that it continues."""
+    heading = before = ""
+    for title, continues, block in BLOCKS.findall(text):
+        heading = title or heading
+        if block:
+            before = before + block if continues else block
+            yield f"# {heading}\n{before}"
+
+
+def blocks() -> Dict[str, str]:
+    """The scripts of all pages, by the names that the links below them have."""
+    return {f"{name}-{n}": it for name in PAGES for n, it in enumerate(scripts(markdown(name)), 1)}
+
+
+def with_runs(body: str, name: str) -> str:
+    """HTML with a link below each script, which runs it beside the replies that are printed in it."""
+    numbers = count(1)
+
+    def linked(block: Match[str]) -> str:
+        link = f'<a href="../../#block={name}-{next(numbers)}" target="rsp">Run it</a>'
+        return f'{block[0]}\n<p class="run">{link}</p>'
+
+    return re.sub(r'(?s)<pre><code class="language-rsp">.*?</code></pre>', linked, body)
+
+
+def converted(name: str) -> str:
     """A page's Markdown as HTML. Links lead to pages that are here, and others are their words alone."""
+    text = markdown(name)
     text = LINK.sub(lambda link: link[0] if is_here(link[2]) else link[1], text)
     # The anchors of the pages are HTML.
     body = call(CONVERTER, "--unsafe", "--extension", "table", "--to", "html", text=text)
     body = re.sub(r"<h([1-6])>(.*?)</h\1>", with_anchor, body)
     body = re.sub(r'(<a href="\w+)\.md(?=["#])', r"\1.html", body)
     body = body.replace("<table>", '<div class="wide"><table>').replace("</table>", "</table></div>")
-    return with_rows(body)
+    return with_rows(with_runs(body, name))
 
 
 def markdown(name: str) -> str:
@@ -65,7 +94,7 @@ def title(name: str) -> str:
 def page(name: str) -> str:
     """A whole page."""
     links = "\n".join(f'    <a href="{it}.html">{title(it)}</a>' for it in PAGES)
-    words = {"TITLE": title(name), "LINKS": links, "BODY": converted(markdown(name))}
+    words = {"TITLE": title(name), "LINKS": links, "BODY": converted(name)}
     return re.sub(r"@([A-Z]+)@", lambda it: words[it[1]], TEMPLATE.read_text())
 
 

@@ -14,6 +14,11 @@ from . import examples, header, manual, places, wasm
 SOURCES = places.TOP / "page"
 START = "index.html"
 Files = Dict[str, bytes]
+# Lines of source text that are no instructions: the form of each, and what it does.
+STATEMENTS = {
+    "nop": ("nop", "does nothing"),
+    ".word": (".word x", "puts the number x into IMEM, in four bytes"),
+}
 
 
 def module(about: str, **values: str) -> bytes:
@@ -23,23 +28,29 @@ def module(about: str, **values: str) -> bytes:
 
 
 def scripts() -> bytes:
-    """The module with the scripts to choose from."""
+    """The module with the scripts to choose from, and with those of the help."""
     lines = "".join(f"  {json.dumps(it)},\n" for it in examples.examples())
-    return module("Scripts to choose from", EXAMPLES=f"[\n{lines}]")
+    blocks = json.dumps(manual.blocks(), indent=2)
+    return module(
+        "Scripts to choose from, and those of the help",
+        EXAMPLES=f"[\n{lines}]",
+        BLOCKS=f"new Map(Object.entries({blocks}))",
+    )
 
 
 def names() -> bytes:
-    """The module with the names of commands and of what source text has."""
-    instructions = [it["Instruction"].lower() for it in data("instructions")]
-    commands = [it["Command"].split()[0] for it in data("commands")]
-    lists = {"STATEMENTS": ["nop", ".word"], "INSTRUCTIONS": instructions, "COMMANDS": commands}
-    sets = {name: f"new Set({json.dumps(it)})" for name, it in lists.items()}
-    return module("Names in scripts", **sets)
+    """The module with commands and what source text has, by their names: the form, and what it does."""
+    instructions = {it["Instruction"].lower(): (it["Text"], it["In short"]) for it in data("instructions")}
+    commands = {it["Command"].split()[0]: (it["Command"], it["In short"]) for it in data("commands")}
+    tables = {"STATEMENTS": STATEMENTS, "INSTRUCTIONS": instructions, "COMMANDS": commands}
+    maps = {name: f"new Map(Object.entries({json.dumps(it)}))" for name, it in tables.items()}
+    return module("Names in scripts", **maps)
 
 
 def parts() -> Files:
     """All files but index.html, by their names in the folder."""
-    found: Files = {it.name: it.read_bytes() for it in [*SOURCES.glob("*.js"), SOURCES / "style.css"]}
+    own = [*SOURCES.glob("*.js"), SOURCES / "style.css", SOURCES / "icon.svg"]
+    found: Files = {it.name: it.read_bytes() for it in own}
     for path in [*wasm.SCRIPTS.glob("*.js"), places.TOP / "compiled/rsp.wasm"]:
         found[f"rsp/{path.name}"] = path.read_bytes()
     for name, content in manual.made().items():
