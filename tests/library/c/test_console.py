@@ -44,7 +44,7 @@ def test_dma_past_the_end(register: int, folder: Path) -> None:
 
 @pytest.mark.parametrize("unit, most", ((1, 4), (4, 16)), ids=("bytes", "words"))
 def test_savestate(unit: int, most: int, folder: Path) -> None:
-    """A save, a restore and a copy of the bytes, for each word of RDRAM; byte by byte they take about fifty."""
+    """A save, a restore and a copy of the bytes, for each word of RDRAM. By bytes they would take over 40."""
     program = console(folder, "save_cost.cpp")
     cost = (instructions(program, unit, 3) - instructions(program, unit, 1)) / 2 / RDRAM_WORDS
     assert 0.5 < cost < most
