@@ -42,9 +42,9 @@ def test_dma_past_the_end(register: int, folder: Path) -> None:
     assert {name: it for name, it in costs.items() if it > 2} == {}
 
 
-@pytest.mark.parametrize("unit, most", ((1, 4), (4, 16)), ids=("bytes", "words"))
+@pytest.mark.parametrize("unit, most", ((1, 3), (4, 14)), ids=("bytes", "words"))
 def test_savestate(unit: int, most: int, folder: Path) -> None:
-    """A save, a restore and a copy of the bytes, for each word of RDRAM. By bytes they would take over 40."""
+    """A save, a restore and a copy of the bytes, for each word of RDRAM. Byte by byte they took 5 and 16."""
     program = console(folder, "save_cost.cpp")
     cost = (instructions(program, unit, 3) - instructions(program, unit, 1)) / 2 / RDRAM_WORDS
     assert 0.5 < cost < most
