@@ -10,8 +10,8 @@
 
 template <class Unit> class Console {
 public:
-    static constexpr uint32_t SIZE = 8 << 20, IMAGE = 64, STATE = BRSP_SAVESTATE_BYTES + IMAGE;
-    static constexpr size_t SAVED = STATE + 8 * 4 + SIZE; // how many bytes a savestate of the console has
+    static constexpr uint32_t SIZE = 8 << 20, IMAGE = 64;
+    static constexpr size_t STATE = BRSP_SAVESTATE_BYTES + IMAGE, SAVED = STATE + 8 * 4 + SIZE; // the bytes of savestates
     std::vector<Unit> rdram = std::vector<Unit>(SIZE / sizeof(Unit));
     uint32_t dpc[8] = {}; // SP registers 8 to 15
     brsp::machine machine{ brsp::machine::bytes(IMAGE) }; // with an image that is never used
@@ -73,7 +73,7 @@ public:
     // Sets all of the console from such bytes. Throws for others, and then nothing is changed.
     void restore(const uint8_t *from, size_t length)
     {
-        machine.load_state(from, length < SAVED - STATE ? 0 : length - (SAVED - STATE));
+        machine.load_state(from, length == SAVED ? STATE : (std::min)(length, STATE - 1)); // which are too few
         from_bytes(dpc, from + STATE, 8);
         from_bytes(&rdram[0], from + STATE + sizeof dpc, SIZE / sizeof(Unit));
     }

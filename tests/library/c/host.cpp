@@ -90,7 +90,7 @@ static void interrupts(void)
     see("raised again", 0, !console.interrupt() && console.run(1000) < 5 && console.interrupt());
 }
 
-/* Bytes and words of the host have the same savestate. */
+/* Bytes and words of the host have the same savestate. That of the machine alone is none of a console. */
 static void units(void)
 {
     Console<uint8_t> bytes;
@@ -98,7 +98,12 @@ static void units(void)
     for (uint32_t i = 0; i < 4; i++) bytes.rdram[i] = uint8_t(i + 1);
     words.rdram[0] = 0x01020304;
     bytes.dpc[7] = words.dpc[7] = 0x05060708;
-    see("equal savestates", 0, bytes.save() == words.save());
+    brsp::bytes saved = bytes.save();
+    see("equal savestates", 0, saved == words.save());
+    saved.resize(words.STATE);
+    bool is_refused = false;
+    try { words.restore(saved); } catch (const brsp::rsp_error &) { is_refused = true; }
+    see("the machine's", 0, is_refused);
 }
 
 /* Runs both in turns, with the CPU's accesses between them, and its write of SP_STATUS where they are halted. */
