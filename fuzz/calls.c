@@ -318,6 +318,19 @@ static uint32_t write(attempt *a)
     return brsp_write(a->m, n, take_number(a->in, 1) % 2 ? take_edge(a->in) : take_number(a->in, 4));
 }
 
+/* It is the write except for the memories, and then moves no byte. */
+static uint32_t write_dma(attempt *a)
+{
+    static view now;
+    brsp_dma *dma = fills(a, sizeof *dma);
+    uint32_t n = take_edge(a->in), value = take_number(a->in, 4), status = brsp_write_dma(a->m, n, value, dma);
+    if (status != BRSP_OK) return status;
+    MUST((n % 16 == 2 || n % 16 == 3) == (dma->rows > 0));
+    look(a->m, *a->image, &now);
+    MUST(!memcmp(now.memories, a->before->memories, 8192 + now.image));
+    return status;
+}
+
 static uint32_t set_sp(attempt *a)
 {
     brsp_sp_words *words = reads(a, sizeof *words), got;
@@ -446,7 +459,7 @@ static const struct {
     { session_end, S(NO_MACHINE) | S(NO_MEMORY) | S(NO_ROOM) | S(ENDED) | S(TOO_LONG), APART },
     { session_memory, S(NO_MACHINE) | S(OUT_OF_RANGE), APART }, { session_free, 0, APART },
     { event, S(OUT_OF_RANGE), CHANGES }, { history, 0, LOOKS }, { pass_dma, S(HALTED) | S(OTHER_WORD), CHANGES }, { image_length, 0, LOOKS },
-    { save_state, S(NO_ROOM), LOOKS }, { load_state, S(OUT_OF_RANGE), CHANGES }
+    { write_dma, 0, CHANGES }, { save_state, S(NO_ROOM), LOOKS }, { load_state, S(OUT_OF_RANGE), CHANGES }
 };
 
 static brsp_machine machines[MACHINES];

@@ -76,6 +76,7 @@ static void owner_task_once(void)
 ROW(read_status, status |= brsp_read(&m, 4, &word))
 ROW(write_status, status |= brsp_write(&m, 4, 0x400))
 ROW(dma_8, status |= brsp_write(&m, 2, 7))
+ROW(owner_dma_8, status |= brsp_write_dma(&m, 2, 7, &event.dma))
 ROW(dma_4096, status |= brsp_write(&m, 2, 0xfff))
 ROW(dma_rows, status |= brsp_write(&m, 2, 0x0180f007))
 ROW(dma_three, status |= brsp_write(&m, 0, 0) | brsp_write(&m, 1, 0x4000) | brsp_write(&m, 2, 7))
@@ -101,6 +102,7 @@ static const struct {
     { "run-halted", "break\n", 100, run_halted }, { "empty-task", "break\n", 100, task }, { "task-dma", transfer, 100, task },
     { "dmem-word", six, 100, dmem_word },
     { "load-bytes", six, 100, load_bytes }, { "load-words", six, 100, load_words }, { "memory-words", six, 100, memory_words },
+    { "owner-dma-8", six, 100, owner_dma_8 },
     { "owner-empty-task", "break\n", 100, owner_task }, { "owner-task-dma", transfer, 100, owner_task },
 };
 

@@ -31,6 +31,7 @@ ROWS = {
     "load-bytes": "`brsp_load` of 4,096 bytes",
     "load-words": "`brsp_load_words` of 1,024 words",
     "memory-words": "`brsp_memory_words` of 1,024 words",
+    "owner-dma-8": "a DMA of 8 bytes by `brsp_write_dma`, which a host moves",
     "owner-empty-task": "an empty task, by a host that owns RDRAM",
     "owner-task-dma": "a task of six with a DMA, by such a host",
 }

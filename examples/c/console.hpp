@@ -5,14 +5,17 @@
 #include <algorithm> // (std::min) has parentheses because windows.h of Microsoft makes min a macro
 #include <cstddef>
 #include <cstdint>
+#include <cstring>
 #include <vector>
 
 inline namespace BRSP_NAMES { // as brsp::machine
 template <class Unit> class Console {
 public:
+    static constexpr uint32_t SIZE = 8 << 20, IMAGE = 64;
+    static constexpr size_t STATE = BRSP_SAVESTATE_BYTES + IMAGE, SAVED = STATE + 8 * 4 + SIZE; // the bytes of savestates
     std::vector<Unit> rdram = std::vector<Unit>(SIZE / sizeof(Unit));
     uint32_t dpc[8] = {}; // SP registers 8 to 15
-    brsp::machine machine{ brsp::machine::bytes(64) }; // with an image that is never used
+    brsp::machine machine{ brsp::machine::bytes(IMAGE) }; // with an image that is never used
 
     // Makes at most `budget` steps. Makes fewer if the machine halts or comes to a reserved word, and returns right after a
     // step that raised the interrupt. Returns how many.
@@ -50,37 +53,40 @@ public:
     void write(uint32_t number, uint32_t value)
     {
         if (number >= 8) return void(dpc[number - 8] = value);
-        uint32_t sp = machine.peek(0), at = machine.peek(1);
-        machine.write(number, value); // sets the registers; bytes that it moves are overwritten by those of our RDRAM
-        if (number == 2 || number == 3)
-            transfer({ sp >> 12, sp & 0xff8, at, (value & 0xff8) + 8, (value >> 12 & 0xff) + 1, value >> 20 & 0xff8, number == 3 });
+        transfer(machine.write_dma(number, value)); // which has no rows if the write starts no DMA
     }
 
-    // All of the console as bytes: the machine's savestate, dpc, rdram; the same bytes for each Unit.
-    [[nodiscard]] brsp::machine::bytes save()
+    // All of the console as SAVED bytes: the machine's savestate, dpc, rdram; the same bytes for each Unit. A buffer that you
+    // keep makes it as fast as a memcpy.
+    void save(uint8_t *to) const
     {
-        brsp::machine::bytes out = machine.save_state();
-        size_t begin = out.size();
-        out.resize(begin + sizeof dpc + SIZE);
-        save_from(&rdram[0], SIZE / sizeof(Unit), save_from(dpc, 8, &out[begin]));
+        machine.save_state(to, STATE);
+        to_bytes(to + STATE, dpc, 8);
+        to_bytes(to + STATE + sizeof dpc, &rdram[0], SIZE / sizeof(Unit));
+    }
+    [[nodiscard]] brsp::machine::bytes save() const
+    {
+        brsp::machine::bytes out(SAVED);
+        save(out.data());
         return out;
     }
 
     // Sets all of the console from such bytes. Throws for others, and then nothing is changed.
-    void restore(const brsp::machine::bytes &from)
+    void restore(const uint8_t *from, size_t length)
     {
-        size_t rest = sizeof dpc + SIZE, begin = from.size() < rest ? 0 : from.size() - rest;
-        machine.load_state(brsp::machine::bytes(from.begin(), from.begin() + std::ptrdiff_t(begin)));
-        restore_to(&rdram[0], SIZE / sizeof(Unit), restore_to(dpc, 8, &from[begin]));
+        machine.load_state(from, length == SAVED ? STATE : (std::min)(length, STATE - 1)); // which are too few
+        from_bytes(dpc, from + STATE, 8);
+        from_bytes(&rdram[0], from + STATE + sizeof dpc, SIZE / sizeof(Unit));
     }
+    void restore(const brsp::machine::bytes &from) { restore(from.data(), from.size()); }
 
 private:
-    static constexpr uint32_t SIZE = 8 << 20, PAST_END = 1 << 24;
+    static constexpr uint32_t PAST_END = 1 << 24;
     static constexpr Unit ZEROS[4096 / sizeof(Unit)] = {};
-    void put(uint32_t bank, uint32_t sp, const uint8_t *at, uint32_t n) { brsp_load(machine.handle(), bank, sp, at, n); }
-    void put(uint32_t bank, uint32_t sp, const uint32_t *at, uint32_t n) { brsp_load_words(machine.handle(), bank, sp, at, n / 4); }
-    void get(uint32_t bank, uint32_t sp, uint8_t *at, uint32_t n) { brsp_memory(machine.handle(), bank, sp, at, n); }
-    void get(uint32_t bank, uint32_t sp, uint32_t *at, uint32_t n) { brsp_memory_words(machine.handle(), bank, sp, at, n / 4); }
+    void put(uint32_t bank, uint32_t sp, const uint8_t *at, uint32_t n) { machine.load(bank, sp, at, n); }
+    void put(uint32_t bank, uint32_t sp, const uint32_t *at, uint32_t n) { machine.load_words(bank, sp, at, n / 4); }
+    void get(uint32_t bank, uint32_t sp, uint8_t *at, uint32_t n) { machine.memory(bank, sp, at, n); }
+    void get(uint32_t bank, uint32_t sp, uint32_t *at, uint32_t n) { machine.memory_words(bank, sp, at, n / 4); }
 
     // Moves the bytes of a DMA, in runs that wrap in neither memory. RDRAM reads 0 after its end, and drops writes.
     void transfer(const brsp_dma &dma)
@@ -95,21 +101,20 @@ private:
             }
     }
 
-    // Numbers as bytes, the high byte of each first, and back. Returns what follows the bytes.
-    template <class T> static uint8_t *save_from(const T *numbers, size_t count, uint8_t *to)
+    // Numbers as bytes, the high byte of each first, and back
+    static void to_bytes(uint8_t *to, const uint8_t *from, size_t count) { std::memcpy(to, from, count); }
+    static void to_bytes(uint8_t *to, const uint32_t *from, size_t count)
     {
-        for (size_t i = 0; i < count; i++)
-            for (size_t byte = sizeof(T); byte--;) *to++ = uint8_t(numbers[i] >> 8 * byte);
-        return to;
-    }
-    template <class T> static const uint8_t *restore_to(T *numbers, size_t count, const uint8_t *from)
-    {
-        for (size_t i = 0; i < count; i++) {
-            uint32_t number = 0;
-            for (size_t byte = sizeof(T); byte--;) number = number << 8 | *from++;
-            numbers[i] = T(number);
+        for (size_t i = 0; i < count; i++, to += 4) {
+            const uint32_t n = from[i]; // once: a compiler takes the four stores below for one
+            to[0] = uint8_t(n >> 24), to[1] = uint8_t(n >> 16), to[2] = uint8_t(n >> 8), to[3] = uint8_t(n);
         }
-        return from;
+    }
+    static void from_bytes(uint8_t *to, const uint8_t *from, size_t count) { std::memcpy(to, from, count); }
+    static void from_bytes(uint32_t *to, const uint8_t *from, size_t count)
+    {
+        for (size_t i = 0; i < count; i++, from += 4)
+            to[i] = uint32_t(from[0]) << 24 | uint32_t(from[1]) << 16 | uint32_t(from[2]) << 8 | from[3];
     }
 };
 } // namespace BRSP_NAMES

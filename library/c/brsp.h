@@ -444,6 +444,10 @@ uint32_t brsp_peek(brsp_machine *m, uint32_t n, uint32_t *out);
 /* Writes an SP register as the CPU does, with its DMA if it is a length register. Empties the history. */
 uint32_t brsp_write(brsp_machine *m, uint32_t n, uint32_t value);
 
+/* The same for a caller that owns RDRAM, and moves the bytes of the DMA itself: the memories stay unchanged.
+ * Gives the DMA that the write starts, as brsp_event does; if it starts none, all fields are 0. */
+uint32_t brsp_write_dma(brsp_machine *m, uint32_t n, uint32_t value, brsp_dma *out);
+
 /* Gives all SP registers and the interrupt flag, and changes nothing. */
 uint32_t brsp_sp(brsp_machine *m, brsp_sp_words *out);
 

@@ -178,15 +178,24 @@ template <class Make> std::string said(const call &of, Make make)
     return { out.begin(), out.begin() + static_cast<std::ptrdiff_t>(length) };
 }
 
+/* Reads n bytes or words of a memory by `read`. */
+template <class Unit, class Read>
+void read_memory(const char *owner, uint32_t bank, uint32_t address, size_t n, Read read)
+{
+    const call of = { sizeof(Unit) == 1 ? "memory" : "memory_words", { bank, address, n }, owner };
+    if (n > 8388608) refuse(BRSP_OUT_OF_RANGE, of); /* no memory is longer */
+    done(read(), of);
+}
+
 /* Bytes or words of a memory, which `read` fills. */
 template <class Data, class Read>
 Data memory(const char *owner, uint32_t bank, uint32_t address, size_t n, Read read)
 {
-    constexpr bool is_bytes = sizeof(typename Data::value_type) == 1;
-    const call of = { is_bytes ? "memory" : "memory_words", { bank, address, n }, owner };
-    if (n > 8388608) refuse(BRSP_OUT_OF_RANGE, of); /* no memory is longer */
-    Data out(n);
-    done(read(at(out)), of);
+    Data out;
+    read_memory<typename Data::value_type>(owner, bank, address, n, [&] {
+        out.resize(n);
+        return read(at(out));
+    });
     return out;
 }
 
@@ -386,15 +395,21 @@ public:
         detail::done(status, { "set" });
     }
     [[nodiscard]] size_t image_length() const { return filled<size_t>("image_length", brsp_image_length); }
+    void load(uint32_t bank, uint32_t address, const uint8_t *data, size_t length)
+    {
+        detail::done(brsp_load(&it, bank, address, data, length), { "load", { bank, address } });
+    }
     void load(uint32_t bank, uint32_t address, const bytes &data)
     {
-        detail::done(brsp_load(&it, bank, address, detail::at(data), data.size()),
-                     { "load", { bank, address } });
+        load(bank, address, detail::at(data), data.size());
+    }
+    void load_words(uint32_t bank, uint32_t address, const uint32_t *data, size_t n)
+    {
+        detail::done(brsp_load_words(&it, bank, address, data, n), { "load_words", { bank, address } });
     }
     void load_words(uint32_t bank, uint32_t address, const words &data)
     {
-        detail::done(brsp_load_words(&it, bank, address, detail::at(data), data.size()),
-                     { "load_words", { bank, address } });
+        load_words(bank, address, detail::at(data), data.size());
     }
     [[nodiscard]] bytes memory(uint32_t bank, uint32_t address, size_t length) const
     {
@@ -402,34 +417,54 @@ public:
             return brsp_memory(&it, bank, address, to, length);
         });
     }
+    void memory(uint32_t bank, uint32_t address, uint8_t *to, size_t length) const
+    {
+        detail::read_memory<uint8_t>("machine", bank, address, length,
+                                     [&] { return brsp_memory(&it, bank, address, to, length); });
+    }
     [[nodiscard]] words memory_words(uint32_t bank, uint32_t address, size_t n) const
     {
         return detail::memory<words>("machine", bank, address, n, [&](uint32_t *to) {
             return brsp_memory_words(&it, bank, address, to, n);
         });
     }
+    void memory_words(uint32_t bank, uint32_t address, uint32_t *to, size_t n) const
+    {
+        detail::read_memory<uint32_t>("machine", bank, address, n,
+                                      [&] { return brsp_memory_words(&it, bank, address, to, n); });
+    }
 
-    /* Savestates, as brsp_helpers.h has them */
-    [[nodiscard]] bytes save_state() const
+    /* Savestates, as brsp_helpers.h has them. Into a buffer, save_state returns how many bytes it wrote. */
+    size_t save_state(uint8_t *to, size_t capacity) const
     {
         size_t length = 0;
-        brsp_save_state(&it, nullptr, 0, &length);
-        bytes out(length);
-        detail::done(brsp_save_state(&it, detail::at(out), length, &length), { "save_state" });
+        const uint32_t status = brsp_save_state(&it, to, capacity, &length);
+        if (status == BRSP_NO_ROOM)
+            detail::refuse(rsp_error(status, "save_state: the savestate has " + std::to_string(length) +
+                                                 " bytes, and the buffer " + std::to_string(capacity)));
+        detail::done(status, { "save_state" });
+        return length;
+    }
+    [[nodiscard]] bytes save_state() const
+    {
+        size_t image = 0;
+        brsp_image_length(&it, &image);
+        bytes out(BRSP_SAVESTATE_BYTES + image);
+        save_state(out.data(), out.size());
         return out;
     }
-    void load_state(const bytes &data)
+    void load_state(const uint8_t *data, size_t length)
     {
-        const uint8_t *from = detail::at(data);
-        const uint32_t status = brsp_load_state(&it, from, data.size());
+        const uint32_t status = brsp_load_state(&it, data, length);
         if (status == BRSP_OUT_OF_RANGE) {
             const size_t image = image_length();
             detail::refuse(rsp_error(status, "load_state: " + detail::text_of([&](char *to, size_t n) {
-                return brsp_savestate_refusal_text(from, data.size(), image, to, n);
+                return brsp_savestate_refusal_text(data, length, image, to, n);
             })));
         }
         detail::done(status, { "load_state" });
     }
+    void load_state(const bytes &data) { load_state(detail::at(data), data.size()); }
 
     /* Where the machine continues */
     void start_task(uint32_t address)
@@ -553,6 +588,13 @@ public:
     void write(uint32_t number, uint32_t value)
     {
         detail::done(brsp_write(&it, number, value), { "write", { number, value } });
+    }
+    /* The DMA whose bytes the caller moves. It has no rows if the write starts none. */
+    [[nodiscard]] brsp_dma write_dma(uint32_t number, uint32_t value)
+    {
+        brsp_dma out;
+        detail::done(brsp_write_dma(&it, number, value, &out), { "write_dma", { number, value } });
+        return out;
     }
     [[nodiscard]] brsp_sp_words sp() const { return filled<brsp_sp_words>("sp", brsp_sp); }
     void set_sp(const brsp_sp_words &given)

@@ -428,6 +428,9 @@ export class Machine {
   peek(number: number): number;
   /** Writes SP register `number`, modulo 16, as the CPU does, with its DMA, and empties the history. */
   write(number: number, value: number): void;
+  /** Writes SP register `number` as `write` does, but moves no byte. Returns the DMA that the write starts, whose bytes
+   * the caller then moves, or null. */
+  write_dma(number: number, value: number): Dma | null;
   /** All SP registers, with the interrupt flag. */
   sp(): SpWords;
   /** Sets all SP registers and the interrupt flag, without a DMA, and empties the history. */

@@ -21,7 +21,7 @@ export const STATUS_WRITES = 1 << 16;
 /** The calls of brsp.h, without their prefix. */
 const CALLS = `version new copy free get set state_fault image_length load load_words memory memory_words start_task set_pc
   step step_changes run run_until_move event trace back history pass_move pass_dma add_break drop_break
-  add_watch drop_watch reg regs vreg acc flags divider read peek write sp set_sp assemble labels text listing
+  add_watch drop_watch reg regs vreg acc flags divider read peek write write_dma sp set_sp assemble labels text listing
   explain explain_text explain_reply session_new session_take session_end session_memory session_free`.split(/\s+/);
 // Awaited while this module is imported, so that no call returns a promise.
 const wasm = await instantiated(new URL("./rsp.wasm", import.meta.url));
@@ -102,6 +102,9 @@ function move_stop_of({ stop, word, number, writes, value }) {
   const is_move = stop.reason === Reason.MOVE || stop.reason === Reason.DMA;
   return { ...stop_of(stop), move: is_move ? { word, number, writes: writes !== 0, value } : null };
 }
+
+/** A DMA, or null if it has no rows. */
+function dma_of(dma) { return dma.rows ? { ...dma, to_rdram: dma.to_rdram !== 0 } : null; }
 
 function bytes_of_words(words) { return new Uint8Array(words.buffer); }
 
@@ -350,9 +353,8 @@ export class Machine {
 
   event(steps, reads = 0, writes = 0) {
     this.#fill("event", [steps, reads, writes]);
-    const { at, dma, status, interrupt } = struct("RspReached"), stop = move_stop_of(at);
-    const next = stop.reason === Reason.DMA ? { ...dma, to_rdram: dma.to_rdram !== 0 } : null;
-    return { ...stop, dma: next, status, interrupt: interrupt !== 0 };
+    const { at, dma, status, interrupt } = struct("RspReached");
+    return { ...move_stop_of(at), dma: dma_of(dma), status, interrupt: interrupt !== 0 };
   }
 
   trace(steps) {
@@ -445,6 +447,11 @@ export class Machine {
   peek(number) { return this.#word("peek", [number]); }
 
   write(number, value) { this.#call("write", [number, value]); }
+
+  write_dma(number, value) {
+    this.#fill("write_dma", [number, value]);
+    return dma_of(struct("RspDma"));
+  }
 
   sp() { return this.#registers(SpWords, "sp"); }
 

@@ -104,7 +104,7 @@ NO_SIMD = """rsp needs WebAssembly with SIMD: Chrome and Edge have it since 91, 
 since 16.4."""
 NO_MODULE = """rsp.wasm isn't a module of WebAssembly: it begins with "<!doctype html>\\n", so something \
 else was served."""
-# An instruction that no browser has, as SIMD is for older ones: the library asks for it, and its module has it.
+# An instruction that no browser has, as SIMD is for older ones. The library asks for it, and has it.
 NONE = bytes([10, 6, 1, 4, 0, 253, 255, 11])
 LATER = {
     "rsp/module.js": lambda it: it.replace(b"const SIMD = [", f"const SIMD = {[*NONE]}; [".encode()),

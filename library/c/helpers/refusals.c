@@ -64,6 +64,7 @@ static const struct call {
     { "read", { { "number", &word } }, 0 },
     { "peek", { { "number", &word } }, 0 },
     { "write", { { "number", &word }, { "value", &word } }, 0 },
+    { "write_dma", { { "number", &word }, { "value", &word } }, 0 },
     { "set_sp", { { 0, 0 } }, "a word can't be read from its SP register, or interrupt isn't 0 or 1" },
     { "assemble", { { "origin", &origin } }, 0 },
     { "labels", { { "origin", &origin } }, 0 },

@@ -314,7 +314,8 @@ _CALLS = {
     "brsp_reg": [_M, _U, _W], "brsp_regs": [_M, POINTER(Scalars)], "brsp_vreg": [_M, _U, POINTER(_Lanes)],
     "brsp_acc": [_M, POINTER(Accumulators)], "brsp_flags": [_M, POINTER(Flags)],
     "brsp_divider": [_M, POINTER(Divider)], "brsp_read": [_M, _U, _W], "brsp_peek": [_M, _U, _W],
-    "brsp_write": [_M, _U, _U], "brsp_sp": [_M, POINTER(SpWords)], "brsp_set_sp": [_M, POINTER(SpWords)],
+    "brsp_write": [_M, _U, _U], "brsp_write_dma": [_M, _U, _U, POINTER(_Dma)],
+    "brsp_sp": [_M, POINTER(SpWords)], "brsp_set_sp": [_M, POINTER(SpWords)],
     "brsp_assemble": [_U, _B, _Z, _W, _Z, POINTER(_Assembled)], "brsp_text": [_U, _U, POINTER(_Line)],
     "brsp_labels": [_U, _B, _Z, POINTER(_Label), _Z, POINTER(_Z)],
     "brsp_listing": [_M, _U, POINTER(_Line), _Z], "brsp_explain": [_U, _B, _Z, POINTER(_errors.Operand)],
@@ -374,6 +375,12 @@ def _move_stop_of(out: _Move) -> Stop:
     if stop.reason in (Reason.MOVE, Reason.DMA):
         stop.move = Move(out.word, out.number, bool(out.writes), out.value)
     return stop
+
+
+def _dma_of(out: _Dma) -> Optional[Dma]:
+    """A DMA, or None if it has no rows."""
+    numbers = out.address, out.rdram, out.length, out.rows, out.skip
+    return Dma(Bank(out.bank), *numbers, bool(out.to_rdram)) if out.rows else None
 
 
 def _word_array(call: str, words: Iterable[int]) -> Any:
@@ -768,11 +775,8 @@ class Machine(_Owner):
         if not. So compare `interrupt` with its value before, because the reason can hide an interrupt.
         """
         out = self._fill_alone("event", _Reached(), steps, reads, writes)
-        stop, dma = _move_stop_of(out.at), out.dma
-        if stop.reason == Reason.DMA:
-            numbers = dma.address, dma.rdram, dma.length, dma.rows, dma.skip
-            stop.dma = Dma(Bank(dma.bank), *numbers, bool(dma.to_rdram))
-        stop.status, stop.interrupt = out.status, bool(out.interrupt)
+        stop = _move_stop_of(out.at)
+        stop.dma, stop.status, stop.interrupt = _dma_of(out.dma), out.status, bool(out.interrupt)
         return stop
 
     def trace(self, steps: int) -> Tuple[Stop, List[Traced]]:
@@ -898,6 +902,11 @@ class Machine(_Owner):
     def write(self, number: int, value: int) -> None:
         """Writes SP register `number`, modulo 16, as the CPU does, with its DMA, and empties the history."""
         self._call_with("write", number, value)
+
+    def write_dma(self, number: int, value: int) -> Optional[Dma]:
+        """Writes SP register `number` as `write` does, but moves no byte. Returns the DMA that the write
+        starts, whose bytes the caller then moves, or None."""
+        return _dma_of(self._fill("write_dma", _Dma(), number, value))
 
     def sp(self) -> SpWords:
         """All SP registers, with the interrupt flag."""

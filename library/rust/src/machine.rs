@@ -4,7 +4,7 @@ use crate::error::{done, right_version};
 use crate::raw;
 use crate::refusals::state_refusal;
 use crate::shapes::{
-    Accumulators, Bank, Changes, DivideState, Event, FlagBits, Line, MoveEnd, Reason, Scalars, SpWords, State, StepEnd, Stop, Traced,
+    Accumulators, Bank, Changes, DivideState, Dma, Event, FlagBits, Line, MoveEnd, Reason, Scalars, SpWords, State, StepEnd, Stop, Traced,
 };
 use crate::texts::{line_of, NO_LINE};
 use crate::{RspError, Status};
@@ -313,6 +313,14 @@ impl Machine {
     /// Writes SP register `n`, modulo 16, as the CPU does, with its DMA, and empties the history.
     pub fn write(&mut self, n: u32, value: u32) -> Result<(), RspError> {
         done(unsafe { raw::brsp_write(self.at(), n, value) }, "write", &[n.into(), value.into()])
+    }
+
+    /// Writes SP register `n` as [`write`](Machine::write) does, but moves no byte: returns the DMA that the write starts, if it starts one, whose
+    /// bytes the caller then moves.
+    pub fn write_dma(&mut self, n: u32, value: u32) -> Result<Option<Dma>, RspError> {
+        let mut out = Dma::default();
+        done(unsafe { raw::brsp_write_dma(self.at(), n, value, &mut out) }, "write_dma", &[n.into(), value.into()])?;
+        Ok((out.rows > 0).then_some(out))
     }
 
     /// All SP registers, with the interrupt flag.

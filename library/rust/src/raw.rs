@@ -120,6 +120,7 @@ extern "C" {
     pub fn brsp_read(m: *mut Handle, n: u32, out: *mut u32) -> u32;
     pub fn brsp_peek(m: *mut Handle, n: u32, out: *mut u32) -> u32;
     pub fn brsp_write(m: *mut Handle, n: u32, value: u32) -> u32;
+    pub fn brsp_write_dma(m: *mut Handle, n: u32, value: u32, out: *mut Dma) -> u32;
     pub fn brsp_sp(m: *mut Handle, out: *mut SpWords) -> u32;
     pub fn brsp_set_sp(m: *mut Handle, given: *const SpWords) -> u32;
     pub fn brsp_assemble(origin: u32, text: *const u8, len: usize, words: *mut u32, capacity: usize, out: *mut Assembled) -> u32;

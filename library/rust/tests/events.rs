@@ -60,6 +60,22 @@ fn a_passed_dma_is_the_step_but_for_the_bytes() -> Result<(), RspError> {
 }
 
 #[test]
+fn a_dma_of_the_cpu_is_the_write_but_for_the_bytes() -> Result<(), RspError> {
+    let mut machine = machine()?;
+    machine.load(Bank::Imem, 0xf80, &[1; 8])?;
+    let (mut other, mut bytes) = (machine.copy()?, [0; 8]);
+    for (n, value) in [(0, 0x1f80), (1, 0x200), (3, 0x0180_1007)] {
+        let dma = machine.write_dma(n, value)?;
+        let all = Dma { bank: 1, address: 0xf80, rdram: 0x200, length: 8, rows: 2, skip: 24, to_rdram: 1 };
+        assert_eq!(dma, (n == 3).then_some(all));
+        other.write(n, value)?;
+    }
+    machine.memory(Bank::Rdram, 0x200, &mut bytes)?;
+    assert!(machine.get()? == other.get()? && bytes == [0; 8]);
+    Ok(())
+}
+
+#[test]
 fn labels_have_their_addresses() -> Result<(), RspError> {
     let found = labels(TEXT, 0x100)?;
     let expected = [("start", 0x100), ("transfer", 0x11c), ("end", 0x120)].map(|(name, at)| (name.to_string(), at));

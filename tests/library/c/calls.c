@@ -45,9 +45,11 @@ static void without_machine(void)
     brsp_reached reached;
     brsp_traced traced;
     brsp_changes changed;
+    brsp_dma dma;
     brsp_machine to = BRSP_NONE;
     int i;
     memset(&sp, 0, sizeof sp);
+    memset(&dma, 0, sizeof dma);
     SEE(brsp_new(&freed, image, 64, 0) == BRSP_OK);
     brsp_free(&freed);
     brsp_free(&freed);
@@ -89,6 +91,7 @@ static void without_machine(void)
         SEE(brsp_read(m, 7, &word) == BRSP_NO_MACHINE);
         SEE(brsp_peek(m, 7, &word) == BRSP_NO_MACHINE);
         SEE(brsp_write(m, 0, 8) == BRSP_NO_MACHINE);
+        SEE(brsp_write_dma(m, 2, 8, &dma) == BRSP_NO_MACHINE && dma.rows == 0);
         SEE(brsp_listing(m, 0, &line, 1) == BRSP_NO_MACHINE);
         SEE(brsp_memory_words(m, 0, 0, &word, 1) == BRSP_NO_MACHINE);
         SEE(brsp_memory_words(m, 9, ANY, &word, SIZE_MAX) == BRSP_NO_MACHINE);
@@ -357,6 +360,32 @@ static void sp_registers(void)
     SEE(brsp_write(&m, 0, 0x100) == BRSP_OK && brsp_write(&m, 1, 16) == BRSP_OK && brsp_write(&m, 2, 7) == BRSP_OK);
     SEE(brsp_memory(&m, BRSP_DMEM, 0x100, bytes, 8) == BRSP_OK && bytes[0] == 16 && bytes[7] == 23);
     SEE(brsp_read(&m, 0, &word) == BRSP_OK && word == 0x108);
+    brsp_free(&m);
+}
+
+/* The CPU's writes on a machine whose host moves the bytes of DMAs. */
+static void dma_writes(void)
+{
+    static brsp_dma none; /* zeros */
+    brsp_machine m = BRSP_NONE;
+    brsp_dma dma;
+    brsp_sp_words sp;
+    uint8_t bytes[64];
+    size_t number = 9;
+    uint32_t word = 0;
+    SEE(brsp_new(&m, image, 64, 4) == BRSP_OK && brsp_step(&m) == BRSP_OK);
+    memset(&dma, 0xa5, sizeof dma);
+    SEE(brsp_write_dma(&m, 0, 0xffff5105, &dma) == BRSP_OK && !memcmp(&dma, &none, sizeof dma) && brsp_history(&m, &number) == BRSP_OK && number == 0);
+    SEE(brsp_write_dma(&m, 1, 19, &dma) == BRSP_OK && brsp_peek(&m, 0, &word) == BRSP_OK && word == 0x1100 && brsp_peek(&m, 1, &word) == BRSP_OK && word == 16);
+    SEE(brsp_step(&m) == BRSP_OK && brsp_write_dma(&m, ANY - 13, 0x00801007, &dma) == BRSP_OK); /* register 2: two rows, and a skip of 8 */
+    SEE(dma.bank == BRSP_IMEM && dma.address == 0x100 && dma.rdram == 16 && dma.length == 8 && dma.rows == 2 && dma.skip == 8 && dma.to_rdram == 0);
+    SEE(brsp_memory(&m, BRSP_IMEM, 0x100, bytes, 16) == BRSP_OK && bytes[0] == 0 && bytes[15] == 0 && brsp_history(&m, &number) == BRSP_OK && number == 0);
+    SEE(brsp_peek(&m, 0, &word) == BRSP_OK && word == 0x1110 && brsp_peek(&m, 1, &word) == BRSP_OK && word == 40 && brsp_peek(&m, 3, &word) == BRSP_OK && word == 0x00800ff8);
+    SEE(brsp_write_dma(&m, 3, 0xfff, &dma) == BRSP_OK && dma.bank == BRSP_IMEM && dma.address == 0x110 && dma.rdram == 40 && dma.length == 4096 && dma.rows == 1);
+    SEE(dma.skip == 0 && dma.to_rdram == 1 && brsp_memory(&m, BRSP_RDRAM, 0, bytes, 64) == BRSP_OK && !memcmp(bytes, image, 64));
+    SEE(brsp_peek(&m, 0, &word) == BRSP_OK && word == 0x1110 && brsp_peek(&m, 1, &word) == BRSP_OK && word == 4136);
+    SEE(brsp_write_dma(&m, 4, 0x12, &dma) == BRSP_OK && !memcmp(&dma, &none, sizeof dma) && brsp_sp(&m, &sp) == BRSP_OK);
+    SEE(sp.words[4] == 1 && sp.interrupt == 1); /* it has set halted and the interrupt flag */
     brsp_free(&m);
 }
 
@@ -970,6 +999,7 @@ int main(void)
     sp_at_once();
     passes();
     moves();
+    dma_writes();
     events();
     labels();
     traces();

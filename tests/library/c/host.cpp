@@ -90,6 +90,22 @@ static void interrupts(void)
     see("raised again", 0, !console.interrupt() && console.run(1000) < 5 && console.interrupt());
 }
 
+/* Bytes and words of the host have the same savestate. That of the machine alone is none of a console. */
+static void units(void)
+{
+    Console<uint8_t> bytes;
+    Console<uint32_t> words;
+    for (uint32_t i = 0; i < 4; i++) bytes.rdram[i] = uint8_t(i + 1);
+    words.rdram[0] = 0x01020304;
+    bytes.dpc[7] = words.dpc[7] = 0x05060708;
+    brsp::bytes saved = bytes.save();
+    see("equal savestates", 0, saved == words.save());
+    saved.resize(words.STATE);
+    bool is_refused = false;
+    try { words.restore(saved); } catch (const brsp::rsp_error &) { is_refused = true; }
+    see("the machine's", 0, is_refused);
+}
+
 /* Runs both in turns, with the CPU's accesses between them, and its write of SP_STATUS where they are halted. */
 template <class Unit> static uint64_t run_both(int program, Console<Unit> &console, brsp_machine *inside)
 {
@@ -143,6 +159,7 @@ int main(int argc, char **argv)
     programs<uint8_t>(count);
     programs<uint32_t>(count);
     interrupts();
+    units();
     std::printf("%d passed, %d failed\n", passed, failed);
     return failed != 0;
 }

@@ -1,6 +1,7 @@
 // brsp.hpp: the classes brsp::machine and brsp::session, and the functions beside them. The last line is `N passed, M failed`.
 #include "brsp.hpp"
 #include <cstdio>
+#include <cstring>
 #include <type_traits>
 
 using brsp::bytes;
@@ -67,6 +68,8 @@ static void test_events()
     refuses(BRSP_OUT_OF_RANGE, "event: writes is 131072, not 0 to 131071", [&] { m.event(1, 0, 131072); });
     event = m.event(100);
     see("the halt", event.at.stop.reason == BRSP_AT_HALT && event.status == 3 && m.step() == BRSP_HALTED && m.pass_dma() == BRSP_HALTED);
+    const brsp_dma dma = m.write_dma(3, 0x1007);
+    see("the CPU's DMA", dma.address == 16 && dma.length == 8 && dma.rows == 2 && dma.to_rdram && m.peek(0) == 32 && m.write_dma(0, 8).rows == 0 && m.peek(0) == 8);
 }
 
 static void test_states()
@@ -102,6 +105,30 @@ static void test_states()
     refuses(BRSP_OUT_OF_RANGE, "set: sp[4] is 0x8000, which SP_STATUS can't hold", [&] { m.set(state); });
     state.pc = 3;
     refuses(BRSP_OUT_OF_RANGE, "set: pc is 3, not a multiple of 4 below 4096", [&] { m.set(state); });
+}
+
+// Memories and savestates in buffers of the caller.
+static void test_buffers()
+{
+    machine m = made("break\n");
+    const uint8_t given[] = { 1, 2, 3, 4, 5, 6, 7, 8 };
+    const uint32_t words_given[] = { 0x01020304, 0x05060708 };
+    uint8_t taken[8] = {}, saved[9040];
+    uint32_t words_taken[2] = {};
+    m.load(BRSP_DMEM, 4088, given, 8);
+    m.load_words(BRSP_RDRAM, 56, words_given, 2);
+    m.memory(BRSP_RDRAM, 56, taken, 8);
+    m.memory_words(BRSP_DMEM, 4088, words_taken, 2);
+    see("buffers", !std::memcmp(taken, given, 8) && !std::memcmp(words_taken, words_given, 8));
+    see("a savestate", m.save_state(saved, 9040) == 9040 && bytes(saved, saved + 9040) == m.save_state());
+    m.run(1);
+    m.load_state(saved, 9040);
+    see("it is loaded", m.get().pc == 0 && m.peek(4) == 0);
+    refuses(BRSP_NO_ROOM, "save_state: the savestate has 9040 bytes, and the buffer 9039", [&] { m.save_state(taken, 9039); });
+    refuses(BRSP_OUT_OF_RANGE, "load: the bytes from 4089 on pass the end of DMEM", [&] { m.load(BRSP_DMEM, 4089, given, 8); });
+    refuses(BRSP_OUT_OF_RANGE, "memory: 8 bytes from 60 on pass the end of RDRAM", [&] { m.memory(BRSP_RDRAM, 60, taken, 8); });
+    refuses(BRSP_OUT_OF_RANGE, "memory_words: count is 4294967296, not 0 to 4294967295", [&] { m.memory_words(BRSP_DMEM, 0, words_taken, size_t(1) << 32); });
+    refuses(BRSP_OUT_OF_RANGE, "load_state: there are fewer bytes, or more, than the savestate says", [&] { m.load_state(saved, 9039); });
 }
 
 // Readers of a const machine; none of them changes it.
@@ -350,6 +377,7 @@ int main()
     test_run();
     test_events();
     test_states();
+    test_buffers();
     test_parts();
     test_stops();
     test_moves();

@@ -318,6 +318,7 @@ static void other_calls(brsp_machine *m)
     brsp_flag_bits flags;
     brsp_divide_state divider;
     brsp_sp_words sp;
+    brsp_dma dma;
     size_t number;
     uint32_t word, k;
     NONE(brsp_version());
@@ -360,6 +361,7 @@ static void other_calls(brsp_machine *m)
         NONE(brsp_read(m, k, &word));
         NONE(brsp_peek(m, k, &word));
         NONE(brsp_write(m, k, k == 4 ? 1 : 8));
+        NONE(brsp_write_dma(m, k, k == 4 ? 1 : 8, &dma));
     }
     NONE(brsp_sp(m, &sp));
     NONE(brsp_set_sp(m, &sp));

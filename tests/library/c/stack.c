@@ -79,6 +79,7 @@ static void divide(void) { word = brsp_divider(&m, &divider); }
 static void peek(void) { brsp_peek(&m, 4, &word); }
 static void taken(void) { brsp_read(&m, 4, &word); }
 static void transfer(void) { word = brsp_write(&m, 2, 0xfffff); }
+static void described(void) { word = brsp_write_dma(&m, 2, 0xfffff, &reached.dma); }
 static void sp_words(void) { word = brsp_sp(&m, &sp); }
 static void set_sp(void) { word = brsp_set_sp(&m, &sp); }
 static void assemble(void) { word = brsp_assemble(0, (const uint8_t *)text, strlen(text), words, 1024, &assembled); }
@@ -122,7 +123,7 @@ static const struct {
     { "brsp_drop_break", drop_break }, { "brsp_drop_watch", drop_watch }, { "brsp_copy", copied }, { "brsp_free", freed }, { "brsp_get", get },
     { "brsp_set", set }, { "brsp_state_fault", fault }, { "brsp_set_pc", set_pc }, { "brsp_pass_move", pass }, { "brsp_reg", reg }, { "brsp_regs", regs },
     { "brsp_vreg", vreg }, { "brsp_acc", acc }, { "brsp_flags", flag }, { "brsp_divider", divide }, { "brsp_peek", peek }, { "brsp_read", taken },
-    { "brsp_write", transfer }, { "brsp_sp", sp_words }, { "brsp_set_sp", set_sp }, { "brsp_text", disassemble }, { "brsp_listing", listing },
+    { "brsp_write", transfer }, { "brsp_write_dma", described }, { "brsp_sp", sp_words }, { "brsp_set_sp", set_sp }, { "brsp_text", disassemble }, { "brsp_listing", listing },
     { "brsp_start_task", task }, { "brsp_session_new", session }, { "brsp_session_take of lines", open_block }, { "brsp_session_take of end", close_block },
     { "brsp_session_take of run", session_run }, { "brsp_session_take of looks", session_looks }, { "brsp_session_memory", session_memory },
     { "brsp_session_end", session_end }, { "brsp_session_free", session_free }

@@ -1,7 +1,8 @@
-"""What a DMA of the console in examples/c costs past the end of RDRAM, beside one inside.
+"""What DMAs and savestates of the console in examples/c cost.
 
-It fails if such a DMA takes more than twice the host instructions of one inside, as valgrind's callgrind
-counts them: a host that copied the console would then stand still when microcode wants it.
+They fail if a DMA past the end of RDRAM takes more than twice the host instructions of one inside, as
+valgrind's callgrind counts them: a host that copied the console would then stand still when microcode wants
+it; or if a savestate takes more than a few for each word, so that a host can't save each frame.
 """
 
 import re
@@ -15,6 +16,7 @@ from lib.processes import succeeds
 
 pytestmark = [pytest.mark.needs("c++", "valgrind"), pytest.mark.usefixtures("library")]
 INSIDE, PAST_THE_END, UP_TO_THE_END = 0x100000, 0x800000, 0x7FFFF8
+RDRAM_WORDS = 1 << 21
 LENGTHS = {"4 KiB": (0xFFF, 64), "1 MiB": (0xFFFFF, 2)}
 
 
@@ -23,10 +25,13 @@ def instructions(program: Path, *numbers: int) -> int:
     return int(re.findall(r"Collected : (\d+)", output)[0])
 
 
+def console(folder: Path, source: str) -> Path:
+    return built(folder, HERE / source, "-std=c++17", f"-I{TOP}/examples/c", compiler="c++")
+
+
 @pytest.mark.parametrize("register", (2, 3), ids=("from RDRAM", "to RDRAM"))
 def test_dma_past_the_end(register: int, folder: Path) -> None:
-    words = "-std=c++17", f"-I{TOP}/examples/c"
-    program = built(folder, HERE / "dma_cost.cpp", *words, compiler="c++")
+    program = console(folder, "dma_cost.cpp")
     costs = {}
     for name, (word, count) in LENGTHS.items():
         start = instructions(program, 5, word, 0, count)  # register 5 keeps nothing, and starts no DMA
@@ -35,3 +40,11 @@ def test_dma_past_the_end(register: int, folder: Path) -> None:
         for address in (PAST_THE_END, UP_TO_THE_END):
             costs[name, address] = (instructions(program, register, word, address, count) - start) / inside
     assert {name: it for name, it in costs.items() if it > 2} == {}
+
+
+@pytest.mark.parametrize("unit, most", ((1, 3), (4, 14)), ids=("bytes", "words"))
+def test_savestate(unit: int, most: int, folder: Path) -> None:
+    """A save, a restore and a copy of the bytes, for each word of RDRAM. Byte by byte they took 5 and 16."""
+    program = console(folder, "save_cost.cpp")
+    cost = (instructions(program, unit, 3) - instructions(program, unit, 1)) / 2 / RDRAM_WORDS
+    assert 0.5 < cost < most

@@ -20,7 +20,7 @@ static void runs(brsp::machine &m)
     m.drop_break(m.run_until_move(1, 1, 1).stop.pc);
     m.drop_watch(uint32_t(m.add_watch(0, 1)));
     m.back(m.step() + m.step_changes(changes) + m.event(1).status + m.trace(1).stop.steps);
-    m.write(m.pass_move() + m.pass_dma(), uint32_t(m.history()));
+    m.write(m.pass_move() + m.pass_dma(), uint32_t(m.history()) + m.write_dma(0, 0).rows);
 }
 
 static size_t parts(brsp::machine &m)
@@ -30,6 +30,14 @@ static size_t parts(brsp::machine &m)
     m.set_sp(m.sp());
     m.load(BRSP_DMEM, m.read(7), m.memory(BRSP_DMEM, 0, m.image_length()));
     m.load_words(BRSP_DMEM, m.peek(0), m.memory_words(BRSP_IMEM, 0, 4));
+    const brsp::bytes bytes(8);
+    const brsp::words words(2);
+    uint8_t bytes_to[8];
+    uint32_t words_to[2];
+    m.load(BRSP_DMEM, 0, bytes.data(), 8);
+    m.load_words(BRSP_DMEM, 0, words.data(), 2);
+    m.memory(BRSP_DMEM, 0, bytes_to, 8);
+    m.memory_words(BRSP_DMEM, 0, words_to, 2);
     return m.listing(0, 4).size() + m.acc().low[0] + m.flags().extra + m.divider().input + !m.handle();
 }
 
@@ -40,6 +48,8 @@ static size_t states(brsp::machine &m)
     other = std::move(m);
     other.set(state);
     other.load_state(other.save_state());
+    uint8_t saved[9040];
+    other.load_state(saved, other.save_state(saved, sizeof saved));
     size_t length = brsp::to_string(state).size() + brsp::state_fault(state) + brsp::version();
     for (const brsp_part &part : brsp::difference(state, other.get())) length += brsp::to_string(part).size();
     if (const auto found = brsp::first_difference(m, other)) length += brsp::to_string(*found).size();
@@ -59,8 +69,10 @@ template <class Unit> static size_t console()
 {
     Console<Unit> it;
     it.write(2, it.run(1) + it.read(0) + it.interrupt());
-    const brsp::bytes saved = it.save();
+    brsp::bytes saved = it.save();
     it.restore(saved);
+    it.save(saved.data());
+    it.restore(saved.data(), saved.size());
     return saved.size();
 }
 

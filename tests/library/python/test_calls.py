@@ -42,7 +42,8 @@ CALLS: Dict[str, Tuple[Any, ...]] = {
     "step_changes": (), "run": (1,), "run_until_move": (1, 0, 0), "trace": (1,), "back": (1,),
     "pass_move": (0,), "add_break": (4,), "drop_break": (4,), "add_watch": (0, 1), "drop_watch": (0,),
     "reg": (1,), "regs": (), "vreg": (1,), "set_reg": (1, 0), "set_vreg": (1, range(8)), "acc": (),
-    "flags": (), "divider": (), "read": (7,), "peek": (7,), "write": (4, 2), "sp": (),
+    "flags": (), "divider": (), "read": (7,), "peek": (7,), "write": (4, 2), "write_dma": (4, 2),
+    "sp": (),
     "set_sp": (rsp.SpWords(),), "listing": (0, 1), "event": (1, 0, 0), "pass_dma": (), "history": (),
     "close": (),
 }  # fmt: skip
@@ -347,6 +348,9 @@ def test_events() -> None:
     assert stop.dma == rsp.Dma(rsp.IMEM, 0xF80, 0x200, 8, 2, 24, True)
     assert machine.pass_dma() is Status.OK and machine.memory(rsp.RDRAM, 0, 4096) == bytes(4096)
     assert (machine.run(9).steps, machine.pass_dma()) == (1, Status.HALTED)
+    assert (machine.write_dma(0, 0x1F80), machine.write_dma(1, 0x200)) == (None, None)
+    assert machine.write_dma(3, 0x01801007) == rsp.Dma(rsp.IMEM, 0xF80, 0x200, 8, 2, 24, True)
+    assert (machine.peek(1), machine.memory(rsp.RDRAM, 0, 4096)) == (0x228, bytes(4096))
 
 
 def test_an_interrupt() -> None:

@@ -31,7 +31,7 @@ function lives() {
   const calls = {
     get: [], step: [], regs: [], acc: [], flags: [], divider: [], sp: [], copy: [], pass_move: [], reg: [4], vreg: [4],
     read: [4], peek: [4], run: [4], back: [4], trace: [4], add_break: [4], drop_break: [4], set_pc: [4],
-    save_state: [], load_state: [new Uint8Array(9040)], memory: [0, 0, 4], memory_words: [0, 0, 4], load: [0, 0, new Uint8Array(4)], load_words: [0, 0, [1]], write: [0, 8],
+    save_state: [], load_state: [new Uint8Array(9040)], memory: [0, 0, 4], memory_words: [0, 0, 4], load: [0, 0, new Uint8Array(4)], load_words: [0, 0, [1]], write: [0, 8], write_dma: [0, 8],
     set: [new rsp.State()], set_sp: [new rsp.SpWords()], run_until_move: [1, 0, 0], add_watch: [0, 4], drop_watch: [0],
     event: [4], pass_dma: [], history: [],
     listing: [0, 1], start_task: [8], step_changes: [], set_reg: [1, 1], set_vreg: [1, new Uint16Array(8)],
@@ -152,6 +152,8 @@ function events() {
   refused(Status.OTHER_WORD, () => machine.pass_dma(), "pass_dma: the word at pc starts no DMA");
   machine.step();
   same("none that is halted", machine.pass_dma(), Status.HALTED);
+  same("writes without a DMA", [machine.write_dma(0, 0x1f80), machine.write_dma(1, 0)], [null, null]);
+  same("a write with one", [machine.write_dma(3, 0x01801007), machine.peek(1)], [dma, 40]);
   same("labels", rsp.labels(text, 8), { start: 8, end: 24 });
   refused(Status.NO_MEANING, () => rsp.labels("j x"));
 }
