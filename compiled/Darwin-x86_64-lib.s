@@ -121842,6 +121842,152 @@ LJTI215_0:
 	.long	L215_0_set_6
 	.end_data_region
 
+	.globl	_brsp_write_dma
+	.p2align	4
+_brsp_write_dma:
+	pushq	%rbp
+	pushq	%r15
+	pushq	%r14
+	pushq	%r12
+	pushq	%rbx
+	movq	(%rdi), %rbx
+	movq	$0, (%rdi)
+	testq	%rbx, %rbx
+	je	LBB216_1
+	andl	$15, %esi
+	cmpl	$2, %esi
+	je	LBB216_3
+	cmpl	$3, %esi
+	jne	LBB216_10
+	movl	$1, %r9d
+	jmp	LBB216_6
+LBB216_1:
+	movl	$101, %eax
+	jmp	LBB216_9
+LBB216_3:
+	xorl	%r9d, %r9d
+LBB216_6:
+	movl	9008(%rbx), %eax
+	movl	9012(%rbx), %esi
+	movl	%edx, %r8d
+	andl	$4088, %r8d
+	addl	$8, %r8d
+	movl	%edx, %r10d
+	shrl	$12, %r10d
+	movzbl	%r10b, %r10d
+	leal	1(%r10), %r11d
+	movl	%r11d, %r14d
+	imull	%r8d, %r14d
+	movl	%eax, %r15d
+	andl	$-4096, %r15d
+	leal	(%rax,%r14), %ebp
+	andl	$4095, %ebp
+	orl	%r15d, %ebp
+	movl	%ebp, %r15d
+	andl	$-8185, %r15d
+	movl	%esi, %r12d
+	andl	$7, %r12d
+	orl	%r15d, %r12d
+	jne	LBB216_20
+	shrl	$20, %edx
+	andl	$-8, %edx
+	imull	%edx, %r10d
+	addl	%r10d, %r14d
+	addl	%esi, %r14d
+	andl	$16777215, %r14d
+	movl	%eax, %r10d
+	shrl	$12, %r10d
+	andl	$4095, %eax
+	movl	%ebp, 9008(%rbx)
+	movl	%r14d, 9012(%rbx)
+	movl	%edx, 9016(%rbx)
+	movw	$0, 9034(%rbx)
+	movq	$0, 9296(%rbx)
+	jmp	LBB216_8
+LBB216_10:
+	movq	$0, 9296(%rbx)
+	cmpl	$7, %esi
+	ja	LBB216_17
+	leaq	9008(%rbx), %rax
+	movl	%esi, %r8d
+	leaq	LJTI216_0(%rip), %r9
+	movslq	(%r9,%r8,4), %r8
+	addq	%r9, %r8
+	jmpq	*%r8
+LBB216_12:
+	andl	$8184, %edx
+	movl	%edx, (%rax)
+	xorl	%r10d, %r10d
+	jmp	LBB216_18
+LBB216_14:
+	movq	%rdi, %r14
+	movq	%rax, %rdi
+	movl	%edx, %esi
+	movq	%rcx, %r15
+	callq	"_rsp_regs::regs::SpRegs::write_status"
+	movq	%r14, %rdi
+	movq	%r15, %rcx
+	xorl	%r10d, %r10d
+	jmp	LBB216_18
+LBB216_13:
+	andl	$16777208, %edx
+	movl	%edx, 9012(%rbx)
+	xorl	%r10d, %r10d
+	jmp	LBB216_18
+LBB216_15:
+	movb	$0, 9033(%rbx)
+	xorl	%r10d, %r10d
+	jmp	LBB216_18
+LBB216_17:
+	xorl	%r10d, %r10d
+	cmpl	$7, %esi
+	jb	LBB216_18
+	addl	$-8, %esi
+	movl	%edx, 9036(%rbx,%rsi,4)
+LBB216_18:
+	xorl	%eax, %eax
+	xorl	%esi, %esi
+	xorl	%r8d, %r8d
+	xorl	%r11d, %r11d
+	xorl	%edx, %edx
+	xorl	%r9d, %r9d
+LBB216_8:
+	movl	%r10d, (%rcx)
+	movl	%eax, 4(%rcx)
+	movl	%esi, 8(%rcx)
+	movl	%r8d, 12(%rcx)
+	movl	%r11d, 16(%rcx)
+	movl	%edx, 20(%rcx)
+	movl	%r9d, 24(%rcx)
+	movq	%rbx, (%rdi)
+	xorl	%eax, %eax
+LBB216_9:
+	popq	%rbx
+	popq	%r12
+	popq	%r14
+	popq	%r15
+	popq	%rbp
+	retq
+LBB216_20:
+	ud2
+	.p2align	2
+	.data_region jt32
+L216_0_set_12 = LBB216_12-LJTI216_0
+L216_0_set_13 = LBB216_13-LJTI216_0
+L216_0_set_17 = LBB216_17-LJTI216_0
+L216_0_set_14 = LBB216_14-LJTI216_0
+L216_0_set_15 = LBB216_15-LJTI216_0
+LJTI216_0:
+	.long	L216_0_set_12
+	.long	L216_0_set_13
+	.long	L216_0_set_17
+	.long	L216_0_set_17
+	.long	L216_0_set_14
+	.long	L216_0_set_17
+	.long	L216_0_set_17
+	.long	L216_0_set_15
+	.end_data_region
+
 	.p2align	4
 _rattle_alloc:
 	pushq	%rbp
@@ -121850,16 +121996,16 @@ _rattle_alloc:
 	pushq	%rax
 	movl	_is_able.known(%rip), %eax
 	testl	%eax, %eax
-	je	LBB216_1
+	je	LBB217_1
 	cmpl	$1, %eax
-	jne	LBB216_5
-LBB216_6:
+	jne	LBB217_5
+LBB217_6:
 	testq	%rdi, %rdi
 	cmovneq	%rdi, %rsi
 	movq	%rsi, %rdi
 	callq	_malloc
-	jmp	LBB216_7
-LBB216_1:
+	jmp	LBB217_7
+LBB217_1:
 	movl	$1, %eax
 	xorl	%ecx, %ecx
 	## InlineAsm Start
@@ -121868,7 +122014,7 @@ LBB216_1:
 	notl	%ecx
 	movl	$2, %eax
 	testl	$9970177, %ecx
-	jne	LBB216_3
+	jne	LBB217_3
 	xorl	%ecx, %ecx
 	movl	$-2147483647, %eax
 	## InlineAsm Start
@@ -121877,13 +122023,13 @@ LBB216_1:
 	andl	$1, %ecx
 	movl	$2, %eax
 	subl	%ecx, %eax
-LBB216_3:
+LBB217_3:
 	movl	%eax, _is_able.known(%rip)
 	cmpl	$1, %eax
-	je	LBB216_6
-LBB216_5:
+	je	LBB217_6
+LBB217_5:
 	xorl	%eax, %eax
-LBB216_7:
+LBB217_7:
 	xorl	%ecx, %ecx
 	testq	%rax, %rax
 	setne	%cl

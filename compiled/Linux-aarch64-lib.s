@@ -98985,6 +98985,71 @@
 	.byte	(.LBB7ef80035_1-.LBB7ef80035_1)>>2
 	.byte	(.LBB7ef80035_1-.LBB7ef80035_1)>>2
 
+	.section	".text.rsp_debug::debugger::Debugger::write_reg::<#a5af3fa3fd84a9ee>","ax",@progbits
+	.p2align	2
+	.type	"rsp_debug::debugger::Debugger::write_reg::<#a5af3fa3fd84a9ee>",@function
+"rsp_debug::debugger::Debugger::write_reg::<#a5af3fa3fd84a9ee>":
+	and	w9, w1, #0xf
+	mov	w8, w2
+	mov	w10, #9008
+	cmp	w9, #2
+	mov	w12, #4886
+	mov	w11, #8984
+	str	xzr, [x0, #9296]
+	b.gt	.LBB1a9c58b9_5
+	cbz	w9, .LBB1a9c58b9_9
+	cmp	w9, #1
+	b.eq	.LBB1a9c58b9_14
+	cmp	w9, #2
+	b.ne	.LBB1a9c58b9_11
+	mov	x9, x0
+	add	x0, x0, x10
+	mov	w1, w8
+	add	x2, x9, #790
+	add	x3, x9, x12
+	add	x4, x9, x11
+	b	"rsp_regs::regs::SpRegs::dma_in"
+.LBB1a9c58b9_5:
+	cmp	w9, #3
+	b.eq	.LBB1a9c58b9_10
+	cmp	w9, #4
+	b.eq	.LBB1a9c58b9_15
+	cmp	w9, #7
+	b.ne	.LBB1a9c58b9_11
+	mov	w8, #9033
+	strb	wzr, [x0, x8]
+	ret
+.LBB1a9c58b9_9:
+	and	w8, w8, #0x1ff8
+	str	w8, [x0, x10]
+	ret
+.LBB1a9c58b9_10:
+	mov	x9, x0
+	add	x0, x0, x10
+	mov	w1, w8
+	add	x2, x9, #790
+	add	x3, x9, x12
+	add	x4, x9, x11
+	b	"rsp_regs::regs::SpRegs::dma_out"
+.LBB1a9c58b9_11:
+	cmp	w9, #7
+	b.lo	.LBB1a9c58b9_13
+	sub	w9, w9, #8
+	add	x9, x0, w9, uxtw #2
+	str	w8, [x9, #9036]
+.LBB1a9c58b9_13:
+	ret
+.LBB1a9c58b9_14:
+	and	w8, w8, #0xfffff8
+	str	w8, [x0, #9012]
+	ret
+.LBB1a9c58b9_15:
+	add	x0, x0, x10
+	mov	w1, w8
+	b	"rsp_regs::regs::SpRegs::write_status"
+.Lfunc_end1a9c58b9:
+	.size	"rsp_debug::debugger::Debugger::write_reg::<#a5af3fa3fd84a9ee>", .Lfunc_end1a9c58b9-"rsp_debug::debugger::Debugger::write_reg::<#a5af3fa3fd84a9ee>"
+
 	.section	.text.brsp_labels,"ax",@progbits
 	.globl	brsp_labels
 	.p2align	2
@@ -108262,112 +108327,113 @@ brsp_vreg:
 brsp_write:
 	stp	x29, x30, [sp, #-32]!
 	stp	x20, x19, [sp, #16]
-	ldr	x19, [x0]
+	ldr	x20, [x0]
 	mov	x29, sp
 	str	xzr, [x0]
-	cbz	x19, .LBBcf551091_6
-	and	w9, w1, #0xf
-	mov	w8, w2
-	mov	w10, #9008
-	cmp	w9, #2
-	mov	w12, #4886
-	mov	w11, #8984
-	str	xzr, [x19, #9296]
-	b.gt	.LBBcf551091_7
-	cbz	w9, .LBBcf551091_11
-	cmp	w9, #1
-	b.eq	.LBBcf551091_15
-	cmp	w9, #2
-	b.ne	.LBBcf551091_13
-	mov	x20, x0
-	add	x0, x19, x10
-	add	x2, x19, #790
-	add	x3, x19, x12
-	add	x4, x19, x11
-	mov	w1, w8
-	bl	"rsp_regs::regs::SpRegs::dma_in"
-	b	.LBBcf551091_17
-.LBBcf551091_6:
-	mov	w8, #101
+	cbz	x20, .LBBcf551091_2
+	mov	x19, x0
+	mov	x0, x20
+	bl	"rsp_debug::debugger::Debugger::write_reg::<#a5af3fa3fd84a9ee>"
+	mov	w0, wzr
+	str	x20, [x19]
 	ldp	x20, x19, [sp, #16]
-	mov	w0, w8
 	ldp	x29, x30, [sp], #32
 	ret
-.LBBcf551091_7:
-	cmp	w9, #3
-	b.eq	.LBBcf551091_12
-	cmp	w9, #4
-	b.eq	.LBBcf551091_16
-	cmp	w9, #7
-	b.ne	.LBBcf551091_13
-	mov	w8, #9033
-	strb	wzr, [x19, x8]
-	mov	w8, wzr
-	str	x19, [x0]
+.LBBcf551091_2:
+	mov	w0, #101
 	ldp	x20, x19, [sp, #16]
-	mov	w0, w8
-	ldp	x29, x30, [sp], #32
-	ret
-.LBBcf551091_11:
-	and	w8, w8, #0x1ff8
-	str	w8, [x19, x10]
-	mov	w8, wzr
-	str	x19, [x0]
-	ldp	x20, x19, [sp, #16]
-	mov	w0, w8
-	ldp	x29, x30, [sp], #32
-	ret
-.LBBcf551091_12:
-	mov	x20, x0
-	add	x0, x19, x10
-	add	x2, x19, #790
-	add	x3, x19, x12
-	add	x4, x19, x11
-	mov	w1, w8
-	bl	"rsp_regs::regs::SpRegs::dma_out"
-	b	.LBBcf551091_17
-.LBBcf551091_13:
-	cmp	w9, #7
-	b.hs	.LBBcf551091_18
-	mov	w8, wzr
-	str	x19, [x0]
-	ldp	x20, x19, [sp, #16]
-	mov	w0, w8
-	ldp	x29, x30, [sp], #32
-	ret
-.LBBcf551091_15:
-	and	w8, w8, #0xfffff8
-	str	w8, [x19, #9012]
-	mov	w8, wzr
-	str	x19, [x0]
-	ldp	x20, x19, [sp, #16]
-	mov	w0, w8
-	ldp	x29, x30, [sp], #32
-	ret
-.LBBcf551091_16:
-	mov	x20, x0
-	add	x0, x19, x10
-	mov	w1, w8
-	bl	"rsp_regs::regs::SpRegs::write_status"
-.LBBcf551091_17:
-	mov	w8, wzr
-	str	x19, [x20]
-	ldp	x20, x19, [sp, #16]
-	mov	w0, w8
-	ldp	x29, x30, [sp], #32
-	ret
-.LBBcf551091_18:
-	sub	w9, w9, #8
-	add	x9, x19, w9, uxtw #2
-	str	w8, [x9, #9036]
-	mov	w8, wzr
-	str	x19, [x0]
-	ldp	x20, x19, [sp, #16]
-	mov	w0, w8
 	ldp	x29, x30, [sp], #32
 	ret
 .Lfunc_endcf551091:
 	.size	brsp_write, .Lfunc_endcf551091-brsp_write
+
+	.section	.text.brsp_write_dma,"ax",@progbits
+	.globl	brsp_write_dma
+	.p2align	2
+	.type	brsp_write_dma,@function
+brsp_write_dma:
+	stp	x29, x30, [sp, #-48]!
+	stp	x20, x19, [sp, #32]
+	ldr	x19, [x0]
+	mov	x29, sp
+	str	x21, [sp, #16]
+	str	xzr, [x0]
+	cbz	x19, .LBB1611dc5f_4
+	and	w8, w1, #0xf
+	cmp	w8, #2
+	b.eq	.LBB1611dc5f_5
+	cmp	w8, #3
+	b.ne	.LBB1611dc5f_8
+	mov	w9, #1
+	b	.LBB1611dc5f_6
+.LBB1611dc5f_4:
+	mov	w8, #101
+	ldp	x20, x19, [sp, #32]
+	mov	w0, w8
+	ldr	x21, [sp, #16]
+	ldp	x29, x30, [sp], #48
+	ret
+.LBB1611dc5f_5:
+	mov	w9, wzr
+.LBB1611dc5f_6:
+	ubfx	w14, w2, #12, #8
+	and	w8, w2, #0xff8
+	ldr	w12, [x19, #9012]
+	add	w10, w8, #8
+	ldr	w8, [x19, #9008]
+	add	w11, w14, #1
+	and	w17, w12, #0x7
+	mul	w16, w11, w10
+	mov	w15, w8
+	add	w13, w8, w16
+	bfxil	w15, w13, #0, #12
+	and	w13, w15, #0xffffe007
+	orr	w13, w13, w17
+	cbnz	w13, .LBB1611dc5f_10
+	lsr	w13, w2, #20
+	str	w15, [x19, #9008]
+	mov	w15, #9034
+	str	xzr, [x19, #9296]
+	and	w13, w13, #0xff8
+	madd	w14, w13, w14, w16
+	str	w13, [x19, #9016]
+	add	w14, w14, w12
+	and	w14, w14, #0xffffff
+	str	w14, [x19, #9012]
+	lsr	w14, w8, #12
+	strh	wzr, [x19, x15]
+	and	w15, w8, #0xfff
+	b	.LBB1611dc5f_9
+.LBB1611dc5f_8:
+	mov	x20, x0
+	mov	x0, x19
+	mov	x21, x3
+	bl	"rsp_debug::debugger::Debugger::write_reg::<#a5af3fa3fd84a9ee>"
+	mov	x0, x20
+	mov	x3, x21
+	mov	w14, wzr
+	mov	w15, wzr
+	mov	w12, wzr
+	mov	w10, wzr
+	mov	w11, wzr
+	mov	w13, wzr
+	mov	w9, wzr
+.LBB1611dc5f_9:
+	mov	w8, wzr
+	stp	w14, w15, [x3]
+	stp	w12, w10, [x3, #8]
+	stp	w11, w13, [x3, #16]
+	str	w9, [x3, #24]
+	str	x19, [x0]
+	ldp	x20, x19, [sp, #32]
+	mov	w0, w8
+	ldr	x21, [sp, #16]
+	ldp	x29, x30, [sp], #48
+	ret
+.LBB1611dc5f_10:
+	brk	#0x1
+.Lfunc_end1611dc5f:
+	.size	brsp_write_dma, .Lfunc_end1611dc5f-brsp_write_dma
 
 	.type	.Lstatic.0,@object
 	.section	.rodata..Lstatic.0,"a",@progbits

@@ -120868,6 +120868,150 @@ brsp_write:
 	.long	.LBBcf551091_7-.LJTIcf551091_0
 	.long	.LBBcf551091_6-.LJTIcf551091_0
 
+	.section	.text.brsp_write_dma,"ax",@progbits
+	.globl	brsp_write_dma
+	.p2align	4
+	.type	brsp_write_dma,@function
+brsp_write_dma:
+	pushq	%rbp
+	pushq	%r15
+	pushq	%r14
+	pushq	%r12
+	pushq	%rbx
+	movq	(%rdi), %rbx
+	movq	$0, (%rdi)
+	testq	%rbx, %rbx
+	je	.LBB1611dc5f_1
+	andl	$15, %esi
+	cmpl	$2, %esi
+	je	.LBB1611dc5f_3
+	cmpl	$3, %esi
+	jne	.LBB1611dc5f_10
+	movl	$1, %r9d
+	jmp	.LBB1611dc5f_6
+.LBB1611dc5f_1:
+	movl	$101, %eax
+	jmp	.LBB1611dc5f_9
+.LBB1611dc5f_3:
+	xorl	%r9d, %r9d
+.LBB1611dc5f_6:
+	movl	9008(%rbx), %eax
+	movl	9012(%rbx), %esi
+	movl	%edx, %r8d
+	andl	$4088, %r8d
+	addl	$8, %r8d
+	movl	%edx, %r10d
+	shrl	$12, %r10d
+	movzbl	%r10b, %r10d
+	leal	1(%r10), %r11d
+	movl	%r11d, %r14d
+	imull	%r8d, %r14d
+	movl	%eax, %r15d
+	andl	$-4096, %r15d
+	leal	(%rax,%r14), %ebp
+	andl	$4095, %ebp
+	orl	%r15d, %ebp
+	movl	%ebp, %r15d
+	andl	$-8185, %r15d
+	movl	%esi, %r12d
+	andl	$7, %r12d
+	orl	%r15d, %r12d
+	jne	.LBB1611dc5f_20
+	shrl	$20, %edx
+	andl	$-8, %edx
+	imull	%edx, %r10d
+	addl	%r10d, %r14d
+	addl	%esi, %r14d
+	andl	$16777215, %r14d
+	movl	%eax, %r10d
+	shrl	$12, %r10d
+	andl	$4095, %eax
+	movl	%ebp, 9008(%rbx)
+	movl	%r14d, 9012(%rbx)
+	movl	%edx, 9016(%rbx)
+	movw	$0, 9034(%rbx)
+	movq	$0, 9296(%rbx)
+	jmp	.LBB1611dc5f_8
+.LBB1611dc5f_10:
+	movq	$0, 9296(%rbx)
+	cmpl	$7, %esi
+	ja	.LBB1611dc5f_17
+	leaq	9008(%rbx), %rax
+	movl	%esi, %r8d
+	leaq	.LJTI1611dc5f_0(%rip), %r9
+	movslq	(%r9,%r8,4), %r8
+	addq	%r9, %r8
+	jmpq	*%r8
+.LBB1611dc5f_12:
+	andl	$8184, %edx
+	movl	%edx, (%rax)
+	xorl	%r10d, %r10d
+	jmp	.LBB1611dc5f_18
+.LBB1611dc5f_14:
+	movq	%rdi, %r14
+	movq	%rax, %rdi
+	movl	%edx, %esi
+	movq	%rcx, %r15
+	callq	"rsp_regs::regs::SpRegs::write_status"
+	movq	%r14, %rdi
+	movq	%r15, %rcx
+	xorl	%r10d, %r10d
+	jmp	.LBB1611dc5f_18
+.LBB1611dc5f_13:
+	andl	$16777208, %edx
+	movl	%edx, 9012(%rbx)
+	xorl	%r10d, %r10d
+	jmp	.LBB1611dc5f_18
+.LBB1611dc5f_15:
+	movb	$0, 9033(%rbx)
+	xorl	%r10d, %r10d
+	jmp	.LBB1611dc5f_18
+.LBB1611dc5f_17:
+	xorl	%r10d, %r10d
+	cmpl	$7, %esi
+	jb	.LBB1611dc5f_18
+	addl	$-8, %esi
+	movl	%edx, 9036(%rbx,%rsi,4)
+.LBB1611dc5f_18:
+	xorl	%eax, %eax
+	xorl	%esi, %esi
+	xorl	%r8d, %r8d
+	xorl	%r11d, %r11d
+	xorl	%edx, %edx
+	xorl	%r9d, %r9d
+.LBB1611dc5f_8:
+	movl	%r10d, (%rcx)
+	movl	%eax, 4(%rcx)
+	movl	%esi, 8(%rcx)
+	movl	%r8d, 12(%rcx)
+	movl	%r11d, 16(%rcx)
+	movl	%edx, 20(%rcx)
+	movl	%r9d, 24(%rcx)
+	movq	%rbx, (%rdi)
+	xorl	%eax, %eax
+.LBB1611dc5f_9:
+	popq	%rbx
+	popq	%r12
+	popq	%r14
+	popq	%r15
+	popq	%rbp
+	retq
+.LBB1611dc5f_20:
+	ud2
+.Lfunc_end1611dc5f:
+	.size	brsp_write_dma, .Lfunc_end1611dc5f-brsp_write_dma
+	.section	.rodata.brsp_write_dma,"a",@progbits
+	.p2align	2, 0x0
+.LJTI1611dc5f_0:
+	.long	.LBB1611dc5f_12-.LJTI1611dc5f_0
+	.long	.LBB1611dc5f_13-.LJTI1611dc5f_0
+	.long	.LBB1611dc5f_17-.LJTI1611dc5f_0
+	.long	.LBB1611dc5f_17-.LJTI1611dc5f_0
+	.long	.LBB1611dc5f_14-.LJTI1611dc5f_0
+	.long	.LBB1611dc5f_17-.LJTI1611dc5f_0
+	.long	.LBB1611dc5f_17-.LJTI1611dc5f_0
+	.long	.LBB1611dc5f_15-.LJTI1611dc5f_0
+
 	.type	.Lstatic.0,@object
 	.section	.rodata..Lstatic.0,"a",@progbits
 .Lstatic.0:

@@ -122845,6 +122845,168 @@ brsp_write:
 	.text
 	.seh_endproc
 
+	.def	brsp_write_dma;
+	.scl	2;
+	.type	32;
+	.endef
+	.globl	brsp_write_dma
+	.p2align	4
+brsp_write_dma:
+.seh_proc brsp_write_dma
+	pushq	%r15
+	.seh_pushreg %r15
+	pushq	%r14
+	.seh_pushreg %r14
+	pushq	%r12
+	.seh_pushreg %r12
+	pushq	%rsi
+	.seh_pushreg %rsi
+	pushq	%rdi
+	.seh_pushreg %rdi
+	pushq	%rbp
+	.seh_pushreg %rbp
+	pushq	%rbx
+	.seh_pushreg %rbx
+	subq	$32, %rsp
+	.seh_stackalloc 32
+	.seh_endprologue
+	movq	(%rcx), %rsi
+	movq	$0, (%rcx)
+	testq	%rsi, %rsi
+	je	.LBB216_1
+	andl	$15, %edx
+	cmpl	$2, %edx
+	je	.LBB216_3
+	cmpl	$3, %edx
+	jne	.LBB216_10
+	movl	$1, %r11d
+	jmp	.LBB216_6
+.LBB216_1:
+	movl	$101, %eax
+	jmp	.LBB216_9
+.LBB216_3:
+	xorl	%r11d, %r11d
+.LBB216_6:
+	movl	9008(%rsi), %eax
+	movl	9012(%rsi), %edx
+	movl	%r8d, %r10d
+	andl	$4088, %r10d
+	addl	$8, %r10d
+	movl	%r8d, %edi
+	shrl	$12, %edi
+	movzbl	%dil, %edi
+	leal	1(%rdi), %ebx
+	movl	%ebx, %r14d
+	imull	%r10d, %r14d
+	movl	%eax, %r15d
+	andl	$-4096, %r15d
+	leal	(%rax,%r14), %ebp
+	andl	$4095, %ebp
+	orl	%r15d, %ebp
+	movl	%ebp, %r15d
+	andl	$-8185, %r15d
+	movl	%edx, %r12d
+	andl	$7, %r12d
+	orl	%r15d, %r12d
+	jne	.LBB216_20
+	shrl	$20, %r8d
+	andl	$-8, %r8d
+	imull	%r8d, %edi
+	addl	%edi, %r14d
+	addl	%edx, %r14d
+	andl	$16777215, %r14d
+	movl	%eax, %edi
+	shrl	$12, %edi
+	andl	$4095, %eax
+	movl	%ebp, 9008(%rsi)
+	movl	%r14d, 9012(%rsi)
+	movl	%r8d, 9016(%rsi)
+	movw	$0, 9034(%rsi)
+	movq	$0, 9296(%rsi)
+	jmp	.LBB216_8
+.LBB216_10:
+	movq	$0, 9296(%rsi)
+	cmpl	$7, %edx
+	ja	.LBB216_17
+	leaq	9008(%rsi), %rax
+	movl	%edx, %r10d
+	leaq	.LJTI216_0(%rip), %r11
+	movslq	(%r11,%r10,4), %r10
+	addq	%r11, %r10
+	jmpq	*%r10
+.LBB216_12:
+	andl	$8184, %r8d
+	movl	%r8d, (%rax)
+	xorl	%edi, %edi
+	jmp	.LBB216_18
+.LBB216_14:
+	movq	%rcx, %rdi
+	movq	%rax, %rcx
+	movl	%r8d, %edx
+	movq	%r9, %rbx
+	callq	"rsp_regs::regs::SpRegs::write_status"
+	movq	%rdi, %rcx
+	movq	%rbx, %r9
+	xorl	%edi, %edi
+	jmp	.LBB216_18
+.LBB216_13:
+	andl	$16777208, %r8d
+	movl	%r8d, 9012(%rsi)
+	xorl	%edi, %edi
+	jmp	.LBB216_18
+.LBB216_15:
+	movb	$0, 9033(%rsi)
+	xorl	%edi, %edi
+	jmp	.LBB216_18
+.LBB216_17:
+	xorl	%edi, %edi
+	cmpl	$7, %edx
+	jb	.LBB216_18
+	addl	$-8, %edx
+	movl	%r8d, 9036(%rsi,%rdx,4)
+.LBB216_18:
+	xorl	%eax, %eax
+	xorl	%edx, %edx
+	xorl	%r10d, %r10d
+	xorl	%ebx, %ebx
+	xorl	%r8d, %r8d
+	xorl	%r11d, %r11d
+.LBB216_8:
+	movl	%edi, (%r9)
+	movl	%eax, 4(%r9)
+	movl	%edx, 8(%r9)
+	movl	%r10d, 12(%r9)
+	movl	%ebx, 16(%r9)
+	movl	%r8d, 20(%r9)
+	movl	%r11d, 24(%r9)
+	movq	%rsi, (%rcx)
+	xorl	%eax, %eax
+.LBB216_9:
+	addq	$32, %rsp
+	popq	%rbx
+	popq	%rbp
+	popq	%rdi
+	popq	%rsi
+	popq	%r12
+	popq	%r14
+	popq	%r15
+	retq
+.LBB216_20:
+	ud2
+	.section	.rdata,"dr"
+	.p2align	2, 0x0
+.LJTI216_0:
+	.long	.LBB216_12-.LJTI216_0
+	.long	.LBB216_13-.LJTI216_0
+	.long	.LBB216_17-.LJTI216_0
+	.long	.LBB216_17-.LJTI216_0
+	.long	.LBB216_14-.LJTI216_0
+	.long	.LBB216_17-.LJTI216_0
+	.long	.LBB216_17-.LJTI216_0
+	.long	.LBB216_15-.LJTI216_0
+	.text
+	.seh_endproc
+
 	.def	rattle_alloc;
 	.scl	3;
 	.type	32;
@@ -122857,16 +123019,16 @@ rattle_alloc:
 	movq	%rcx, %r9
 	movl	is_able.known(%rip), %eax
 	testl	%eax, %eax
-	je	.LBB216_1
+	je	.LBB217_1
 	cmpl	$1, %eax
-	jne	.LBB216_5
-.LBB216_6:
+	jne	.LBB217_5
+.LBB217_6:
 	testq	%r9, %r9
 	cmovneq	%r9, %r8
 	movq	%r8, %rcx
 	callq	malloc
-	jmp	.LBB216_7
-.LBB216_1:
+	jmp	.LBB217_7
+.LBB217_1:
 	movl	$1, %eax
 	xorl	%ecx, %ecx
 	#APP
@@ -122875,7 +123037,7 @@ rattle_alloc:
 	notl	%ecx
 	movl	$2, %eax
 	testl	$9970177, %ecx
-	jne	.LBB216_3
+	jne	.LBB217_3
 	xorl	%ecx, %ecx
 	movl	$-2147483647, %eax
 	#APP
@@ -122884,13 +123046,13 @@ rattle_alloc:
 	andl	$1, %ecx
 	movl	$2, %eax
 	subl	%ecx, %eax
-.LBB216_3:
+.LBB217_3:
 	movl	%eax, is_able.known(%rip)
 	cmpl	$1, %eax
-	je	.LBB216_6
-.LBB216_5:
+	je	.LBB217_6
+.LBB217_5:
 	xorl	%eax, %eax
-.LBB216_7:
+.LBB217_7:
 	xorl	%ecx, %ecx
 	testq	%rax, %rax
 	setne	%cl
