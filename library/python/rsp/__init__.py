@@ -129,7 +129,6 @@ _HALTED = (Status.HALTED,)
 _STEP_ENDS = {status.value: status for status in (Status.OK, Status.HALTED, Status.RESERVED)}
 
 
-
 class RspError(Exception):
     """A call was refused, and has changed nothing. `status` is the reason, and the message explains it."""
 

@@ -1,7 +1,7 @@
-"""The calls of brsp_helpers.h, which are tested and not proved: texts, and what differs between structures."""
+"""The calls of brsp_helpers.h, which are tested, not proved: texts, and what differs between structures."""
 
-from ctypes import POINTER, Structure, byref, c_char, c_char_p, c_size_t, c_uint8, c_uint16, c_uint32
-from ctypes import c_uint64, c_void_p, create_string_buffer
+from ctypes import POINTER, Structure, byref, c_char, c_char_p, c_size_t, c_uint16, c_uint32, c_uint64
+from ctypes import c_void_p, create_string_buffer
 from typing import Any, Iterator, List, NamedTuple, Sequence
 
 MOST_PARTS = 321
