@@ -93,7 +93,7 @@ def runner() -> Iterator[bytes]:
 
 
 def helpers() -> Iterator[bytes]:
-    """Searches over a DMA to RDRAM and a loop, with right answers and spoilt ones; then texts of each kind."""
+    """Searches over a DMA to RDRAM and a loop, with right answers and spoilt ones; then texts."""
     transfer = bytes.fromhex("3401004034020fff40810800408218002108ffff1500fffe0000000d")
     for image, every, spoilt in product(range(4), (1, 13), (0, 240)):
         answers = bytes([0, 0, spoilt, 0, 5, 9]) * 64
