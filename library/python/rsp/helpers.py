@@ -3,7 +3,7 @@
 from ctypes import POINTER, Structure, byref, c_char, c_char_p, c_size_t, c_uint16, c_uint32, c_uint64
 from ctypes import c_void_p, create_string_buffer
 from html import escape
-from typing import Any, Iterable, Iterator, List, NamedTuple, Sequence, Tuple
+from typing import Any, Dict, Iterable, Iterator, List, NamedTuple, Sequence, Tuple
 
 MOST_PARTS = 321
 
@@ -80,7 +80,7 @@ class Found(Structure):
 
 
 _M, _U, _Z, _B, _V = c_void_p, c_uint32, c_size_t, c_char_p, c_void_p
-CALLS = {
+CALLS: Dict[str, Tuple[Any, List[Any]]] = {
     "brsp_save_state": (_U, [_M, _V, _Z, POINTER(_Z)]),
     "brsp_load_state": (_U, [_M, _B, _Z]),
     "brsp_savestate_refusal_text": (_Z, [_B, _Z, _Z, _V, _Z]),

@@ -4,7 +4,6 @@ brsp_helpers.h.
 
 import ctypes
 from pathlib import Path
-from typing import Any, Dict, List, Tuple
 
 import pytest
 
@@ -47,8 +46,7 @@ def test_calls_of_helpers() -> None:
     """Each that the module uses is declared with as many arguments, and a result as wide."""
     widths = {"uint32_t": 4, "size_t": 8, "const char *": 8, "void": 0}
     declared = dict(interface.helpers())
-    calls: Dict[str, Tuple[Any, List[Any]]] = helpers.CALLS
-    for name, (result, given) in calls.items():
+    for name, (result, given) in helpers.CALLS.items():
         expected, _, arguments = declared[name].partition(" (")
         assert (ctypes.sizeof(result) if result else 0) == widths[expected], name
         assert len(given) == arguments.count(",") + 1, name
