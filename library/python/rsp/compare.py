@@ -5,7 +5,7 @@ from html import escape
 from typing import TYPE_CHECKING, Any, NamedTuple, Optional, Protocol
 
 from . import helpers as _helpers
-from .formatting import Difference
+from .helpers import Difference
 from .state import State
 
 if TYPE_CHECKING:
@@ -110,17 +110,22 @@ def first_difference(
     that differs, and the machine's history is empty. Raises RspError with OUT_OF_RANGE if `every` or `limit`,
     0 to 4294967295, isn't in its range, and ValueError if the emulator gives too few or too many bytes.
     """
-    from . import _lib, _numbers  # which are made after this module is loaded
+    from . import _lib, _numbers, _quick  # which are made after this module is loaded
 
     call, request = "first_difference", _helpers.Request()
+    to = byref(request)
     every, limit = _numbers(call, every, limit)
     search = (c_uint8 * _lib.brsp_search_bytes(machine.image_length))()
     data = memoryview(search).cast("B")
     status = machine._call_alone(call, _lib.brsp_search_begin, every, limit, search, len(search))
     machine._check_done(status, call, (every, limit))
     while True:
-        status = machine._call_alone(call, _lib.brsp_search_next, search, byref(request))
-        machine._check_done(status, call)
+        if request.kind == _helpers.MEMORY and request.bank:  # the last of some requests: the machine may run
+            status = machine._call_alone(call, _lib.brsp_search_next, search, to)
+        else:
+            status = _quick.brsp_search_next(machine._at, search, to)
+        if status:
+            machine._check_done(status, call)
         if request.kind == _helpers.OVER:
             break
         _answer(emulator, request, data[request.at : request.at + request.len])

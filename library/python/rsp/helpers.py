@@ -1,8 +1,9 @@
-"""The calls of brsp_helpers.h, which are tested and not proved: texts, and what differs between structures."""
+"""The calls of brsp_helpers.h, which are tested, not proved: texts, and what differs between structures."""
 
-from ctypes import POINTER, Structure, byref, c_char, c_char_p, c_size_t, c_uint8, c_uint16, c_uint32
-from ctypes import c_uint64, c_void_p, create_string_buffer
-from typing import Any, Iterator, List, NamedTuple, Sequence
+from ctypes import POINTER, Structure, byref, c_char, c_char_p, c_size_t, c_uint16, c_uint32, c_uint64
+from ctypes import c_void_p, create_string_buffer
+from html import escape
+from typing import Any, Dict, Iterable, Iterator, List, NamedTuple, Sequence, Tuple
 
 MOST_PARTS = 321
 
@@ -24,23 +25,47 @@ class Part(NamedTuple):
         return text("brsp_part_text", byref(_part_of(self)), here.encode(), there.encode())
 
 
+class Difference(Tuple[Part, ...]):
+    """The parts that differ between two states, in the session's order. It is false if there is none."""
+
+    def __str__(self) -> str:
+        return self.told("here", "in the other")
+
+    def told(self, here: str, there: str) -> str:
+        """A line for each part, such as `$3 is fffffff0 on the machine and 3ffffff0 in the emulator`."""
+        return "\n".join(it.told(here, there) for it in self) or "no difference"
+
+    def __repr__(self) -> str:
+        return f"<rsp.Difference: {', '.join(it.name for it in self) or 'none'}>"
+
+    def _repr_html_(self) -> str:
+        rows = [[it.name, f"{it.value:0{it.digits}x}", f"{it.other:0{it.digits}x}"] for it in self]
+        return table([["", "here", "the other"], *rows])
+
+
+def table(rows: Iterable[Iterable[str]]) -> str:
+    """A table in HTML; the first cell of a row is its heading."""
+    lines = []
+    for first, *others in rows:
+        cells = "".join(f"<td><code>{escape(it)}</code></td>" for it in others)
+        lines.append(f"<tr><th>{escape(first)}</th>{cells}</tr>")
+    return f"<table>{''.join(lines)}</table>"
+
+
+def _alike(kind: Any, *names: str) -> List[Tuple[str, Any]]:
+    """Fields of one type."""
+    return [(name, kind) for name in names]
+
+
 class _Part(Structure):
-    _fields_ = [
-        ("name", c_char * 24),
-        ("value", c_uint64 * 2),
-        ("other", c_uint64 * 2),
-        *[(name, c_uint32) for name in ("digits", "bank", "address", "number")],
-    ]
+    _fields_ = [("name", c_char * 24), *_alike(c_uint64 * 2, "value", "other")]
+    _fields_ += _alike(c_uint32, "digits", "bank", "address", "number")
 
 
 class Request(Structure):
     """What a search for the first difference asks for."""
 
-    _fields_ = [
-        *[(name, c_uint32) for name in ("kind", "steps", "bank", "address")],
-        ("at", c_size_t),
-        ("len", c_size_t),
-    ]
+    _fields_ = [*_alike(c_uint32, "kind", "steps", "bank", "address"), *_alike(c_size_t, "at", "len")]
 
 
 OVER, RUN, SET, LOAD, GET, MEMORY = range(6)  # the kinds of a request
@@ -49,21 +74,13 @@ OVER, RUN, SET, LOAD, GET, MEMORY = range(6)  # the kinds of a request
 class Found(Structure):
     """What a search has found. A line is flat in it, and `before` the bytes of a State."""
 
-    _fields_ = [
-        ("step", c_uint32),
-        ("steps", c_uint32),
-        ("word", c_uint32),
-        ("address", c_uint16),
-        ("len", c_uint16),
-        ("text", c_char * 68),
-        ("before", c_uint32 * 193),
-        ("parts", POINTER(_Part)),
-        ("count", c_size_t),
-    ]
+    _fields_ = [*_alike(c_uint32, "step", "steps", "word"), *_alike(c_uint16, "address", "len")]
+    _fields_ += [("text", c_char * 68), ("before", c_uint32 * 193)]
+    _fields_ += [("parts", POINTER(_Part)), ("count", c_size_t)]
 
 
 _M, _U, _Z, _B, _V = c_void_p, c_uint32, c_size_t, c_char_p, c_void_p
-CALLS = {
+CALLS: Dict[str, Tuple[Any, List[Any]]] = {
     "brsp_save_state": (_U, [_M, _V, _Z, POINTER(_Z)]),
     "brsp_load_state": (_U, [_M, _B, _Z]),
     "brsp_savestate_refusal_text": (_Z, [_B, _Z, _Z, _V, _Z]),

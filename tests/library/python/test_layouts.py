@@ -45,10 +45,11 @@ def test_calls() -> None:
 def test_calls_of_helpers() -> None:
     """Each that the module uses is declared with as many arguments, and a result as wide."""
     widths = {"uint32_t": 4, "size_t": 8, "const char *": 8, "void": 0}
-    declared = {name: text.partition(" (") for name, text in interface.helpers()}
-    expected = {name: (widths[declared[name][0]], declared[name][2].count(",") + 1) for name in helpers.CALLS}
-    sizes = {name: (ctypes.sizeof(it) if it else 0, len(given)) for name, (it, given) in helpers.CALLS.items()}
-    assert sizes == expected
+    declared = dict(interface.helpers())
+    for name, (result, given) in helpers.CALLS.items():
+        expected, _, arguments = declared[name].partition(" (")
+        assert (ctypes.sizeof(result) if result else 0) == widths[expected], name
+        assert len(given) == arguments.count(",") + 1, name
 
 
 @pytest.mark.needs("cc")
@@ -61,7 +62,7 @@ def test_layouts_of_helpers(folder: Path) -> None:
     for name, kind in kinds.items():
         lines.append(f'printf("%zu\\n", sizeof({name}));')
         expected.append(ctypes.sizeof(kind))
-        for field, _ in kind._fields_:
+        for field in [it[0] for it in kind._fields_]:
             inner = f"line.{field}" if kind is helpers.Found and field in flat else field
             lines.append(f'printf("%zu\\n", offsetof({name}, {inner}));')
             expected.append(getattr(kind, field).offset)
