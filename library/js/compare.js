@@ -1,6 +1,7 @@
 /** The first step after which an emulator differs from the machine. */
 
-import { Difference, Part, Status } from "./shapes.js";
+import { Status } from "./shapes.js";
+import { Difference, Part } from "./plain.js";
 import { numbers, refusal } from "./errors.js";
 
 const NAMES = ["DMEM", "IMEM", "RDRAM"], LENGTHS = 1 << 2 | 1 << 3, QUADWORD = 16;

@@ -1,6 +1,6 @@
 /** Why calls are refused: the ranges of their arguments, the errors, and their messages. */
 
-import { Bank, FAULTS, Fault, Status } from "./shapes.js";
+import { Bank, Fault, Field, Status } from "./shapes.js";
 import { SP_NAMES, hex } from "./formatting.js";
 
 const range = (low, high, step = 1) => ({
@@ -78,6 +78,14 @@ const SENTENCES = {
   116: () => "the script has ended",
   117: () => "the script has more than 1048576 bytes",
 };
+
+/** The faults of a text by their numbers, as scripts name them: UnknownName. */
+export const FAULTS = Object.freeze(Object.fromEntries(Object.entries(Fault).filter(([, n]) => typeof n === "number")
+  .map(([name, n]) => [n, name.toLowerCase().replace(/(?:^|_)(.)/g, (_, first) => first.toUpperCase())])));
+/** The fields of a state that have values which no machine can have. */
+export const FIELDS = Object.freeze({ [Field.ZERO]: "words[0]", [Field.LOADED]: "divider.loaded", [Field.PC]: "pc",
+  [Field.NPC]: "npc", [Field.INTERRUPT]: "interrupt",
+  ...Object.fromEntries([...Array(8).keys()].map((n) => [Field.SP + n, `sp[${n}]`])) });
 
 /** A call was refused, and has changed nothing. */
 export class RspError extends Error {

@@ -3,38 +3,31 @@
  * it, and rsp.d.ts lists all calls. */
 
 import { instantiated } from "./module.js";
-import { Accumulators, Bank, Changes, Divider, FIELDS, Flags, Reason, Scalars, SpWords, State, Status, Traced, layout,
-  read } from "./shapes.js";
+import { Bank, CALLS, REPLIES, Reason, Status } from "./shapes.js";
+import { Accumulators, Changes, Divider, Flags, Scalars, SpWords, State, Traced, layout, read } from "./plain.js";
 import { parts_of, saved } from "./savestate.js";
 import { joined, strict_replies } from "./strict.js";
-import { AssemblyError, RspError, allowed, bytes_of, numbers, refusal, state_refusal, words_of } from "./errors.js";
+import { AssemblyError, FIELDS, RspError, allowed, bytes_of, numbers, refusal, state_refusal, words_of } from "./errors.js";
 
-export { Accumulators, Bank, Changes, Difference, Divider, FAULTS, Fault, Flags, Part, Reason, Scalars, SpWords, State,
-  Status, Traced } from "./shapes.js";
-export { AssemblyError, RspError, ScriptError } from "./errors.js";
+export { Bank, Fault, Reason, Status } from "./shapes.js";
+export { Accumulators, Changes, Difference, Divider, Flags, Part, Scalars, SpWords, State, Traced } from "./plain.js";
+export { AssemblyError, FAULTS, RspError, ScriptError } from "./errors.js";
 export { first_difference } from "./compare.js";
 
 export const { DMEM, IMEM, RDRAM } = Bank;
 export const VERSION = 1;
 export const STATUS_WRITES = 1 << 16;
 
-/** The calls of brsp.h, without their prefix. */
-const CALLS = `version new copy free get set state_fault image_length load load_words memory memory_words start_task set_pc
-  step step_changes run run_until_move event trace back history pass_move pass_dma add_break drop_break
-  add_watch drop_watch reg regs vreg acc flags divider read peek write sp set_sp assemble labels text listing
-  explain explain_text explain_reply session_new session_take session_end session_memory session_free`.split(/\s+/);
 // Awaited while this module is imported, so that no call returns a promise.
 const wasm = await instantiated(new URL("./rsp.wasm", import.meta.url));
 if ((wasm.brsp_version?.() ?? VERSION) !== VERSION) {
   throw new Error(`rsp.wasm has version ${wasm.brsp_version()} of the interface, and this module is for ${VERSION}`);
 }
-const missing = CALLS.map((it) => `brsp_${it}`).filter((it) => !(it in wasm));
+const missing = CALLS.filter((it) => !(it in wasm));
 if (missing.length) throw new Error(`rsp.wasm is older than this module: it lacks ${missing.join(", ")}`);
 
 /** Addresses are BigInts for the calls. What a call fills or is given, up to ROOM bytes, is at HERE. */
 const ROOM = 1024, HERE = wasm.malloc(BigInt(ROOM)), CELL = 8n, NOTHING = cell("rsp");
-/** How many bytes a buffer for replies has. */
-const REPLIES = 16384;
 
 /** The bytes of the library's memory at an address; only until the next call. */
 function bytes_at(at, length) { return new Uint8Array(wasm.memory.buffer, Number(at), length); }
@@ -108,15 +101,15 @@ function bytes_of_words(words) { return new Uint8Array(words.buffer); }
 function text_of(bytes) { return new TextDecoder().decode(bytes); }
 
 function line_at(at) {
-  const { word, address, len } = struct("RspLine", at), text = BigInt(layout("RspLine").fields.at(-1).offset);
+  const { word, address, len } = struct("brsp_line", at), text = BigInt(layout("brsp_line").fields.at(-1).offset);
   return { address, word, text: text_of(copied(at + text, len)) };
 }
 
 /** The fault of a text, which brsp_assemble has reported at HERE. */
 function assembly_error(origin, text, at, length) {
-  const { line, fault } = struct("RspAssembled");
+  const { line, fault } = struct("brsp_assembled");
   const status = wasm.brsp_explain(origin, at, length, HERE);
-  const why = status === Status.OK ? allowed(struct("RspOperand"), fault) : "";
+  const why = status === Status.OK ? allowed(struct("brsp_operand"), fault) : "";
   return new AssemblyError(line, fault, text.split("\n")[line - 1]?.trim(), why);
 }
 
@@ -133,17 +126,17 @@ export function assemble(text, origin = 0) {
     const status = wasm.brsp_assemble(origin, at, length, words, 1024n, HERE);
     if (status === Status.NO_MEANING) throw assembly_error(origin, text, at, length);
     ok(status, "assemble", [origin]);
-    return new Uint32Array(copied(words, 4 * struct("RspAssembled").count).buffer);
+    return new Uint32Array(copied(words, 4 * struct("brsp_assembled").count).buffer);
   }));
 }
 
 export function labels(text, origin = 0) {
   assemble(text, origin);
-  const raw = new TextEncoder().encode(text), most = text.split("\n").length, { size, fields } = layout("RspLabel");
+  const raw = new TextEncoder().encode(text), most = text.split("\n").length, { size, fields } = layout("brsp_label");
   return given_to("labels", raw, (at) => lent("labels", most * size, (to) => {
     ok(wasm.brsp_labels(origin, at, BigInt(raw.length), to, BigInt(most), HERE), "labels");
     return Object.fromEntries(Array.from({ length: length_at(HERE) }, (_, n) => {
-      const it = to + BigInt(n * size), { address, len } = struct("RspLabel", it);
+      const it = to + BigInt(n * size), { address, len } = struct("brsp_label", it);
       return [text_of(copied(it + BigInt(fields.at(-1).offset), len)), address];
     }));
   }));
@@ -340,17 +333,17 @@ export class Machine {
 
   run(steps) {
     this.#fill("run", [steps]);
-    return stop_of(struct("RspStop"));
+    return stop_of(struct("brsp_stop"));
   }
 
   run_until_move(steps, reads, writes) {
     this.#fill("run_until_move", [steps, reads, writes]);
-    return move_stop_of(struct("RspMove"));
+    return move_stop_of(struct("brsp_move"));
   }
 
   event(steps, reads = 0, writes = 0) {
     this.#fill("event", [steps, reads, writes]);
-    const { at, dma, status, interrupt } = struct("RspReached"), stop = move_stop_of(at);
+    const { at, dma, status, interrupt } = struct("brsp_reached"), stop = move_stop_of(at);
     const next = stop.reason === Reason.DMA ? { ...dma, to_rdram: dma.to_rdram !== 0 } : null;
     return { ...stop, dma: next, status, interrupt: interrupt !== 0 };
   }
@@ -359,7 +352,7 @@ export class Machine {
     numbers("trace", [steps], 1000000);
     return lent("trace", steps * Traced.size, (at) => {
       ok(wasm.brsp_trace(this.#at, at, BigInt(steps), HERE), "trace", [steps]);
-      const stop = stop_of(struct("RspStop")), bytes = copied(at, stop.steps * Traced.size);
+      const stop = stop_of(struct("brsp_stop")), bytes = copied(at, stop.steps * Traced.size);
       const entry = (_, n) => Traced.over(bytes.subarray(n * Traced.size, (n + 1) * Traced.size));
       return [stop, Array.from({ length: stop.steps }, entry)];
     });
@@ -410,7 +403,7 @@ export class Machine {
 
   vreg(number) {
     this.#fill("vreg", [number]);
-    return new Uint16Array(copied(HERE, layout("RspLanes").size).buffer);
+    return new Uint16Array(copied(HERE, layout("brsp_lanes").size).buffer);
   }
 
   /** Sets what `change` does to the state. */
@@ -454,7 +447,7 @@ export class Machine {
   }
 
   listing(address, count) {
-    const { size } = layout("RspLine"), given = numbers("listing", [address, count], 1024);
+    const { size } = layout("brsp_line"), given = numbers("listing", [address, count], 1024);
     return lent("listing", size * count, (at) => {
       ok(wasm.brsp_listing(this.#at, address, at, BigInt(count)), "listing", given);
       return Array.from({ length: count }, (_, n) => line_at(at + BigInt(n * size)));

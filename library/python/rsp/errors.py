@@ -1,33 +1,14 @@
 """Why calls are refused: the ranges of their arguments, and messages."""
 
-import enum
 import operator
 import re
 import sys
-from ctypes import Structure, c_int64, c_size_t, c_uint32
 from typing import Any, Dict, NamedTuple, Sequence, Tuple
 
-from .fields import alike
 from .formatting import SP_NAMES
+from .shapes import Bank, Fault, Operand, Status
 
 BELOW = 1 << 32
-OUT_OF_RANGE, OTHER_WORD = 103, 118
-
-
-class Fault(enum.IntEnum):
-    """Why a text has no meaning. FAULTS has the names in scripts."""
-
-    BAD_LINE = 10
-    UNKNOWN_NAME = 11
-    BAD_OPERAND = 12
-    OUT_OF_RANGE = 13
-    LABEL_TWICE = 14
-    LABEL_MISSING = 15
-    PAST_END = 16
-    OUT_OF_MEMORY = 17
-    NOT_TEXT = 33
-
-
 FAULTS = {fault.value: fault.name.title().replace("_", "") for fault in Fault}
 
 
@@ -50,7 +31,7 @@ COUNT = Range(range(1, 1000001), "1 to 1000000")
 MASK = Range(range(65536), "0 to 65535")
 EVENT_MASK = Range(range(1 << 17), "0 to 131071")
 REGISTER = Range(range(32), "0 to 31")
-BANKS = "DMEM", "IMEM", "RDRAM"
+BANKS = [bank.name for bank in Bank]
 BANK = Range(range(3), "rsp.DMEM, rsp.IMEM or rsp.RDRAM")
 
 # The arguments of each call, in order.
@@ -134,7 +115,7 @@ def out_of_range(call: str, numbers: Sequence[int]) -> str:
 
 def refusal(status: int, call: str, numbers: Sequence[int] = (), owner: str = "machine") -> str:
     """Why a call was refused, in a sentence."""
-    if status in (OUT_OF_RANGE, OTHER_WORD):
+    if status in (Status.OUT_OF_RANGE, Status.OTHER_WORD):
         return f"{call}: {out_of_range(call, numbers)}"
     return f"{call}: {SENTENCES.get(status, 'refused').format(*numbers, owner=owner)}"
 
@@ -193,7 +174,7 @@ def script_of(call: str, script: Any) -> bytes:
     return script.encode() if isinstance(script, str) else bytes_of(call, "script", script)
 
 
-# What `set` takes in a field, in the order of the numbers of BRSP_FIELD_ in brsp.h.
+# What `set` takes in a field, in the order of their numbers.
 FIELDS = {
     "words[0]": "0",
     "divider.loaded": "0 or 1",
@@ -210,12 +191,6 @@ def state_fault(field: str, state: Any) -> str:
         return f"{field} is {value}, not {FIELDS[field]}"
     number = int(field[3:-1])
     return f"{field} is {state.sp[number]:#x}, which {SP_NAMES[number]} can't hold"
-
-
-class Operand(Structure):
-    """`brsp_operand` of brsp.h."""
-
-    _fields_ = [*alike(c_int64, "low", "high"), ("number", c_size_t), *alike(c_uint32, "kind", "step")]
 
 
 # By the numbers of BRSP_OPERAND_ in brsp.h. A range follows what ends with a comma.

@@ -1,11 +1,10 @@
 //! A machine.
 
 use crate::error::{done, right_version};
-use crate::raw;
+use crate::raw::{self, reason, status};
 use crate::refusals::state_refusal;
-use crate::shapes::{
-    Accumulators, Bank, Changes, DivideState, Event, FlagBits, Line, MoveEnd, Reason, Scalars, SpWords, State, StepEnd, Stop, Traced,
-};
+use crate::shapes::{Accumulators, Changes, DivideState, FlagBits, Scalars, SpWords, State, Traced};
+use crate::stops::{Bank, Event, Line, MoveEnd, Reason, StepEnd, Stop};
 use crate::texts::{line_of, NO_LINE};
 use crate::{RspError, Status};
 use std::cell::UnsafeCell;
@@ -20,7 +19,7 @@ pub const STATUS_WRITES: u32 = 1 << 16;
 // SAFETY of all calls below: the handle is BRSP_NONE or as the last call left it, since nothing else writes it; it isn't copied; as it isn't
 // `Sync`, one call at a time has it; and each pointer is of a borrow with its own length.
 pub struct Machine {
-    handle: UnsafeCell<raw::Handle>,
+    handle: UnsafeCell<raw::Machine>,
 }
 
 // SAFETY: a machine is memory of malloc that its handle alone leads to, and no call keeps anything of a thread.
@@ -46,7 +45,7 @@ impl Machine {
 
     /// A handle that holds no machine.
     fn none() -> Machine {
-        Machine { handle: UnsafeCell::new(raw::Handle { at: ptr::null_mut() }) }
+        Machine { handle: UnsafeCell::new(raw::Machine { at: ptr::null_mut() }) }
     }
 
     /// The number of bytes of the image of RDRAM.
@@ -57,7 +56,7 @@ impl Machine {
         out
     }
 
-    fn at(&self) -> *mut raw::Handle {
+    fn at(&self) -> *mut raw::Machine {
         self.handle.get()
     }
 
@@ -167,7 +166,7 @@ impl Machine {
     pub fn event(&mut self, steps: u32, reads: u16, writes: u32) -> Result<Event, RspError> {
         let mut out = raw::Reached::default();
         done(unsafe { raw::brsp_event(self.at(), steps, reads.into(), writes, &mut out) }, "event", &[steps.into(), writes.into()])?;
-        let dma = (out.at.stop.reason == AT_DMA).then_some(out.dma);
+        let dma = (out.at.stop.reason == reason::DMA).then_some(out.dma);
         Ok(Event { at: seen_move(&out.at), dma, status: out.status, interrupt: out.interrupt == 1 })
     }
 
@@ -342,22 +341,17 @@ impl Machine {
     }
 }
 
-/// The reason of a run that stopped before a move.
-const AT_MOVE: u32 = 5;
-/// The reason of a stop before a DMA.
-const AT_DMA: u32 = 6;
-
 /// The end of a step, or of a call that passes over one, which never ends at a reserved word.
 fn step_end(status: u32, call: &str) -> Result<StepEnd, RspError> {
     match status {
-        104 => Ok(StepEnd::Halted),
-        105 => Ok(StepEnd::Reserved),
+        status::HALTED => Ok(StepEnd::Halted),
+        status::RESERVED => Ok(StepEnd::Reserved),
         other => done(other, call, &[]).map(|()| StepEnd::Done),
     }
 }
 
 fn seen_move(out: &raw::Move) -> MoveEnd {
-    if out.stop.reason != AT_MOVE && out.stop.reason != AT_DMA {
+    if out.stop.reason != reason::MOVE && out.stop.reason != reason::DMA {
         return MoveEnd::Stop(seen_stop(&out.stop));
     }
     let (steps, pc) = (out.stop.steps, out.stop.pc);
@@ -366,12 +360,12 @@ fn seen_move(out: &raw::Move) -> MoveEnd {
 
 fn seen_stop(out: &raw::Stop) -> Stop {
     let reason = match out.reason {
-        0 => Reason::Reserved,
-        1 => Reason::Halt,
-        2 => Reason::Watch(out.watch),
-        3 => Reason::Break,
-        7 => Reason::Interrupt,
-        8 => Reason::Status,
+        reason::RESERVED => Reason::Reserved,
+        reason::HALT => Reason::Halt,
+        reason::WATCH => Reason::Watch(out.watch),
+        reason::BREAK => Reason::Break,
+        reason::INTERRUPT => Reason::Interrupt,
+        reason::STATUS => Reason::Status,
         _ => Reason::Limit,
     };
     let word = (reason == Reason::Reserved).then_some(out.word);

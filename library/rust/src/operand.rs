@@ -1,6 +1,7 @@
 //! The operand for which a text is refused.
 
-use crate::{raw, Fault};
+use crate::raw::{self, status};
+use crate::Fault;
 
 /// The operand for which a text is refused, and what it may be.
 #[derive(Clone, Copy, Debug, PartialEq, Eq)]
@@ -39,8 +40,8 @@ impl Operand {
     pub(crate) fn of(text: &str, origin: u32) -> Option<Self> {
         let mut out = raw::Operand::default();
         // SAFETY: each pointer is of a borrow, with its own length.
-        let status = unsafe { raw::brsp_explain(origin, text.as_ptr(), text.len(), &mut out) };
-        if status != 0 || out.number == 0 {
+        let ended = unsafe { raw::brsp_explain(origin, text.as_ptr(), text.len(), &mut out) };
+        if ended != status::OK || out.number == 0 {
             return None;
         }
         let range = if out.step == 0 { None } else { Some((out.low, out.high, out.step)) };

@@ -1,6 +1,6 @@
 //! Why calls are refused: the ranges of their arguments, and messages.
 
-use crate::shapes::Field;
+use crate::state::Field;
 use crate::{State, Status};
 
 /// The numbers that an argument may be.

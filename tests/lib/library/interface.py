@@ -23,9 +23,9 @@ def numbers() -> Iterator[Tuple[str, str]]:
 
 def interface() -> Interface:
     """The interface of brsp.h and rsp_c as they are."""
-    found = {f"symbol {name}": f"{result} ({given})" for name, result, given in shapes.exported()}
-    for struct, (size, fields) in shapes.layouts(shapes.structs()).items():
-        name = shapes.c_name(struct)
+    pairs = ((call.name, *shapes.in_c(call)) for call in shapes.INTERFACE.calls)
+    found = {f"symbol {name}": f"{result} ({given})" for name, result, given in pairs}
+    for name, (size, fields) in shapes.layouts().items():
         found[f"struct {name}"] = f"{size} bytes"
         found.update({f"field {name}.{it}": f"{width} bytes at {at}" for it, at, width in fields})
     found.update({f"number {name}": value for name, value in numbers()})

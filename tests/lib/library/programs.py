@@ -47,7 +47,7 @@ def assert_passes(program: Path, *words: object, **how: Any) -> None:
 
 def other_version(folder: Path, without: str = "") -> Path:
     """A folder with libraries whose calls do nothing: of version 2, or of version 1 without a call."""
-    names = [name for name, *_ in shapes.exported() if name != without]
+    names = [name for name in shapes.CALLS if name != without]
     version = 1 if without else 2
     calls = (f"unsigned {it}(void) {{ return {version if it == 'brsp_version' else 0}; }}\n" for it in names)
     (folder / "calls.c").write_text("".join(calls))

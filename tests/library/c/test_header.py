@@ -16,8 +16,10 @@ from lib.library.programs import main_of, output_of
 from lib.packages import need
 from lib.pages import data, page
 from lib.processes import STRICT, compiled, succeeds
+from rsp_tools.shapes import header
 
 HEADER = page("library/c/brsp.h")
+NUMBERS = shapes.INTERFACE.numbers
 FOLDERS = [f"-I{TOP / it}" for it in ("examples/c", "conformance/campaigns")]
 # How files that use the headers are compiled: for one standard at each level, and for each standard at one
 # level, because all levels of all standards take minutes.
@@ -35,8 +37,9 @@ USES = [
 
 def test_calls() -> None:
     """They are those of rsp_c, and each has a comment above it, in lines of fewer than 110 columns."""
-    calls = sorted(shapes.exported())
-    assert sorted(shapes.declared(HEADER)) == calls and len(calls) > 20
+    declared = sorted(header.calls("library/c/brsp.h"))
+    assert [call.types() for call in declared] == [call.types() for call in shapes.INTERFACE.calls]
+    assert len(declared) > 20
     assert re.findall(r"(?m)^(?!.*\*/$).*\n\w+ (brsp_\w+)\(", HEADER) == []
     assert [line for line in HEADER.splitlines() if len(line) >= 110] == []
 
@@ -45,7 +48,7 @@ def test_calls() -> None:
 def test_exports(library: Path) -> None:
     output = succeeds("nm", "-D", "--defined-only", "--without-symbol-versions", library / "libbrsp.so")
     names = {it.split()[-1] for it in output.splitlines()}
-    assert {it for it in names if not it.startswith("BRSP_")} == {name for name, *_ in shapes.exported()}
+    assert {it for it in names if not it.startswith("BRSP_")} == {*shapes.CALLS}
 
 
 def named(prefix: str, text: str = HEADER) -> Dict[str, int]:
@@ -55,26 +58,25 @@ def named(prefix: str, text: str = HEADER) -> Dict[str, int]:
 
 def test_numbers() -> None:
     statuses, banks = re.findall(r"(?s)enum brsp_(?:status|bank) \{.*?\}", HEADER)
-    assert (named("", statuses), named("", banks)) == (shapes.STATUSES, shapes.BANKS)
-    assert named("AT_") == shapes.REASONS
-    assert re.findall(r"#define BRSP_REPLIES (\d+)", HEADER) == [str(shapes.REPLIES)]
-    assert named("FIELD_") == {"NONE": 0, **shapes.FIELDS}
-    faults = {re.sub(r"(?<!^)(?=[A-Z])", "_", it).upper(): number for it, number in shapes.FAULTS.items()}
-    assert named("FAULT_") == {"NONE": 0, **faults}
+    assert (named("", statuses), named("", banks)) == (NUMBERS["status"], NUMBERS["bank"])
+    assert named("AT_") == NUMBERS["reason"]
+    assert re.findall(r"#define BRSP_REPLIES (\d+)", HEADER) == [str(shapes.INTERFACE.replies)]
+    assert named("FIELD_") == {"NONE": 0, **NUMBERS["field"]}
+    assert named("FAULT_") == {"NONE": 0, **NUMBERS["fault"]}
 
 
 def test_apart() -> None:
     """No status but BRSP_OK has the number of a fault of scripts."""
     faults = {int(line.split()[0]) for line in page("docs/data/faults.tsv").splitlines()[1:]}
-    assert len(faults) > 20 and not faults & {*shapes.STATUSES.values()}
+    assert len(faults) > 20 and not faults & {*NUMBERS["status"].values()}
 
 
 @pytest.mark.needs("cc")
 def test_layouts(library: Path, folder: Path) -> None:
     """offsetof and sizeof, as the C compiler has them."""
-    layouts = shapes.layouts(shapes.structs())
+    layouts = shapes.layouts()
     lines, expected = [], []
-    for name, (size, fields) in zip(map(shapes.c_name, layouts), layouts.values()):
+    for name, (size, fields) in layouts.items():
         lines.append(f'printf("{name} %zu\\n", sizeof({name}));')
         expected.append(f"{name} {size}")
         for field, offset, width in fields:
@@ -89,10 +91,11 @@ def test_layouts(library: Path, folder: Path) -> None:
 def test_names(library: Path, folder: Path) -> None:
     """The tables of names in brsp.h beside the library's numbers, for the numbers 0 to 149."""
     lines, expected = ["unsigned n;"], []
-    tables = {"status": shapes.STATUSES, "fault": shapes.FAULTS, "reason": shapes.REASONS}
-    for kind, known in tables.items():
+    for kind in ("status", "fault", "reason"):
         lines.append(f'for (n = 0; n < 150; n++) printf("{kind} %u %s\\n", n, brsp_{kind}_name(n));')
-        names = {value: name for name, value in known.items()}
+        names = {value: name for name, value in NUMBERS[kind].items()}
+        if kind == "fault":  # as scripts name it
+            names = {value: name.title().replace("_", "") for value, name in names.items()}
         expected += [f"{kind} {n} {names.get(n, 'unknown')}" for n in range(150)]
     assert output_of(folder, main_of("\n".join(lines))).splitlines() == expected
 

@@ -1,0 +1,31 @@
+"""Writes the calls, structs and numbers of the library for Rust, JavaScript and Python.
+
+It reads them in crates/rsp_c/src. Comments of Rust's structs are those of the crates, unless comments.tsv has
+another one for who writes a program. Nobody who builds the library needs this: its files are committed.
+"""
+
+from pathlib import Path
+from typing import Dict
+
+from rsp_tools import TOP
+from rsp_tools.shapes import crate, javascript, python, rust
+
+
+def comments() -> Dict[str, str]:
+    """The comments in place of those of the crates, by the structs and the fields that they are of."""
+    lines = (Path(__file__).parent / "comments.tsv").read_text().splitlines()[1:]
+    return dict(line.split("\t") for line in lines)
+
+
+def files() -> Dict[str, str]:
+    """Each file as it is written, by its path in the repository."""
+    found = crate.interface()
+    return {**rust.files(found, comments()), **javascript.files(found), **python.files(found)}
+
+
+def stale() -> Dict[str, str]:
+    """The files that are otherwise, or aren't there, as they have to be."""
+    made = files()
+    return {
+        it: text for it, text in made.items() if not (TOP / it).exists() or (TOP / it).read_text() != text
+    }

@@ -1,0 +1,61 @@
+"""The interface in JavaScript: tables, of which library/js makes its classes and reads what a call fills."""
+
+import json
+from typing import Any, Dict, Iterable
+
+from rsp_tools.shapes.interface import Interface, Struct, c_name
+
+WIDTH = 120  # of a line
+# The library for WebAssembly has addresses, and so lengths, of 64 bits.
+LENGTH = "u64"
+HEAD = """/** The calls, structs and numbers of brsp.h. `tools/shapes` writes this file. */
+
+/** Numbers by their names, and names by their numbers. */
+function numbered(numbers) {
+  const names = Object.fromEntries(Object.entries(numbers).map(([name, number]) => [number, name]));
+  return Object.freeze({ ...numbers, ...names });
+}
+"""
+REPLIES = "/** The least number of bytes of a buffer for replies. */\n"
+STRUCTS = "/** Each struct's fields: the name, the kind, and an array's lengths, the outer one first. */\n"
+
+
+def lines_of(items: Iterable[str], indent: str = "  ") -> str:
+    """Items with a comma after each, in as many lines as they need."""
+    lines = [indent]
+    for it in items:
+        if len(lines[-1]) + len(it) + 1 > WIDTH:
+            lines.append(indent)
+        lines[-1] += f"{it}, "
+    return "\n".join(line.rstrip() for line in lines)
+
+
+def numbers_text(name: str, numbers: Dict[str, int]) -> str:
+    items = lines_of(f"{it}: {number}" for it, number in numbers.items())
+    return f"export const {name} = numbered({{\n{items}\n}});\n"
+
+
+def kind_of(element: str) -> str:
+    return LENGTH if element == "usize" else element if element[1:].isdigit() else c_name(element)
+
+
+def struct_text(struct: Struct) -> str:
+    fields: Iterable[Any] = ([it.name, kind_of(it.element), *it.counts] for it in struct.fields)
+    return f"  {c_name(struct.name)}: [\n{lines_of(map(json.dumps, fields), '    ')}\n  ],\n"
+
+
+def text(it: Interface) -> str:
+    names = {"Status": "status", "Fault": "fault", "Bank": "bank", "Reason": "reason", "Field": "field"}
+    structs = "".join(map(struct_text, it.structs.values()))
+    parts = [HEAD, *(numbers_text(name, it.numbers[kind]) for name, kind in names.items())]
+    parts += [
+        f"{REPLIES}export const REPLIES = {it.replies};\n",
+        f"{STRUCTS}export const STRUCTS = {{\n{structs}}};\n",
+    ]
+    calls = lines_of(json.dumps(call.name) for call in it.calls)
+    return "\n".join([*parts, f"export const CALLS = [\n{calls}\n];\n"])
+
+
+def files(it: Interface) -> Dict[str, str]:
+    """The file by its path in the repository."""
+    return {"library/js/shapes.js": text(it)}
