@@ -1,6 +1,9 @@
 /* runner FILE..: runs the test vectors of `flat`, and prints for each case that differs its first difference. A file that has something else is
- * refused. To test another machine, link its brsp_new, brsp_free, brsp_load, brsp_memory, brsp_set, brsp_get and brsp_step instead of the library. */
-#include "brsp_compare.h"
+ * refused. To test another machine, link its brsp_new, brsp_free, brsp_load, brsp_memory, brsp_set, brsp_get and brsp_step instead of the library,
+ * and compile library/c/helpers/texts.c with it. */
+#include "brsp_helpers.h"
+#include <stdio.h>
+#include <string.h>
 
 typedef struct { uint32_t size, word, has_choice; char name[16]; uint32_t pieces; } head;
 typedef struct { uint32_t is_after, bank, address, length; } piece; /* its bytes follow, up to a multiple of 4 */
@@ -63,22 +66,26 @@ static void print_operands(uint32_t word, const brsp_state *before, const brsp_p
 /* Runs the case that comes next, and takes it. Returns 1 if it differs, -1 if it isn't a case. */
 static int run(brsp_machine *m, rest *file)
 {
-    static brsp_part parts[BRSP_COMPARE_PARTS + sizeof found / BRSP_QUADWORD];
-    brsp_compare_seen after = { .bytes = expected }, got = { .bytes = found };
-    brsp_state before;
+    static brsp_part parts[BRSP_PARTS + sizeof found / 16];
+    brsp_state before, after, got;
     head h;
     rest r = *file;
     if (!take(&r, &h, sizeof h) || h.has_choice > 1 || h.size < sizeof h || h.size > (size_t)(file->end - file->at)) return -1;
     file->at = r.end = file->at + h.size;
-    if (!take(&r, &before, sizeof before) || !take(&r, &after.state, sizeof before)) return -1;
+    if (!take(&r, &before, sizeof before) || !take(&r, &after, sizeof after)) return -1;
     memset(expected, 0, sizeof expected);
     memset(text, 0, sizeof text);
     if (!put_pieces(r, h.pieces, 0)) return -1;
     for (uint32_t bank = 0; bank < 3; bank++) brsp_load(m, bank, 0, expected + 4096 * bank, length_of(bank));
     put_pieces(r, h.pieces, 1);
-    int is_made = brsp_set(m, &before) == BRSP_OK && brsp_step(m) == BRSP_OK && brsp_get(m, &got.state) == BRSP_OK;
-    for (uint32_t bank = 0; bank < 3; bank++) brsp_memory(m, bank, 0, found + 4096 * bank, length_of(bank));
-    size_t count = brsp_compare_parts(&after, &got, sizeof found, parts);
+    int is_made = brsp_set(m, &before) == BRSP_OK && brsp_step(m) == BRSP_OK && brsp_get(m, &got) == BRSP_OK;
+    size_t count = brsp_structure_parts(BRSP_OF_STATE, &after, &got, parts, BRSP_PARTS);
+    for (uint32_t bank = 0; bank < 3; bank++) {
+        const uint8_t *here = expected + 4096 * bank;
+        uint8_t *there = found + 4096 * bank;
+        brsp_memory(m, bank, 0, there, length_of(bank));
+        count += brsp_memory_parts(bank, here, there, length_of(bank), parts + count, length_of(bank) / 16);
+    }
     if (is_made && !count) return 0;
     printf("%s (", shown(h.name, sizeof h.name));
     printf("%s%s", shown(text, sizeof text), h.has_choice ? ", choice" : "");

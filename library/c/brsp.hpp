@@ -17,8 +17,7 @@
 #pragma GCC diagnostic ignored "-Wold-style-cast"
 #pragma GCC diagnostic ignored "-Wzero-as-null-pointer-constant"
 #endif
-#include "brsp_compare.h"
-#include "brsp_savestate.h"
+#include "brsp_compare.h" /* and brsp_helpers.h */
 #if defined(__GNUC__)
 #pragma GCC diagnostic pop
 #endif
@@ -27,7 +26,6 @@
 #include <cstdio>
 #include <cstdlib>
 #include <cstring>
-#include <exception>
 #include <initializer_list>
 #include <optional>
 #include <stdexcept>
@@ -71,39 +69,10 @@ struct assembly_error : rsp_error {
 /* What calls use to say why they refuse. */
 namespace detail {
 
-/* The numbers that an argument may be, in steps, and in words. */
-struct range {
-    uint64_t low, high, step;
-    const char *text;
-};
-inline constexpr range word{ 0, 0xffffffff, 1, "0 to 4294967295" };
-inline constexpr range place{ 0, 4092, 4, "a multiple of 4 below 4096" };
-inline constexpr range origins{ 0, 4096, 4, "a multiple of 4 up to 4096" };
-inline constexpr range count{ 1, 1000000, 1, "1 to 1000000" };
-inline constexpr range mask{ 0, 65535, 1, "0 to 65535" };
-inline constexpr range event_mask{ 0, 131071, 1, "0 to 131071" };
-inline constexpr range registers{ 0, 31, 1, "0 to 31" };
-inline constexpr range banks{ 0, 2, 1, "BRSP_DMEM, BRSP_IMEM or BRSP_RDRAM" };
-inline constexpr range depths{ 0, 4096, 1, "0 to 4096" };
-inline constexpr range dmem{ 0, 4095, 1, "0 to 4095" };
-inline constexpr range watched{ 1, 64, 1, "1 to 64" };
-inline constexpr range listed{ 0, 1024, 1, "0 to 1024" };
-inline constexpr range images{ 64, 8388608, 8, "a multiple of 8 from 64 to 8388608" };
-
-/* An argument that a call was given. */
-struct argument {
-    const char *name;
-    uint64_t number;
-    const range &allowed;
-};
-using arguments = std::initializer_list<argument>;
-
-/* A call that is refused: its name, its arguments, what is wrong with them if each is in its range, with
- * their names in braces, and what the handle is of. */
+/* A call that is refused: its name, the numbers that it was given, and what the handle is of. */
 struct call {
     const char *name;
-    arguments given;
-    const char *together = "a number is out of its range";
+    std::initializer_list<uint64_t> given = {};
     const char *owner = "machine";
 };
 
@@ -116,54 +85,24 @@ inline std::string joined(std::initializer_list<std::string_view> texts)
     return out;
 }
 
-inline std::string shown(const argument &it)
+/* A text of brsp_helpers.h. `write` is given where to write it, and how much fits there. */
+template <class Write> std::string text_of(Write write)
 {
-    static const char *const names[] = { "DMEM", "IMEM", "RDRAM" };
-    return &it.allowed == &banks ? names[it.number] : std::to_string(it.number);
+    std::string out(write(nullptr, size_t{ 0 }), ' ');
+    write(out.data(), out.size() + 1);
+    return out;
 }
 
-inline std::string out_of_range(const call &of)
+/* Why a call is refused. */
+inline std::string refusal(uint32_t status, const call &of)
 {
-    std::string text = of.together;
-    for (const argument &it : of.given) {
-        const range &r = it.allowed;
-        if (it.number < r.low || it.number > r.high || (it.number - r.low) % r.step)
-            return std::string(it.name) + " is " + std::to_string(it.number) + ", not " + r.text;
-    }
-    for (const argument &it : of.given) {
-        const std::string name = joined({ "{", it.name, "}" });
-        const size_t at = text.find(name);
-        if (at != std::string::npos) text.replace(at, name.size(), shown(it));
-    }
-    return text;
-}
-
-/* Why a call with this first argument is refused. */
-inline std::string sentence(uint32_t status, const call &of)
-{
-    const std::string n = of.given.size() ? std::to_string(of.given.begin()->number) : "it";
-    switch (status) {
-    case BRSP_NO_MACHINE: return joined({ "the ", of.owner, " is gone: it was moved from" });
-    case BRSP_NO_MEMORY: return "an allocation failed";
-    case BRSP_OUT_OF_RANGE: return out_of_range(of);
-    case BRSP_NO_MEANING: return "the text isn't UTF-8";
-    case BRSP_TASK_PLACE:
-        return n + " isn't a multiple of 8, or the 64 bytes from there pass the image's end";
-    case BRSP_TASK_SIZE:
-        return "the size of the boot code, the word at offset 12 of the structure at " + n +
-               ", isn't 1 to 4096";
-    case BRSP_BREAK_FULL: return "sixteen addresses have a breakpoint";
-    case BRSP_BREAK_TWICE: return n + " has a breakpoint";
-    case BRSP_NO_BREAK: return n + " has no breakpoint";
-    case BRSP_WATCH_FULL: return "there are eight watches";
-    case BRSP_NO_WATCH: return "no watch has the number " + n;
-    case BRSP_SHORT_HISTORY: return "the history holds fewer states than " + n;
-    case BRSP_NO_ROOM: return "the text has more than 1024 words";
-    case BRSP_ENDED: return "the script has ended";
-    case BRSP_TOO_LONG: return "the script has more than 1048576 bytes";
-    case BRSP_OTHER_WORD: return of.together;
-    default: return brsp_status_name(status);
-    }
+    std::string numbers;
+    if (status == BRSP_NO_MACHINE)
+        return joined({ of.name, ": the ", of.owner, " is gone: it was moved from" });
+    for (const uint64_t it : of.given) numbers += std::to_string(it) + " ";
+    return text_of([&](char *to, size_t n) {
+        return brsp_refusal_text(status, of.name, numbers.c_str(), to, n);
+    });
 }
 
 template <class Error> [[noreturn]] inline void refuse(const Error &error)
@@ -174,7 +113,7 @@ template <class Error> [[noreturn]] inline void refuse(const Error &error)
 
 [[noreturn]] inline void refuse(uint32_t status, const call &of)
 {
-    refuse(rsp_error(status, std::string(of.name) + ": " + sentence(status, of)));
+    refuse(rsp_error(status, refusal(status, of)));
 }
 
 inline void done(uint32_t status, const call &of)
@@ -183,9 +122,9 @@ inline void done(uint32_t status, const call &of)
 }
 
 /* How a step ended: BRSP_OK, BRSP_HALTED or BRSP_RESERVED. */
-inline uint32_t ended(uint32_t status, const char *name, const char *together = "")
+inline uint32_t ended(uint32_t status, const char *name)
 {
-    if (status != BRSP_HALTED && status != BRSP_RESERVED) done(status, { name, {}, together });
+    if (status != BRSP_HALTED && status != BRSP_RESERVED) done(status, { name });
     return status;
 }
 
@@ -220,13 +159,7 @@ template <class Data, class Read>
 Data memory(const char *owner, uint32_t bank, uint32_t address, size_t n, Read read)
 {
     constexpr bool is_bytes = sizeof(typename Data::value_type) == 1;
-    const argument whose{ "bank", bank, banks }, from{ "address", address, word };
-    const argument length{ is_bytes ? "length" : "count", n, word };
-    const arguments given = { whose, from, length };
-    const call of = { is_bytes ? "memory" : "memory_words", given,
-                      is_bytes ? "{length} bytes from {address} on pass the end of {bank}"
-                               : "{count} words from {address} on pass the end of {bank}",
-                      owner };
+    const call of = { is_bytes ? "memory" : "memory_words", { bank, address, n }, owner };
     if (n > 8388608) refuse(BRSP_OUT_OF_RANGE, of); /* no memory is longer */
     Data out(n);
     done(read(at(out)), of);
@@ -250,21 +183,6 @@ inline std::string printable(std::string_view text, size_t line)
     return out;
 }
 
-/* Which operand is at fault, and what it may be; nothing if none is. */
-inline std::string allowed(const brsp_operand &found, uint32_t fault)
-{
-    const bool is_form = fault == BRSP_FAULT_BAD_OPERAND;
-    std::string form = is_form ? brsp_operand_form(found.kind) : "", span;
-    if (!found.number) return span;
-    if (fault == BRSP_FAULT_LABEL_MISSING) form = "the label of a line, or";
-    if (found.step) span = std::to_string(found.low) + " to " + std::to_string(found.high);
-    if (found.step > 1) span += joined({ ", a multiple of ", std::to_string(found.step) });
-    if (!form.empty() && !span.empty()) form += " ";
-    if (is_form && (found.kind == BRSP_OPERAND_SCALAR_MEMORY || found.kind == BRSP_OPERAND_VECTOR_MEMORY))
-        span += ", and a scalar register in parentheses";
-    return joined({ "operand ", std::to_string(found.number), " may be ", form, span });
-}
-
 [[noreturn]] inline void refuse_text(std::string_view text, uint32_t origin, const brsp_assembled &about)
 {
     brsp_operand found{};
@@ -272,16 +190,11 @@ inline std::string allowed(const brsp_operand &found, uint32_t fault)
     const std::string fault = std::to_string(about.fault) + " " + brsp_fault_name(about.fault);
     std::string what = "assemble: fault " + fault;
     if (about.line) what += " line " + std::to_string(about.line) + ": " + printable(text, about.line);
-    if (const std::string more = allowed(found, about.fault); !more.empty()) what += "; " + more;
+    const std::string more = text_of([&](char *to, size_t n) {
+        return brsp_operand_text(&found, about.fault, to, n);
+    });
+    if (!more.empty()) what += "; " + more;
     refuse(assembly_error(what, about, found));
-}
-
-inline std::string hex(uint64_t number, unsigned digits)
-{
-    char out[20];
-    std::snprintf(out, sizeof out, "%0*llx", static_cast<int>(digits),
-                  static_cast<unsigned long long>(number));
-    return out;
 }
 
 /* A handle that is freed, and moved. */
@@ -317,7 +230,7 @@ protected:
     const uint32_t status =
         brsp_assemble(origin, detail::at(text), text.size(), out.data(), out.size(), &about);
     if (status == BRSP_NO_MEANING) detail::refuse_text(text, origin, about);
-    detail::done(status, { "assemble", { { "origin", origin, detail::origins } } });
+    detail::done(status, { "assemble", { origin } });
     out.resize(about.count);
     return out;
 }
@@ -330,7 +243,7 @@ protected:
     for (const char it : text) count += it == '\n';
     std::vector<brsp_label> out(count);
     detail::done(brsp_labels(origin, detail::at(text), text.size(), out.data(), out.size(), &count),
-                 { "labels", {} });
+                 { "labels" });
     out.resize(count);
     return out;
 }
@@ -340,14 +253,14 @@ protected:
 {
     brsp_operand out{};
     detail::done(brsp_explain(origin, detail::at(text), text.size(), &out),
-                 { "explain", { { "origin", origin, detail::origins } } });
+                 { "explain", { origin } });
     return out;
 }
 
 /* What is wrong with a text, in the lines of `rsp asm --explain`; empty if the text has no fault. */
 [[nodiscard]] inline std::string explain_text(std::string_view text, uint32_t origin = 0)
 {
-    return detail::said({ "explain_text", { { "origin", origin, detail::origins } } }, [&](auto... to) {
+    return detail::said({ "explain_text", { origin } }, [&](auto... to) {
         return brsp_explain_text(origin, detail::at(text), text.size(), to...);
     });
 }
@@ -358,7 +271,7 @@ protected:
 [[nodiscard]] inline std::string explain_reply(std::string_view lines, std::string_view reply,
                                                size_t before = 0)
 {
-    return detail::said({ "explain_reply", {} }, [&](auto... to) {
+    return detail::said({ "explain_reply" }, [&](auto... to) {
         return brsp_explain_reply(before, detail::at(lines), lines.size(), detail::at(reply), reply.size(),
                                   to...);
     });
@@ -368,8 +281,7 @@ protected:
 [[nodiscard]] inline std::string text(uint32_t word, uint32_t address = 0)
 {
     brsp_line out{};
-    detail::done(brsp_text(word, address, &out),
-                 { "text", { { "word", word, detail::word }, { "address", address, detail::place } } });
+    detail::done(brsp_text(word, address, &out), { "text", { word, address } });
     return { out.text, out.len };
 }
 
@@ -379,15 +291,15 @@ protected:
 [[nodiscard]] inline uint32_t state_fault(const brsp_state &state)
 {
     uint32_t out = BRSP_FIELD_NONE;
-    detail::done(brsp_state_fault(&state, &out), { "state_fault", {} });
+    detail::done(brsp_state_fault(&state, &out), { "state_fault" });
     return out;
 }
 
 /* The registers in which two states differ. */
 [[nodiscard]] inline std::vector<brsp_part> difference(const brsp_state &here, const brsp_state &there)
 {
-    std::vector<brsp_part> out(BRSP_COMPARE_PARTS);
-    out.resize(brsp_compare_states(&here, &there, out.data()));
+    std::vector<brsp_part> out(BRSP_PARTS);
+    out.resize(brsp_structure_parts(BRSP_OF_STATE, &here, &there, out.data(), out.size()));
     return out;
 }
 
@@ -395,38 +307,19 @@ protected:
 [[nodiscard]] inline std::string to_string(const brsp_part &part, const std::string &here = "here",
                                            const std::string &there = "in the other")
 {
-    const unsigned more = part.digits > 16 ? part.digits - 16 : 0, last = part.digits - more;
-    const auto value = [&](const uint64_t *it) {
-        return (more ? detail::hex(it[0], more) : "") + detail::hex(it[1], last);
-    };
-    return std::string(part.name) + " is " + value(part.value) + " " + here + " and " + value(part.other) +
-           " " + there;
+    return detail::text_of([&](char *to, size_t n) {
+        return brsp_part_text(&part, here.c_str(), there.c_str(), to, n);
+    });
 }
 
 /* The lines of `regs`, `vregs`, `acc` and `flags` of a script. */
 [[nodiscard]] inline std::string to_string(const brsp_state &s)
 {
-    using detail::hex, detail::joined;
-    const auto number = [](unsigned n) { return joined({ n < 10 ? "0" : "", std::to_string(n) }); };
-    std::string out = joined({ "pc ", hex(s.pc, 3), " npc ", hex(s.npc, 3) });
-    for (unsigned n = 0; n < 32; n++) {
-        if (n % 4 == 0) out += joined({ "\nr", number(n) });
-        out += joined({ " ", hex(s.words[n], 8) });
-    }
-    for (unsigned n = 0; n < 32; n++) {
-        out += joined({ "\nv", number(n) });
-        for (const uint16_t lane : s.vectors[n]) out += joined({ " ", hex(lane, 4) });
-    }
-    const brsp_accumulators &a = s.accumulators;
-    for (unsigned n = 0; n < 8; n++) {
-        out += joined({ "\na", std::to_string(n), " " });
-        out += joined({ hex(a.high[n], 4), hex(a.middle[n], 4), hex(a.low[n], 4) });
-    }
-    const brsp_flag_bits &f = s.flags;
-    out += joined({ "\nvco ", hex(f.differ, 2), hex(f.carry, 2) });
-    out += joined({ " vcc ", hex(f.clip, 2), hex(f.compare, 2), " vce ", hex(f.extra, 2) });
-    out += joined({ " in ", hex(s.divider.input, 4), " out ", hex(s.divider.output, 4) });
-    return out + " loaded " + hex(s.divider.loaded, 1);
+    const auto text = [](uint32_t kind, const void *it) {
+        return detail::text_of([&](char *to, size_t n) { return brsp_structure_text(kind, it, to, n); });
+    };
+    std::string out = text(BRSP_OF_STATE, &s);
+    return out.insert(out.rfind('\n') + 1, text(BRSP_OF_ACCUMULATORS, &s.accumulators) + "\n");
 }
 
 /* ---- Machines ---- */
@@ -446,14 +339,12 @@ public:
     explicit machine(const bytes &image = bytes(64), uint32_t depth = 0)
     {
         detail::done(brsp_new(&it, detail::at(image), image.size(), depth),
-                     { "machine",
-                       { { "the image's length", image.size(), detail::images },
-                         { "depth", depth, detail::depths } } });
+                     { "Machine", { image.size(), depth } });
     }
     [[nodiscard]] machine copy() const
     {
         machine made{ nothing{} };
-        detail::done(brsp_copy(&made.it, &it), { "copy", {} });
+        detail::done(brsp_copy(&made.it, &it), { "copy" });
         return made;
     }
 
@@ -463,23 +354,19 @@ public:
     {
         const uint32_t status = brsp_set(&it, &state);
         if (status == BRSP_OUT_OF_RANGE)
-            detail::refuse(rsp_error(status, detail::joined({ "set: ", refusal(state) })));
-        detail::done(status, { "set", {} });
+            detail::refuse(rsp_error(status, "set: " + refusal(state)));
+        detail::done(status, { "set" });
     }
     [[nodiscard]] size_t image_length() const { return filled<size_t>("image_length", brsp_image_length); }
     void load(uint32_t bank, uint32_t address, const bytes &data)
     {
         detail::done(brsp_load(&it, bank, address, detail::at(data), data.size()),
-                     { "load",
-                       { { "bank", bank, detail::banks }, { "address", address, detail::word } },
-                       "the bytes from {address} on pass the end of {bank}" });
+                     { "load", { bank, address } });
     }
     void load_words(uint32_t bank, uint32_t address, const words &data)
     {
         detail::done(brsp_load_words(&it, bank, address, detail::at(data), data.size()),
-                     { "load_words",
-                       { { "bank", bank, detail::banks }, { "address", address, detail::word } },
-                       "the words from {address} on pass the end of {bank}" });
+                     { "load_words", { bank, address } });
     }
     [[nodiscard]] bytes memory(uint32_t bank, uint32_t address, size_t length) const
     {
@@ -494,32 +381,36 @@ public:
         });
     }
 
-    /* Savestates, as brsp_savestate.h has them */
+    /* Savestates, as brsp_helpers.h has them */
     [[nodiscard]] bytes save_state() const
     {
         size_t length = 0;
         brsp_save_state(&it, nullptr, 0, &length);
         bytes out(length);
-        detail::done(brsp_save_state(&it, detail::at(out), length, &length), { "save_state", {} });
+        detail::done(brsp_save_state(&it, detail::at(out), length, &length), { "save_state" });
         return out;
     }
     void load_state(const bytes &data)
     {
-        uint32_t fault = BRSP_SAVESTATE_FINE;
-        detail::done(brsp_savestate_check(&it, detail::at(data), data.size(), &fault), { "load_state", {} });
-        detail::done(brsp_load_state(&it, detail::at(data), data.size()),
-                     { "load_state", {}, brsp_savestate_fault_text(fault) });
+        const uint8_t *from = detail::at(data);
+        const uint32_t status = brsp_load_state(&it, from, data.size());
+        if (status == BRSP_OUT_OF_RANGE) {
+            const size_t image = image_length();
+            detail::refuse(rsp_error(status, "load_state: " + detail::text_of([&](char *to, size_t n) {
+                return brsp_savestate_refusal_text(from, data.size(), image, to, n);
+            })));
+        }
+        detail::done(status, { "load_state" });
     }
 
     /* Where the machine continues */
     void start_task(uint32_t address)
     {
-        detail::done(brsp_start_task(&it, address),
-                     { "start_task", { { "address", address, detail::word } } });
+        detail::done(brsp_start_task(&it, address), { "start_task", { address } });
     }
     void set_pc(uint32_t pc)
     {
-        detail::done(brsp_set_pc(&it, pc), { "set_pc", { { "pc", pc, detail::place } } });
+        detail::done(brsp_set_pc(&it, pc), { "set_pc", { pc } });
     }
 
     /* Steps. step() returns BRSP_OK, BRSP_HALTED or BRSP_RESERVED. */
@@ -531,32 +422,26 @@ public:
     brsp_stop run(uint32_t steps)
     {
         brsp_stop out;
-        detail::done(brsp_run(&it, steps, &out), { "run", { { "steps", steps, detail::count } } });
+        detail::done(brsp_run(&it, steps, &out), { "run", { steps } });
         return out;
     }
     brsp_move run_until_move(uint32_t steps, uint32_t reads, uint32_t writes)
     {
         brsp_move out;
         detail::done(brsp_run_until_move(&it, steps, reads, writes, &out),
-                     { "run_until_move",
-                       { { "steps", steps, detail::count },
-                         { "reads", reads, detail::mask },
-                         { "writes", writes, detail::mask } } });
+                     { "run_until_move", { steps, reads, writes } });
         return out;
     }
     brsp_reached event(uint32_t steps, uint32_t reads = 0, uint32_t writes = 0)
     {
         brsp_reached out;
         detail::done(brsp_event(&it, steps, reads, writes, &out),
-                     { "event",
-                       { { "steps", steps, detail::count },
-                         { "reads", reads, detail::mask },
-                         { "writes", writes, detail::event_mask } } });
+                     { "event", { steps, reads, writes } });
         return out;
     }
     [[nodiscard]] traced_run trace(uint32_t steps)
     {
-        const detail::call call{ "trace", { { "steps", steps, detail::count } } };
+        const detail::call call{ "trace", { steps } };
         if (steps > 1000000) detail::refuse(BRSP_OUT_OF_RANGE, call);
         traced_run out{ {}, std::vector<brsp_traced>(steps) };
         detail::done(brsp_trace(&it, detail::at(out.entries), steps, &out.stop), call);
@@ -565,54 +450,49 @@ public:
     }
     void back(uint32_t states)
     {
-        detail::done(brsp_back(&it, states), { "back", { { "states", states, detail::count } } });
+        detail::done(brsp_back(&it, states), { "back", { states } });
     }
     [[nodiscard]] size_t history() const { return filled<size_t>("history", brsp_history); }
     /* Both return BRSP_OK, or BRSP_HALTED if the machine is halted. */
     uint32_t pass_move(uint32_t value = 0)
     {
-        return detail::ended(brsp_pass_move(&it, value), "pass_move", "the word at pc is no MFC0 or MTC0");
+        return detail::ended(brsp_pass_move(&it, value), "pass_move");
     }
     uint32_t pass_dma()
     {
-        return detail::ended(brsp_pass_dma(&it), "pass_dma", "the word at pc starts no DMA");
+        return detail::ended(brsp_pass_dma(&it), "pass_dma");
     }
 
     /* Breakpoints and watches */
     void add_break(uint32_t address)
     {
-        detail::done(brsp_add_break(&it, address),
-                     { "add_break", { { "address", address, detail::place } } });
+        detail::done(brsp_add_break(&it, address), { "add_break", { address } });
     }
     void drop_break(uint32_t address)
     {
-        detail::done(brsp_drop_break(&it, address),
-                     { "drop_break", { { "address", address, detail::place } } });
+        detail::done(brsp_drop_break(&it, address), { "drop_break", { address } });
     }
     /* Returns the watch's number. */
     size_t add_watch(uint32_t address, uint32_t length)
     {
         size_t out = 0;
-        detail::done(brsp_add_watch(&it, address, length, &out),
-                     { "add_watch",
-                       { { "address", address, detail::dmem }, { "length", length, detail::watched } },
-                       "{length} bytes from {address} on pass the end of DMEM" });
+        detail::done(brsp_add_watch(&it, address, length, &out), { "add_watch", { address, length } });
         return out;
     }
     void drop_watch(uint32_t number)
     {
-        detail::done(brsp_drop_watch(&it, number), { "drop_watch", { { "number", number, detail::word } } });
+        detail::done(brsp_drop_watch(&it, number), { "drop_watch", { number } });
     }
 
     /* Parts of the state */
     [[nodiscard]] uint32_t reg(uint32_t number) const
     {
-        return filled<uint32_t>("reg", brsp_reg, number, detail::registers);
+        return filled<uint32_t>("reg", brsp_reg, number);
     }
     [[nodiscard]] brsp_scalars regs() const { return filled<brsp_scalars>("regs", brsp_regs); }
     [[nodiscard]] brsp_lanes vreg(uint32_t number) const
     {
-        return filled<brsp_lanes>("vreg", brsp_vreg, number, detail::registers);
+        return filled<brsp_lanes>("vreg", brsp_vreg, number);
     }
     [[nodiscard]] brsp_accumulators acc() const { return filled<brsp_accumulators>("acc", brsp_acc); }
     [[nodiscard]] brsp_flag_bits flags() const { return filled<brsp_flag_bits>("flags", brsp_flags); }
@@ -622,49 +502,40 @@ public:
     }
     void set_reg(uint32_t number, uint32_t value)
     {
-        const detail::call call{ "set_reg",
-                                 { { "number", number, detail::registers },
-                                   { "value", value, detail::word } },
-                                 "register 0 holds 0, and not {value}" };
-        if (number > 31 || (!number && value)) detail::refuse(BRSP_OUT_OF_RANGE, call);
+        if (number > 31 || (!number && value))
+            detail::refuse(BRSP_OUT_OF_RANGE, { "set_reg", { number, value } });
         brsp_state state = get();
         state.words[number] = value;
         set(state);
     }
     void set_vreg(uint32_t number, const brsp_lanes &value)
     {
-        if (number > 31)
-            detail::refuse(BRSP_OUT_OF_RANGE, { "set_vreg", { { "number", number, detail::registers } } });
+        if (number > 31) detail::refuse(BRSP_OUT_OF_RANGE, { "set_vreg", { number } });
         brsp_state state = get();
         std::memcpy(state.vectors[number], value.lanes, sizeof value.lanes);
         set(state);
     }
 
     /* SP registers */
-    uint32_t read(uint32_t number) { return filled<uint32_t>("read", brsp_read, number, detail::word); }
+    uint32_t read(uint32_t number) { return filled<uint32_t>("read", brsp_read, number); }
     [[nodiscard]] uint32_t peek(uint32_t number) const
     {
-        return filled<uint32_t>("peek", brsp_peek, number, detail::word);
+        return filled<uint32_t>("peek", brsp_peek, number);
     }
     void write(uint32_t number, uint32_t value)
     {
-        detail::done(brsp_write(&it, number, value),
-                     { "write", { { "number", number, detail::word }, { "value", value, detail::word } } });
+        detail::done(brsp_write(&it, number, value), { "write", { number, value } });
     }
     [[nodiscard]] brsp_sp_words sp() const { return filled<brsp_sp_words>("sp", brsp_sp); }
     void set_sp(const brsp_sp_words &given)
     {
-        detail::done(
-            brsp_set_sp(&it, &given),
-            { "set_sp", {}, "a word can't be read from its SP register, or interrupt isn't 0 or 1" });
+        detail::done(brsp_set_sp(&it, &given), { "set_sp" });
     }
 
     /* Words of IMEM with their disassembly */
     [[nodiscard]] std::vector<brsp_line> listing(uint32_t address, size_t n) const
     {
-        const detail::call call{ "listing",
-                                 { { "address", address, detail::place }, { "count", n, detail::listed } },
-                                 "{count} words from {address} on pass the end of IMEM" };
+        const detail::call call{ "listing", { address, n } };
         if (n > 1024) detail::refuse(BRSP_OUT_OF_RANGE, call);
         std::vector<brsp_line> out(n);
         detail::done(brsp_listing(&it, address, detail::at(out), n), call);
@@ -679,35 +550,20 @@ private:
     template <class Out> Out filled(const char *name, uint32_t (*call)(brsp_machine *, Out *)) const
     {
         Out out{};
-        detail::done(call(&it, &out), { name, {} });
+        detail::done(call(&it, &out), { name });
         return out;
     }
     template <class Out> Out filled(const char *name, uint32_t (*call)(brsp_machine *, uint32_t, Out *),
-                                    uint32_t number, const detail::range &allowed) const
+                                    uint32_t number) const
     {
         Out out{};
-        detail::done(call(&it, number, &out), { name, { { "number", number, allowed } } });
+        detail::done(call(&it, number, &out), { name, { number } });
         return out;
     }
     /* Why set() refuses a state. */
     static std::string refusal(const brsp_state &s)
     {
-        const uint32_t field = state_fault(s), n = field - BRSP_FIELD_SP;
-        const auto is = [](const char *name, uint64_t number, const char *allowed) {
-            return std::string(name) + " is " + std::to_string(number) + ", not " + allowed;
-        };
-        switch (field) {
-        case BRSP_FIELD_ZERO: return is("words[0]", s.words[0], "0");
-        case BRSP_FIELD_LOADED: return is("divider.loaded", s.divider.loaded, "0 or 1");
-        case BRSP_FIELD_PC: return is("pc", s.pc, detail::place.text);
-        case BRSP_FIELD_NPC: return is("npc", s.npc, detail::place.text);
-        case BRSP_FIELD_INTERRUPT: return is("interrupt", s.interrupt, "0 or 1");
-        default: break;
-        }
-        brsp_part part{};
-        const uint64_t value = brsp_compare_part(&s, BRSP_COMPARE_PARTS - 17 + n, &part);
-        return detail::joined({ "sp[", std::to_string(n), "] is 0x", detail::hex(value, 1), ", which ",
-                                part.name, " can't hold" });
+        return detail::text_of([&](char *to, size_t n) { return brsp_state_refusal_text(&s, to, n); });
     }
 };
 
@@ -719,7 +575,7 @@ public:
     explicit session(const bytes &image = bytes(1 << 22))
     {
         detail::done(brsp_session_new(&it, detail::at(image), image.size()),
-                     { "session", { { "the image's length", image.size(), detail::images } } });
+                     { "Session", { image.size() } });
     }
     /* The replies to the lines that end in these bytes of the script. What follows the last LF waits. */
     [[nodiscard]] std::string feed(std::string_view script)
@@ -729,7 +585,7 @@ public:
             size_t used = 0, written = 0;
             const uint32_t status = brsp_session_take(&it, detail::at(script), script.size(), &used, reply(),
                                                       BRSP_REPLIES, &written);
-            detail::done(status, { "feed", {}, "", "session" });
+            detail::done(status, { "feed", {}, "session" });
             replies.append(buffer.begin(), buffer.begin() + static_cast<std::ptrdiff_t>(written));
             script.remove_prefix(used);
         }
@@ -739,7 +595,7 @@ public:
     [[nodiscard]] std::string end()
     {
         size_t written = 0;
-        detail::done(brsp_session_end(&it, reply(), BRSP_REPLIES, &written), { "end", {}, "", "session" });
+        detail::done(brsp_session_end(&it, reply(), BRSP_REPLIES, &written), { "end", {}, "session" });
         return { buffer.begin(), buffer.begin() + static_cast<std::ptrdiff_t>(written) };
     }
     [[nodiscard]] bytes memory(uint32_t bank, uint32_t address, size_t length) const
@@ -772,58 +628,38 @@ struct step_difference {
  * emulator`. */
 [[nodiscard]] inline std::string to_string(const step_difference &it)
 {
-    using detail::joined;
-    const std::string place = detail::hex(it.line.address, 3), step = std::to_string(it.step);
-    std::string out = joined({ "step ", step, ", ", place, ": ", it.line.text });
-    if (it.steps != 1)
-        out = joined({ "steps ", std::to_string(it.step - it.steps + 1), " to ", step, ", from ", place,
-                       " on: no step alone differs, so get and set leave something out" });
-    for (const brsp_part &part : it.parts)
-        out += joined({ "\n  ", to_string(part, "on the machine", "in the emulator") });
-    return out;
+    brsp_difference found{};
+    found.step = it.step;
+    found.steps = it.steps;
+    found.line = it.line;
+    found.parts = const_cast<brsp_part *>(it.parts.data()); /* which are only read */
+    found.count = it.parts.size();
+    return detail::text_of([&](char *to, size_t n) { return brsp_difference_text(&found, to, n); });
 }
 
 namespace detail {
 
-/* An emulator as functions of C. What one of its methods throws waits until the comparison has ended, which
- * is soon, because all later calls do nothing. */
-template <class Emulator> struct emulated {
-    Emulator &emulator;
-#ifdef __cpp_exceptions
-    std::exception_ptr thrown = nullptr;
-#endif
-    template <class Work> static void make(void *self, Work work)
-    {
-        auto &it = *static_cast<emulated *>(self);
-#ifdef __cpp_exceptions
-        try {
-            if (!it.thrown) work(it.emulator);
-        } catch (...) {
-            it.thrown = std::current_exception();
-        }
-#else
-        work(it.emulator);
-#endif
+/* Does what a search asks an emulator for. The bytes of the request are at `to`. */
+template <class Emulator> void answer(Emulator &emulator, const brsp_request &request, uint8_t *to)
+{
+    brsp_state state{};
+    switch (request.kind) {
+    case BRSP_REQUEST_RUN: emulator.run(request.steps); break;
+    case BRSP_REQUEST_SET:
+        std::memcpy(&state, to, sizeof state);
+        emulator.set(state);
+        break;
+    case BRSP_REQUEST_GET:
+        state = emulator.get();
+        std::memcpy(to, &state, sizeof state);
+        break;
+    case BRSP_REQUEST_LOAD: emulator.load(request.bank, request.address, bytes(to, to + request.len)); break;
+    default:
+        const bytes found = emulator.memory(request.bank, request.address, request.len);
+        std::memset(to, 0, request.len); /* if there are fewer */
+        if (!found.empty()) std::memcpy(to, found.data(), (std::min)(found.size(), request.len));
     }
-    brsp_emulator functions()
-    {
-        brsp_emulator out{};
-        out.self = this;
-        out.run = [](void *self, uint32_t n) { make(self, [&](Emulator &e) { e.run(n); }); };
-        out.get = [](void *self, brsp_state *to) { make(self, [&](Emulator &e) { *to = e.get(); }); };
-        out.set = [](void *self, const brsp_state *from) { make(self, [&](Emulator &e) { e.set(*from); }); };
-        out.memory = [](void *self, uint32_t bank, uint32_t address, uint8_t *to, size_t length) {
-            make(self, [&](Emulator &e) {
-                const bytes found = e.memory(bank, address, length);
-                if (!found.empty()) std::memcpy(to, found.data(), (std::min)(found.size(), length));
-            });
-        };
-        out.load = [](void *self, uint32_t bank, uint32_t address, const uint8_t *from, size_t length) {
-            make(self, [&](Emulator &e) { e.load(bank, address, bytes(from, from + length)); });
-        };
-        return out;
-    }
-};
+}
 
 } // namespace detail
 
@@ -835,21 +671,22 @@ template <class Emulator>
 [[nodiscard]] std::optional<step_difference> first_difference(machine &m, Emulator &emulator,
                                                               uint32_t every = 64, uint32_t limit = 1000000)
 {
-    detail::emulated<Emulator> its{ emulator };
-    const brsp_emulator functions = its.functions();
-    brsp_difference found;
-    const uint32_t status = brsp_first_difference(m.handle(), &functions, every, limit, &found);
-    std::optional<step_difference> out;
-    if (found.count) {
-        const auto parts = std::vector<brsp_part>(found.parts, found.parts + found.count);
-        out = step_difference{ found.step, found.steps, found.line, found.before, parts };
+    const detail::call of{ "first_difference", { every, limit } };
+    size_t image = 0;
+    detail::done(brsp_image_length(m.handle(), &image), of);
+    bytes search(brsp_search_bytes(image));
+    detail::done(brsp_search_begin(m.handle(), every, limit, search.data(), search.size()), of);
+    for (brsp_request request{};;) {
+        detail::done(brsp_search_next(m.handle(), search.data(), &request), of);
+        if (request.kind == BRSP_REQUEST_OVER) break;
+        detail::answer(emulator, request, search.data() + request.at);
     }
-    brsp_difference_free(&found);
-#ifdef __cpp_exceptions
-    if (its.thrown) std::rethrow_exception(its.thrown);
-#endif
-    detail::done(status, { "first_difference", { { "every", every, detail::count } } });
-    return out;
+    brsp_difference found;
+    brsp_search_difference(search.data(), &found);
+    if (!found.count) return {};
+    std::vector<brsp_part> parts(found.count);
+    brsp_search_parts(search.data(), parts.data());
+    return step_difference{ found.step, found.steps, found.line, found.before, parts };
 }
 
 /* The version of the library's interface, which should be BRSP_VERSION. */

@@ -73,7 +73,7 @@ def test_cpp(machine: rsp.Machine, folder: Path) -> None:
     words = ("-std=c++17", *STRICT, source, TOP / "library/c/libbrsp.a")
     saved, why = succeeds(compiled(folder / "saves", *words, compiler="c++")).splitlines()
     assert saved == machine.save_state().hex()
-    assert why == "load_state: there are fewer bytes, or more, than the savestate says"
+    assert why == "load_state: there are 9231 bytes, not 8976 and those of the image"
 
 
 def test_play(folder: Path) -> None:

@@ -166,16 +166,16 @@ static void test_refusals()
 {
     machine m = made("break\n");
     bytes none;
-    refuses(BRSP_OUT_OF_RANGE, "machine: the image's length is 0, not a multiple of 8 from 64 to 8388608", [&] { machine no(none); });
-    refuses(BRSP_OUT_OF_RANGE, "machine: the image's length is 65, not a multiple of 8 from 64 to 8388608", [] { machine no(bytes(65)); });
-    refuses(BRSP_OUT_OF_RANGE, "machine: depth is 4097, not 0 to 4096", [] { machine no(bytes(64), 4097); });
+    refuses(BRSP_OUT_OF_RANGE, "Machine: image has 0 bytes, not a multiple of 8 from 64 to 8388608", [&] { machine no(none); });
+    refuses(BRSP_OUT_OF_RANGE, "Machine: image has 65 bytes, not a multiple of 8 from 64 to 8388608", [] { machine no(bytes(65)); });
+    refuses(BRSP_OUT_OF_RANGE, "Machine: depth is 4097, not 0 to 4096", [] { machine no(bytes(64), 4097); });
     m.load(BRSP_DMEM, 0, none);
     m.load_words(BRSP_DMEM, 4096, {});
     see("nothing", m.memory(BRSP_DMEM, 4096, 0).empty() && m.memory_words(BRSP_DMEM, 0, 0).empty());
     refuses(BRSP_OUT_OF_RANGE, "memory: 4096 bytes from 1 on pass the end of DMEM", [&] { static_cast<void>(m.memory(BRSP_DMEM, 1, 4096)); });
     refuses(BRSP_OUT_OF_RANGE, "memory: length is 18446744073709551615, not 0 to 4294967295", [&] { static_cast<void>(m.memory(BRSP_RDRAM, 0, SIZE_MAX)); });
     refuses(BRSP_OUT_OF_RANGE, "load_words: the words from 4093 on pass the end of IMEM", [&] { m.load_words(BRSP_IMEM, 4093, words(1)); });
-    refuses(BRSP_OUT_OF_RANGE, "load: bank is 3, not BRSP_DMEM, BRSP_IMEM or BRSP_RDRAM", [&] { m.load(3, 0, none); });
+    refuses(BRSP_OUT_OF_RANGE, "load: bank is 3, not DMEM, IMEM or RDRAM", [&] { m.load(3, 0, none); });
 }
 
 static void test_texts()
@@ -209,7 +209,7 @@ static void test_sessions()
     see("replies", session.feed("load rdram 0 0102\nst").empty() == false && session.feed("ep\nasm 0\nnop\nend\nstep") == "step Done pc 004\nok 1 words\n");
     see("the end", session.end() == "step Done pc 008\n" && session.memory(BRSP_RDRAM, 0, 2) == bytes({ 1, 2 }));
     refuses(BRSP_ENDED, "feed: the script has ended", [&] { static_cast<void>(session.feed("x")); });
-    refuses(BRSP_OUT_OF_RANGE, "session: the image's length is 7, not a multiple of 8 from 64 to 8388608", [] { brsp::session no(bytes(7)); });
+    refuses(BRSP_OUT_OF_RANGE, "Session: image has 7 bytes, not a multiple of 8 from 64 to 8388608", [] { brsp::session no(bytes(7)); });
     const brsp::session other = std::move(session);
     refuses(BRSP_NO_MACHINE, "end: the session is gone: it was moved from", [&] { static_cast<void>(session.end()); });
 }
@@ -291,7 +291,7 @@ static void test_guilty_step()
     finds(text, { 12, BRSP_DMEM, 0x80f }, 4, "DMEM 800 is " + zeros + " here and " + zeros.substr(2) + "ee in the other", 0);
     finds("nop\n", { 0, BRSP_DMEM, 0x80f }, 1, "DMEM 800 is " + zeros + " here and " + zeros.substr(2) + "ee in the other", 1 << 6);
     const std::string last = "RDRAM 040 is " + zeros + " here and 000000000000000000000000000000ee in the other";
-    finds("ori $1, $0, 7\nmtc0 $1, $c3\nbreak\n", { 4, BRSP_RDRAM, 71 }, 2, last, 0);
+    finds("ori $1, $0, 64\nmtc0 $1, $c0\nmtc0 $1, $c1\nmtc0 $0, $c3\nbreak\n", { 12, BRSP_RDRAM, 71 }, 4, last, 0);
     machine m = made(text), same(bytes(64));
     see("a limit", !brsp::first_difference(m, same, 64, 3) && m.get().pc == 12);
 }
