@@ -1,31 +1,8 @@
 /** The structs of brsp.h over copies of their bytes. */
 
-import { STRUCTS } from "./shapes.js";
-import { acc_parts, changed, changed_parts, divider_parts, flag_parts, hex, line, regs, scalar_parts, sp_parts,
-  state_parts, traced, traced_parts, vregs } from "./formatting.js";
-
-const ARRAYS = { u8: Uint8Array, u16: Uint16Array, u32: Uint32Array, u64: BigUint64Array, i64: BigInt64Array };
-
-/** The size, the alignment and the fields of a kind, as C lays them out. */
-export function layout(kind) {
-  if (ARRAYS[kind]) return { size: ARRAYS[kind].BYTES_PER_ELEMENT, align: ARRAYS[kind].BYTES_PER_ELEMENT };
-  const up = (n, to) => Math.ceil(n / to) * to;
-  let at = 0, align = 1;
-  const fields = STRUCTS[kind].map(([name, inner, ...counts]) => {
-    const one = layout(inner), offset = up(at, one.align), size = counts.reduce((sum, it) => sum * it, one.size);
-    at = offset + size;
-    align = Math.max(align, one.align);
-    return { name, kind: inner, counts, offset, size };
-  });
-  return { size: up(at, align), align, fields };
-}
-
-/** The numbers of a struct whose fields are numbers and structs, at an offset of a view. */
-export function read(kind, view, at = 0) {
-  const readers = { u8: "getUint8", u16: "getUint16", u32: "getUint32", u64: "getBigUint64", i64: "getBigInt64" };
-  return Object.fromEntries(layout(kind).fields.filter((it) => !it.counts.length).map(({ name, kind: inner, offset }) =>
-    [name, readers[inner] ? Number(view[readers[inner]](at + offset, true)) : read(inner, view, at + offset)]));
-}
+import { PARTS, Structure } from "./shapes.js";
+import { ARRAYS, layout, read } from "./layout.js";
+import { before_zero, copied, ended, given_to, lent, wasm, written } from "./library.js";
 
 /** A number that fits an item of a typed array. */
 function fitting(name, array, value) {
@@ -42,15 +19,38 @@ function fill(name, array, values) {
   array.set(items.map((it, n) => fitting(`${name}[${n}]`, array, it)));
 }
 
-/** A part that differs: its name, its value, the other's value, and how many hexadecimal digits it has. */
+const PART = layout("brsp_part");
+
+/** The number of two words of 64 bits, the high one first. */
+function wide(words) {
+  const view = new DataView(words.buffer);
+  return view.getBigUint64(0, true) << 64n | view.getBigUint64(8, true);
+}
+
+/** A part that differs, over the bytes that the library has given: its name, its value, the other's value, and how many
+ * hexadecimal digits it has. A quadword is too large for a number. */
 export class Part {
-  constructor(name, value, other, digits) { Object.assign(this, { name, value, other, digits }); }
+  #bytes;
+
+  constructor(bytes) {
+    const { name, value, other, digits } = read("brsp_part", new DataView(bytes.buffer, bytes.byteOffset, bytes.length));
+    const number = digits > 12 ? BigInt : Number, values = { value: number(wide(value)), other: number(wide(other)) };
+    Object.assign(this, { name: before_zero(name), ...values, digits });
+    this.#bytes = bytes;
+  }
 
   told(here, there) {
-    return `${this.name} is ${hex(this.value, this.digits)} ${here} and ${hex(this.other, this.digits)} ${there}`;
+    return given_to("told", this.#bytes, (at) => given_to("told", ended(here), (one) => given_to("told", ended(there),
+      (other) => written((...to) => wasm.brsp_part_text(at, one, other, ...to)))));
   }
 
   toString() { return this.told("here", "in the other"); }
+}
+
+/** So many parts, which are at an address. */
+export function parts_at(at, count) {
+  const { size } = layout("brsp_part");
+  return Difference.from({ length: count }, (_, n) => new Part(copied(at + BigInt(n * size), size)));
 }
 
 /** The parts that differ, in the session's order. */
@@ -96,15 +96,17 @@ class Plain {
   }
 
   diff(other) {
-    if (other?.constructor !== this.constructor) throw new TypeError(`diff: the other is no ${this.constructor.name}`);
-    const found = new Difference(), theirs = other.parts();
-    this.parts().forEach(([name, value, digits], n) => {
-      if (value !== theirs[n][1]) found.push(new Part(name, value, theirs[n][1], digits));
-    });
-    return found;
+    const { name, kind } = this.constructor;
+    if (other?.constructor !== this.constructor) throw new TypeError(`diff: the other is no ${name}`);
+    return given_to("diff", this.bytes, (here) => given_to("diff", other.bytes, (there) =>
+      lent("diff", PARTS * layout("brsp_part").size, (at) =>
+        parts_at(at, Number(wasm.brsp_structure_parts(kind, here, there, at, BigInt(PARTS)))))));
   }
 
-  toString() { return line(this.parts()); }
+  toString() {
+    return given_to("toString", this.bytes, (at) =>
+      written((...to) => wasm.brsp_structure_text(this.constructor.kind, at, ...to)));
+  }
 }
 
 /** Marks bytes that a struct is made over. */
@@ -159,56 +161,30 @@ function shaped(kind, made) {
   return made;
 }
 
-export class Scalars extends Plain {
-  parts() { return scalar_parts(this); }
+export class Scalars extends Plain { static kind = Structure.SCALARS; }
 
-  toString() { return regs(this).join("\n"); }
-}
+export class Accumulators extends Plain { static kind = Structure.ACCUMULATORS; }
 
-export class Accumulators extends Plain {
-  parts() { return acc_parts(this); }
+export class Flags extends Plain { static kind = Structure.FLAGS; }
 
-  toString() { return this.parts().map(([, value, digits], n) => `a${n} ${hex(value, digits)}`).join("\n"); }
-}
+export class Divider extends Plain { static kind = Structure.DIVIDER; }
 
-export class Flags extends Plain {
-  parts() { return flag_parts(this); }
-}
+export class SpWords extends Plain { static kind = Structure.SP; }
 
-export class Divider extends Plain {
-  parts() { return divider_parts(this); }
-}
+export class Traced extends Plain { static kind = Structure.TRACED; }
 
-export class SpWords extends Plain {
-  parts() { return sp_parts(this.words, this.interrupt); }
-
-  toString() { return this.parts().map((it) => line([it])).join("\n"); }
-}
-
-export class Traced extends Plain {
-  parts() { return traced_parts(this); }
-
-  toString() { return traced(this); }
-}
-
-export class Changes extends Plain {
-  parts() { return changed_parts(this); }
-
-  toString() { return changed(this); }
-}
+export class Changes extends Plain { static kind = Structure.CHANGES; }
 
 /** All registers. A new one is that of a new machine; npc is 4 after pc if it isn't given. */
 export class State extends Plain {
+  static kind = Structure.STATE;
+
   constructor(fields = {}) {
     super(fields);
     if (fields instanceof Bytes) return;
     if (!("sp" in fields)) this.sp[2] = this.sp[3] = 0xff8;
     if (!("npc" in fields)) this.npc = (this.pc + 4) % 4096;
   }
-
-  parts() { return state_parts(this); }
-
-  toString() { return [...regs(this), ...vregs(this.vectors), `${this.flags} ${this.divider}`].join("\n"); }
 }
 
 const OF_STRUCT = {

@@ -1,10 +1,16 @@
-/** The calls, structs and numbers of brsp.h. `tools/shapes` writes this file. */
+/** The calls, structs and numbers of the headers in library/c. `tools/shapes` writes this file. */
 
 /** Numbers by their names, and names by their numbers. */
 function numbered(numbers) {
   const names = Object.fromEntries(Object.entries(numbers).map(([name, number]) => [number, name]));
   return Object.freeze({ ...numbers, ...names });
 }
+
+export const REPLIES = 16384;
+export const SAVESTATE_VERSION = 1;
+export const SAVESTATE_BYTES = 8976;
+export const PARTS = 321;
+export const NO_BANK = 3;
 
 export const Status = numbered({
   OK: 0, NO_MACHINE: 101, NO_MEMORY: 102, OUT_OF_RANGE: 103, HALTED: 104, RESERVED: 105, NO_MEANING: 106,
@@ -29,8 +35,17 @@ export const Field = numbered({
   ZERO: 1, LOADED: 2, PC: 3, NPC: 4, INTERRUPT: 5, SP: 16,
 });
 
-/** The least number of bytes of a buffer for replies. */
-export const REPLIES = 16384;
+export const SavestateFault = numbered({
+  FINE: 0, MAGIC: 1, OTHER_VERSION: 2, LENGTH: 3, IMAGE: 4, STATE: 5,
+});
+
+export const Structure = numbered({
+  STATE: 0, SCALARS: 1, ACCUMULATORS: 2, FLAGS: 3, DIVIDER: 4, SP: 5, TRACED: 6, CHANGES: 7,
+});
+
+export const RequestKind = numbered({
+  OVER: 0, RUN: 1, SET: 2, LOAD: 3, GET: 4, MEMORY: 5,
+});
 
 /** Each struct's fields: the name, the kind, and an array's lengths, the outer one first. */
 export const STRUCTS = {
@@ -90,15 +105,30 @@ export const STRUCTS = {
   brsp_reached: [
     ["at", "brsp_move"], ["dma", "brsp_dma"], ["status", "u32"], ["interrupt", "u32"],
   ],
+  brsp_part: [
+    ["name", "u8", 24], ["value", "u64", 2], ["other", "u64", 2], ["digits", "u32"], ["bank", "u32"],
+    ["address", "u32"], ["number", "u32"],
+  ],
+  brsp_request: [
+    ["kind", "u32"], ["steps", "u32"], ["bank", "u32"], ["address", "u32"], ["at", "u64"], ["len", "u64"],
+  ],
+  brsp_difference: [
+    ["step", "u32"], ["steps", "u32"], ["line", "brsp_line"], ["before", "brsp_state"], ["parts", "u64"],
+    ["count", "u64"],
+  ],
 };
 
 export const CALLS = [
-  "brsp_acc", "brsp_add_break", "brsp_add_watch", "brsp_assemble", "brsp_back", "brsp_copy", "brsp_divider",
-  "brsp_drop_break", "brsp_drop_watch", "brsp_event", "brsp_explain", "brsp_explain_reply", "brsp_explain_text",
-  "brsp_flags", "brsp_free", "brsp_get", "brsp_history", "brsp_image_length", "brsp_labels", "brsp_listing",
-  "brsp_load", "brsp_load_words", "brsp_memory", "brsp_memory_words", "brsp_new", "brsp_pass_dma", "brsp_pass_move",
-  "brsp_peek", "brsp_read", "brsp_reg", "brsp_regs", "brsp_run", "brsp_run_until_move", "brsp_session_end",
-  "brsp_session_free", "brsp_session_memory", "brsp_session_new", "brsp_session_take", "brsp_set", "brsp_set_pc",
-  "brsp_set_sp", "brsp_sp", "brsp_start_task", "brsp_state_fault", "brsp_step", "brsp_step_changes", "brsp_text",
-  "brsp_trace", "brsp_version", "brsp_vreg", "brsp_write",
+  "brsp_acc", "brsp_add_break", "brsp_add_watch", "brsp_argument_name", "brsp_assemble", "brsp_back", "brsp_copy",
+  "brsp_difference_text", "brsp_divider", "brsp_drop_break", "brsp_drop_watch", "brsp_event", "brsp_explain",
+  "brsp_explain_reply", "brsp_explain_text", "brsp_flags", "brsp_free", "brsp_get", "brsp_history", "brsp_image_length",
+  "brsp_labels", "brsp_listing", "brsp_load", "brsp_load_state", "brsp_load_words", "brsp_memory", "brsp_memory_parts",
+  "brsp_memory_words", "brsp_new", "brsp_operand_text", "brsp_part_text", "brsp_pass_dma", "brsp_pass_move",
+  "brsp_peek", "brsp_read", "brsp_refusal_text", "brsp_reg", "brsp_regs", "brsp_run", "brsp_run_until_move",
+  "brsp_save_state", "brsp_savestate_check", "brsp_savestate_fault_text", "brsp_savestate_refusal_text",
+  "brsp_search_begin", "brsp_search_bytes", "brsp_search_difference", "brsp_search_next", "brsp_search_parts",
+  "brsp_session_end", "brsp_session_free", "brsp_session_memory", "brsp_session_new", "brsp_session_take", "brsp_set",
+  "brsp_set_pc", "brsp_set_sp", "brsp_sp", "brsp_start_task", "brsp_state_fault", "brsp_state_refusal_text",
+  "brsp_step", "brsp_step_changes", "brsp_structure_parts", "brsp_structure_text", "brsp_text", "brsp_trace",
+  "brsp_version", "brsp_vreg", "brsp_word_text", "brsp_write",
 ];

@@ -1,6 +1,6 @@
-"""The calls, structs and numbers that `tools/shapes` writes for each language are those of crates/rsp_c.
+"""The calls, structs and numbers that `tools/shapes` writes for each language are those of the library.
 
-They fail if a file is stale, or if the command doesn't say so in a copy with a changed struct, call or number.
+They fail if a file is stale, or if the command doesn't name it in a copy with another struct, call or number.
 """
 
 import re
@@ -10,13 +10,15 @@ from pathlib import Path
 from lib import TOP
 from lib.processes import run, succeeds
 from rsp_tools.shapes import files, stale
+from rsp_tools.shapes.header import HELPERS
 
 READ = ("rsp_c", "rsp_debug", "rsp_regs", "rsp_asm")
-# What a file of crates/rsp_c/src has, and has in its place in the copy.
+# What a file has, and has in its place in the copy.
 CHANGED = {
-    "c_structs.rt": ("pub steps: u32", "pub moved: u32"),
-    "sp.rt": ("brsp_peek(", "brsp_shown("),
-    "to_c.rt": ("AT_STATUS: u32 = 8", "AT_STATUS: u32 = 9"),
+    "crates/rsp_c/src/c_structs.rt": ("pub steps: u32", "pub moved: u32"),
+    "crates/rsp_c/src/sp.rt": ("brsp_peek(", "brsp_shown("),
+    "crates/rsp_c/src/to_c.rt": ("AT_STATUS: u32 = 8", "AT_STATUS: u32 = 9"),
+    HELPERS: ("brsp_part_text(", "brsp_part_sentence("),
 }
 
 
@@ -28,11 +30,11 @@ def copy_with_changes(folder: Path) -> None:
     """Copies what the command reads and writes, with the changes above."""
     for name in ("tools", *(f"crates/{crate}/{part}" for crate in READ for part in ("src", "specs"))):
         shutil.copytree(TOP / name, folder / name)
-    for name in files():
+    for name in (HELPERS, *files()):
         (folder / name).parent.mkdir(parents=True, exist_ok=True)
         shutil.copy(TOP / name, folder / name)
     for name, (old, new) in CHANGED.items():
-        path = folder / "crates/rsp_c/src" / name
+        path = folder / name
         text = path.read_text()
         assert text.count(old) == 1
         path.write_text(text.replace(old, new))
@@ -42,7 +44,7 @@ def test_command(folder: Path) -> None:
     """It names each stale file with the command that writes it, writes it, and then finds nothing."""
     copy_with_changes(folder)
     names = sorted({*files()} - {"library/rust/src/shapes.rs"})  # which has nothing of what changes
-    sentence = "isn't what crates/rsp_c exports: type tools/shapes, which writes it anew"
+    sentence = "isn't what the library exports: type tools/shapes, which writes it anew"
     checked = run(folder / "tools/shapes", "--check")
     assert checked.returncode == 1
     assert sorted(checked.stdout.splitlines()) == [f"{name} {sentence}" for name in names]
@@ -50,6 +52,7 @@ def test_command(folder: Path) -> None:
     assert sorted(written) == [f"wrote {name}" for name in names]
     for name in names:
         text = (folder / name).read_text()
-        assert "brsp_shown" in text and "brsp_peek" not in text and "moved" in text
+        assert "brsp_shown" in text and "brsp_part_sentence" in text and "moved" in text
+        assert "brsp_peek" not in text and "brsp_part_text" not in text
         assert re.search(r"\bSTATUS(: u32)?( =|:) 9\b", text)
     assert succeeds(folder / "tools/shapes", "--check") == ""

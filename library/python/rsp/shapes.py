@@ -1,7 +1,8 @@
 """The calls, structures and numbers of the library. `tools/shapes` writes this file."""
 
+import ctypes
 import enum
-from ctypes import POINTER, Structure, c_char, c_int64, c_size_t, c_uint16, c_uint32, c_void_p
+from ctypes import POINTER, c_char, c_char_p, c_int64, c_size_t, c_uint16, c_uint32, c_uint64, c_void_p
 from typing import Any, Dict, List, Tuple
 
 from .state import Accumulators, Changes, Divider, Flags, Scalars, SpWords, State, Traced
@@ -31,6 +32,20 @@ class Status(enum.IntEnum):
     OTHER_WORD = 118
 
 
+class Fault(enum.IntEnum):
+    """Why a text has no meaning. FAULTS has the names in scripts."""
+
+    BAD_LINE = 10
+    UNKNOWN_NAME = 11
+    BAD_OPERAND = 12
+    OUT_OF_RANGE = 13
+    LABEL_TWICE = 14
+    LABEL_MISSING = 15
+    PAST_END = 16
+    OUT_OF_MEMORY = 17
+    NOT_TEXT = 33
+
+
 class Bank(enum.IntEnum):
     """The three memories."""
 
@@ -53,20 +68,6 @@ class Reason(enum.IntEnum):
     STATUS = 8
 
 
-class Fault(enum.IntEnum):
-    """Why a text has no meaning. FAULTS has the names in scripts."""
-
-    BAD_LINE = 10
-    UNKNOWN_NAME = 11
-    BAD_OPERAND = 12
-    OUT_OF_RANGE = 13
-    LABEL_TWICE = 14
-    LABEL_MISSING = 15
-    PAST_END = 16
-    OUT_OF_MEMORY = 17
-    NOT_TEXT = 33
-
-
 class Field(enum.IntEnum):
     """A field of a state with a value that no machine can have. That of sp[n] is SP + n."""
 
@@ -78,7 +79,44 @@ class Field(enum.IntEnum):
     SP = 16
 
 
-class Dma(Structure):
+class SavestateFault(enum.IntEnum):
+    """`brsp_savestate_fault` of C."""
+
+    FINE = 0
+    MAGIC = 1
+    OTHER_VERSION = 2
+    LENGTH = 3
+    IMAGE = 4
+    STATE = 5
+
+
+class Structure(enum.IntEnum):
+    """`brsp_structure` of C."""
+
+    STATE = 0
+    SCALARS = 1
+    ACCUMULATORS = 2
+    FLAGS = 3
+    DIVIDER = 4
+    SP = 5
+    TRACED = 6
+    CHANGES = 7
+
+
+class RequestKind(enum.IntEnum):
+    """`brsp_request_kind` of C."""
+
+    OVER = 0
+    RUN = 1
+    SET = 2
+    LOAD = 3
+    GET = 4
+    MEMORY = 5
+
+
+class Dma(ctypes.Structure):
+    """`brsp_dma` of C."""
+
     _fields_ = [
         ("bank", c_uint32),
         ("address", c_uint32),
@@ -90,7 +128,9 @@ class Dma(Structure):
     ]
 
 
-class Label(Structure):
+class Label(ctypes.Structure):
+    """`brsp_label` of C."""
+
     _fields_ = [
         ("address", c_uint16),
         ("len", c_uint16),
@@ -98,7 +138,9 @@ class Label(Structure):
     ]
 
 
-class Stop(Structure):
+class Stop(ctypes.Structure):
+    """`brsp_stop` of C."""
+
     _fields_ = [
         ("reason", c_uint32),
         ("steps", c_uint32),
@@ -108,7 +150,9 @@ class Stop(Structure):
     ]
 
 
-class Move(Structure):
+class Move(ctypes.Structure):
+    """`brsp_move` of C."""
+
     _fields_ = [
         ("stop", Stop),
         ("word", c_uint32),
@@ -118,13 +162,17 @@ class Move(Structure):
     ]
 
 
-class Lanes(Structure):
+class Lanes(ctypes.Structure):
+    """`brsp_lanes` of C."""
+
     _fields_ = [
         ("lanes", c_uint16 * 8),
     ]
 
 
-class Assembled(Structure):
+class Assembled(ctypes.Structure):
+    """`brsp_assembled` of C."""
+
     _fields_ = [
         ("count", c_size_t),
         ("line", c_size_t),
@@ -132,7 +180,9 @@ class Assembled(Structure):
     ]
 
 
-class Line(Structure):
+class Line(ctypes.Structure):
+    """`brsp_line` of C."""
+
     _fields_ = [
         ("word", c_uint32),
         ("address", c_uint16),
@@ -141,7 +191,9 @@ class Line(Structure):
     ]
 
 
-class Operand(Structure):
+class Operand(ctypes.Structure):
+    """`brsp_operand` of C."""
+
     _fields_ = [
         ("low", c_int64),
         ("high", c_int64),
@@ -151,7 +203,9 @@ class Operand(Structure):
     ]
 
 
-class Reached(Structure):
+class Reached(ctypes.Structure):
+    """`brsp_reached` of C."""
+
     _fields_ = [
         ("at", Move),
         ("dma", Dma),
@@ -160,16 +214,62 @@ class Reached(Structure):
     ]
 
 
+class Part(ctypes.Structure):
+    """`brsp_part` of C."""
+
+    _fields_ = [
+        ("name", c_char * 24),
+        ("value", c_uint64 * 2),
+        ("other", c_uint64 * 2),
+        ("digits", c_uint32),
+        ("bank", c_uint32),
+        ("address", c_uint32),
+        ("number", c_uint32),
+    ]
+
+
+class Request(ctypes.Structure):
+    """`brsp_request` of C."""
+
+    _fields_ = [
+        ("kind", c_uint32),
+        ("steps", c_uint32),
+        ("bank", c_uint32),
+        ("address", c_uint32),
+        ("at", c_size_t),
+        ("len", c_size_t),
+    ]
+
+
+class Difference(ctypes.Structure):
+    """`brsp_difference` of C."""
+
+    _fields_ = [
+        ("step", c_uint32),
+        ("steps", c_uint32),
+        ("line", Line),
+        ("before", State),
+        ("parts", POINTER(Part)),
+        ("count", c_size_t),
+    ]
+
+
 REPLIES = 16384
+SAVESTATE_VERSION = 1
+SAVESTATE_BYTES = 8976
+PARTS = 321
+NO_BANK = 3
 # Each call's result, and the types of its arguments. Handles and buffers are passed by their
 # addresses, because an integer costs a call less than a pointer does.
 CALLS: Dict[str, Tuple[Any, List[Any]]] = {
     "brsp_acc": (c_uint32, [c_void_p, POINTER(Accumulators)]),
     "brsp_add_break": (c_uint32, [c_void_p, c_uint32]),
     "brsp_add_watch": (c_uint32, [c_void_p, c_uint32, c_uint32, c_void_p]),
+    "brsp_argument_name": (c_char_p, [c_void_p, c_size_t]),
     "brsp_assemble": (c_uint32, [c_uint32, c_void_p, c_size_t, c_void_p, c_size_t, POINTER(Assembled)]),
     "brsp_back": (c_uint32, [c_void_p, c_uint32]),
     "brsp_copy": (c_uint32, [c_void_p, c_void_p]),
+    "brsp_difference_text": (c_size_t, [POINTER(Difference), c_void_p, c_size_t]),
     "brsp_divider": (c_uint32, [c_void_p, POINTER(Divider)]),
     "brsp_drop_break": (c_uint32, [c_void_p, c_uint32]),
     "brsp_drop_watch": (c_uint32, [c_void_p, c_uint32]),
@@ -188,18 +288,32 @@ CALLS: Dict[str, Tuple[Any, List[Any]]] = {
     "brsp_labels": (c_uint32, [c_uint32, c_void_p, c_size_t, POINTER(Label), c_size_t, c_void_p]),
     "brsp_listing": (c_uint32, [c_void_p, c_uint32, POINTER(Line), c_size_t]),
     "brsp_load": (c_uint32, [c_void_p, c_uint32, c_uint32, c_void_p, c_size_t]),
+    "brsp_load_state": (c_uint32, [c_void_p, c_void_p, c_size_t]),
     "brsp_load_words": (c_uint32, [c_void_p, c_uint32, c_uint32, c_void_p, c_size_t]),
     "brsp_memory": (c_uint32, [c_void_p, c_uint32, c_uint32, c_void_p, c_size_t]),
+    "brsp_memory_parts": (c_size_t, [c_uint32, c_void_p, c_void_p, c_size_t, POINTER(Part), c_size_t]),
     "brsp_memory_words": (c_uint32, [c_void_p, c_uint32, c_uint32, c_void_p, c_size_t]),
     "brsp_new": (c_uint32, [c_void_p, c_void_p, c_size_t, c_uint32]),
+    "brsp_operand_text": (c_size_t, [POINTER(Operand), c_uint32, c_void_p, c_size_t]),
+    "brsp_part_text": (c_size_t, [POINTER(Part), c_void_p, c_void_p, c_void_p, c_size_t]),
     "brsp_pass_dma": (c_uint32, [c_void_p]),
     "brsp_pass_move": (c_uint32, [c_void_p, c_uint32]),
     "brsp_peek": (c_uint32, [c_void_p, c_uint32, c_void_p]),
     "brsp_read": (c_uint32, [c_void_p, c_uint32, c_void_p]),
+    "brsp_refusal_text": (c_size_t, [c_uint32, c_void_p, c_void_p, c_void_p, c_size_t]),
     "brsp_reg": (c_uint32, [c_void_p, c_uint32, c_void_p]),
     "brsp_regs": (c_uint32, [c_void_p, POINTER(Scalars)]),
     "brsp_run": (c_uint32, [c_void_p, c_uint32, POINTER(Stop)]),
     "brsp_run_until_move": (c_uint32, [c_void_p, c_uint32, c_uint32, c_uint32, POINTER(Move)]),
+    "brsp_save_state": (c_uint32, [c_void_p, c_void_p, c_size_t, c_void_p]),
+    "brsp_savestate_check": (c_uint32, [c_void_p, c_void_p, c_size_t, c_void_p]),
+    "brsp_savestate_fault_text": (c_char_p, [c_uint32]),
+    "brsp_savestate_refusal_text": (c_size_t, [c_void_p, c_size_t, c_size_t, c_void_p, c_size_t]),
+    "brsp_search_begin": (c_uint32, [c_void_p, c_uint32, c_uint32, c_void_p, c_size_t]),
+    "brsp_search_bytes": (c_size_t, [c_size_t]),
+    "brsp_search_difference": (None, [c_void_p, POINTER(Difference)]),
+    "brsp_search_next": (c_uint32, [c_void_p, c_void_p, POINTER(Request)]),
+    "brsp_search_parts": (None, [c_void_p, POINTER(Part)]),
     "brsp_session_end": (c_uint32, [c_void_p, c_void_p, c_size_t, c_void_p]),
     "brsp_session_free": (None, [c_void_p]),
     "brsp_session_memory": (c_uint32, [c_void_p, c_uint32, c_uint32, c_void_p, c_size_t]),
@@ -211,11 +325,15 @@ CALLS: Dict[str, Tuple[Any, List[Any]]] = {
     "brsp_sp": (c_uint32, [c_void_p, POINTER(SpWords)]),
     "brsp_start_task": (c_uint32, [c_void_p, c_uint32]),
     "brsp_state_fault": (c_uint32, [POINTER(State), c_void_p]),
+    "brsp_state_refusal_text": (c_size_t, [POINTER(State), c_void_p, c_size_t]),
     "brsp_step": (c_uint32, [c_void_p]),
     "brsp_step_changes": (c_uint32, [c_void_p, POINTER(Changes)]),
+    "brsp_structure_parts": (c_size_t, [c_uint32, c_void_p, c_void_p, POINTER(Part), c_size_t]),
+    "brsp_structure_text": (c_size_t, [c_uint32, c_void_p, c_void_p, c_size_t]),
     "brsp_text": (c_uint32, [c_uint32, c_uint32, POINTER(Line)]),
     "brsp_trace": (c_uint32, [c_void_p, POINTER(Traced), c_size_t, POINTER(Stop)]),
     "brsp_version": (c_uint32, []),
     "brsp_vreg": (c_uint32, [c_void_p, c_uint32, POINTER(Lanes)]),
+    "brsp_word_text": (c_size_t, [c_uint32, c_uint32, c_void_p, c_size_t]),
     "brsp_write": (c_uint32, [c_void_p, c_uint32, c_uint32]),
 }

@@ -1,7 +1,7 @@
 //! Why a call was refused.
 
+use crate::helpers::refusal;
 use crate::raw::{self, status};
-use crate::refusals::refusal;
 use crate::{Fault, Operand};
 use std::error::Error;
 use std::fmt;
@@ -82,9 +82,9 @@ impl RspError {
         self.assembly
     }
 
-    /// The error of a call with these numbers.
-    pub(crate) fn of(status: Status, call: &str, given: &[u64]) -> RspError {
-        RspError::with_message(status, refusal(status, call, given))
+    /// The error of a call with these numbers that is out of its range.
+    pub(crate) fn out_of_range(call: &str, given: &[u64]) -> RspError {
+        RspError::with_message(Status::OutOfRange, refusal(status::OUT_OF_RANGE, call, given))
     }
 
     /// The error with this sentence.
@@ -153,7 +153,7 @@ fn refused(number: u32) -> Option<Status> {
 
 /// The result that a status means, of a call with these numbers.
 pub(crate) fn done(status: u32, call: &str, given: &[u64]) -> Result<(), RspError> {
-    refused(status).map_or(Ok(()), |it| Err(RspError::of(it, call, given)))
+    refused(status).map_or(Ok(()), |it| Err(RspError::with_message(it, refusal(status, call, given))))
 }
 
 #[cfg(test)]

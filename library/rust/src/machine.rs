@@ -1,8 +1,8 @@
 //! A machine.
 
 use crate::error::{done, right_version};
+use crate::helpers::state_refusal;
 use crate::raw::{self, reason, status};
-use crate::refusals::state_refusal;
 use crate::shapes::{Accumulators, Changes, DivideState, FlagBits, Scalars, SpWords, State, Traced};
 use crate::stops::{Bank, Event, Line, MoveEnd, Reason, StepEnd, Stop};
 use crate::texts::{line_of, NO_LINE};
@@ -56,7 +56,7 @@ impl Machine {
         out
     }
 
-    fn at(&self) -> *mut raw::Machine {
+    pub(crate) fn at(&self) -> *mut raw::Machine {
         self.handle.get()
     }
 
@@ -74,9 +74,9 @@ impl Machine {
 
     /// Sets all registers, and empties the history. The memories stay unchanged.
     pub fn set(&mut self, state: &State) -> Result<(), RspError> {
-        match state.fault() {
-            Some(field) => Err(RspError::with_message(Status::OutOfRange, state_refusal(field, state))),
-            None => done(unsafe { raw::brsp_set(self.at(), state) }, "set", &[]),
+        match unsafe { raw::brsp_set(self.at(), state) } {
+            status::OUT_OF_RANGE => Err(RspError::with_message(Status::OutOfRange, format!("set: {}", state_refusal(state)))),
+            other => done(other, "set", &[]),
         }
     }
 
@@ -151,7 +151,7 @@ impl Machine {
         done(
             unsafe { raw::brsp_run_until_move(self.at(), steps, reads.into(), writes.into(), &mut out) },
             "run_until_move",
-            &[steps.into()],
+            &[steps.into(), reads.into(), writes.into()],
         )?;
         Ok(seen_move(&out))
     }
@@ -165,7 +165,11 @@ impl Machine {
     /// interrupt, and [`Reason::Status`] if not. So compare [`Event::interrupt`] with its value before, because the reason can hide an interrupt.
     pub fn event(&mut self, steps: u32, reads: u16, writes: u32) -> Result<Event, RspError> {
         let mut out = raw::Reached::default();
-        done(unsafe { raw::brsp_event(self.at(), steps, reads.into(), writes, &mut out) }, "event", &[steps.into(), writes.into()])?;
+        done(
+            unsafe { raw::brsp_event(self.at(), steps, reads.into(), writes, &mut out) },
+            "event",
+            &[steps.into(), reads.into(), writes.into()],
+        )?;
         let dma = (out.at.stop.reason == reason::DMA).then_some(out.dma);
         Ok(Event { at: seen_move(&out.at), dma, status: out.status, interrupt: out.interrupt == 1 })
     }
@@ -260,7 +264,7 @@ impl Machine {
     /// Sets scalar register `n`, below 32, and empties the history. Register 0 takes only 0.
     pub fn set_reg(&mut self, n: u32, value: u32) -> Result<(), RspError> {
         if n > 31 || (n == 0 && value != 0) {
-            return Err(RspError::of(Status::OutOfRange, "set_reg", &[n.into(), value.into()]));
+            return Err(RspError::out_of_range("set_reg", &[n.into(), value.into()]));
         }
         let mut state = self.get()?;
         state.words[n as usize] = value;
@@ -270,7 +274,7 @@ impl Machine {
     /// Sets the lanes of vector register `n`, below 32, and empties the history.
     pub fn set_vreg(&mut self, n: u32, lanes: [u16; 8]) -> Result<(), RspError> {
         let mut state = self.get()?;
-        *state.vectors.get_mut(n as usize).ok_or_else(|| RspError::of(Status::OutOfRange, "set_vreg", &[n.into()]))? = lanes;
+        *state.vectors.get_mut(n as usize).ok_or_else(|| RspError::out_of_range("set_vreg", &[n.into()]))? = lanes;
         self.set(&state)
     }
 
@@ -329,7 +333,7 @@ impl Machine {
     /// The words of IMEM from an address on, each with its disassembly.
     pub fn listing(&self, address: u32, count: usize) -> Result<Vec<Line>, RspError> {
         if count > 1024 {
-            return Err(RspError::of(Status::OutOfRange, "listing", &[address.into(), count as u64]));
+            return Err(RspError::out_of_range("listing", &[address.into(), count as u64]));
         }
         let mut lines = vec![NO_LINE; count];
         done(

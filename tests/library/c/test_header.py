@@ -19,7 +19,7 @@ from lib.processes import STRICT, compiled, succeeds
 from rsp_tools.shapes import header
 
 HEADER = page("library/c/brsp.h")
-NUMBERS = shapes.INTERFACE.numbers
+NUMBERS = shapes.PROVED.numbers
 FOLDERS = [f"-I{TOP / it}" for it in ("examples/c", "conformance/campaigns")]
 # How files that use the headers are compiled: for one standard at each level, and for each standard at one
 # level, because all levels of all standards take minutes.
@@ -38,7 +38,7 @@ USES = [
 def test_calls() -> None:
     """They are those of rsp_c, and each has a comment above it, in lines of fewer than 110 columns."""
     declared = sorted(header.calls("library/c/brsp.h"))
-    assert [call.types() for call in declared] == [call.types() for call in shapes.INTERFACE.calls]
+    assert [call.types() for call in declared] == [call.types() for call in shapes.PROVED.calls]
     assert len(declared) > 20
     assert re.findall(r"(?m)^(?!.*\*/$).*\n\w+ (brsp_\w+)\(", HEADER) == []
     assert [line for line in HEADER.splitlines() if len(line) >= 110] == []
@@ -60,7 +60,7 @@ def test_numbers() -> None:
     statuses, banks = re.findall(r"(?s)enum brsp_(?:status|bank) \{.*?\}", HEADER)
     assert (named("", statuses), named("", banks)) == (NUMBERS["status"], NUMBERS["bank"])
     assert named("AT_") == NUMBERS["reason"]
-    assert re.findall(r"#define BRSP_REPLIES (\d+)", HEADER) == [str(shapes.INTERFACE.replies)]
+    assert re.findall(r"#define BRSP_REPLIES (\d+)", HEADER) == [str(shapes.PROVED.constants["REPLIES"])]
     assert named("FIELD_") == {"NONE": 0, **NUMBERS["field"]}
     assert named("FAULT_") == {"NONE": 0, **NUMBERS["fault"]}
 
@@ -84,7 +84,7 @@ def test_layouts(library: Path, folder: Path) -> None:
             lines.append(f'printf("{name}.{field} %zu %zu\\n", {numbers});')
             expected.append(f"{name}.{field} {offset} {width}")
     assert output_of(folder, main_of("\n".join(lines))).splitlines() == expected
-    assert len(layouts) == 17
+    assert len(layouts) == 20
 
 
 @pytest.mark.needs("cc")

@@ -17,6 +17,7 @@ import pytest
 
 from lib import TESTS, TOP
 from lib.library import LOCKSTEP
+from lib.library.savestates import IMAGE, STEPS, TEXT
 from lib.packages import need
 from lib.pages import page
 from lib.script_cases import ScriptCase, all_cases
@@ -54,6 +55,27 @@ def test_names(runner: Any) -> None:
     body = re.findall(r"(?ms)^export class Machine \{\n(.*?)^\}", text)[0]
     methods = re.findall(r"(?m)^  (?:readonly )?(\w+)[(:]", body)
     assert {*names["methods"]} == {*methods, "constructor"}
+
+
+SAVED = """import { IMEM, Machine, assemble } from "rsp";
+const machine = new Machine(Uint8Array.from({ length: 256 }, (_, n) => n), 5);
+machine.load_words(IMEM, 0, assemble(TEXT));
+machine.run(STEPS);
+console.log([...machine.save_state()].map((it) => it.toString(16).padStart(2, "0")).join(""));
+"""
+
+
+@in_javascript
+@pytest.mark.usefixtures("library")
+def test_savestates(runner: Any) -> None:
+    """The bytes of a savestate are those of Python."""
+    import rsp
+
+    machine = rsp.Machine(IMAGE, 5)
+    machine.load_words(rsp.IMEM, 0, rsp.assemble(TEXT))
+    machine.run(STEPS)
+    text = SAVED.replace("TEXT", json.dumps(TEXT)).replace("STEPS", str(STEPS))
+    assert runner.says("saved.js", text) == f"{machine.save_state().hex()}\n"
 
 
 @in_javascript

@@ -7,7 +7,7 @@ import ast
 import json
 import re
 from pathlib import Path
-from typing import Any, Dict, Set
+from typing import Dict, Set
 
 import pytest
 
@@ -24,24 +24,13 @@ TYPES = page("library/js/rsp.d.ts")
 RENAMED = {"bytes": "stored_bytes"}
 # What one of the classes of Python and JavaScript has alone: a call of numpy, and how a machine is freed.
 PYTHON_ALONE, JAVASCRIPT_ALONE = {"run_to_halt", "close", "memory_array"}, {"free"}
-# A script that prints the layouts of the structs as plain.js computes them, and the calls of errors.js.
-DESCRIPTION = f"""
+# A script that prints the layouts of the structs as layout.js computes them.
+LAYOUTS = f"""
 import {{ STRUCTS }} from "{FOLDER}/shapes.js";
-import {{ layout }} from "{FOLDER}/plain.js";
-import {{ ARGUMENTS }} from "{FOLDER}/errors.js";
+import {{ layout }} from "{FOLDER}/layout.js";
 const places = ({{ size, fields }}) => [size, fields.map((it) => [it.name, it.offset, it.size])];
-const layouts = Object.fromEntries(Object.keys(STRUCTS).map((it) => [it, places(layout(it))]));
-console.log(JSON.stringify({{ layouts, calls: Object.keys(ARGUMENTS) }}));
+console.log(JSON.stringify(Object.fromEntries(Object.keys(STRUCTS).map((it) => [it, places(layout(it))]))));
 """
-
-
-@pytest.fixture
-def library_js(folder: Path) -> Dict[str, Any]:
-    """The description of library/js by Node."""
-    need("node")
-    (folder / "description.mjs").write_text(DESCRIPTION)
-    found: Dict[str, Any] = json.loads(succeeds("node", folder / "description.mjs"))
-    return found
 
 
 def python_names(name: str) -> Set[str]:
@@ -52,14 +41,11 @@ def python_names(name: str) -> Set[str]:
     return {it for it in names if not it.startswith("_")}
 
 
-def test_layouts(library_js: Dict[str, Any]) -> None:
-    assert library_js["layouts"] == json.loads(json.dumps(shapes.layouts()))
-
-
-def test_calls(library_js: Dict[str, Any]) -> None:
-    functions = "Machine assemble explain_text explain_reply text first_difference".split()
-    known = python_names("Machine") | {*functions}
-    assert {*library_js["calls"]} - known == set()
+def test_layouts(folder: Path) -> None:
+    need("node")
+    (folder / "layouts.mjs").write_text(LAYOUTS)
+    output = succeeds("node", folder / "layouts.mjs")
+    assert json.loads(output) == json.loads(json.dumps(shapes.layouts()))
 
 
 def body(head: str) -> str:

@@ -138,7 +138,9 @@ def test_different_from_the_beginning() -> None:
     state = machine.get()
     state.words[3] = 5
     machine.set(state)
-    forgetful = emulator_with(set=lambda it, state: rsp.Machine.set(it, rsp.State(pc=state.pc, npc=state.npc)))
+    forgetful = emulator_with(
+        set=lambda it, state: rsp.Machine.set(it, rsp.State(pc=state.pc, npc=state.npc))
+    )
     found = rsp.first_difference(machine, forgetful)
     head = "step 0, 000: ori $1, $0, 0x0007"
     assert str(found) == f"{head}\n  $3 is 00000005 on the machine and 00000000 in the emulator"

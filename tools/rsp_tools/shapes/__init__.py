@@ -1,14 +1,16 @@
 """Writes the calls, structs and numbers of the library for Rust, JavaScript and Python.
 
-It reads them in crates/rsp_c/src. Comments of Rust's structs are those of the crates, unless comments.tsv has
-another one for who writes a program. Nobody who builds the library needs this: its files are committed.
+It reads those that are proved in crates/rsp_c/src, and the others in library/c/brsp_helpers.h. Comments of
+Rust's structs are those of the crates, unless comments.tsv has another one for who writes a program. Nobody
+who builds the library needs this: its files are committed.
 """
 
 from pathlib import Path
 from typing import Dict
 
 from rsp_tools import TOP
-from rsp_tools.shapes import crate, javascript, python, rust
+from rsp_tools.shapes import crate, header, javascript, python, rust
+from rsp_tools.shapes.interface import Interface, joined
 
 
 def comments() -> Dict[str, str]:
@@ -17,9 +19,14 @@ def comments() -> Dict[str, str]:
     return dict(line.split("\t") for line in lines)
 
 
+def library() -> Interface:
+    """What the library exports: the proved calls, and the helpers over them."""
+    return joined(crate.interface(), header.interface(header.HELPERS))
+
+
 def files() -> Dict[str, str]:
     """Each file as it is written, by its path in the repository."""
-    found = crate.interface()
+    found = library()
     return {**rust.files(found, comments()), **javascript.files(found), **python.files(found)}
 
 

@@ -4,7 +4,17 @@ import re
 from typing import Dict, Iterator, List, Tuple
 
 from rsp_tools import TOP
-from rsp_tools.shapes.interface import NUMBERS, Call, Field, Interface, Parameter, Struct, groups, in_words
+from rsp_tools.shapes.interface import (
+    PLAIN,
+    Call,
+    Field,
+    Interface,
+    Parameter,
+    Struct,
+    Type,
+    groups,
+    in_words,
+)
 
 SOURCE = TOP / "crates/rsp_c/src"
 # The structs of one pointer, by the names that they would have if they were named as the others are.
@@ -20,7 +30,7 @@ BELOW = (
 
 def element_of(name: str) -> str:
     """A number, a handle, or a struct without the prefix that all of them have in rsp_c."""
-    if name in NUMBERS or name in HANDLES:
+    if name in PLAIN or name in HANDLES:
         return HANDLES.get(name, name)
     return str(groups(r"Rsp(\w+)", name)[0])
 
@@ -30,10 +40,10 @@ def parameters_of(name: str, kind: str) -> List[Parameter]:
     if kind == "Global":
         return []
     if not kind.startswith("&"):
-        return [Parameter(name, element_of(kind))]
+        return [Parameter(name, Type(element_of(kind)))]
     written, of_slice, one = groups(r"&(mut )?(?:\[(\w+)\]|(\w+))", kind)
-    at = Parameter(name, element_of(of_slice or one), "mut" if written else "const")
-    return [at, Parameter(f"{name}_len", "usize")] if of_slice else [at]
+    at = Parameter(name, Type(element_of(of_slice or one), "mut" if written else "const"))
+    return [at, Parameter(f"{name}_len", Type("usize"))] if of_slice else [at]
 
 
 def calls() -> Iterator[Call]:
@@ -41,9 +51,8 @@ def calls() -> Iterator[Call]:
     for path in sorted(SOURCE.glob("*.rt")):
         for name, given, result in re.findall(form, path.read_text(), re.S):
             pairs = (pair.split(":", 1) for pair in given.split(",") if pair.strip())
-            yield Call(
-                name, [it for of, kind in pairs for it in parameters_of(of.strip(), kind.strip())], result
-            )
+            parameters = [it for of, kind in pairs for it in parameters_of(of.strip(), kind.strip())]
+            yield Call(name, parameters, Type(result or "void"))
 
 
 def comment_of(lines: str) -> str:
@@ -56,7 +65,7 @@ def field_of(comment: str, name: str, kind: str) -> Field:
     while kind.startswith("["):
         kind, count = groups(r"\[(.+); (\d+)\]", kind)
         counts += (int(count),)
-    return Field(name, element_of(kind), counts, comment_of(comment))
+    return Field(name, Type(element_of(kind)), counts, comment_of(comment))
 
 
 def structs_of(text: str) -> Iterator[Struct]:
@@ -104,7 +113,7 @@ def faults() -> Dict[str, int]:
 def interface() -> Interface:
     """The interface. Statuses are as the definition numbers them, not the code."""
     statuses = found("../specs/Statuses.antt", r"^  pub \w+ : (?P<name>\w+) ≡ (?P<number>\d+)$")
-    replies = statuses.pop("REPLIES")
+    replies = {"REPLIES": statuses.pop("REPLIES")}
     numbers = {
         "status": statuses,
         "fault": faults(),

@@ -6,37 +6,47 @@ A struct is named as in Rust: `FlagBits` is brsp_flag_bits of C.
 import re
 from typing import Any, Dict, List, NamedTuple, Tuple
 
-# The types of numbers, by their names in C.
-NUMBERS = {"u8": "uint8_t", "u16": "uint16_t", "u32": "uint32_t", "i64": "int64_t", "usize": "size_t"}
+# The types that aren't structs, by their names in C. A char is a byte of a text.
+PLAIN = {
+    "u8": "uint8_t",
+    "u16": "uint16_t",
+    "u32": "uint32_t",
+    "u64": "uint64_t",
+    "i64": "int64_t",
+    "usize": "size_t",
+    "char": "char",
+    "void": "void",
+}
 
 
-class Parameter(NamedTuple):
-    """A parameter of a call. `element` is one of NUMBERS or the name of a struct. `pointer` is empty for a
-    number, otherwise `const` or `mut`."""
+class Type(NamedTuple):
+    """A type. `element` is one of PLAIN or the name of a struct. `pointer` is `const` or `mut` for a pointer
+    to elements, otherwise empty."""
 
-    name: str
     element: str
     pointer: str = ""
 
 
-class Call(NamedTuple):
-    """A call. `result` is one of NUMBERS, or empty."""
+class Parameter(NamedTuple):
+    name: str
+    type: Type
 
+
+class Call(NamedTuple):
     name: str
     parameters: List[Parameter]
-    result: str
+    result: Type
 
     def types(self) -> Tuple[Any, ...]:
         """What both sides of a call have to agree on. They may name a parameter differently."""
-        return self.name, self.result, [it[1:] for it in self.parameters]
+        return self.name, self.result, [it.type for it in self.parameters]
 
 
 class Field(NamedTuple):
-    """A field of a struct. `element` is one of NUMBERS or the name of a struct, and `counts` has a number for
-    each dimension of an array, the outer one first."""
+    """A field of a struct. `counts` has a number for each dimension of an array, the outer one first."""
 
     name: str
-    element: str
+    type: Type
     counts: Tuple[int, ...]
     comment: str
 
@@ -49,14 +59,25 @@ class Struct(NamedTuple):
 
 class Interface(NamedTuple):
     """Structs are by their names, each after those that it contains. `handles` are the structs that only the
-    library may look into. Numbers are by their names, and these by what they number. `replies` is the least
-    length of a buffer for replies."""
+    library may look into. `numbers` are by their names, and these by the names of their enums; `constants`
+    are numbers that stand alone."""
 
     calls: List[Call]
     structs: Dict[str, Struct]
     handles: Tuple[str, ...]
     numbers: Dict[str, Dict[str, int]]
-    replies: int
+    constants: Dict[str, int]
+
+
+def joined(one: Interface, other: Interface) -> Interface:
+    """Two interfaces as one, of which the second is over the first."""
+    return Interface(
+        sorted([*one.calls, *other.calls]),
+        {**one.structs, **other.structs},
+        one.handles + other.handles,
+        {**one.numbers, **other.numbers},
+        {**one.constants, **other.constants},
+    )
 
 
 def groups(form: str, text: str) -> Tuple[Any, ...]:
@@ -72,6 +93,11 @@ def in_words(name: str) -> str:
     return re.sub(r"(?<=[a-z])(?=[A-Z])", "_", name).lower()
 
 
+def in_one(name: str) -> str:
+    """flag_bits is FlagBits."""
+    return name.title().replace("_", "")
+
+
 def c_name(element: str) -> str:
-    """A number or a struct, as C calls it."""
-    return NUMBERS.get(element) or f"brsp_{in_words(element)}"
+    """An element as C calls it."""
+    return PLAIN.get(element) or f"brsp_{in_words(element)}"

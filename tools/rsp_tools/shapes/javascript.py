@@ -3,12 +3,13 @@
 import json
 from typing import Any, Dict, Iterable
 
-from rsp_tools.shapes.interface import Interface, Struct, c_name
+from rsp_tools.shapes.interface import PLAIN, Interface, Struct, Type, c_name, in_one
 
 WIDTH = 120  # of a line
 # The library for WebAssembly has addresses, and so lengths, of 64 bits.
-LENGTH = "u64"
-HEAD = """/** The calls, structs and numbers of brsp.h. `tools/shapes` writes this file. */
+ADDRESS = "u64"
+ELEMENTS = {**{it: it for it in PLAIN}, "usize": ADDRESS, "char": "u8"}
+HEAD = """/** The calls, structs and numbers of the headers in library/c. `tools/shapes` writes this file. */
 
 /** Numbers by their names, and names by their numbers. */
 function numbered(numbers) {
@@ -16,7 +17,6 @@ function numbered(numbers) {
   return Object.freeze({ ...numbers, ...names });
 }
 """
-REPLIES = "/** The least number of bytes of a buffer for replies. */\n"
 STRUCTS = "/** Each struct's fields: the name, the kind, and an array's lengths, the outer one first. */\n"
 
 
@@ -30,29 +30,26 @@ def lines_of(items: Iterable[str], indent: str = "  ") -> str:
     return "\n".join(line.rstrip() for line in lines)
 
 
-def numbers_text(name: str, numbers: Dict[str, int]) -> str:
+def numbers_text(kind: str, numbers: Dict[str, int]) -> str:
     items = lines_of(f"{it}: {number}" for it, number in numbers.items())
-    return f"export const {name} = numbered({{\n{items}\n}});\n"
+    return f"export const {in_one(kind)} = numbered({{\n{items}\n}});\n"
 
 
-def kind_of(element: str) -> str:
-    return LENGTH if element == "usize" else element if element[1:].isdigit() else c_name(element)
+def kind_of(it: Type) -> str:
+    return ADDRESS if it.pointer else ELEMENTS.get(it.element) or c_name(it.element)
 
 
 def struct_text(struct: Struct) -> str:
-    fields: Iterable[Any] = ([it.name, kind_of(it.element), *it.counts] for it in struct.fields)
+    fields: Iterable[Any] = ([it.name, kind_of(it.type), *it.counts] for it in struct.fields)
     return f"  {c_name(struct.name)}: [\n{lines_of(map(json.dumps, fields), '    ')}\n  ],\n"
 
 
 def text(it: Interface) -> str:
-    names = {"Status": "status", "Fault": "fault", "Bank": "bank", "Reason": "reason", "Field": "field"}
+    numbers = [numbers_text(*pair) for pair in it.numbers.items()]
+    constants = "".join(f"export const {name} = {number};\n" for name, number in it.constants.items())
     structs = "".join(map(struct_text, it.structs.values()))
-    parts = [HEAD, *(numbers_text(name, it.numbers[kind]) for name, kind in names.items())]
-    parts += [
-        f"{REPLIES}export const REPLIES = {it.replies};\n",
-        f"{STRUCTS}export const STRUCTS = {{\n{structs}}};\n",
-    ]
     calls = lines_of(json.dumps(call.name) for call in it.calls)
+    parts = [HEAD, constants, *numbers, f"{STRUCTS}export const STRUCTS = {{\n{structs}}};\n"]
     return "\n".join([*parts, f"export const CALLS = [\n{calls}\n];\n"])
 
 

@@ -3,7 +3,7 @@
 import textwrap
 from typing import Dict, Iterator, List
 
-from rsp_tools.shapes.interface import Call, Field, Interface, Parameter, Struct
+from rsp_tools.shapes.interface import Call, Field, Interface, Struct, Type
 
 WIDTH = 140  # of a line, as rustfmt.toml has it
 # The structs that everybody gets, and those of them whose default isn't all zeros.
@@ -12,10 +12,16 @@ SHOWN = (
 )  # fmt: skip
 OWN_DEFAULT = ("State", "SpWords")
 MOST = 32  # items of an array that has a default
+# A pointer to anything is one to its bytes.
+ELEMENTS = {"char": "u8", "void": "u8"}
 
 
-def type_of(field: Field) -> str:
-    made = field.element
+def type_text(it: Type) -> str:
+    return f"{f'*{it.pointer} ' if it.pointer else ''}{ELEMENTS.get(it.element, it.element)}"
+
+
+def field_type(field: Field) -> str:
+    made = type_text(field.type)
     for count in reversed(field.counts):
         made = f"[{made}; {count}]"
     return made
@@ -27,14 +33,16 @@ def comment(text: str, indent: str = "") -> str:
 
 
 def derived(struct: Struct) -> str:
-    """The traits that a struct derives."""
-    is_zero = struct.name not in OWN_DEFAULT and max(sum((it.counts for it in struct.fields), (0,))) <= MOST
-    default = ["Default"] if is_zero else []
+    """The traits that a struct derives. A pointer and a long array have no default."""
+    has_none = struct.name in OWN_DEFAULT or any(
+        it.type.pointer or max((0, *it.counts)) > MOST for it in struct.fields
+    )
+    default = [] if has_none else ["Default"]
     return ", ".join(["Clone", "Copy", "Debug", *default, "PartialEq", "Eq"])
 
 
 def struct_text(struct: Struct, comments: Dict[str, str], is_shown: bool) -> str:
-    """A struct. One that only the crate uses has no comments: brsp.h has them."""
+    """A struct. One that only the crate uses has no comments: the header of C has them."""
 
     def said(name: str, text: str, indent: str = "") -> str:
         return comment(comments.get(name, text), indent) if is_shown else ""
@@ -43,7 +51,7 @@ def struct_text(struct: Struct, comments: Dict[str, str], is_shown: bool) -> str
     for it in struct.fields:
         shown = "pub(crate)" if it.name == "zero" else "pub"
         fields += said(f"{struct.name}.{it.name}", it.comment, "    ")
-        fields += f"    {shown} {it.name}: {type_of(it)},\n"
+        fields += f"    {shown} {it.name}: {field_type(it)},\n"
     head = said(struct.name, struct.comment)
     return f"{head}#[repr(C)]\n#[derive({derived(struct)})]\npub struct {struct.name} {{\n{fields}}}\n"
 
@@ -52,14 +60,10 @@ def handle_text(name: str) -> str:
     return f"#[repr(C)]\npub struct {name} {{\n    pub at: *mut u8,\n}}\n"
 
 
-def parameter_text(it: Parameter) -> str:
-    return f"{it.name}: {f'*{it.pointer} ' if it.pointer else ''}{it.element}"
-
-
 def call_text(call: Call) -> str:
     """A declaration as rustfmt lays it out."""
-    parameters = [parameter_text(it) for it in call.parameters]
-    result = f" -> {call.result}" if call.result else ""
+    parameters = [f"{it.name}: {type_text(it.type)}" for it in call.parameters]
+    result = "" if call.result == Type("void") else f" -> {type_text(call.result)}"
     line = f"    pub fn {call.name}({', '.join(parameters)}){result};\n"
     if len(line) - 1 <= WIDTH:
         return line
@@ -68,16 +72,17 @@ def call_text(call: Call) -> str:
 
 
 def numbers_text(kind: str, numbers: Dict[str, int]) -> str:
-    """A module of numbers. Not all of them come to Rust: a handle of the crate always holds something."""
     lines = "".join(f"    pub const {name}: u32 = {number};\n" for name, number in numbers.items())
-    return f"#[allow(dead_code)]\npub mod {kind} {{\n{lines}}}\n"
+    return f"pub mod {kind} {{\n{lines}}}\n"
 
 
 def raw_parts(it: Interface) -> Iterator[str]:
-    yield "//! What library/c/brsp.h declares. `tools/shapes` writes this file.\n"
-    used = ", ".join(sorted(SHOWN))
-    yield f"use crate::shapes::{{{used}}};\n"
-    yield f"pub const REPLIES: usize = {it.replies};\n"
+    yield "//! What the headers of library/c declare. `tools/shapes` writes this file.\n"
+    yield "#![allow(dead_code)] // the crate doesn't need all that C has\n"
+    yield f"use crate::shapes::{{{', '.join(sorted(SHOWN))}}};\n"
+    yield "".join(
+        f"#[allow(dead_code)]\npub const {name}: usize = {n};\n" for name, n in it.constants.items()
+    )
     yield from (numbers_text(kind, numbers) for kind, numbers in it.numbers.items())
     yield from (handle_text(name) for name in it.handles)
     yield from (struct_text(struct, {}, False) for name, struct in it.structs.items() if name not in SHOWN)
