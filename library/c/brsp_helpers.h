@@ -138,9 +138,9 @@ size_t brsp_word_text(uint32_t word, uint32_t address, char *text, size_t capaci
  *
  * First the machine's registers and memories are copied into the emulator, read back, and compared. Then
  * both run in stretches of at most `every` steps, which end before a DMA. After each stretch, and after
- * each DMA, all registers, DMEM and IMEM are compared, and after a DMA also the quadwords of RDRAM to
- * which it wrote. If they differ after a stretch, both go back to the last comparison and are stepped
- * from there. At the end all of RDRAM is compared. Both are left after the step that differs, and the
+ * each DMA, all registers, DMEM and IMEM are compared, and after a DMA also the bytes of RDRAM that it
+ * wrote. If they differ after a stretch, both go back to the last comparison and are stepped from there.
+ * At the end all of RDRAM is compared. Both are left after the step that differs, and the
  * machine's history is empty. Breakpoints and watches are ignored.
  *
  * A search may be dropped at any time: nothing has to be freed but its bytes, which are yours. */
@@ -205,8 +205,7 @@ void brsp_search_parts(const uint8_t *search, brsp_part *parts);
 
 /* A difference in at most twenty lines: one for the step, such as `step 3, 008: vadd $v2, $v2, $v1`, and
  * one for each part, with two spaces before it: `$3 is fffffff0 on the machine and 3ffffff0 in the
- * emulator`. If there are more parts, the last line says how many: `and 300 more`. It is empty if
- * found->count is 0. */
+ * emulator`. If there are more parts, the last line says how many: `and 300 more`. */
 size_t brsp_difference_text(const brsp_difference *found, char *text, size_t capacity);
 
 /* ---- Refusals in a sentence. docs/FAULTS.md lists the sentences. ---- */

@@ -90,8 +90,8 @@ def test_python(machine: rsp.Machine) -> None:
 @pytest.mark.parametrize(
     "change, why",
     (
-        (lambda it: b"", "the bytes begin with b'', not b'RSPS'"),
-        (lambda it: b"RSPT" + it[4:], "the bytes begin with b'RSPT', not b'RSPS'"),
+        (lambda it: b"", "the bytes don't begin with RSPS"),
+        (lambda it: b"RSPT" + it[4:], "the bytes don't begin with RSPS"),
         (lambda it: it[:7] + b"\2" + it[8:], "the savestate has version 2, not 1"),
         (lambda it: it[:-1], "there are 9231 bytes, not 8976 and those of the image"),
         (lambda it: it + b"\0", "there are 9233 bytes, not 8976 and those of the image"),

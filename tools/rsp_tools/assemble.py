@@ -35,7 +35,7 @@ from rsp_tools.packaging.install_tree import File, put_all
 from rsp_tools.proof import guarded, prove_below
 from rsp_tools.record import made_of, record
 from rsp_tools.systems import places, wasm
-from rsp_tools.systems.modules import LIBRARY, PROGRAM, Crate, Module, module
+from rsp_tools.systems.modules import LIBRARY, PROGRAM, WEB, Crate, Module, module
 from rsp_tools.systems.objects import common, compiled, for_linux
 from rsp_tools.systems.rewriting import with_own_calls, with_unwind_tables, without_stack_probes
 from rsp_tools.systems.toolchain import Refused
@@ -91,14 +91,14 @@ def make() -> Dict[Crate, Files]:
             crate: {name: pool.submit(assembly, crate, *it) for name, it in triples(crate).items()}
             for crate in CRATES
         }
-        going[LIBRARY]["rsp.wasm"] = pool.submit(web)
+        going[WEB] = {"rsp.wasm": pool.submit(web)}
         return {crate: {name: it.result() for name, it in files.items()} for crate, files in going.items()}
 
 
 def mark(crate: Crate, files: Files, folder: str = "compiled") -> str:
     """What tools/built.sh reads: of what these files in a folder are made, and first by which kit."""
     sums = [line_of(f"{folder}/{name}", data) for name, data in files.items()]
-    for path in map(places.PARTS.joinpath, crate.parts.split()):
+    for path in crate.parts:
         sums.append(line_of(str(path.relative_to(TOP)), path.read_bytes()))
     return f"{kit()}\n{sources(crate.name)}{''.join(sums)}"
 
@@ -116,14 +116,14 @@ def listed() -> Files:
 
 def marked(crate: Crate) -> Tuple[str, str]:
     """The kit that the mark names, and all else that the mark says; empty if there is none."""
-    path = COMPILED / f"{crate.name}.made"
+    path = COMPILED / crate.made
     version, _, of_what = (path.read_text() if path.is_file() else "").partition("\n")
     return version, of_what
 
 
 def stale() -> str:
     """A sentence if compiled/ isn't made of the sources as they are, otherwise empty."""
-    is_right = all(is_made(f"compiled/{name}.made") for name in TOPS)
+    is_right = all(is_made(f"compiled/{crate.made}") for crate in (*CRATES, WEB))
     return "" if is_right else "compiled/ isn't made of the sources as they are: tools/assemble makes it"
 
 
@@ -133,7 +133,7 @@ def compare(crate: Crate, files: Files) -> Tuple[List[str], List[str]]:
     (version, of_what), others = marked(crate), differing(files)
     there = {name: (COMPILED / name).read_bytes() for name in files if (COMPILED / name).is_file()}
     if of_what != mark(crate, there).partition("\n")[2]:
-        return [*others, f"{crate.name}.made"], []
+        return [*others, crate.made], []
     return (others, []) if version == kit() else ([], others)
 
 
@@ -160,7 +160,7 @@ def write(made: Mapping[Crate, Files], output: str) -> int:
     for crate, files in made.items():
         new.update((name, files[name]) for name in differing(files))
         if marked(crate)[1] != mark(crate, files).partition("\n")[2]:
-            new[f"{crate.name}.made"] = mark(crate, files).encode()
+            new[crate.made] = mark(crate, files).encode()
     new.update((name, listed()[name]) for name in differing(listed()))
     kept = COMPILED / "record"
     if new or output or not kept.exists() or made_of(TOPS) not in kept.read_text():
@@ -177,7 +177,7 @@ def make_here(crate: Crate) -> Files:
     files = {name: assembly(crate, *of) for name, of in triples(crate).items() if of[1] == triple}
     say(f"{crate.name} is proved and compiled after {time.time() - begun:.0f} s")
     made = mark(crate, files, str(crate.out.relative_to(TOP)))
-    return {**files, f"{crate.name}.made": made.encode()}
+    return {**files, crate.made: made.encode()}
 
 
 def put(folder: Path, files: Files) -> None:

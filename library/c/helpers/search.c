@@ -85,10 +85,22 @@ static uint32_t see_mine(brsp_machine *m, uint8_t *bytes)
     return status;
 }
 
-/* Reads so many bytes of the machine's RDRAM. */
-static uint32_t see_rdram(brsp_machine *m, const search *s, uint8_t *bytes, uint32_t address, size_t len)
+/* Reads all of the machine's RDRAM. */
+static uint32_t see_rdram(brsp_machine *m, const search *s, uint8_t *bytes)
 {
-    return brsp_memory(m, BRSP_RDRAM, address, bytes + rdram_at(s, MINE) + address, len);
+    return brsp_memory(m, BRSP_RDRAM, 0, bytes + rdram_at(s, MINE), (size_t)s->image);
+}
+
+/* Reads the quadwords of the machine's RDRAM in which these bytes are, and takes them for the emulator's, of which only these bytes are compared. */
+static uint32_t see_quadwords(brsp_machine *m, const search *s, uint8_t *bytes, uint32_t address, size_t len)
+{
+    const uint32_t from = address - address % QUADWORD;
+    size_t to = address + len + QUADWORD - 1;
+    to -= to % QUADWORD;
+    if (to > s->image) to = (size_t)s->image;
+    const uint32_t status = brsp_memory(m, BRSP_RDRAM, from, bytes + rdram_at(s, MINE) + from, to - from);
+    if (status == BRSP_OK) memcpy(bytes + rdram_at(s, ITS) + from, bytes + rdram_at(s, MINE) + from, to - from);
+    return status;
 }
 
 static size_t state_parts(const uint8_t *bytes, brsp_part *parts, size_t capacity)
@@ -203,16 +215,14 @@ static uint32_t narrow(brsp_machine *m, search *s, uint8_t *bytes)
     return BRSP_OK;
 }
 
-/* The quadwords of RDRAM to which the next row of a DMA wrote: their address and length. Returns 0 if there are none, because no row is left, or
- * it lies past the end. */
+/* The bytes of RDRAM that the next row of a DMA wrote: their address and length. Returns 0 if there are none, because no row is left, or all others
+ * lie past the end. */
 static size_t next_row(search *s, uint32_t *address)
 {
     while (s->dma.to_rdram && s->row < s->dma.rows) {
         uint64_t from = ((uint64_t)s->dma.rdram + (uint64_t)s->row++ * (s->dma.length + s->dma.skip)) % RDRAM_ENDS;
         uint64_t to = from + s->dma.length;
-        if (to > RDRAM_ENDS) from = 0, to -= RDRAM_ENDS;
-        from -= from % QUADWORD;
-        to += (QUADWORD - to % QUADWORD) % QUADWORD;
+        if (to > RDRAM_ENDS) from = 0, to -= RDRAM_ENDS; /* before that the row is past the end */
         if (from >= s->image) continue;
         *address = (uint32_t)from;
         return (size_t)((to < s->image ? to : s->image) - from);
@@ -231,7 +241,7 @@ static uint32_t compare_moved(brsp_machine *m, search *s, uint8_t *bytes)
     len = next_row(s, &address);
     if (len) {
         ask(s, BRSP_REQUEST_MEMORY, BRSP_RDRAM, address, rdram_at(s, ITS) + address, len);
-        return see_rdram(m, s, bytes, address, len);
+        return see_quadwords(m, s, bytes, address, len);
     }
     if (s->is_moved || differ(bytes)) {
         end(s, s->steps + 1, 1);
@@ -244,11 +254,11 @@ static uint32_t compare_moved(brsp_machine *m, search *s, uint8_t *bytes)
 /* After the last step: compares RDRAM. */
 static uint32_t compare_end(brsp_machine *m, search *s, uint8_t *bytes)
 {
-    uint32_t status = see_rdram(m, s, bytes, 0, (size_t)s->image);
+    uint32_t status = see_rdram(m, s, bytes);
     const int is_found = is_other(bytes + rdram_at(s, MINE), bytes + rdram_at(s, ITS), (size_t)s->image);
     memcpy(bytes + kept_at(STEP), bytes + kept_at(START), sizeof(brsp_state));
     s->line = s->start;
-    end(s, s->steps, is_found ? s->steps : 0);
+    end(s, is_found ? s->steps : 0, is_found ? s->steps : 0);
     return status;
 }
 
@@ -287,7 +297,7 @@ uint32_t brsp_search_begin(brsp_machine *m, uint32_t every, uint32_t limit, uint
     s.every = every;
     s.limit = limit;
     status = see_mine(m, bytes);
-    if (status == BRSP_OK) status = see_rdram(m, &s, bytes, 0, image);
+    if (status == BRSP_OK) status = see_rdram(m, &s, bytes);
     state = state_of(bytes, state_at(MINE));
     if (status == BRSP_OK) status = brsp_listing(m, state.pc, &s.start, 1);
     s.line = s.start;
@@ -366,7 +376,7 @@ static void put_head(writer *w, const brsp_difference *found)
     if (found->steps == 1) {
         put_text(w, ": ");
         put_text(w, found->line.text);
-    } else if (begins(found->parts->name, "RDRAM ")) {
+    } else if (found->count && begins(found->parts->name, "RDRAM ")) {
         put_text(w, " on: RDRAM differs where no DMA wrote: repeat with a smaller limit");
     } else {
         put_text(w, " on: no step alone differs, so get and set leave something out: repeat with every = 1");
@@ -377,7 +387,6 @@ size_t brsp_difference_text(const brsp_difference *found, char *text, size_t cap
 {
     writer w = { text, capacity, 0 };
     const size_t shown = found->count < LINES ? found->count : LINES - 2;
-    if (!found->count) return ended(&w);
     put_head(&w, found);
     for (size_t n = 0; n < shown; n++) {
         char line[160];

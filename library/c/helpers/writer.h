@@ -3,7 +3,14 @@
 #define BRSP_WRITER_H
 
 #include "../brsp_helpers.h"
-#include <string.h>
+
+/* All that is called of the C library, by the compiler's names, so that a number is copied without a call even if it doesn't know that library
+ * (-ffreestanding). */
+#define memcpy __builtin_memcpy
+#define memset __builtin_memset
+
+/* Of a function that is called in many places. Inlined, the texts would take twice the code. */
+#define SHARED static __attribute__((noinline, unused))
 
 enum { QUADWORD = 16 };
 
@@ -13,29 +20,29 @@ typedef struct writer {
     size_t capacity, length;
 } writer;
 
-static inline void put(writer *w, char it)
+SHARED void put(writer *w, char it)
 {
     if (w->length + 1 < w->capacity) w->to[w->length] = it;
     w->length++;
 }
 
-static inline void put_text(writer *w, const char *text)
+SHARED void put_text(writer *w, const char *text)
 {
     while (*text) put(w, *text++);
 }
 
-static inline void put_hex(writer *w, uint64_t number, uint32_t digits)
+SHARED void put_hex(writer *w, uint64_t number, uint32_t digits)
 {
     while (digits--) put(w, "0123456789abcdef"[digits < 16 ? number >> 4 * digits & 15 : 0]);
 }
 
-static inline void put_hex_from(writer *w, uint64_t number, uint32_t least)
+SHARED void put_hex_from(writer *w, uint64_t number, uint32_t least)
 {
     while (least < 16 && number >> 4 * least) least++;
     put_hex(w, number, least);
 }
 
-static inline void put_decimal(writer *w, uint64_t number, unsigned least)
+SHARED void put_decimal(writer *w, uint64_t number, unsigned least)
 {
     char digits[20];
     unsigned count = 0;
@@ -44,16 +51,16 @@ static inline void put_decimal(writer *w, uint64_t number, unsigned least)
     while (count) put(w, digits[--count]);
 }
 
-static inline void put_number(writer *w, uint64_t number) { put_decimal(w, number, 1); }
+SHARED void put_number(writer *w, uint64_t number) { put_decimal(w, number, 1); }
 
-static inline void put_signed(writer *w, int64_t number)
+SHARED void put_signed(writer *w, int64_t number)
 {
     if (number < 0) put(w, '-');
     put_number(w, number < 0 ? 0 - (uint64_t)number : (uint64_t)number);
 }
 
 /* Ends a text. Returns its length, whole or not. */
-static inline size_t ended(writer *w)
+SHARED size_t ended(writer *w)
 {
     if (w->capacity) w->to[w->length < w->capacity ? w->length : w->capacity - 1] = 0;
     return w->length;

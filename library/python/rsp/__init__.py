@@ -26,7 +26,7 @@ from typing import Sequence, Tuple, TypeVar, Union, cast
 
 from . import errors as _errors
 from . import fields as _fields
-from . import savestate as _savestate
+from . import helpers as _helpers
 from . import shapes as _shapes
 from .compare import Emulator, FirstDifference, first_difference
 from .script import Ran, ScriptError
@@ -81,12 +81,6 @@ DMEM, IMEM, RDRAM = Bank.DMEM, Bank.IMEM, Bank.RDRAM
 _REASONS = (*Reason,)  # by their numbers
 _HALTED = (Status.HALTED,)
 _STEP_ENDS = {status.value: status for status in (Status.OK, Status.HALTED, Status.RESERVED)}
-
-# The fields of a state that have values which no machine can have, by their numbers.
-_FIELDS: Dict[int, str] = {
-    **dict(zip(_shapes.Field, _errors.FIELDS)),
-    **{_shapes.Field.SP + n: f"sp[{n}]" for n in range(8)},
-}
 
 
 class RspError(Exception):
@@ -228,6 +222,7 @@ if _missing:
 for _dll in _lib, _quick:
     for _name, (_result, _types) in _shapes.CALLS.items():
         getattr(_dll, _name).argtypes, getattr(_dll, _name).restype = _types, _result
+_helpers.use(_quick)
 
 _ZEROS = bytes(1 << 22)  # a session's image if none is given; no page of it is written
 _ROOM = 65536  # the bytes of a session's buffer for replies
@@ -236,7 +231,7 @@ _ROOM = 65536  # the bytes of a session's buffer for replies
 def _check(status: int, call: str = "", numbers: Sequence[int] = (), owner: str = "machine") -> None:
     """Raises RspError unless the status is OK. The message names the call and these numbers."""
     if status:
-        raise RspError(Status(status), _errors.refusal(status, call, numbers, owner) if call else "")
+        raise RspError(Status(status), _helpers.refusal(status, call, numbers, owner) if call else "")
 
 
 def _numbers(call: str, *given: Any, most: int = (1 << 32) - 1) -> Tuple[int, ...]:
@@ -273,7 +268,7 @@ def _word_array(call: str, words: Iterable[int]) -> Any:
     except (OverflowError, TypeError):
         for n, number in enumerate(_errors.integers(call, items, "words[{}]")):
             if not 0 <= number < 1 << 32:
-                text = f"{call}: words[{n}] is {number}, not {_errors.WORD.text}"
+                text = f"{call}: words[{n}] is {number}, not 0 to 4294967295"
                 raise RspError(Status.OUT_OF_RANGE, text) from None
         raise
 
@@ -329,7 +324,10 @@ def assemble(text: str, origin: int = 0, symbols: Optional[Mapping[str, int]] = 
         found = _shapes.Operand()
         _lib.brsp_explain(origin, raw, len(raw), byref(found))  # without memory for it `found` stays zeros
         raise AssemblyError(
-            out.line, out.fault, text.split("\n")[out.line - 1].strip(), _errors.allowed(found, out.fault)
+            out.line,
+            out.fault,
+            text.split("\n")[out.line - 1].strip(),
+            _helpers.text("brsp_operand_text", byref(found), out.fault),
         )
     _check(status, "assemble", [origin])
     return Words(words[: out.count], raw, origin)
@@ -374,19 +372,19 @@ def state_fault(state: State) -> Optional[str]:
     """The first field for which `Machine.set` refuses a state, or None if it takes the state."""
     if not isinstance(state, State):
         raise TypeError(f"state_fault: state is of type {type(state).__name__}, not rsp.State")
-    out = c_uint32()
-    _check(_lib.brsp_state_fault(byref(state), byref(out)))
-    return _FIELDS[out.value] if out.value else None
+    return _state_refusal(state).partition(" ")[0] or None
+
+
+def _state_refusal(state: State) -> str:
+    """Why `Machine.set` refuses a state, which begins with the field; empty if it takes the state."""
+    return _helpers.text("brsp_state_refusal_text", byref(state))
 
 
 def _fill_handle(call: str, make: Any, handle: c_void_p, image: Any, *more: int) -> int:
     """Fills a handle by a call that takes an image, and returns the image's length."""
     data = _errors.bytes_of(call, "image", image)
-    status = make(byref(handle), data, len(data), *more)
-    if status == Status.OUT_OF_RANGE and (len(data) % 8 or not 64 <= len(data) <= 1 << 23):
-        text = f"{call}: image has {len(data)} bytes, not a multiple of 8 from 64 to 8388608"
-        raise RspError(Status(status), text)
-    _check(status, call, more)
+    numbers = _numbers(call, len(data), *more)
+    _check(make(byref(handle), data, *numbers), call, numbers)
     return len(data)
 
 
@@ -462,7 +460,6 @@ class Machine(_Owner):
     """
 
     def __init__(self, image: bytes = bytes(64), depth: int = 0) -> None:
-        (depth,) = _numbers("Machine", depth)
         self._hold()
         _fill_handle("Machine", _lib.brsp_new, self._handle, image, depth)
 
@@ -524,8 +521,7 @@ class Machine(_Owner):
         if not isinstance(state, State):
             raise TypeError(f"set: state is of type {type(state).__name__}, not rsp.State")
         if self._call("set", byref(state), ends=(Status.OUT_OF_RANGE,)):
-            text = f"set: {_errors.state_fault(state_fault(state) or '', state)}"
-            raise RspError(Status.OUT_OF_RANGE, text)
+            raise RspError(Status.OUT_OF_RANGE, f"set: {_state_refusal(state)}")
 
     @property
     def image_length(self) -> int:
@@ -572,37 +568,23 @@ class Machine(_Owner):
 
     def save_state(self) -> bytes:
         """A savestate: all registers and memories as bytes, which are the same in every language."""
-        length = self.image_length
-
-        def _read(at: int) -> bytes:
-            state, parts = unset(State), [(ctypes.c_uint8 * size)() for size in (4096, 4096, length)]
-            _check(_lib.brsp_get(at, byref(state)), "save_state")
-            for bank, part in enumerate(parts):
-                _check(_lib.brsp_memory(at, bank, 0, part, len(part)), "save_state")
-            return _savestate.saved(bytes(state), *map(bytes, parts))
-
-        return self._call_alone("save_state", _read)
+        length = c_size_t()
+        _quick.brsp_save_state(self._at, None, 0, byref(length))
+        out = (ctypes.c_uint8 * length.value)()
+        status = self._call_alone("save_state", _lib.brsp_save_state, out, len(out), byref(length))
+        self._check_done(status, "save_state")
+        return bytes(out)
 
     def load_state(self, data: bytes) -> None:
         """Sets all registers and memories from a savestate, and empties the history. Breakpoints and watches
         stay. OUT_OF_RANGE, and nothing is changed, for bytes that aren't a savestate of a machine with an
         image of this length."""
         raw = _errors.bytes_of("load_state", "data", data)
-        why = _savestate.refusal(raw, self.image_length)
-        if why:
+        status = self._call_alone("load_state", _lib.brsp_load_state, raw, len(raw))
+        if status == Status.OUT_OF_RANGE:
+            why = _helpers.text("brsp_savestate_refusal_text", raw, len(raw), self.image_length)
             raise RspError(Status.OUT_OF_RANGE, f"load_state: {why}")
-        state = State.from_buffer_copy(_savestate.state_of(raw))
-        field = state_fault(state)
-        if field or state.zero:
-            why = _errors.state_fault(field, state) if field else "byte 705 isn't 0"
-            raise RspError(Status.OUT_OF_RANGE, f"load_state: {why}")
-
-        def _write(at: int) -> None:
-            _check(_lib.brsp_set(at, byref(state)), "load_state")
-            for bank, part in enumerate(_savestate.memories_of(raw)):
-                _check(_lib.brsp_load(at, bank, 0, part, len(part)), "load_state")
-
-        self._call_alone("load_state", _write)
+        self._check_done(status, "load_state")
 
     def start_task(self, address: int) -> None:
         """Starts the task whose structure of 64 bytes is at an address of RDRAM, a multiple of 8, and empties

@@ -22,7 +22,6 @@ from typing import Any, Callable, Dict, Iterator, List, NamedTuple, Optional, Se
 
 import rsp
 import rsp.waits
-from rsp.formatting import vregs
 from rsp.script import ACCUMULATORS as _ACCUMULATORS
 from rsp.script import ASKED, machine_of
 from rsp.script import PC as _PC
@@ -456,7 +455,7 @@ class Stub:
             "write": lambda n, value: self._change(machine.write, _number(n), _number(value)),
             "read": self._read,
             "regs": machine.regs,
-            "vregs": lambda: "\n".join(vregs(state.vectors)),
+            "vregs": lambda: "\n".join(str(state).split("\n")[9:41]),  # after pc and the scalar registers
             "acc": lambda: state.accumulators,
             "flags": lambda: f"{state.flags} {state.divider}",
             "sp": lambda: "".join(f"c{n} {word:08x}\n" for n, word in enumerate(state.sp))

@@ -20,8 +20,7 @@ from pathlib import Path
 from typing import Callable, List, Optional
 
 from . import Machine, NotHalted, Reason, RspError, Stop
-from .compare import quadwords
-from .savestate import memories_of
+from .helpers import quadwords
 from .script import runs
 from .waits import ORDERS, READS, pass_read
 
@@ -54,6 +53,11 @@ def run(machine: Machine, reads: Callable[[], int], limit: int = 1000000) -> Sto
     return Stop(Reason.LIMIT, steps, machine.regs().pc, None)
 
 
+def _memories(machine: Machine) -> List[bytes]:
+    """DMEM, IMEM and RDRAM."""
+    return [machine.memory(bank, 0, it) for bank, it in enumerate((4096, 4096, machine.image_length))]
+
+
 def difference(machine: Machine, seeds: int = 8, limit: int = 1000000) -> Optional[str]:
     """Runs copies of a machine: one as it is, up to the halt, and one for each seed, in which DMAs take as
     many reads as are `drawn`, for up to sixteen times as many steps, and 1,000 more. Returns None if all halt
@@ -63,14 +67,14 @@ def difference(machine: Machine, seeds: int = 8, limit: int = 1000000) -> Option
     """
     plain = machine.copy()
     steps = plain.run_to_halt(limit).steps
-    memories = memories_of(plain.save_state())
+    memories = _memories(plain)
     for seed in range(seeds):
         slow, when = machine.copy(), f"if they take those of seed {seed}"
         stop = run(slow, drawn(seed), 16 * steps + 1000)
         if stop.reason is not Reason.HALT:
             ended = f"{stop.reason.name} after {stop.steps}"
             return f"HALT after {steps} steps if DMAs take no reads, and {ended} {when}"
-        for part in quadwords(memories, memories_of(slow.save_state())):
+        for part in quadwords(memories, _memories(slow)):
             return part.told("if DMAs take no reads", when)
     return None
 

@@ -1,12 +1,12 @@
 """Registers as plain structures. A field is checked as it is set, `==` compares bytes, and `print` shows what
 the session shows."""
 
-from ctypes import Structure
-from typing import TYPE_CHECKING, Any, Callable, ClassVar, Dict, Iterator, List, Type, TypeVar
+from ctypes import Structure, byref
+from typing import TYPE_CHECKING, Any, ClassVar, Dict, Iterator, List, Type, TypeVar
 
-from . import formatting
+from . import formatting, helpers
 from .fields import taken
-from .formatting import Difference, Part
+from .formatting import Difference
 
 if TYPE_CHECKING:  # the types of fields as a type checker sees them, and as ctypes does
     from .typed import U8, U16, U32, Lanes, Sp, SpItems, StoredBytes, Vectors, Words
@@ -25,7 +25,7 @@ class Plain(Structure):
     another if all numbers are."""
 
     _kinds: ClassVar[Dict[str, Any]] = {}
-    _parts: ClassVar[Callable[[Any], formatting.Named]]  # the name, the value and the digits of each part
+    _structure: ClassVar[int]  # a brsp_structure of brsp_helpers.h
 
     def __init_subclass__(cls, **words: Any) -> None:
         super().__init_subclass__(**words)
@@ -83,7 +83,7 @@ class Plain(Structure):
         return f"{type(self).__name__}({fields})"
 
     def __str__(self) -> str:
-        return formatting.line(self._parts())
+        return helpers.text("brsp_structure_text", self._structure, byref(self))
 
     def _repr_html_(self) -> str:
         return formatting.table(line.split() for line in str(self).splitlines())
@@ -92,8 +92,7 @@ class Plain(Structure):
         """The parts in which they differ, each with its name and both values."""
         if not self._is_alike(other):
             raise TypeError(f"diff: other is of type {type(other).__name__}, not {self._title()}")
-        pairs = zip(self._parts(), other._parts())
-        return Difference(Part(*mine[:2], its[1], mine[2]) for mine, its in pairs if mine != its)
+        return Difference(helpers.structure_parts(self._structure, self, other))
 
 
 def structure(cls: Type[_P]) -> Type[_P]:
@@ -118,10 +117,7 @@ class Scalars(_Counters):
     words: Words
     pc: U16
     npc: U16
-    _parts = formatting.scalar_parts
-
-    def __str__(self) -> str:
-        return "\n".join(formatting.regs(self))
+    _structure = 1
 
 
 @structure
@@ -131,14 +127,12 @@ class Accumulators(Plain):
     high: Lanes
     middle: Lanes
     low: Lanes
-    _parts = formatting.acc_parts
+    _structure = 2
 
     def __iter__(self) -> Iterator[int]:
         """The eight accumulators as numbers of 48 bits, lane 0 first."""
-        return (value for _, value, _ in formatting.acc_parts(self))
-
-    def __str__(self) -> str:
-        return "\n".join(formatting.acc(self))
+        parts = zip(self.high, self.middle, self.low)
+        return (high << 32 | middle << 16 | low for high, middle, low in parts)
 
 
 @structure
@@ -151,7 +145,7 @@ class Flags(Plain):
     compare: U8
     clip: U8
     extra: U8
-    _parts = formatting.flag_parts
+    _structure = 3
 
     @property
     def vco(self) -> int:
@@ -177,7 +171,7 @@ class Divider(Plain):
     input: U16
     output: U16
     loaded: U16
-    _parts = formatting.divider_parts
+    _structure = 4
 
 
 @structure
@@ -187,10 +181,7 @@ class SpWords(Plain):
 
     words: SpItems
     interrupt: U32
-    _parts = formatting.sp_words_parts
-
-    def __str__(self) -> str:
-        return "\n".join(formatting.line([part]) for part in self._parts())
+    _structure = 5
 
 
 @structure
@@ -214,7 +205,7 @@ class Traced(Plain):
     vector: U8
     stored: U8
     lanes: Lanes
-    _parts = formatting.traced_parts
+    _structure = 6
 
     @property
     def text(self) -> str:
@@ -222,9 +213,6 @@ class Traced(Plain):
         from . import text  # here, because the package is made of this module
 
         return text(self.word, self.pc)
-
-    def __str__(self) -> str:
-        return formatting.traced(self)
 
 
 @structure
@@ -245,11 +233,7 @@ class Changes(Plain):
     quadword: U16
     accumulators: Accumulators
     bytes: StoredBytes
-    _parts = formatting.changed_parts
-
-    def __str__(self) -> str:
-        rest = formatting.line(formatting.rest_parts(self))
-        return "\n".join([str(self.traced), *formatting.acc(self.accumulators), rest])
+    _structure = 7
 
 
 @structure
@@ -273,7 +257,7 @@ class State(_Counters):
     npc: U16
     sp: Sp
     interrupt: U32
-    _parts = formatting.state_parts
+    _structure = 0
 
     def __init__(self, *values: Any, **fields: Any) -> None:
         super().__init__(*values, **fields)
@@ -282,10 +266,6 @@ class State(_Counters):
             self.sp[2] = self.sp[3] = 0xFF8
         if "npc" not in given:
             self.npc = (self.pc + 4) % 4096
-
-    def __str__(self) -> str:
-        lines = [*formatting.regs(self), *formatting.vregs(self.vectors), f"{self.flags} {self.divider}"]
-        return "\n".join(lines)
 
 
 def unset(kind: Type[_P]) -> _P:

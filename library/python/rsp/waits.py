@@ -36,7 +36,7 @@ from typing import Iterator, List, Mapping, NamedTuple, Optional, Sequence, Set,
 
 from . import DMEM, IMEM, Move, Reason, Machine, Status
 from . import errors as _errors
-from .compare import quadwords
+from .helpers import quadwords
 
 __all__ = ["AHEAD", "Missing", "Transfer", "causes", "missing"]
 

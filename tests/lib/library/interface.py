@@ -15,14 +15,14 @@ Interface = Dict[str, str]  # by kind and name
 
 
 def numbers() -> Iterator[Tuple[str, str]]:
-    """The enumerators and macros of brsp.h that are numbers."""
-    text = re.sub(r"(?s)/\*.*?\*/", "", page("library/c/brsp.h"))
+    """The enumerators and macros of the headers that are numbers."""
+    text = re.sub(r"(?s)/\*.*?\*/", "", page("library/c/brsp.h") + page("library/c/brsp_helpers.h"))
     yield from re.findall(r"\b(BRSP_\w+) = (\d+)", text)
     yield from re.findall(r"(?m)^#define (BRSP_\w+) (\d+)$", text)
 
 
 def interface() -> Interface:
-    """The interface of brsp.h and rsp_c as they are."""
+    """The interface of both headers and of rsp_c as they are."""
     pairs = ((call.name, *shapes.in_c(call)) for call in shapes.INTERFACE.calls)
     found = {f"symbol {name}": f"{result} ({given})" for name, result, given in pairs}
     for name, (size, fields) in shapes.layouts().items():

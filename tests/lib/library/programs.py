@@ -11,6 +11,8 @@ from lib.library import shapes
 from lib.processes import STRICT, compiled, run, succeeds
 
 HERE = TESTS / "library/c"
+# What of the library is in C, for the sanitizers, which don't see what is compiled without them.
+HELPERS = sorted((TOP / "library/c/helpers").glob("*.c"))
 # The words that say which language a compiler compiles.
 LANGUAGES = {"cc": ("-std=c99",), "c++": ("-x", "c++", "-std=c++11")}
 by_both = pytest.mark.parametrize(

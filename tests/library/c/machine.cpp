@@ -274,6 +274,40 @@ static void test_compare()
     }
 }
 
+// An emulator that throws at one of its calls, and otherwise agrees.
+struct thrower : emulator {
+    int left;
+    explicit thrower(int calls) : left(calls) {}
+    void count()
+    {
+        if (!left--) throw std::string("thrown");
+    }
+    void run(uint32_t steps) { count(), m.run(steps); }
+    brsp_state get() { return count(), m.get(); }
+    void set(const brsp_state &state) { count(), m.set(state); }
+    bytes memory(uint32_t bank, uint32_t address, size_t length) { return count(), m.memory(bank, address, length); }
+    void load(uint32_t bank, uint32_t address, const bytes &data) { count(), m.load(bank, address, data); }
+};
+
+// What an emulator throws comes out, whichever call it is, and the machine goes on.
+static void test_throwing()
+{
+    int thrown = 0;
+    for (int calls = 0; calls < 100; calls++) {
+        machine m = made("ori $1, $0, 7\nmtc0 $1, $c3\nnop\nbreak\n");
+        thrower other(calls);
+        try {
+            const bool differs = brsp::first_difference(m, other, 2).has_value();
+            see("no difference", !differs && m.step() == BRSP_HALTED);
+        } catch (const std::string &) {
+            thrown++;
+            machine same(bytes(64));
+            see("the machine goes on", !brsp::first_difference(m, same) && m.step() == BRSP_HALTED);
+        }
+    }
+    see("each call throws", thrown > 20 && thrown < 100);
+}
+
 // The guilty step amid others of its stretch, each of which changes parts that the step before it didn't; and all that differs after it.
 static void test_guilty_step()
 {
@@ -308,6 +342,7 @@ int main()
     test_texts();
     test_sessions();
     test_compare();
+    test_throwing();
     test_guilty_step();
     std::printf("%d passed, %d failed\n", passed, failed);
     return failed != 0;

@@ -18,7 +18,9 @@ from lib.processes import run
 ROWS = data("calls")
 # What a name begins with that isn't the call's own: the class, of a machine or of a session.
 OWNERS = ("machine::", "Machine.", "Machine::")
-INTERNAL = "brsp_compare_", "brsp_savestate_"
+INTERNAL = "brsp_compare_"
+# The helpers that are calls in each language. The others are what languages make texts and searches of.
+HELPERS = {"brsp_save_state", "brsp_load_state"}
 
 
 def named(column: str) -> List[str]:
@@ -32,9 +34,9 @@ def body(text: str, form: str) -> str:
 
 
 def test_rows() -> None:
-    headers = page("library/c/brsp_compare.h") + page("library/c/brsp_savestate.h")
-    inline = re.findall(r"^static inline \w+ (brsp_\w+)\(", headers, re.M)
-    calls = {*shapes.CALLS} | {it for it in inline if not it.startswith(INTERNAL)}
+    inline = re.findall(r"^static inline \w+ (brsp_\w+)\(", page("library/c/brsp_compare.h"), re.M)
+    proved = {call.name for call in shapes.PROVED.calls}
+    calls = proved | HELPERS | {it for it in inline if not it.startswith(INTERNAL)}
     assert {*named("C")} == calls and len(ROWS) == len(calls)
     for row in ROWS:
         own = row["C"][len("brsp_") :]

@@ -156,7 +156,8 @@ def test_emulator_of_page(folder: Path, vectors: bytes, library: Path) -> None:
     assert len(calls) == 7 and all(calls)
     bodies = [f"{it[0][:-1]} {{ {'' if it[0].startswith('void') else 'return 0; '}}}\n" for it in calls if it]
     (folder / "mine.c").write_text("".join(['#include "brsp.h"\n', *bodies]))
-    made = compiled(folder / "mine", f"-I{library}", TOP / "conformance/runner.c", folder / "mine.c")
+    sources = TOP / "conformance/runner.c", TOP / "library/c/helpers/texts.c", folder / "mine.c"
+    made = compiled(folder / "mine", f"-I{library}", *sources)
     (folder / "SW.bin").write_bytes(vectors)
     ran = run(made, folder / "SW.bin")
     assert ran.returncode == 1 and ran.stdout.startswith("SW-000 (sw ")

@@ -12,7 +12,8 @@ import pytest
 
 from lib import TESTS, TOP
 from lib.library import LOCKSTEP
-from lib.library.programs import HERE, assert_passes, built
+from lib.library.programs import HELPERS, HERE, assert_passes, built
+from lib.library.refusals import assert_refused, given
 from lib.processes import compiled, succeeds
 from lib.program import run_program
 from lib.sanitizers import sanitizers
@@ -29,9 +30,13 @@ def words() -> Tuple[str, ...]:
     return sanitizers()
 
 
-@pytest.mark.parametrize("name", ("calls", "owner", "savestates", "threads"))
+@pytest.mark.parametrize("name", ("calls", "helpers", "owner", "savestates", "threads"))
 def test_program(name: str, words: Tuple[str, ...], folder: Path) -> None:
-    assert_passes(built(folder, HERE / f"{name}.c", "-pthread", *words))
+    assert_passes(built(folder, HERE / f"{name}.c", "-pthread", *words, *HELPERS))
+
+
+def test_refusals(words: Tuple[str, ...], folder: Path) -> None:
+    assert_refused("C", succeeds(built(folder, HERE / "refusals.c", *words, *HELPERS), input=given("C")))
 
 
 def test_lockstep(words: Tuple[str, ...], folder: Path) -> None:

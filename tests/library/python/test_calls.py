@@ -16,9 +16,9 @@ import pytest
 
 import rsp
 from lib.library.module import ENV, assert_raises, assert_refused, loaded
+from lib.library.refusals import ranges
 from lib.processes import succeeds
 from rsp import Reason, RspError, State, Status
-from rsp.errors import ARGUMENTS, WORD
 
 OUT = Status.OUT_OF_RANGE
 ANY: Any = rsp  # for calls that types forbid
@@ -125,7 +125,14 @@ def call_with(name: str, numbers: Any) -> None:
         getattr(loaded("mfc0 $1, $c0\nbreak\n", 4), name)(*numbers, *CALLS[name][len(numbers) :])
 
 
-@pytest.mark.parametrize("name", sorted({*ARGUMENTS} - {"missing"}))
+# The integers that calls take, by their names: what they may be, also in words.
+ARGUMENTS: Dict[str, Dict[str, Tuple[range, str]]] = {}
+for _call, _name, _allowed, _text in ranges():
+    if _name != "image":
+        ARGUMENTS.setdefault(_call, {})[_name] = _allowed, _text
+
+
+@pytest.mark.parametrize("name", sorted({*ARGUMENTS} - {"missing", "labels", "explain"}))
 def test_ranges(name: str) -> None:
     """A number is refused just outside its range, by a message that names it, and not at the range's ends,
     except that an address or a length below 2**32 may be outside a memory."""
@@ -145,7 +152,7 @@ def test_ranges(name: str) -> None:
             try:
                 call(value)
             except RspError as refused:
-                assert refused.status is not OUT or allowed == WORD.numbers
+                assert refused.status is not OUT or allowed == range(1 << 32)
         for wrong in ("5", 2.0, None, [7]):
             kind = f"{name}: {argument} is of type {type(wrong).__name__}, not an integer"
             assert_raises(TypeError, kind, call, wrong)

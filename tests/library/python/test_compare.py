@@ -101,13 +101,26 @@ def test_fault(fault: str, every: int) -> None:
 
 @pytest.mark.parametrize("every", (1, 64))
 def test_transfer(every: int) -> None:
-    """A DMA is a stretch of its own, after which RDRAM is compared."""
-    wrong = IMAGE[16:19] + b"\x93" + IMAGE[20:32]
-    quadword = ("RDRAM 010", int.from_bytes(IMAGE[16:32], "big"), int.from_bytes(wrong, "big"), 32)
-    machine, emulator = machines(PROGRAM, 4 * 8, TURNS, byte(rsp.RDRAM, 0x13))
+    """A DMA is a stretch of its own, after which the quadwords of RDRAM to which it wrote are compared."""
+    machine, emulator = machines(PROGRAM, 4 * 8, TURNS, byte(rsp.RDRAM, 0x0B))
     found = rsp.first_difference(machine, emulator, every)
     assert found and (found.step, found.text, found.word) == (9, "mtc0 $1, $c3", 0x40811800)
-    assert parts_of(found) == [quadword]
+    right = machine.memory(rsp.RDRAM, 0, 16)
+    wrong = right[:11] + bytes([right[11] ^ 0x80]) + right[12:]
+    assert right == IMAGE[:8] + b"\0\0\0\7" + IMAGE[4:8], "the second transfer writes what the first one read"
+    assert parts_of(found) == [("RDRAM 000", int.from_bytes(right, "big"), int.from_bytes(wrong, "big"), 32)]
+
+
+@pytest.mark.parametrize("limit, steps", ((1000, HEAD + TURN * TURNS + 1), (HEAD + 2, HEAD + 2), (9, 9)))
+def test_rdram_where_no_transfer_wrote(limit: int, steps: int) -> None:
+    """All of RDRAM is compared at the end, and the text says how to find the step."""
+    machine, emulator = machines(PROGRAM, 4 * 8, TURNS, byte(rsp.RDRAM, 0x13))
+    found = rsp.first_difference(machine, emulator, limit=limit)
+    assert found and (found.step, found.steps, found.address, found.before) == (steps, steps, 0, alone(0))
+    assert [it[0] for it in parts_of(found)] == ["RDRAM 010"]
+    said = f"steps 1 to {steps}, from 000 on: RDRAM differs where no DMA wrote: repeat with a smaller limit\n"
+    assert str(found).startswith(said)
+    assert rsp.first_difference(*machines(PROGRAM, 4 * 8, TURNS, byte(rsp.RDRAM, 0x13)), limit=8) is None
 
 
 def test_no_difference_up_to_a_halt() -> None:
@@ -153,8 +166,8 @@ def test_stretch_that_single_steps_do_not_show() -> None:
     whole = emulator_with(Faulty, run=lambda it, steps: (Faulty.run(it, steps), steps == 1 or it.lane()))
     found = rsp.first_difference(machine, whole, 3)
     assert found and (found.step, found.steps, found.address, found.before) == (3, 3, 0, alone(0))
-    text = "steps 1 to 3, from 000 on: no step alone differs, so get and set leave something out\n  "
-    assert str(found).startswith(text)
+    text = "steps 1 to 3, from 000 on: no step alone differs, so get and set leave something out"
+    assert str(found).startswith(f"{text}: repeat with every = 1\n  ")
     assert str(machine.listing(0, 1)[0]) == "000 34010007 ori $1, $0, 0x0007"
 
 
@@ -181,7 +194,10 @@ SHORT_IMEM = {"memory": lambda it, bank, *place: rsp.Machine.memory(it, bank, *p
 WRONG: Dict[str, Tuple[Dict[str, Any], Type[Exception]]] = {
     "first_difference: the emulator's memory(0, 0, 4096) has 8 bytes": (SHORT, ValueError),
     "first_difference: the emulator's memory(1, 0, 4096) has 8 bytes": (SHORT_IMEM, ValueError),
-    "diff: other is of type NoneType, not rsp.State": ({"get": lambda it: None}, TypeError),
+    "first_difference: the emulator's get() is of type NoneType, not rsp.State": (
+        {"get": lambda it: None},
+        TypeError,
+    ),
 }
 
 
@@ -191,3 +207,49 @@ def test_wrong_emulator(message: str) -> None:
     (machine, _), (methods, kind) = machines(), WRONG[message]
     assert_raises(kind, message, rsp.first_difference, machine, emulator_with(Faulty, **methods))
     assert machine.get() == alone(0)
+
+
+class Interrupts(rsp.Rsp):
+    """An emulator in whose n-th call Ctrl-C comes."""
+
+    left = 0
+
+    def _count(self) -> None:
+        self.left -= 1
+        if self.left < 0:
+            raise KeyboardInterrupt
+
+    def run(self, steps: int) -> Any:
+        self._count()
+        return super().run(steps)
+
+    def get(self) -> rsp.State:
+        self._count()
+        return super().get()
+
+    def set(self, state: rsp.State) -> None:
+        self._count()
+        super().set(state)
+
+    def memory(self, bank: int, address: int, length: int) -> bytes:
+        self._count()
+        return super().memory(bank, address, length)
+
+    def load(self, bank: int, address: int, data: bytes) -> None:
+        self._count()
+        super().load(bank, address, data)
+
+
+def test_interrupted() -> None:
+    """Ctrl-C in any call of the emulator comes out, and the machine goes on from there."""
+    interrupted = 0
+    for calls in range(100):
+        (machine, _), other = machines(), Interrupts(IMAGE)
+        other.left = calls
+        try:
+            assert rsp.first_difference(machine, other, limit=20) is None
+        except KeyboardInterrupt:
+            interrupted += 1
+        assert rsp.first_difference(machine, Faulty(IMAGE)) is None
+        assert machine.step() is rsp.Status.HALTED
+    assert 20 < interrupted < 100

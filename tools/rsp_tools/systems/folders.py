@@ -8,15 +8,19 @@ from rsp_tools.packaging import link
 from rsp_tools.targets import TARGETS
 
 from . import macos, wasm, web_page, windows
+from .modules import LIBRARY, PROGRAM, WEB
 from .toolchain import Refused
 
 MAKERS = {"windows-x86_64": windows.make, "macos": macos.make, "wasm64": wasm.make, "page": web_page.make}
+
+IN_WASM = ("wasm64", "page")
 
 
 def make(name: str, out: Path) -> None:
     """Makes a folder. Refused if compiled/ isn't made of the sources as they are."""
     target = TARGETS[name]
-    if not all(build.is_made(f"compiled/{crate}.made") for crate in build.BUILT):
+    crates = (PROGRAM, LIBRARY, *[WEB] * (name in IN_WASM))
+    if not all(build.is_made(f"compiled/{crate.made}") for crate in crates):
         raise Refused(link.STALE)
     if not target.is_linux:
         MAKERS[name](out)

@@ -1,4 +1,4 @@
-"""What library/c/brsp.h declares, the version of the project, and templates with both."""
+"""What library/c/brsp.h and brsp_helpers.h declare, the version of the project, and templates with both."""
 
 import re
 from pathlib import Path
@@ -15,9 +15,19 @@ def found(form: str, path: Path) -> Tuple[str, ...]:
     return match.groups()
 
 
+def declared(path: Path) -> List[str]:
+    """The names of the functions that a header declares."""
+    return re.findall(r"^(?:uint32_t |size_t |void |const char \*)(brsp_\w+)\(", path.read_text(), re.M)
+
+
+def helpers() -> List[str]:
+    """Those of the helpers."""
+    return declared(places.HELPERS)
+
+
 def calls() -> List[str]:
-    """The names of the calls that the header declares."""
-    return re.findall(r"^(?:uint32_t|void) (brsp_\w+)\(", places.HEADER.read_text(), re.M)
+    """All that the library exports."""
+    return declared(places.HEADER) + helpers()
 
 
 def interface() -> str:

@@ -8,7 +8,7 @@ from typing import Callable, Dict, List, Tuple
 from rsp_tools import hardening
 from rsp_tools.targets import TARGETS
 
-from . import header, places
+from . import header, helpers, places
 from .toolchain import Word, llvm
 
 OLDEST, TARGET = "11.0", TARGETS["macos"]
@@ -27,7 +27,8 @@ def link_library(to: Path, triple: str, assembly: Path) -> None:
     exports.write_text("".join(f"_{it}\n" for it in header.calls()))
     words: List[Word] = ["-install_name", "@rpath/libbrsp.dylib", "-current_version", header.version()]
     words += ["-compatibility_version", header.interface(), "-exported_symbols_list", exports]
-    link(to, triple, "-dylib", *words, made)
+    with tempfile.TemporaryDirectory() as at:
+        link(to, triple, "-dylib", *words, made, *helpers.objects(triple, Path(at)))
 
 
 def link_program(to: Path, triple: str, *parts: Path) -> None:

@@ -15,7 +15,7 @@ from rsp_tools import build
 from rsp_tools.proof import guarded
 from rsp_tools.targets import PROCESSORS
 
-from . import places
+from . import helpers, places
 from .toolchain import Refused, kit, llvm
 
 
@@ -35,12 +35,13 @@ Source = Callable[[str], Module]
 
 class Crate(NamedTuple):
     """A crate of which there are modules, with the words of `rattle build` for it; and of its files in
-    compiled/ how their names end, and the C in them."""
+    compiled/ how their names end, the C in them, and the name of their mark."""
 
     name: str
     words: str
     end: str
-    parts: str
+    parts: List[Path]
+    made: str
 
     @property
     def out(self) -> Path:
@@ -49,8 +50,12 @@ class Crate(NamedTuple):
 
 # git looks for the version before among files whose names have the same last letters, so no two files may
 # have those (tests/install/test_assembled.py).
-PROGRAM = Crate("rsp_main", "src/main.rt", "rsp", "heap.c")
-LIBRARY = Crate("rsp_c", "src/lib.rt --crate-type staticlib", "lib", "heap.c allocator.c memory_wasm.c")
+HEAP = places.PARTS / "heap.c"
+WITH_HEAP = [HEAP, places.PARTS / "allocator.c", places.PARTS / "memory_wasm.c"]
+PROGRAM = Crate("rsp_main", "src/main.rt", "rsp", [HEAP], "rsp_main.made")
+LIBRARY = Crate("rsp_c", "src/lib.rt --crate-type staticlib", "lib", [HEAP], "rsp_c.made")
+# The library in WebAssembly has a mark of its own: cc compiles the helpers elsewhere, so a change of them makes only this file stale.
+WEB = LIBRARY._replace(end="wasm", parts=[*WITH_HEAP, *helpers.FILES], made="rsp_wasm.made")
 
 
 def mark(crate: Crate) -> str:

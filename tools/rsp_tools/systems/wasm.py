@@ -5,17 +5,19 @@ import shutil
 from pathlib import Path
 from typing import List
 
-from . import header, places
+from . import header, helpers, places
 from .modules import module
 from .rewriting import PSHUFB, rewritten, with_swizzle, without_processor
 from .toolchain import llvm
 
-CLANG = ["--target=wasm64-unknown-unknown", "-msimd128", "-mbulk-memory", "-ffreestanding"]
+TRIPLE = "wasm64-unknown-unknown"
+FEATURES = ["-msimd128", "-mbulk-memory"]
+CLANG = [f"--target={TRIPLE}", *FEATURES, "-ffreestanding"]
 # Without the name of the processor, because heap.c would ask it for its instruction sets.
 LINUX = ["--target=x86_64-unknown-linux-gnu", "-ffreestanding", "-U__x86_64__"]
 CHANGES = [without_processor, with_swizzle]
 SCRIPTS = places.TOP / "library" / "js"
-# The library, the kit's functions of the heap, and what these need.
+# The library, the kit's functions of the heap, and what these need. The helpers are linked with them.
 PARTS = ["rsp", "heap", "allocator", "memory_wasm"]
 
 
@@ -36,7 +38,7 @@ def objects(at: Path) -> List[Path]:
         llvm("clang", *flags, at / f"{name}.o", "-x", "ir", at / f"{name}.ll")
     for name in PARTS[2:]:
         llvm("clang", *CLANG, "-O2", "-fno-builtin", "-c", "-o", at / f"{name}.o", places.PARTS / f"{name}.c")
-    return [at / f"{name}.o" for name in PARTS]
+    return [*(at / f"{name}.o" for name in PARTS), *helpers.objects(TRIPLE, at, *FEATURES)]
 
 
 def link(out: Path, files: List[Path], *words: str) -> None:

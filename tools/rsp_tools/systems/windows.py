@@ -10,7 +10,7 @@ from rsp_tools import hardening
 from rsp_tools.packaging import link
 from rsp_tools.targets import TARGETS
 
-from . import header, places
+from . import header, helpers, places
 from .toolchain import call, llvm
 
 TARGET = TARGETS["windows-x86_64"]
@@ -50,13 +50,15 @@ def make_library(out: Path, at: Path) -> None:
     exports = at / "rsp.def"
     exports.write_text("".join(f"{it}\n" for it in ("LIBRARY brsp.dll", "EXPORTS", *header.calls())))
     words = ["-shared", "-static-libgcc", "-s", SAME, BASE, SMALL, *hardening.words(TARGET.name, "link")]
-    parts = at / "gnu.o", resources(at, "brsp.dll", "VFT_DLL"), exports
+    gnu = [at / "gnu.o", *helpers.objects(GNU, at)]
+    parts = *gnu, resources(at, "brsp.dll", "VFT_DLL"), exports
     call(TARGET.compiler, *words, "-o", out / TARGET.shared, *parts)
     words = ["-m", "i386:x86-64", "-D", "brsp.dll"]
     llvm("llvm-dlltool", *words, "-d", exports, "-l", out / "lib/libbrsp.dll.a")
     llvm("llvm-lib", "/machine:x64", f"/def:{exports}", f"/out:{out}/lib/brsp.lib")
-    llvm("llvm-ar", "rcsD", out / "lib/libbrsp.a", at / "gnu.o")
-    llvm("llvm-ar", "rcsD", "--format=coff", out / "lib/brsp_static.lib", at / "msvc.o")
+    llvm("llvm-ar", "rcsD", out / "lib/libbrsp.a", *gnu)
+    msvc = [at / "msvc.o", *helpers.objects(MSVC, at)]
+    llvm("llvm-ar", "rcsD", "--format=coff", out / "lib/brsp_static.lib", *msvc)
 
 
 def describe(out: Path) -> None:
