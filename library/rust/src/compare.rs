@@ -97,10 +97,7 @@ fn answer(emulator: &mut impl Emulator, request: &raw::Request, bytes: &mut [u8]
         request_kind::SET => emulator.set(&State::from_bytes(bytes).unwrap_or_default()),
         request_kind::LOAD => emulator.load(bank_of(request.bank), request.address, bytes),
         request_kind::GET => bytes.copy_from_slice(emulator.get().as_bytes()),
-        _ => {
-            bytes.fill(0);
-            emulator.memory(bank_of(request.bank), request.address, bytes);
-        }
+        _ => emulator.memory(bank_of(request.bank), request.address, bytes),
     }
 }
 

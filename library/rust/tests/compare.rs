@@ -80,7 +80,7 @@ fn byte_of_imem(machine: &mut Machine) {
 }
 
 fn byte_of_rdram(machine: &mut Machine) {
-    machine.load(Bank::Rdram, 0x3, &[0x85]).unwrap();
+    machine.load(Bank::Rdram, 0xb, &[0x85]).unwrap();
 }
 
 fn byte_where_no_dma_wrote(machine: &mut Machine) {

@@ -17,6 +17,7 @@ import pytest
 
 from lib import TESTS, TOP
 from lib.library import LOCKSTEP
+from lib.library.refusals import assert_refused, given
 from lib.library.savestates import IMAGE, STEPS, TEXT
 from lib.packages import need
 from lib.pages import page
@@ -82,6 +83,12 @@ def test_savestates(runner: Any) -> None:
 def test_wrong_uses(runner: Any) -> None:
     table = (TESTS / "library/wrong_uses.tsv").read_text()
     assert runner.test("wrong_uses.js").decode().split("\n") == table.splitlines()[1:]
+
+
+@in_javascript
+def test_refusals(runner: Any) -> None:
+    (runner.at / "refusals.txt").write_text(given("JavaScript"))
+    assert_refused("JavaScript", runner.test("refusals.js", "/at/refusals.txt").decode())
 
 
 @in_javascript

@@ -209,7 +209,7 @@ def test_wrong_emulator(message: str) -> None:
     assert machine.get() == alone(0)
 
 
-class Interrupts(rsp.Rsp):
+class Interrupts(rsp.Machine):
     """An emulator in whose n-th call Ctrl-C comes."""
 
     left = 0

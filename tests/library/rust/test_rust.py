@@ -37,6 +37,7 @@ def cargo(library: Path) -> Iterator[Cargo]:
         given = {"RSP_LIB_DIR": library, "CARGO_TARGET_DIR": f"{folder}/target"}
         where: Any = {**os.environ, **given, "RSP_SCRIPTS": TESTS / "program/scripts"}
         where["RSP_WRONG_USES"] = TESTS / "library/wrong_uses.tsv"
+        where["RSP_REFUSALS"] = TESTS / "library/refusals.tsv"
         yield lambda *words, **more: run("cargo", *words, cwd=at, env={**where, **more})
 
 

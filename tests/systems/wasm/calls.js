@@ -541,6 +541,10 @@ function wrong_methods() {
   const head = "steps 1 to 4, from 000 on: no step alone differs, so get and set leave something out: repeat with every = 1";
   same("and its text", String(whole).split("\n")[0], head);
   refused(TypeError, () => rsp.first_difference(loaded(source), changed({ get: () => ({}) })), "get() is of type object, not State");
+  const large = []; // the library's memory grows for them, and then has another place
+  const growing = { get() { large.push(new Machine(new Uint8Array(1 << 22))); return Machine.prototype.get.call(this); } };
+  same("an emulator for which memory grows", rsp.first_difference(loaded(source), changed(growing)), null);
+  large.forEach((it) => it.free());
 }
 
 /** What an emulator throws comes to the caller. The machine can be used, and the memory of the search is given back. */
