@@ -43,14 +43,16 @@ def copy_with_changes(folder: Path) -> None:
 def test_command(folder: Path) -> None:
     """It names each stale file with the command that writes it, writes it, and then finds nothing."""
     copy_with_changes(folder)
-    names = sorted({*files()} - {"library/rust/src/shapes.rs"})  # which has nothing of what changes
+    structs, each_call = "library/rust/src/shapes.rs", "tests/library/c/each_call.h"
+    names = sorted({*files()} - {structs})  # which has nothing of what changes
     sentence = "isn't what the library exports: type tools/shapes, which writes it anew"
     checked = run(folder / "tools/shapes", "--check")
     assert checked.returncode == 1
     assert sorted(checked.stdout.splitlines()) == [f"{name} {sentence}" for name in names]
     written = succeeds(folder / "tools/shapes").splitlines()
     assert sorted(written) == [f"wrote {name}" for name in names]
-    for name in names:
+    assert "brsp_shown, " in (folder / each_call).read_text()
+    for name in {*names} - {each_call}:
         text = (folder / name).read_text()
         assert "brsp_shown" in text and "brsp_part_sentence" in text and "moved" in text
         assert "brsp_peek" not in text and "brsp_part_text" not in text

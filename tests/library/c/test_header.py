@@ -11,10 +11,10 @@ from typing import Dict
 import pytest
 
 from lib import TOP
-from lib.library import shapes
+from lib.library import names, shapes
 from lib.library.programs import main_of, output_of
 from lib.packages import need
-from lib.pages import data, page
+from lib.pages import page
 from lib.processes import STRICT, compiled, succeeds
 from rsp_tools.shapes import header
 
@@ -32,6 +32,7 @@ USES = [
     *product(C_FILES, ("gcc", "clang"), OF_C),
     *product(["tests/library/c/uses.cpp"], ("g++", "clang++"), [f"-std=c++20 {it}" for it in LEVELS]),
     *product(["tests/library/c/uses.cpp"], ("g++", "clang++"), OF_CPP),
+    *product(["tests/library/c/machine.cpp"], ("g++", "clang++"), ["-std=c++20 -O2"]),
 ]
 
 
@@ -110,6 +111,7 @@ def test_warnings(source: str, compiler: str, way: str, folder: Path) -> None:
 
 def test_uses() -> None:
     """What is compiled for warnings uses each name of brsp.hpp, and each function that brsp.h defines."""
-    used = re.findall(r"\w+", page("tests/library/c/uses.c") + page("tests/library/c/uses.cpp"))
-    names = [row["C++"].rpartition("::")[2].strip("~-") for row in data("calls")]
-    assert {*names, *re.findall(r"static inline .*(brsp_\w+)\(", HEADER)} - {*used, ""} == set()
+    files = ("uses.c", "uses.cpp", "machine.cpp")
+    used = re.findall(r"\w+", "".join(page(f"tests/library/c/{name}") for name in files))
+    expected = [name.rpartition("::")[2].strip("~") for name in names.named("C++")]
+    assert {*expected, *re.findall(r"static inline .*(brsp_\w+)\(", HEADER)} - {*used} == set()

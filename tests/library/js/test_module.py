@@ -16,7 +16,7 @@ from typing import Any, Dict, Iterator, List, Tuple
 import pytest
 
 from lib import TESTS, TOP
-from lib.library import LOCKSTEP
+from lib.library import LOCKSTEP, values
 from lib.library.refusals import assert_refused, given
 from lib.library.savestates import IMAGE, STEPS, TEXT
 from lib.packages import need
@@ -83,6 +83,15 @@ def test_savestates(runner: Any) -> None:
 def test_wrong_uses(runner: Any) -> None:
     table = (TESTS / "library/wrong_uses.tsv").read_text()
     assert runner.test("wrong_uses.js").decode().split("\n") == table.splitlines()[1:]
+
+
+@in_javascript
+def test_values(runner: Any) -> None:
+    """What calls give, by the table of Python and JavaScript."""
+    rows = values.rows()
+    (runner.at / "values.json").write_text(json.dumps({"text": values.TEXT, "rows": [*rows]}))
+    found = runner.test("values.js", "/at/values.json").decode().splitlines()
+    assert dict(zip(rows, map(json.loads, found))) == rows
 
 
 @in_javascript

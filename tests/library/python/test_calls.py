@@ -8,6 +8,7 @@ import pickle
 import signal
 import sys
 from contextlib import suppress
+from inspect import signature
 from pathlib import Path
 from typing import Any, Callable, Dict, Iterator, Set, Tuple, Union
 from unittest import mock
@@ -35,20 +36,30 @@ transfer: mtc0 $3, $c3
 end: break
 """
 
-# Each call of a machine and of a session, with arguments: numbers come first.
-CALLS: Dict[str, Tuple[Any, ...]] = {
-    "copy": (), "get": (), "set": (State(),), "load": (0, 0, b"abcd"), "load_words": (0, 0, [1]),
-    "memory": (0, 0, 4), "memory_words": (0, 0, 1), "start_task": (0,), "set_pc": (8,), "step": (),
-    "step_changes": (), "run": (1,), "run_until_move": (1, 0, 0), "trace": (1,), "back": (1,),
-    "pass_move": (0,), "add_break": (4,), "drop_break": (4,), "add_watch": (0, 1), "drop_watch": (0,),
-    "reg": (1,), "regs": (), "vreg": (1,), "set_reg": (1, 0), "set_vreg": (1, range(8)), "acc": (),
-    "flags": (), "divider": (), "read": (7,), "peek": (7,), "write": (4, 2), "sp": (),
-    "set_sp": (rsp.SpWords(),), "listing": (0, 1), "event": (1, 0, 0), "pass_dma": (), "history": (),
-    "close": (),
+# The arguments of calls of a machine that aren't all 1: numbers come first.
+GIVEN: Dict[str, Tuple[Any, ...]] = {
+    "set": (State(),), "load": (0, 0, b"abcd"), "load_words": (0, 0, [1]), "memory": (0, 0, 4),
+    "memory_words": (0, 0, 1), "start_task": (0,), "set_pc": (8,), "run_until_move": (1, 0, 0),
+    "event": (1, 0, 0), "add_break": (4,), "drop_break": (4,), "add_watch": (0, 1), "set_reg": (1, 0),
+    "set_vreg": (1, range(8)), "write": (4, 2), "set_sp": (rsp.SpWords(),), "listing": (0, 1),
 }  # fmt: skip
 OF_A_SESSION: Dict[str, Tuple[Any, ...]] = {"feed": ("step\n",), "end": (), "close": ()}
 # Those that are made of other calls.
-NO_CALL = {"iter_trace", "memory_array", "iter_feed", "save_state", "load_state", "run_to_halt"}
+NO_CALL = {"iter_trace", "memory_array", "save_state", "load_state", "run_to_halt"}
+
+
+def methods_of(kind: type) -> Set[str]:
+    """The public methods of a class."""
+    return {name for name in dir(kind) if callable(getattr(kind, name)) and not name.startswith("_")}
+
+
+def usual(name: str) -> Tuple[int, ...]:
+    """The arguments of a method of a machine that takes numbers alone."""
+    return (1,) * (len(signature(getattr(rsp.Machine, name)).parameters) - 1)
+
+
+# Each call of a machine, with arguments.
+CALLS = {name: GIVEN.get(name, usual(name)) for name in sorted(methods_of(rsp.Machine) - NO_CALL)}
 # Calls that aren't a machine's, or give no result at once, by their numbers.
 FUNCTIONS: Dict[str, Callable[..., object]] = {
     "Machine": lambda depth: rsp.Machine(bytes(64), depth),
@@ -68,14 +79,8 @@ def halted() -> rsp.Machine:
     return machine
 
 
-def methods_of(kind: type) -> Set[str]:
-    """The public methods of a class."""
-    return {name for name in dir(kind) if callable(getattr(kind, name)) and not name.startswith("_")}
-
-
 def test_calls_at_work() -> None:
     """While another call is at work, each call is refused, and the library isn't reached."""
-    assert methods_of(rsp.Machine) == {*CALLS} | NO_CALL - {"iter_feed"}
     assert methods_of(rsp.Session) == {*OF_A_SESSION, "iter_feed"}
     machine, session = loaded("nop\nbreak\n", 4), rsp.Session(bytes(64))
     before, dmem = machine.get(), machine.memory(rsp.DMEM, 0, 4096)

@@ -9,7 +9,7 @@ from pathlib import Path
 from typing import Dict
 
 from rsp_tools import TOP
-from rsp_tools.shapes import crate, header, javascript, python, rust
+from rsp_tools.shapes import c, crate, header, javascript, python, rust
 from rsp_tools.shapes.interface import Interface, joined
 
 
@@ -26,8 +26,9 @@ def library() -> Interface:
 
 def files() -> Dict[str, str]:
     """Each file as it is written, by its path in the repository."""
-    found = library()
-    return {**rust.files(found, comments()), **javascript.files(found), **python.files(found)}
+    proved, found = crate.interface(), library()
+    made = [rust.files(found, comments()), javascript.files(found), python.files(found), c.files(proved)]
+    return {name: text for some in made for name, text in some.items()}
 
 
 def stale() -> Dict[str, str]:

@@ -20,5 +20,17 @@ def objects(triple: str, at: Path, *words: str) -> List[Path]:
     """An object of each source for a triple of clang, in a folder."""
     made = [at / f"{triple}-{path.stem}.o" for path in SOURCES]
     for path, to in zip(SOURCES, made):
-        llvm("clang", f"--target={triple}", *WORDS, "-nostdinc", "-isystem", HEADERS, *words, "-c", "-o", to, path)
+        llvm(
+            "clang",
+            f"--target={triple}",
+            *WORDS,
+            "-nostdinc",
+            "-isystem",
+            HEADERS,
+            *words,
+            "-c",
+            "-o",
+            to,
+            path,
+        )
     return made
