@@ -3,7 +3,7 @@
 #include "fuzz.h"
 #include "brsp_savestate.h"
 
-enum { MACHINES = 3, SESSIONS = 2, MOST_CALLS = 64, MOST_STEPS = 20000, SEEN = 8192, FRESH = 0xa5 };
+enum { MACHINES = 3, AT_DMEM = 784, SESSIONS = 2, MOST_CALLS = 64, MOST_STEPS = 20000, SEEN = 8192, FRESH = 0xa5 };
 
 /* What is read of a machine: all but the bytes of RDRAM from SEEN on. */
 typedef struct view {
@@ -356,7 +356,7 @@ static uint32_t load_state(attempt *a)
     if (kind % 8 < 7 && brsp_save_state(from, bytes, 0, &len) == BRSP_NO_ROOM) {
         bytes = a->given[0] = room(len);
         MUST(brsp_save_state(from, bytes, len, &len) == BRSP_OK);
-        for (uint32_t n = take_number(a->in, 1) % 4; n; n--) bytes[take_number(a->in, 2) % (kind % 4 ? BRSP_SAVESTATE_AT_DMEM : len)] = (uint8_t)take_number(a->in, 1);
+        for (uint32_t n = take_number(a->in, 1) % 4; n; n--) bytes[take_number(a->in, 2) % (kind % 4 ? AT_DMEM : len)] = (uint8_t)take_number(a->in, 1);
         if (kind >= 192) len = take_edge(a->in) % (len + 1);
     } else {
         len = take_edge(a->in) % 10000;

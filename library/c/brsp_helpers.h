@@ -3,8 +3,8 @@
  * states, of refusals and of differences. These functions are part of the library, and are written in C
  * over the proved calls.
  *
- * What brsp.h says of handles, pointers and buffers also holds here. The functions allocate nothing, keep
- * nothing between two calls, and call nothing of yours.
+ * What brsp.h says of handles, pointers and buffers also holds here, and a call has BRSP_STACK bytes of
+ * stack. The functions allocate nothing, keep nothing between two calls, and call nothing of yours.
  *
  * Texts: a function that returns size_t and takes `text` and `capacity` does what snprintf does. It
  * returns the number of bytes of the whole text, without a final NUL. It writes as many of them as fit,

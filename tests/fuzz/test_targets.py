@@ -19,6 +19,7 @@ from lib.processes import Ended, run, succeeds
 from lib.sanitizers import WITHOUT_LEAKS, sanitizers
 from rsp_tools.fuzz.seeds import SEEDS, dictionary
 from rsp_tools.fuzz.targets import TARGETS, compiler, link
+from rsp_tools.systems import header
 
 FUZZ, FAULTS = TOP / "fuzz", TESTS / "fuzz/faults.c"
 RUNTIME = "/usr/lib/llvm-*/lib/clang/*/lib/linux/libclang_rt.fuzzer-x86_64.a"
@@ -35,6 +36,7 @@ class Edit(NamedTuple):
 
 
 MEMORIES, RUNNER = "plugin/memories.c", "conformance/runner.c"
+SEARCH, SAVESTATE = "library/c/helpers/search.c", "library/c/helpers/savestate.c"
 # The faults of each target: numbers of faults.c, or edits of the sources in C.
 FAULTS_OF: Dict[str, List[int]] = {"calls": [1, 2, 3], "scripts": [4, 5, 6], "texts": [7, 8, 9]}
 EDITS_OF: Dict[str, List[Edit]] = {
@@ -47,6 +49,11 @@ EDITS_OF: Dict[str, List[Edit]] = {
         Edit(RUNNER, "p.bank > 3 || ", ""),
         Edit(RUNNER, " || p.length > length_of(p.bank) - p.address", ""),
         Edit(RUNNER, " || h.size > (size_t)(file->end - file->at)", ""),
+    ],
+    "helpers": [
+        Edit("library/c/helpers/writer.h", "w->length + 1 < w->capacity", "w->length < w->capacity"),
+        Edit(SEARCH, "return (size_t)((to < s->image ? to : s->image) - from);", "return (size_t)(to - from);"),
+        Edit(SAVESTATE, "if (length < AT_LENGTH) return BRSP_SAVESTATE_LENGTH;", ""),
     ],
 }
 
@@ -104,11 +111,10 @@ def test_arguments(arguments: str, status: int, folder: Path) -> None:
 
 
 def test_each_call_is_made() -> None:
-    header = (TOP / "library/c/brsp.h").read_text()
-    made = "".join((FUZZ / f"{name}.c").read_text() for name in ("calls", "scripts", "texts"))
+    made = "".join((FUZZ / f"{name}.c").read_text() for name in ("calls", "scripts", "texts", "helpers"))
     macros = {f"brsp_{name}" for name in re.findall(r"^(?:LOOK|LOOK_AT|CHANGE)\((\w+)", made, re.M)}
     named = {*re.findall(r"\bbrsp_\w+", made + (FUZZ / "fuzz.h").read_text()), *macros}
-    assert {*re.findall(r"^(?:uint32_t|void) (brsp_\w+)\(", header, re.M)} - named == set()
+    assert {*header.calls()} - named - {"brsp_memory_parts"} == set()  # which a difference is made of
 
 
 @pytest.mark.parametrize("name", EDITS_OF)

@@ -85,22 +85,10 @@ static uint32_t see_mine(brsp_machine *m, uint8_t *bytes)
     return status;
 }
 
-/* Reads all of the machine's RDRAM. */
-static uint32_t see_rdram(brsp_machine *m, const search *s, uint8_t *bytes)
+/* Reads so many bytes of the machine's RDRAM. */
+static uint32_t see_rdram(brsp_machine *m, const search *s, uint8_t *bytes, uint32_t address, size_t len)
 {
-    return brsp_memory(m, BRSP_RDRAM, 0, bytes + rdram_at(s, MINE), (size_t)s->image);
-}
-
-/* Reads the quadwords of the machine's RDRAM in which these bytes are, and takes them for the emulator's, of which only these bytes are compared. */
-static uint32_t see_quadwords(brsp_machine *m, const search *s, uint8_t *bytes, uint32_t address, size_t len)
-{
-    const uint32_t from = address - address % QUADWORD;
-    size_t to = address + len + QUADWORD - 1;
-    to -= to % QUADWORD;
-    if (to > s->image) to = (size_t)s->image;
-    const uint32_t status = brsp_memory(m, BRSP_RDRAM, from, bytes + rdram_at(s, MINE) + from, to - from);
-    if (status == BRSP_OK) memcpy(bytes + rdram_at(s, ITS) + from, bytes + rdram_at(s, MINE) + from, to - from);
-    return status;
+    return brsp_memory(m, BRSP_RDRAM, address, bytes + rdram_at(s, MINE) + address, len);
 }
 
 static size_t state_parts(const uint8_t *bytes, brsp_part *parts, size_t capacity)
@@ -241,7 +229,7 @@ static uint32_t compare_moved(brsp_machine *m, search *s, uint8_t *bytes)
     len = next_row(s, &address);
     if (len) {
         ask(s, BRSP_REQUEST_MEMORY, BRSP_RDRAM, address, rdram_at(s, ITS) + address, len);
-        return see_quadwords(m, s, bytes, address, len);
+        return see_rdram(m, s, bytes, address, len);
     }
     if (s->is_moved || differ(bytes)) {
         end(s, s->steps + 1, 1);
@@ -254,7 +242,7 @@ static uint32_t compare_moved(brsp_machine *m, search *s, uint8_t *bytes)
 /* After the last step: compares RDRAM. */
 static uint32_t compare_end(brsp_machine *m, search *s, uint8_t *bytes)
 {
-    uint32_t status = see_rdram(m, s, bytes);
+    uint32_t status = see_rdram(m, s, bytes, 0, (size_t)s->image);
     const int is_found = is_other(bytes + rdram_at(s, MINE), bytes + rdram_at(s, ITS), (size_t)s->image);
     memcpy(bytes + kept_at(STEP), bytes + kept_at(START), sizeof(brsp_state));
     s->line = s->start;
@@ -297,7 +285,7 @@ uint32_t brsp_search_begin(brsp_machine *m, uint32_t every, uint32_t limit, uint
     s.every = every;
     s.limit = limit;
     status = see_mine(m, bytes);
-    if (status == BRSP_OK) status = see_rdram(m, &s, bytes);
+    if (status == BRSP_OK) status = see_rdram(m, &s, bytes, 0, image);
     state = state_of(bytes, state_at(MINE));
     if (status == BRSP_OK) status = brsp_listing(m, state.pc, &s.start, 1);
     s.line = s.start;

@@ -111,17 +111,22 @@ def first_difference(
     that differs, and the machine's history is empty. Raises RspError with OUT_OF_RANGE if `every` or `limit`,
     0 to 4294967295, isn't in its range, and ValueError if the emulator gives too few or too many bytes.
     """
-    from . import _lib, _numbers  # which are made after this module is loaded
+    from . import _lib, _numbers, _quick  # which are made after this module is loaded
 
     call, request = "first_difference", Request()
+    to = byref(request)
     every, limit = _numbers(call, every, limit)
     search = (c_uint8 * _lib.brsp_search_bytes(machine.image_length))()
     data = memoryview(search).cast("B")
     status = machine._call_alone(call, _lib.brsp_search_begin, every, limit, search, len(search))
     machine._check_done(status, call, (every, limit))
     while True:
-        status = machine._call_alone(call, _lib.brsp_search_next, search, byref(request))
-        machine._check_done(status, call)
+        if request.kind == RequestKind.MEMORY and request.bank:  # the last of some: the machine may run
+            status = machine._call_alone(call, _lib.brsp_search_next, search, to)
+        else:
+            status = _quick.brsp_search_next(machine._at, search, to)
+        if status:
+            machine._check_done(status, call)
         if request.kind == RequestKind.OVER:
             break
         _answer(emulator, request, data[request.at : request.at + request.len])

@@ -365,6 +365,11 @@ static size_t flags(char *to, size_t n)
     static const brsp_flag_bits it = { 1, 2, 3, 4, 5 };
     return brsp_structure_text(BRSP_OF_FLAGS, &it, to, n);
 }
+static size_t traced(char *to, size_t n)
+{
+    static const brsp_traced it = { 0xac010040, 7, 0x12c, 0x40, 0x102, 0x304, 5, 2, 3, 1, { 1, 2, 3, 4, 5, 6, 7, 0xffff } };
+    return brsp_structure_text(BRSP_OF_TRACED, &it, to, n);
+}
 static size_t unknown_kind(char *to, size_t n) { return brsp_structure_text(8, &given, to, n); }
 static size_t part(char *to, size_t n) { return brsp_part_text(&parts[0], "here", "there", to, n); }
 static size_t difference(char *to, size_t n) { return brsp_difference_text(&given, to, n); }
@@ -387,6 +392,7 @@ static void texts(void)
     cut_text(without_number, "drop_break: it has no breakpoint");
     cut_text(wrong_bank, "load: 9 has no breakpoint");
     cut_text(flags, "vco 0201 vcc 0403 vce 05");
+    cut_text(traced, "12c ac010040 $2 00000007 $v3 0001 0002 0003 0004 0005 0006 0007 ffff stored 040 vco 0102 vcc 0304 vce 05");
     cut_text(unknown_kind, "");
     cut_text(ignored, "ctc2 $12, $vcc, with ignored bits");
     cut_text(jump, "j 0x008, with ignored bits");

@@ -91,6 +91,7 @@ static void test_states()
     state.flags = { 1, 2, 4, 8, 16 };
     const std::string text = brsp::to_string(state), end = "\nvco 0201 vcc 0804 vce 10 in 0000 out 0000 loaded 0";
     see("a state as text", text.substr(0, 35) == "pc 000 npc 004\nr00 00000000 0000000" && text.find("\nr04 00000000 0000004d ") != text.npos);
+    see("its accumulators", text.find("\na0 000000000000\na1 ") != text.npos && text.find("\na7 000000000000\nvco ") != text.npos);
     see("its end", text.size() > end.size() && text.substr(text.size() - end.size()) == end);
     refuses(BRSP_OUT_OF_RANGE, "set_reg: register 0 holds 0, and not 9", [&] { m.set_reg(0, 9); });
     refuses(BRSP_OUT_OF_RANGE, "set_vreg: number is 32, not 0 to 31", [&] { m.set_vreg(32, brsp_lanes{}); });
@@ -289,6 +290,15 @@ struct thrower : emulator {
     void load(uint32_t bank, uint32_t address, const bytes &data) { count(), m.load(bank, address, data); }
 };
 
+// An emulator that gives no bytes of DMEM after its first answer.
+struct silent : emulator {
+    int answers = 0;
+    bytes memory(uint32_t bank, uint32_t address, size_t length)
+    {
+        return bank == BRSP_DMEM && answers++ ? bytes() : m.memory(bank, address, length);
+    }
+};
+
 // What an emulator throws comes out, whichever call it is, and the machine goes on.
 static void test_throwing()
 {
@@ -306,6 +316,11 @@ static void test_throwing()
         }
     }
     see("each call throws", thrown > 20 && thrown < 100);
+    machine m = made("ori $1, $0, 7\nsw $1, 0($0)\nbreak\n");
+    silent other;
+    m.load(BRSP_DMEM, 16, { 1 });
+    const auto found = brsp::first_difference(m, other);
+    see("no bytes are zeros", found && found->step == 1 && std::string(found->parts[0].name) == "DMEM 010");
 }
 
 // The guilty step amid others of its stretch, each of which changes parts that the step before it didn't; and all that differs after it.

@@ -175,7 +175,7 @@ def test_state_that_is_kept() -> None:
     """An emulator may keep the state that it gets, and change it."""
 
     class Keeps(Faulty):
-        fault = 0, 0, Faulty.lane
+        fault: Optional[Tuple[int, int, Callable[[Faulty], None]]] = (0, 0, Faulty.lane)
 
         def set(self, state: rsp.State) -> None:
             self.kept = state
@@ -187,6 +187,8 @@ def test_state_that_is_kept() -> None:
 
     found = rsp.first_difference(machines()[0], Keeps(IMAGE))
     assert found and (found.step, found.before) == (1, alone(0))
+    Keeps.fault = None
+    assert rsp.first_difference(machines()[0], Keeps(IMAGE)) is None, "the machine doesn't get what it changes"
 
 
 SHORT = {"memory": lambda it, *place: rsp.Machine.memory(it, *place)[:8]}

@@ -92,6 +92,15 @@ def runner() -> Iterator[bytes]:
     yield bytes([1, 0])
 
 
-GENERATORS = (calls, scripts, texts, plugin, runner)
+def helpers() -> Iterator[bytes]:
+    """Searches over a DMA to RDRAM and a loop, with right answers and spoilt ones; then texts of each kind."""
+    transfer = bytes.fromhex("3401004034020fff40810800408218002108ffff1500fffe0000000d")
+    for image, every, spoilt in product(range(4), (1, 13), (0, 240)):
+        yield bytes([4, image, every, 60, len(transfer) // 4]) + transfer + bytes([0, 0, spoilt, 0, 5, 9]) * 64
+    for kind, number in product(range(4), range(9)):
+        yield bytes([kind, number, 20]) + bytes(range(256)) * 8
+
+
+GENERATORS = (calls, scripts, texts, plugin, runner, helpers)
 SEEDS: Dict[str, Callable[[], Iterator[bytes]]] = {generate.__name__: generate for generate in GENERATORS}
 WITH_DICTIONARY = ("scripts", "texts")

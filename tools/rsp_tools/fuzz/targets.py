@@ -10,7 +10,15 @@ from rsp_tools.systems.toolchain import Word, call
 FLAGS = "-O1 -fno-omit-frame-pointer -fsanitize=address,undefined,fuzzer-no-link"
 FLAGS += " -fno-sanitize-recover=undefined"
 # The sources that a target tests, where it doesn't include them.
-TARGETS = {"calls": "", "scripts": "", "texts": "", "plugin": "plugin/*.c", "runner": ""}
+HELPERS = "library/c/helpers/*.c"
+TARGETS = {
+    "calls": HELPERS,
+    "scripts": "",
+    "texts": "",
+    "plugin": "plugin/*.c",
+    "runner": "library/c/helpers/texts.c",
+    "helpers": HELPERS,
+}
 
 
 def compiler() -> List[str]:
