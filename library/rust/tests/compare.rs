@@ -228,38 +228,54 @@ fn an_emulator_that_keeps_nothing_differs_before_the_first_step() {
     assert_eq!((found.step, found.registers.len(), found.memories[0].bank), (0, 0, Bank::Imem));
 }
 
-/// One that panics: in its first run, or when its registers are asked for.
+/// One that panics in a method.
 struct Panics {
-    is_in_run: bool,
+    inner: Faulty,
+    method: &'static str,
+}
+
+impl Panics {
+    fn enter(&self, method: &'static str) {
+        if method == self.method {
+            std::panic::panic_any(method);
+        }
+    }
 }
 
 impl Emulator for Panics {
-    fn run(&mut self, _: u32) {
-        assert!(!self.is_in_run, "a run");
+    fn run(&mut self, steps: u32) {
+        self.enter("run");
+        self.inner.run(steps);
     }
 
     fn get(&self) -> State {
-        assert!(self.is_in_run, "registers");
-        alone(0)
+        self.enter("get");
+        self.inner.get()
     }
 
-    fn set(&mut self, _: &State) {}
+    fn set(&mut self, state: &State) {
+        self.enter("set");
+        self.inner.set(state);
+    }
 
     fn memory(&self, bank: Bank, address: u32, bytes: &mut [u8]) {
-        pair(0, 99, lane).0.memory(bank, address, bytes).unwrap();
+        self.enter("memory");
+        self.inner.memory(bank, address, bytes);
     }
 
-    fn load(&mut self, _: Bank, _: u32, _: &[u8]) {}
+    fn load(&mut self, bank: Bank, address: u32, bytes: &[u8]) {
+        self.enter("load");
+        self.inner.load(bank, address, bytes);
+    }
 }
 
 #[test]
 fn a_panic_of_an_emulator_leaves_the_machine_whole() {
-    for is_in_run in [false, true] {
-        let (mut machine, _) = pair(0, 99, lane);
-        let ended = catch_unwind(AssertUnwindSafe(|| first_difference(&mut machine, &mut Panics { is_in_run }, 1, 9)));
-        let message = if is_in_run { "a run" } else { "registers" };
-        assert_eq!(ended.unwrap_err().downcast_ref(), Some(&message));
-        assert_eq!(machine.get().unwrap(), alone(u32::from(is_in_run)));
+    for method in ["run", "get", "set", "memory", "load"] {
+        let (mut machine, inner) = pair(0, 99, lane);
+        let ended = catch_unwind(AssertUnwindSafe(|| first_difference(&mut machine, &mut Panics { inner, method }, 1, 9)));
+        assert_eq!(ended.unwrap_err().downcast_ref(), Some(&method));
+        assert_eq!(machine.get().unwrap(), alone(u32::from(method == "run")));
         assert_eq!(machine.run(9).unwrap().steps, 9);
     }
 }
