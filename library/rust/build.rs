@@ -61,7 +61,9 @@ fn built(target: &str) -> PathBuf {
     for name in mark.lines().nth(1).unwrap_or("").split(' ') {
         ["src", "specs", "proofs"].iter().for_each(|part| println!("cargo:rerun-if-changed=../../crates/{name}/{part}"));
     }
-    [MARK, "../../crates.txt", "../c/brsp.h"].iter().for_each(|name| println!("cargo:rerun-if-changed={name}"));
+    [MARK, "../../crates.txt", "../c/brsp.h", "../c/brsp_helpers.h", "../c/helpers"]
+        .iter()
+        .for_each(|name| println!("cargo:rerun-if-changed={name}"));
     println!("cargo:rerun-if-env-changed={variable}");
     let out = PathBuf::from(env::var_os("OUT_DIR").expect("cargo names a folder"));
     let ended = Command::new("sh").arg(BUILD).env("CC", compiler).env("RSP_OUT", &out).status();
