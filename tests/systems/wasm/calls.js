@@ -542,7 +542,12 @@ function wrong_methods() {
   same("and its text", String(whole).split("\n")[0], head);
   refused(TypeError, () => rsp.first_difference(loaded(source), changed({ get: () => ({}) })), "get() is of type object, not State");
   const large = []; // the library's memory grows for them, and then has another place
-  const growing = { get() { large.push(new Machine(new Uint8Array(1 << 23))); return Machine.prototype.get.call(this); } };
+  const growing = {
+    get() {
+      for (let n = 0; n < 4; n++) large.push(new Machine(new Uint8Array(1 << 23)));
+      return Machine.prototype.get.call(this);
+    },
+  };
   same("an emulator for which memory grows", rsp.first_difference(loaded(source), changed(growing)), null);
   large.forEach((it) => it.free());
 }
