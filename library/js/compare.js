@@ -1,117 +1,74 @@
 /** The first step after which an emulator differs from the machine. */
 
-import { Difference, Part, Status } from "./shapes.js";
-import { numbers, refusal } from "./errors.js";
+import { RequestKind } from "./shapes.js";
+import { layout } from "./layout.js";
+import { HANDLE, HERE, before_zero, bytes_at, copied, lent, numbers, ok, struct, text_of, wasm, written } from "./library.js";
+import { State, parts_at } from "./plain.js";
 
-const NAMES = ["DMEM", "IMEM", "RDRAM"], LENGTHS = 1 << 2 | 1 << 3, QUADWORD = 16;
+const CALL = "first_difference", FOUND = layout("brsp_difference");
+const [BEFORE, PARTS] = ["before", "parts"].map((name) => BigInt(FOUND.fields.find((it) => it.name === name).offset));
 
 class FirstDifference {
-  constructor(step, line, before, parts, steps = 1) { Object.assign(this, { step, ...line, before, parts, steps }); }
+  #text;
 
-  #head() {
-    const place = this.address.toString(16).padStart(3, "0");
-    if (this.steps === 1) return `step ${this.step}, ${place}: ${this.text}`;
-    const steps = `steps ${this.step - this.steps + 1} to ${this.step}, from ${place} on`;
-    return `${steps}: no step alone differs, so get and set leave something out`;
+  constructor(found, parts, text) {
+    const { step, steps, line: { address, word, text: line }, before } = found;
+    Object.assign(this, { step, address, word, text: before_zero(line), before, parts, steps });
+    this.#text = text;
   }
 
-  toString() {
-    return [this.#head(), ...this.parts.told("on the machine", "in the emulator").split("\n")].join("\n  ");
+  toString() { return this.#text; }
+}
+
+/** What an emulator gives: the bytes of its registers, or of a memory. */
+function given_by(emulator, { kind, bank, address, len }) {
+  if (kind === RequestKind.GET) {
+    const state = emulator.get();
+    if (state instanceof State) return state.bytes;
+    throw new TypeError(`${CALL}: the emulator's get() is of type ${typeof state}, not State`);
+  }
+  const bytes = emulator.memory(bank, address, len), { length } = bytes;
+  if (length === len) return bytes;
+  throw new RangeError(`${CALL}: the emulator's memory(${bank}, ${address}, ${len}) has ${length} bytes`);
+}
+
+/** Does what a search asks for. The emulator gets copies, which it may keep. */
+function answer(emulator, request, at) {
+  const { kind, steps, bank, address, len } = request;
+  if (kind === RequestKind.RUN) emulator.run(steps);
+  else if (kind === RequestKind.SET) emulator.set(State.from(copied(at, len)));
+  else if (kind === RequestKind.LOAD) emulator.load(bank, address, copied(at, len));
+  else {
+    const bytes = given_by(emulator, request); // which may give the library's memory another place
+    bytes_at(at, len).set(bytes);
   }
 }
 
-/** All registers of a side, DMEM, IMEM and so many bytes of RDRAM. Those of an emulator may be its own, not copies. */
-function seen(side, rdram = 0) {
-  const lengths = rdram ? [4096, 4096, rdram] : [4096, 4096];
-  return { state: side.get(), memories: lengths.map((length, bank) => side.memory(bank, 0, length)) };
-}
-
-/** Sets a side to copies of what was seen. */
-function restore(side, { state, memories }) {
-  side.set(state.copy());
-  memories.forEach((data, bank) => side.load(bank, 0, data.slice()));
-}
-
-function differs(ours, theirs, at = 0, length = ours.length) {
-  for (let n = at; n < at + length; n++) if (ours[n] !== theirs[n]) return true;
-  return false;
-}
-
-function quadword(bytes, at) {
-  return [...bytes.subarray(at, at + QUADWORD)].reduce((number, it) => number << 8n | BigInt(it), 0n);
-}
-
-/** What differs between two sides: registers, then quadwords of the memories that both show. */
-function parts_of(ours, theirs) {
-  const found = Difference.from(ours.state.diff(theirs.state));
-  theirs.memories.forEach((other, bank) => {
-    const here = ours.memories[bank];
-    for (let at = 0; at < other.length; at += QUADWORD) {
-      const length = Math.min(QUADWORD, other.length - at);
-      if (!differs(here, other, at, length)) continue;
-      const name = `${NAMES[bank]} ${at.toString(16).padStart(3, "0")}`;
-      found.push(new Part(name, quadword(here, at), quadword(other, at), 2 * QUADWORD));
-    }
+/** What a search has found, if it has found anything. */
+function found_by(search) {
+  return lent(CALL, FOUND.size, (at) => {
+    wasm.brsp_search_difference(search, at);
+    const found = struct("brsp_difference", at), { count } = found;
+    if (!count) return null;
+    const before = State.from(copied(at + BEFORE, State.size));
+    return lent(CALL, count * layout("brsp_part").size, (parts) => {
+      wasm.brsp_search_parts(search, parts);
+      new DataView(wasm.memory.buffer).setBigUint64(Number(at + PARTS), parts, true);
+      const text = written((...to) => wasm.brsp_difference_text(at, ...to));
+      return new FirstDifference({ ...found, before }, parts_at(parts, count), text);
+    });
   });
-  return found;
-}
-
-function is_same(ours, theirs) {
-  return ours.state.equals(theirs.state) && theirs.memories.every((other, bank) => !differs(ours.memories[bank], other));
-}
-
-/** One step of both: null if the machine can't make it, else the difference after it, or undefined. */
-function step(machine, emulator, number, rdram = 0) {
-  const before = machine.get(), [line] = machine.listing(before.pc, 1);
-  if (machine.step() !== 0) return null;
-  emulator.run(1);
-  const ours = seen(machine, rdram), theirs = seen(emulator, rdram);
-  return is_same(ours, theirs) ? undefined : new FirstDifference(number, line, before, parts_of(ours, theirs));
-}
-
-/** The step of a stretch after which they differ, or the whole stretch if no step alone shows it. */
-function narrowed(machine, emulator, before, first, steps, parts) {
-  restore(machine, before);
-  restore(emulator, before);
-  const [line] = machine.listing(before.state.pc, 1);
-  for (let n = first; n < first + steps; n++) {
-    const found = step(machine, emulator, n);
-    if (found) return found;
-  }
-  return new FirstDifference(first + steps - 1, line, before.state, parts, steps);
-}
-
-/** What both begin with, and the difference if the emulator hasn't kept it. */
-function begun(machine, emulator) {
-  const ours = seen(machine, machine.image_length);
-  restore(emulator, ours);
-  const theirs = seen(emulator, machine.image_length);
-  theirs.memories.forEach((other, bank) => {
-    const { length } = ours.memories[bank];
-    if (other.length === length) return;
-    throw new RangeError(`first_difference: the emulator's memory(${bank}, 0, ${length}) has ${other.length} bytes`);
-  });
-  const [line] = machine.listing(ours.state.pc, 1);
-  return [ours, is_same(ours, theirs) ? null : new FirstDifference(0, line, ours.state, parts_of(ours, theirs))];
 }
 
 export function first_difference(machine, emulator, every = 64, limit = 1000000) {
-  numbers("first_difference", [every, limit]);
-  if (every < 1 || every > 1000000) throw refusal(Status.OUT_OF_RANGE, "first_difference", [every, limit]);
-  let [before, found] = begun(machine, emulator), steps = 0;
-  while (!found && steps < limit) {
-    const made = machine.run_until_move(Math.min(every, limit - steps), 0, LENGTHS).steps;
-    if (made) {
-      emulator.run(made);
-      const ours = seen(machine), theirs = seen(emulator);
-      if (!is_same(ours, theirs)) return narrowed(machine, emulator, before, steps + 1, made, parts_of(ours, theirs));
-      before = ours;
-    } else { // it is before a DMA, or can't go on
-      found = step(machine, emulator, steps + 1, machine.image_length);
-      if (found === null) return null;
-      before = seen(machine);
+  const given = numbers(CALL, [every, limit]), length = wasm.brsp_search_bytes(BigInt(machine.image_length));
+  return lent(CALL, Number(length), (search) => {
+    ok(wasm.brsp_search_begin(machine[HANDLE], every, limit, search, length), CALL, given);
+    for (;;) {
+      ok(wasm.brsp_search_next(machine[HANDLE], search, HERE), CALL);
+      const request = struct("brsp_request");
+      if (request.kind === RequestKind.OVER) return found_by(search);
+      answer(emulator, request, search + BigInt(request.at));
     }
-    steps += made || 1;
-  }
-  return found ?? null;
+  });
 }

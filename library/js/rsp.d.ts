@@ -476,9 +476,10 @@ export interface Emulator {
   get(): State;
   /** Sets all registers. The state is the emulator's own. */
   set(state: State): unknown;
-  /** Bytes of DMEM, IMEM or RDRAM, which have 4096, 4096 and the machine's `image_length`. */
+  /** `length` bytes of DMEM, IMEM or RDRAM from an address on: all of a memory, and of RDRAM also those to which a DMA
+   * wrote. They have 4096, 4096 and the machine's `image_length`. */
   memory(bank: Bank, address: number, length: number): Uint8Array;
-  /** Writes bytes to a memory. */
+  /** Writes all bytes of a memory, from address 0 on. The bytes are the emulator's own. */
   load(bank: Bank, address: number, data: Uint8Array): unknown;
 }
 
@@ -487,8 +488,9 @@ export interface Emulator {
  *
  * `parts` lists what differs after the step, the machine's value first: registers, then quadwords of memories, such as
  * `DMEM 3f0`. Step 0 means that they differ before the first step, because the emulator didn't keep what `set` and
- * `load` gave it. If `steps` isn't 1, that many steps up to `step` lead to a difference, but none of them alone: then the
- * emulator has state that `get` and `set` don't carry. The first of these steps is at `address`. */
+ * `load` gave it. If `steps` isn't 1, that many steps up to `step` lead to a difference, and the first of them is at
+ * `address`: either one of them changed RDRAM where no DMA wrote, or none of them alone leads to it, because the emulator
+ * has state that `get` and `set` don't carry. `toString`, which has at most twenty lines, says which, and what helps. */
 export interface FirstDifference extends Line {
   step: number;
   before: State;
@@ -503,9 +505,9 @@ export interface FirstDifference extends Line {
  * After null, `machine.step()` tells these apart: it returns HALTED or RESERVED, unless the limit was the end.
  * Breakpoints and watches are ignored. First the machine's registers and memories are copied into the emulator. Then
  * both run in stretches of at most `every` steps, 1 to 1000000, which end before a DMA. After each stretch all registers,
- * DMEM and IMEM are compared, after a DMA also RDRAM. If they differ, both go back to the last comparison and are
- * stepped from there. Both are left after the step that differs, and the machine's history is empty. Throws a RangeError
- * if a memory of the emulator has a wrong length. */
+ * DMEM and IMEM are compared, after a DMA also the bytes of RDRAM to which it wrote, and at the end all of RDRAM. If
+ * they differ, both go back to the last comparison and are stepped from there. Both are left after the step that differs,
+ * and the machine's history is empty. Throws a RangeError if the emulator gives too few or too many bytes. */
 export function first_difference(
   machine: Machine, emulator: Emulator, every?: number, limit?: number,
 ): FirstDifference | null;

@@ -2,79 +2,30 @@
  * module calls is proved to follow the instruction table; the module is only tested. docs/EMBEDDING.md shows how to use
  * it, and rsp.d.ts lists all calls. */
 
-import { instantiated } from "./module.js";
-import { Accumulators, Bank, Changes, Divider, FIELDS, Flags, Reason, Scalars, SpWords, State, Status, Traced, layout,
-  read } from "./shapes.js";
-import { parts_of, saved } from "./savestate.js";
+import { Bank, REPLIES, Reason, SAVESTATE_BYTES, Status } from "./shapes.js";
+import { layout } from "./layout.js";
+import { HANDLE, HERE, ROOM, bytes_at, copied, given_to, length_at, lent, numbers, ok, refusal, struct, taken, text_of,
+  wasm, written } from "./library.js";
+import { Accumulators, Changes, Divider, Flags, Scalars, SpWords, State, Traced } from "./plain.js";
 import { joined, strict_replies } from "./strict.js";
-import { AssemblyError, RspError, allowed, bytes_of, numbers, refusal, state_refusal, words_of } from "./errors.js";
+import { AssemblyError, RspError, bytes_of, words_of } from "./errors.js";
 
-export { Accumulators, Bank, Changes, Difference, Divider, FAULTS, Fault, Flags, Part, Reason, Scalars, SpWords, State,
-  Status, Traced } from "./shapes.js";
-export { AssemblyError, RspError, ScriptError } from "./errors.js";
+export { Bank, Fault, Reason, Status } from "./shapes.js";
+export { Accumulators, Changes, Difference, Divider, Flags, Part, Scalars, SpWords, State, Traced } from "./plain.js";
+export { AssemblyError, FAULTS, RspError, ScriptError } from "./errors.js";
+export { VERSION } from "./library.js";
 export { first_difference } from "./compare.js";
 
 export const { DMEM, IMEM, RDRAM } = Bank;
-export const VERSION = 1;
 export const STATUS_WRITES = 1 << 16;
 
-/** The calls of brsp.h, without their prefix. */
-const CALLS = `version new copy free get set state_fault image_length load load_words memory memory_words start_task set_pc
-  step step_changes run run_until_move event trace back history pass_move pass_dma add_break drop_break
-  add_watch drop_watch reg regs vreg acc flags divider read peek write write_dma sp set_sp assemble labels text listing
-  explain explain_text explain_reply session_new session_take session_end session_memory session_free`.split(/\s+/);
-// Awaited while this module is imported, so that no call returns a promise.
-const wasm = await instantiated(new URL("./rsp.wasm", import.meta.url));
-if ((wasm.brsp_version?.() ?? VERSION) !== VERSION) {
-  throw new Error(`rsp.wasm has version ${wasm.brsp_version()} of the interface, and this module is for ${VERSION}`);
-}
-const missing = CALLS.map((it) => `brsp_${it}`).filter((it) => !(it in wasm));
-if (missing.length) throw new Error(`rsp.wasm is older than this module: it lacks ${missing.join(", ")}`);
-
-/** Addresses are BigInts for the calls. What a call fills or is given, up to ROOM bytes, is at HERE. */
-const ROOM = 1024, HERE = wasm.malloc(BigInt(ROOM)), CELL = 8n, NOTHING = cell("rsp");
-/** How many bytes a buffer for replies has. */
-const REPLIES = 16384;
-
-/** The bytes of the library's memory at an address; only until the next call. */
-function bytes_at(at, length) { return new Uint8Array(wasm.memory.buffer, Number(at), length); }
-
-function copied(at, length) { return bytes_at(at, length).slice(); }
-
-function ok(status, call, given) {
-  if (status !== Status.OK) throw refusal(status, call, given);
-}
-
-/** So many new bytes of the library's memory. */
-function taken(call, length) {
-  const at = wasm.malloc(BigInt(length));
-  if (!at) throw refusal(Status.NO_MEMORY, call);
-  return at;
-}
+const CELL = 8n, NOTHING = cell("rsp");
 
 /** A handle that holds nothing. */
 function cell(call) {
   const at = taken(call, Number(CELL));
   bytes_at(at, Number(CELL)).fill(0);
   return at;
-}
-
-/** What `work` returns of the address of so many bytes, which are freed then. */
-function lent(call, length, work) {
-  const at = taken(call, length);
-  try {
-    return work(at);
-  } finally {
-    wasm.free(at);
-  }
-}
-
-/** The same of a copy of these bytes. */
-function given_to(call, bytes, work) {
-  return lent(call, bytes.length, (at) => {
-    bytes_at(at, bytes.length).set(bytes);
-    return work(at);
-  });
 }
 
 /** Frees a handle, and by the call `free` what it holds. */
@@ -84,13 +35,6 @@ function release({ at, free }) {
 }
 
 const dropped = new FinalizationRegistry(release);
-
-function length_at(at) { return Number(new DataView(wasm.memory.buffer).getBigUint64(Number(at), true)); }
-
-/** The struct at an address. */
-function struct(kind, at = HERE) {
-  return read(kind, new DataView(wasm.memory.buffer, Number(at), layout(kind).size));
-}
 
 function stop_of({ reason, steps, pc, watch, word }) {
   const of = (only, value) => reason === only ? value : null;
@@ -108,18 +52,16 @@ function dma_of(dma) { return dma.rows ? { ...dma, to_rdram: dma.to_rdram !== 0 
 
 function bytes_of_words(words) { return new Uint8Array(words.buffer); }
 
-function text_of(bytes) { return new TextDecoder().decode(bytes); }
-
 function line_at(at) {
-  const { word, address, len } = struct("RspLine", at), text = BigInt(layout("RspLine").fields.at(-1).offset);
-  return { address, word, text: text_of(copied(at + text, len)) };
+  const { word, address, len, text } = struct("brsp_line", at);
+  return { address, word, text: text_of(text.subarray(0, len)) };
 }
 
 /** The fault of a text, which brsp_assemble has reported at HERE. */
 function assembly_error(origin, text, at, length) {
-  const { line, fault } = struct("RspAssembled");
+  const { line, fault } = struct("brsp_assembled");
   const status = wasm.brsp_explain(origin, at, length, HERE);
-  const why = status === Status.OK ? allowed(struct("RspOperand"), fault) : "";
+  const why = status === Status.OK ? written((...to) => wasm.brsp_operand_text(HERE, fault, ...to)) : "";
   return new AssemblyError(line, fault, text.split("\n")[line - 1]?.trim(), why);
 }
 
@@ -136,18 +78,18 @@ export function assemble(text, origin = 0) {
     const status = wasm.brsp_assemble(origin, at, length, words, 1024n, HERE);
     if (status === Status.NO_MEANING) throw assembly_error(origin, text, at, length);
     ok(status, "assemble", [origin]);
-    return new Uint32Array(copied(words, 4 * struct("RspAssembled").count).buffer);
+    return new Uint32Array(copied(words, 4 * struct("brsp_assembled").count).buffer);
   }));
 }
 
 export function labels(text, origin = 0) {
   assemble(text, origin);
-  const raw = new TextEncoder().encode(text), most = text.split("\n").length, { size, fields } = layout("RspLabel");
+  const raw = new TextEncoder().encode(text), most = text.split("\n").length, { size } = layout("brsp_label");
   return given_to("labels", raw, (at) => lent("labels", most * size, (to) => {
     ok(wasm.brsp_labels(origin, at, BigInt(raw.length), to, BigInt(most), HERE), "labels");
     return Object.fromEntries(Array.from({ length: length_at(HERE) }, (_, n) => {
-      const it = to + BigInt(n * size), { address, len } = struct("RspLabel", it);
-      return [text_of(copied(it + BigInt(fields.at(-1).offset), len)), address];
+      const { address, len, name } = struct("brsp_label", to + BigInt(n * size));
+      return [text_of(name.subarray(0, len)), address];
     }));
   }));
 }
@@ -188,11 +130,12 @@ function put_here(call, name, kind, given) {
   bytes_at(HERE, kind.size).set(given.bytes);
 }
 
+/** Why `set` refuses the state at HERE, which begins with the field; empty if it takes the state. */
+function state_refusal() { return written((...to) => wasm.brsp_state_refusal_text(HERE, ...to)); }
+
 export function state_fault(state) {
   put_here("state_fault", "state", State, state);
-  const at = HERE + BigInt(State.size);
-  ok(wasm.brsp_state_fault(HERE, at), "state_fault");
-  return FIELDS[new DataView(wasm.memory.buffer).getUint32(Number(at), true)] ?? null;
+  return state_refusal().split(" ")[0] || null;
 }
 
 /** A handle that holds a machine or a session, the call that frees it, and its image's length. `Machine.copy` hands one
@@ -204,11 +147,7 @@ class Held {
 /** A handle with a new machine or session of an image. */
 function held(call, image, given, make, free) {
   const bytes = bytes_of(call, "image", image), { length } = bytes;
-  numbers(call, given);
-  if (length % 8 || length < 64 || length > 1 << 23) {
-    throw new RspError(Status.OUT_OF_RANGE, `${call}: image has ${length} bytes, not a multiple of 8 from 64 to 8388608`);
-  }
-  return filled(call, given, length, (to) =>
+  return filled(call, numbers(call, [length, ...given]), length, (to) =>
     given_to(call, bytes, (at) => make(to, at, BigInt(length), ...given)), free);
 }
 
@@ -232,6 +171,8 @@ export class Machine {
     this.#at = own.at;
     dropped.register(this, own, this);
   }
+
+  get [HANDLE]() { return this.#at; }
 
   get image_length() {
     this.#fill("image_length", []);
@@ -277,7 +218,7 @@ export class Machine {
   set(state) {
     put_here("set", "state", State, state);
     const status = wasm.brsp_set(this.#at, HERE);
-    if (status === Status.OUT_OF_RANGE) throw new RspError(status, `set: ${state_refusal(state_fault(state), state)}`);
+    if (status === Status.OUT_OF_RANGE) throw new RspError(status, `set: ${state_refusal()}`);
     ok(status, "set");
   }
 
@@ -308,20 +249,23 @@ export class Machine {
   }
 
   save_state() {
-    this.#fill("save_state", [], "get");
-    const state = copied(HERE, State.size), lengths = [4096, 4096, this.image_length];
-    return saved(state, lengths.map((length, bank) => this.memory(bank, 0, length)));
+    this.#fill("save_state", [], "image_length");
+    const length = SAVESTATE_BYTES + length_at(HERE);
+    return lent("save_state", length, (at) => {
+      ok(wasm.brsp_save_state(this.#at, at, BigInt(length), HERE), "save_state");
+      return copied(at, length);
+    });
   }
 
   load_state(data) {
-    const bytes = bytes_of("load_state", "data", data);
-    this.#fill("load_state", [], "image_length");
-    const { why, state, memories } = parts_of(bytes, length_at(HERE));
-    if (why) throw new RspError(Status.OUT_OF_RANGE, `load_state: ${why}`);
-    const found = State.over(state), field = state_fault(found);
-    if (field) throw new RspError(Status.OUT_OF_RANGE, `load_state: ${state_refusal(field, found)}`);
-    this.set(found);
-    memories.forEach((it, bank) => this.load(bank, 0, it));
+    const bytes = bytes_of("load_state", "data", data), length = BigInt(bytes.length);
+    given_to("load_state", bytes, (at) => {
+      const status = wasm.brsp_load_state(this.#at, at, length);
+      if (status !== Status.OUT_OF_RANGE) return ok(status, "load_state");
+      const image = BigInt(this.image_length);
+      const why = written((...to) => wasm.brsp_savestate_refusal_text(at, length, image, ...to));
+      throw new RspError(status, `load_state: ${why}`);
+    });
   }
 
   start_task(address) { this.#call("start_task", [address]); }
@@ -343,17 +287,17 @@ export class Machine {
 
   run(steps) {
     this.#fill("run", [steps]);
-    return stop_of(struct("RspStop"));
+    return stop_of(struct("brsp_stop"));
   }
 
   run_until_move(steps, reads, writes) {
     this.#fill("run_until_move", [steps, reads, writes]);
-    return move_stop_of(struct("RspMove"));
+    return move_stop_of(struct("brsp_move"));
   }
 
   event(steps, reads = 0, writes = 0) {
     this.#fill("event", [steps, reads, writes]);
-    const { at, dma, status, interrupt } = struct("RspReached");
+    const { at, dma, status, interrupt } = struct("brsp_reached");
     return { ...move_stop_of(at), dma: dma_of(dma), status, interrupt: interrupt !== 0 };
   }
 
@@ -361,7 +305,7 @@ export class Machine {
     numbers("trace", [steps], 1000000);
     return lent("trace", steps * Traced.size, (at) => {
       ok(wasm.brsp_trace(this.#at, at, BigInt(steps), HERE), "trace", [steps]);
-      const stop = stop_of(struct("RspStop")), bytes = copied(at, stop.steps * Traced.size);
+      const stop = stop_of(struct("brsp_stop")), bytes = copied(at, stop.steps * Traced.size);
       const entry = (_, n) => Traced.over(bytes.subarray(n * Traced.size, (n + 1) * Traced.size));
       return [stop, Array.from({ length: stop.steps }, entry)];
     });
@@ -412,7 +356,7 @@ export class Machine {
 
   vreg(number) {
     this.#fill("vreg", [number]);
-    return new Uint16Array(copied(HERE, layout("RspLanes").size).buffer);
+    return new Uint16Array(copied(HERE, layout("brsp_lanes").size).buffer);
   }
 
   /** Sets what `change` does to the state. */
@@ -450,7 +394,7 @@ export class Machine {
 
   write_dma(number, value) {
     this.#fill("write_dma", [number, value]);
-    return dma_of(struct("RspDma"));
+    return dma_of(struct("brsp_dma"));
   }
 
   sp() { return this.#registers(SpWords, "sp"); }
@@ -461,7 +405,7 @@ export class Machine {
   }
 
   listing(address, count) {
-    const { size } = layout("RspLine"), given = numbers("listing", [address, count], 1024);
+    const { size } = layout("brsp_line"), given = numbers("listing", [address, count], 1024);
     return lent("listing", size * count, (at) => {
       ok(wasm.brsp_listing(this.#at, address, at, BigInt(count)), "listing", given);
       return Array.from({ length: count }, (_, n) => line_at(at + BigInt(n * size)));

@@ -18,7 +18,7 @@ from rsp_conformance.library_states import numbers_of, state_of
 BANKS = {"dmem": (rsp.DMEM, 0, 4096), "imem": (rsp.IMEM, 4096, 4096), "rdram": (rsp.RDRAM, 8192, 16384)}
 
 
-class Machine(rsp.Rsp):
+class Machine(rsp.Machine):
     """A machine with an RDRAM of 16384 bytes, which also has the methods that programs need."""
 
     def __init__(self, memories: bytes) -> None:

@@ -45,19 +45,6 @@ int main()
 """
 
 
-# What library/js makes of the bytes of a state and of the memories, and the parts that it finds in that.
-IN_JS = f"""import {{ parts_of, saved }} from "{TOP}/library/js/savestate.js";
-import {{ readFileSync, writeFileSync }} from "node:fs";
-const [state, ...memories] = ["state", "0", "1", "2"].map((it) => new Uint8Array(readFileSync(it)));
-const made = saved(state, memories), parts = parts_of(made, 256);
-writeFileSync("saved", made);
-const all = [parts.state, ...parts.memories].map((it) => Buffer.from(it).toString("hex"));
-const wrong = [made.slice(1), made.slice(0, 9), made.slice(0, -1)].map((it) => parts_of(it, 256).why);
-const others = [[4, 1], [11, 8], [705, 1]].map(([at, it]) => parts_of(made.with(at, it), 256).why);
-console.log(JSON.stringify({{ all, wrong, others: [...others, parts_of(made, 264).why] }}));
-"""
-
-
 @pytest.fixture(scope="module")
 def machine() -> rsp.Machine:
     made = rsp.Machine(IMAGE, 5)
@@ -139,23 +126,3 @@ def test_layout(machine: rsp.Machine) -> None:
     saved = machine.save_state()
     assert saved[:12] == b"RSPS" + (1).to_bytes(4, "big") + (256).to_bytes(4, "big")
     assert saved[8976:] == machine.memory(rsp.RDRAM, 0, 256) and len(saved) == 9232
-
-
-@pytest.mark.needs("node")
-def test_js(machine: rsp.Machine, folder: Path) -> None:
-    """Without the library: what turns the parts into bytes. The calls are tested where the library is."""
-    parts = [
-        bytes(machine.get()),
-        *(machine.memory(it, 0, size) for it, size in enumerate((4096, 4096, 256))),
-    ]
-    for name, part in zip(("state", "0", "1", "2"), parts):
-        (folder / name).write_bytes(part)
-    (folder / "saves.mjs").write_text(IN_JS)
-    output = json.loads(succeeds("node", "saves.mjs", cwd=folder))
-    assert (folder / "saved").read_bytes() == machine.save_state()
-    assert output["all"] == [it.hex() for it in parts]
-    lengths = [f"there are {it} bytes, not 8976 and those of the image" for it in (9, 9231, 9232)]
-    image = "its image has 256 bytes, and that of the machine 264"
-    version = "the savestate has version 16777217, not 1"
-    assert output["wrong"] == ["the bytes don't begin with RSPS", *lengths[:2]]
-    assert output["others"] == [version, lengths[2], "byte 705 isn't 0", image]

@@ -318,9 +318,10 @@ def test_output_that_cannot_be_written(is_full: bool, program: Path, folder: Pat
 @pytest.fixture(scope="module")
 def machine(library: Path) -> Iterator[Any]:
     """The library, by its module for Python."""
-    from rsp import Rsp  # here, because the import fails without a library, and `library` names the reason
+    # Here, because the import fails without a library, and `library` names the reason.
+    from rsp import Machine
 
-    with Rsp(IMAGE) as made:
+    with Machine(IMAGE) as made:
         yield made
 
 

@@ -70,7 +70,7 @@ class Emulator:
 class Counted:
     """An emulator for rsp.first_difference whose `steps` returns how many steps are done."""
 
-    def __init__(self, emulator: Any, compared: rsp.Rsp) -> None:
+    def __init__(self, emulator: Any, compared: rsp.Machine) -> None:
         self.emulator, self.compared, self.asked, self.done = emulator, compared, 0, 0
 
     def __getattr__(self, name: str) -> Any:
@@ -87,7 +87,7 @@ class Counted:
         return state
 
 
-def for_programs(emulator: Any, compared: rsp.Rsp) -> Any:
+def for_programs(emulator: Any, compared: rsp.Machine) -> Any:
     """An emulator with the methods that rsp.first_difference calls."""
     return Counted(emulator, compared) if hasattr(emulator, "steps") else emulator
 

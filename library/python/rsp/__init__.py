@@ -15,33 +15,33 @@ refused. docs/EMBEDDING.md says more.
 """
 
 import ctypes
-import enum
 import operator
 import os
 import sys
 import threading
 from array import array
-from ctypes import POINTER, Structure, addressof, byref, c_char_p, c_size_t, c_uint16, c_uint32, c_void_p
+from ctypes import Structure, addressof, byref, c_char_p, c_size_t, c_uint32, c_void_p
 from typing import Any, Callable, Container, Dict, Iterable, Iterator, List, Mapping, NamedTuple, Optional
 from typing import Sequence, Tuple, TypeVar, Union, cast
 
 from . import errors as _errors
 from . import fields as _fields
 from . import helpers as _helpers
+from . import shapes as _shapes
 from .compare import Emulator, FirstDifference, first_difference
 from .script import Ran, ScriptError
 from .script import strict_replies as _strict_replies
 from .helpers import Difference, Part
 from .symbols import resolved as _resolved
 from .state import Accumulators, Changes, Divider, Flags, Scalars, SpWords, State, Traced, unset
-from .errors import FAULTS, Fault
-from .fields import alike as _alike
+from .errors import FAULTS
+from .shapes import Bank, Fault, Reason, Status
 
 __version__ = "0.9.0"
 __all__ = [
     "DMEM", "FAULTS", "IMEM", "RDRAM", "VERSION", "Accumulators", "AssemblyError", "Bank", "Session",
     "Changes", "Difference", "Divider", "Dma", "Emulator", "Fault", "FirstDifference", "Flags", "Found",
-    "Line", "Machine", "Move", "NotHalted", "Part", "Ran", "Reason", "Rsp", "RspError", "STATUS_WRITES",
+    "Line", "Machine", "Move", "NotHalted", "Part", "Ran", "Reason", "RspError", "STATUS_WRITES",
     "Scalars", "ScriptError", "SpWords", "State", "Status", "Stop", "Timeline", "Traced", "Words",
     "assemble", "explain_reply", "explain_text", "first_difference", "run_script", "state_fault", "text",
 ]  # fmt: skip
@@ -73,52 +73,6 @@ def __getattr__(name: str) -> Any:
         return _numpy("rsp.STATE").dtype(State)
     except ImportError as fault:
         raise AttributeError(str(fault)) from None
-
-
-class Status(enum.IntEnum):
-    """What a call returns. No fault has one of these numbers: docs/FAULTS.md lists both."""
-
-    OK = 0
-    NO_MACHINE = 101
-    NO_MEMORY = 102
-    OUT_OF_RANGE = 103
-    HALTED = 104
-    RESERVED = 105
-    NO_MEANING = 106
-    TASK_PLACE = 107
-    TASK_SIZE = 108
-    BREAK_FULL = 109
-    BREAK_TWICE = 110
-    NO_BREAK = 111
-    WATCH_FULL = 112
-    NO_WATCH = 113
-    SHORT_HISTORY = 114
-    NO_ROOM = 115
-    ENDED = 116
-    TOO_LONG = 117
-    OTHER_WORD = 118
-
-
-class Bank(enum.IntEnum):
-    """The three memories."""
-
-    DMEM = 0
-    IMEM = 1
-    RDRAM = 2
-
-
-class Reason(enum.IntEnum):
-    """Why a run stopped."""
-
-    RESERVED = 0
-    HALT = 1
-    WATCH = 2
-    BREAK = 3
-    LIMIT = 4
-    MOVE = 5
-    DMA = 6
-    INTERRUPT = 7
-    STATUS = 8
 
 
 STATUS_WRITES = 1 << 16  # a bit of the mask `writes` of Machine.event
@@ -230,43 +184,6 @@ class Line(NamedTuple):
         return f"{self.address:03x} {self.word:08x} {self.text}"
 
 
-class _Stop(Structure):
-    _fields_ = [
-        *_alike(c_uint32, "reason", "steps"),
-        ("watch", c_size_t),
-        ("pc", c_uint16),
-        ("word", c_uint32),
-    ]
-
-
-class _Move(Structure):
-    _fields_ = [("stop", _Stop), *_alike(c_uint32, "word", "number", "writes", "value")]
-
-
-class _Dma(Structure):
-    _fields_ = _alike(c_uint32, "bank", "address", "rdram", "length", "rows", "skip", "to_rdram")
-
-
-class _Reached(Structure):
-    _fields_ = [("at", _Move), ("dma", _Dma), *_alike(c_uint32, "status", "interrupt")]
-
-
-class _Assembled(Structure):
-    _fields_ = [("count", c_size_t), ("line", c_size_t), ("fault", c_uint32)]
-
-
-class _Line(Structure):
-    _fields_ = [("word", c_uint32), ("address", c_uint16), ("len", c_uint16), ("text", ctypes.c_char * 68)]
-
-
-class _Label(Structure):
-    _fields_ = [("address", c_uint16), ("len", c_uint16), ("name", ctypes.c_char * 36)]
-
-
-class _Lanes(Structure):
-    _fields_ = [("lanes", c_uint16 * 8)]
-
-
 _NAME = {"win32": "brsp.dll", "darwin": "libbrsp.dylib"}.get(sys.platform, "libbrsp.so")
 
 
@@ -295,55 +212,20 @@ _set_item: Any = ctypes.Array.__setitem__
 _lib, _quick = ctypes.CDLL(_library()), ctypes.PyDLL(_library())
 if not getattr(sys, "_is_gil_enabled", lambda: True)():
     raise ImportError("rsp needs Python's GIL: the environment variable PYTHON_GIL=1 turns it on")
-# A handle is passed by its address: an integer costs a call less than a pointer does.
-_M, _U, _Z, _B, _W = c_void_p, c_uint32, c_size_t, c_char_p, POINTER(c_uint32)
-_CALLS = {
-    "brsp_version": [], "brsp_new": [_M, _B, _Z, _U], "brsp_copy": [_M, _M],
-    "brsp_get": [_M, POINTER(State)], "brsp_set": [_M, POINTER(State)],
-    "brsp_state_fault": [POINTER(State), _W], "brsp_load": [_M, _U, _U, _B, _Z],
-    "brsp_load_words": [_M, _U, _U, _W, _Z], "brsp_memory": [_M, _U, _U, c_void_p, _Z],
-    "brsp_memory_words": [_M, _U, _U, _W, _Z], "brsp_start_task": [_M, _U], "brsp_set_pc": [_M, _U],
-    "brsp_step": [_M], "brsp_step_changes": [_M, POINTER(Changes)], "brsp_run": [_M, _U, POINTER(_Stop)],
-    "brsp_image_length": [_M, POINTER(_Z)], "brsp_back": [_M, _U], "brsp_history": [_M, POINTER(_Z)],
-    "brsp_pass_move": [_M, _U], "brsp_pass_dma": [_M],
-    "brsp_run_until_move": [_M, _U, _U, _U, POINTER(_Move)],
-    "brsp_event": [_M, _U, _U, _U, POINTER(_Reached)],
-    "brsp_trace": [_M, POINTER(Traced), _Z, POINTER(_Stop)], "brsp_add_break": [_M, _U],
-    "brsp_drop_break": [_M, _U], "brsp_add_watch": [_M, _U, _U, POINTER(_Z)], "brsp_drop_watch": [_M, _U],
-    "brsp_reg": [_M, _U, _W], "brsp_regs": [_M, POINTER(Scalars)], "brsp_vreg": [_M, _U, POINTER(_Lanes)],
-    "brsp_acc": [_M, POINTER(Accumulators)], "brsp_flags": [_M, POINTER(Flags)],
-    "brsp_divider": [_M, POINTER(Divider)], "brsp_read": [_M, _U, _W], "brsp_peek": [_M, _U, _W],
-    "brsp_write": [_M, _U, _U], "brsp_write_dma": [_M, _U, _U, POINTER(_Dma)],
-    "brsp_sp": [_M, POINTER(SpWords)], "brsp_set_sp": [_M, POINTER(SpWords)],
-    "brsp_assemble": [_U, _B, _Z, _W, _Z, POINTER(_Assembled)], "brsp_text": [_U, _U, POINTER(_Line)],
-    "brsp_labels": [_U, _B, _Z, POINTER(_Label), _Z, POINTER(_Z)],
-    "brsp_listing": [_M, _U, POINTER(_Line), _Z], "brsp_explain": [_U, _B, _Z, POINTER(_errors.Operand)],
-    "brsp_explain_text": [_U, _B, _Z, c_void_p, _Z, POINTER(_Z)],
-    "brsp_explain_reply": [_Z, _B, _Z, _B, _Z, c_void_p, _Z, POINTER(_Z)],
-    "brsp_session_new": [_M, _B, _Z],
-    "brsp_session_take": [_M, c_void_p, _Z, c_void_p, c_void_p, _Z, c_void_p],
-    "brsp_session_end": [_M, c_void_p, _Z, c_void_p],
-    "brsp_session_memory": [_M, _U, _U, c_void_p, _Z],
-}  # fmt: skip
 VERSION = 1
-_names = (*_CALLS, "brsp_free", "brsp_session_free", *_helpers.CALLS)
-_missing = [_name for _name in _names if not hasattr(_lib, _name)]
+_missing = [_name for _name in _shapes.CALLS if not hasattr(_lib, _name)]
 _found = VERSION if "brsp_version" in _missing else _lib.brsp_version()
 if _found != VERSION:
     raise ImportError(f"{_NAME} has version {_found} of the interface, and this module is for {VERSION}")
 if _missing:
     raise ImportError(f"{_NAME} is older than this package: it lacks {', '.join(_missing)}")
 for _dll in _lib, _quick:
-    for _name, _types in _CALLS.items():
-        getattr(_dll, _name).argtypes, getattr(_dll, _name).restype = _types, _U
-    for _name in "brsp_free", "brsp_session_free":
-        getattr(_dll, _name).argtypes, getattr(_dll, _name).restype = [_M], None
-    for _name, (_result, _arguments) in _helpers.CALLS.items():
-        getattr(_dll, _name).argtypes, getattr(_dll, _name).restype = _arguments, _result
+    for _name, (_result, _types) in _shapes.CALLS.items():
+        getattr(_dll, _name).argtypes, getattr(_dll, _name).restype = _types, _result
 _helpers.use(_quick)
 
 _ZEROS = bytes(1 << 22)  # a session's image if none is given; no page of it is written
-_REPLIES, _ROOM = 16384, 65536  # what the library asks for, and what a session has
+_ROOM = 65536  # the bytes of a session's buffer for replies
 
 
 def _check(status: int, call: str = "", numbers: Sequence[int] = (), owner: str = "machine") -> None:
@@ -368,7 +250,7 @@ def _stop_of(out: Any) -> Stop:
     return stop
 
 
-def _move_stop_of(out: _Move) -> Stop:
+def _move_stop_of(out: _shapes.Move) -> Stop:
     """A stop, with the move that is next."""
     stop = _stop_of(out.stop)
     if stop.reason in (Reason.MOVE, Reason.DMA):
@@ -376,7 +258,7 @@ def _move_stop_of(out: _Move) -> Stop:
     return stop
 
 
-def _dma_of(out: _Dma) -> Optional[Dma]:
+def _dma_of(out: _shapes.Dma) -> Optional[Dma]:
     """A DMA, or None if it has no rows."""
     numbers = out.address, out.rdram, out.length, out.rows, out.skip
     return Dma(Bank(out.bank), *numbers, bool(out.to_rdram)) if out.rows else None
@@ -407,10 +289,10 @@ class Words(List[int]):
 
     def _labels_of(self, raw: bytes) -> Dict[str, int]:
         """The addresses of the labels of a text."""
-        found, count = (_Label * (raw.count(b"\n") + 1))(), c_size_t()
+        found, count = (_shapes.Label * (raw.count(b"\n") + 1))(), c_size_t()
         status = _lib.brsp_labels(self._origin, raw, len(raw), found, len(found), byref(count))
         _check(status, "assemble", [self._origin])
-        return {label.name.decode(): label.address for label in found[: count.value]}
+        return {bytes(label.name[: label.len]).decode(): label.address for label in found[: count.value]}
 
     @property
     def labels(self) -> Dict[str, int]:
@@ -442,10 +324,10 @@ def assemble(text: str, origin: int = 0, symbols: Optional[Mapping[str, int]] = 
     (origin,) = _numbers("assemble", origin)
     _errors.text_of("assemble", text)
     raw = (_resolved(text, symbols) if symbols else text).encode()
-    words, out = (c_uint32 * 1024)(), _Assembled()
+    words, out = (c_uint32 * 1024)(), _shapes.Assembled()
     status = _lib.brsp_assemble(origin, raw, len(raw), words, 1024, byref(out))
     if status == Status.NO_MEANING:
-        found = _errors.Operand()
+        found = _shapes.Operand()
         _lib.brsp_explain(origin, raw, len(raw), byref(found))  # without memory for it `found` stays zeros
         allowed = _helpers.text("brsp_operand_text", byref(found), out.fault)
         raise AssemblyError(out.line, out.fault, text.split("\n")[out.line - 1].strip(), allowed)
@@ -483,7 +365,7 @@ def explain_reply(lines: Union[str, bytes], reply: Union[str, bytes], before: in
 def text(word: int, address: int = 0) -> str:
     """The disassembly of a word below 2**32 for an address, a multiple of 4 below 4096."""
     word, address = _numbers("text", word, address)
-    out = _Line()
+    out = _shapes.Line()
     _check(_lib.brsp_text(word, address, byref(out)), "text", [word, address])
     return str(out.text.decode())
 
@@ -732,7 +614,7 @@ class Machine(_Owner):
 
     def run(self, steps: int) -> Stop:
         """Makes 1 to 1000000 steps, up to the first reason to stop."""
-        return _stop_of(self._fill_alone("run", _Stop(), steps))
+        return _stop_of(self._fill_alone("run", _shapes.Stop(), steps))
 
     def run_to_halt(self, limit: int = 100000000) -> Stop:
         """Runs to the halt. Raises NotHalted if something else stops the run: `limit` steps, a reserved word,
@@ -755,7 +637,7 @@ class Machine(_Owner):
         The reason is then Reason.MOVE. It may stop there before the first step. `pass_move` steps over the
         move, and `step` executes it.
         """
-        return _move_stop_of(self._fill_alone("run_until_move", _Move(), steps, reads, writes))
+        return _move_stop_of(self._fill_alone("run_until_move", _shapes.Move(), steps, reads, writes))
 
     def event(self, steps: int, reads: int = 0, writes: int = 0) -> Stop:
         """Runs to the next event, for a caller that owns RDRAM. As `run_until_move`, but also stops before
@@ -769,7 +651,7 @@ class Machine(_Owner):
         reason. Otherwise the reason is Reason.INTERRUPT if that step raised the interrupt, and Reason.STATUS
         if not. So compare `interrupt` with its value before, because the reason can hide an interrupt.
         """
-        out = self._fill_alone("event", _Reached(), steps, reads, writes)
+        out = self._fill_alone("event", _shapes.Reached(), steps, reads, writes)
         stop = _move_stop_of(out.at)
         stop.dma, stop.status, stop.interrupt = _dma_of(out.dma), out.status, bool(out.interrupt)
         return stop
@@ -777,7 +659,7 @@ class Machine(_Owner):
     def trace(self, steps: int) -> Tuple[Stop, List[Traced]]:
         """As `run`, with an entry for each step that it made."""
         (steps,) = _numbers("trace", steps, most=1000000)
-        out, stop = (Traced * steps)(), _Stop()
+        out, stop = (Traced * steps)(), _shapes.Stop()
         status = self._call_alone("trace", _lib.brsp_trace, out, steps, byref(stop))
         self._check_done(status, "trace", [steps])
         return _stop_of(stop), out[: stop.steps]
@@ -842,7 +724,7 @@ class Machine(_Owner):
 
     def vreg(self, number: int) -> List[int]:
         """The eight lanes of vector register `number`, 0 to 31."""
-        return list(self._fill("vreg", _Lanes(), number).lanes)
+        return list(self._fill("vreg", _shapes.Lanes(), number).lanes)
 
     def set_reg(self, number: int, value: int) -> None:
         """Sets scalar register `number`, 0 to 31, to a value below 2**32, and empties the history. Register 0
@@ -901,7 +783,7 @@ class Machine(_Owner):
     def write_dma(self, number: int, value: int) -> Optional[Dma]:
         """Writes SP register `number` as `write` does, but moves no byte. Returns the DMA that the write
         starts, whose bytes the caller then moves, or None."""
-        return _dma_of(self._fill("write_dma", _Dma(), number, value))
+        return _dma_of(self._fill("write_dma", _shapes.Dma(), number, value))
 
     def sp(self) -> SpWords:
         """All SP registers, with the interrupt flag."""
@@ -920,12 +802,9 @@ class Machine(_Owner):
         a word is a `.word`.
         """
         numbers = address, count = _numbers("listing", address, count, most=1024)
-        lines = (_Line * count)()
+        lines = (_shapes.Line * count)()
         self._call("listing", address, lines, count, numbers=numbers)
         return [Line(line.address, line.word, line.text.decode()) for line in lines]
-
-
-Rsp = Machine
 
 
 def _address(data: bytes) -> int:
@@ -971,7 +850,7 @@ class Session(_Owner):
             if status:
                 return status
             line, length = line + used.value, length + written.value
-            if line == end or length > _ROOM - _REPLIES:
+            if line == end or length > _ROOM - _shapes.REPLIES:
                 parts.append(ctypes.string_at(room, length))
                 length = 0
                 if line == end:

@@ -6,6 +6,7 @@ from typing import TYPE_CHECKING, Any, NamedTuple, Optional, Protocol
 
 from . import helpers as _helpers
 from .helpers import Difference
+from .shapes import Request, RequestKind
 from .state import State
 
 if TYPE_CHECKING:
@@ -72,19 +73,19 @@ class FirstDifference(NamedTuple):
         return f"<p>{escape(self._head())}</p>{self.parts._repr_html_()}"
 
 
-def _answer(emulator: Emulator, request: _helpers.Request, data: memoryview) -> None:
+def _answer(emulator: Emulator, request: Request, data: memoryview) -> None:
     """Does what a search asks an emulator for. It gets states and bytes of its own, which it may keep."""
-    if request.kind == _helpers.RUN:
+    if request.kind == RequestKind.RUN:
         emulator.run(request.steps)
-    elif request.kind == _helpers.SET:
+    elif request.kind == RequestKind.SET:
         emulator.set(State.from_buffer_copy(data))
-    elif request.kind == _helpers.GET:
+    elif request.kind == RequestKind.GET:
         state = emulator.get()
         if not isinstance(state, State):
             kind = type(state).__name__
             raise TypeError(f"first_difference: the emulator's get() is of type {kind}, not rsp.State")
         data[:] = bytes(state)
-    elif request.kind == _helpers.LOAD:
+    elif request.kind == RequestKind.LOAD:
         emulator.load(request.bank, request.address, bytes(data))
     else:
         given = bytes(emulator.memory(request.bank, request.address, len(data)))
@@ -112,7 +113,7 @@ def first_difference(
     """
     from . import _lib, _numbers, _quick  # which are made after this module is loaded
 
-    call, request = "first_difference", _helpers.Request()
+    call, request = "first_difference", Request()
     to = byref(request)
     every, limit = _numbers(call, every, limit)
     search = (c_uint8 * _lib.brsp_search_bytes(machine.image_length))()
@@ -120,17 +121,18 @@ def first_difference(
     status = machine._call_alone(call, _lib.brsp_search_begin, every, limit, search, len(search))
     machine._check_done(status, call, (every, limit))
     while True:
-        if request.kind == _helpers.MEMORY and request.bank:  # the last of some requests: the machine may run
+        if request.kind == RequestKind.MEMORY and request.bank:  # the last of some: the machine may run
             status = machine._call_alone(call, _lib.brsp_search_next, search, to)
         else:
             status = _quick.brsp_search_next(machine._at, search, to)
         if status:
             machine._check_done(status, call)
-        if request.kind == _helpers.OVER:
+        if request.kind == RequestKind.OVER:
             break
         _answer(emulator, request, data[request.at : request.at + request.len])
     it = _helpers.found_of(search)
     if not it.count:
         return None
-    before, parts = State.from_buffer_copy(it.before), Difference(_helpers.parts_of(it.parts[: it.count]))
-    return FirstDifference(it.step, it.address, it.word, it.text.decode(), before, parts, it.steps)
+    line, before = it.line, State.from_buffer_copy(it.before)
+    parts = Difference(_helpers.parts_of(it.parts[: it.count]))
+    return FirstDifference(it.step, line.address, line.word, line.text.decode(), before, parts, it.steps)

@@ -1,32 +1,14 @@
 """What a call may be given: integers, bytes and texts, and messages for all else."""
 
-import enum
 import operator
 import re
 import sys
-from ctypes import Structure, c_int64, c_size_t, c_uint32
 from typing import Any, Sequence, Tuple
 
-from .fields import alike
 from .helpers import argument_name
+from .shapes import Bank, Fault
 
-BANKS = "DMEM", "IMEM", "RDRAM"
-
-
-class Fault(enum.IntEnum):
-    """Why a text has no meaning. FAULTS has the names in scripts."""
-
-    BAD_LINE = 10
-    UNKNOWN_NAME = 11
-    BAD_OPERAND = 12
-    OUT_OF_RANGE = 13
-    LABEL_TWICE = 14
-    LABEL_MISSING = 15
-    PAST_END = 16
-    OUT_OF_MEMORY = 17
-    NOT_TEXT = 33
-
-
+BANKS = [bank.name for bank in Bank]
 FAULTS = {fault.value: fault.name.title().replace("_", "") for fault in Fault}
 
 
@@ -87,9 +69,3 @@ def text_of(call: str, text: Any) -> bytes:
 def script_of(call: str, script: Any) -> bytes:
     """The bytes of a script, which a text may be."""
     return script.encode() if isinstance(script, str) else bytes_of(call, "script", script)
-
-
-class Operand(Structure):
-    """`brsp_operand` of brsp.h."""
-
-    _fields_ = [*alike(c_int64, "low", "high"), ("number", c_size_t), *alike(c_uint32, "kind", "step")]

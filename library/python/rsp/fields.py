@@ -3,7 +3,7 @@
 import ctypes
 import operator
 from array import array as numbers_of
-from typing import TYPE_CHECKING, Any, ClassVar, Iterator, List, Sequence, Tuple, Union
+from typing import TYPE_CHECKING, Any, ClassVar, Iterator, List, Sequence, Union
 
 
 def _number(name: str, kind: Any, value: Any) -> int:
@@ -17,11 +17,6 @@ def _number(name: str, kind: Any, value: Any) -> int:
         return number
     hint = f"; & {most:#x} makes it one" if number < 0 else ""
     raise ValueError(f"{name} is {number}, not 0 to {most}{hint}")
-
-
-def alike(kind: Any, *names: str) -> List[Tuple[str, Any]]:
-    """Fields of one type."""
-    return [(name, kind) for name in names]
 
 
 def list_of(value: Any) -> Any:

@@ -1,11 +1,8 @@
 """The calls of brsp_helpers.h, which are tested, not proved: texts, and what differs between structures."""
 
-from ctypes import POINTER, Structure, byref, c_char, c_char_p, c_size_t, c_uint16, c_uint32, c_uint64
-from ctypes import c_void_p, create_string_buffer
+from ctypes import Structure, byref, c_uint64, create_string_buffer
 from html import escape
-from typing import Any, Dict, Iterable, Iterator, List, NamedTuple, Sequence, Tuple
-
-MOST_PARTS = 321
+from typing import Any, Iterable, Iterator, List, NamedTuple, Sequence, Tuple
 
 
 class Part(NamedTuple):
@@ -52,53 +49,6 @@ def table(rows: Iterable[Iterable[str]]) -> str:
     return f"<table>{''.join(lines)}</table>"
 
 
-def _alike(kind: Any, *names: str) -> List[Tuple[str, Any]]:
-    """Fields of one type."""
-    return [(name, kind) for name in names]
-
-
-class _Part(Structure):
-    _fields_ = [("name", c_char * 24), *_alike(c_uint64 * 2, "value", "other")]
-    _fields_ += _alike(c_uint32, "digits", "bank", "address", "number")
-
-
-class Request(Structure):
-    """What a search for the first difference asks for."""
-
-    _fields_ = [*_alike(c_uint32, "kind", "steps", "bank", "address"), *_alike(c_size_t, "at", "len")]
-
-
-OVER, RUN, SET, LOAD, GET, MEMORY = range(6)  # the kinds of a request
-
-
-class Found(Structure):
-    """What a search has found. A line is flat in it, and `before` the bytes of a State."""
-
-    _fields_ = [*_alike(c_uint32, "step", "steps", "word"), *_alike(c_uint16, "address", "len")]
-    _fields_ += [("text", c_char * 68), ("before", c_uint32 * 193)]
-    _fields_ += [("parts", POINTER(_Part)), ("count", c_size_t)]
-
-
-_M, _U, _Z, _B, _V = c_void_p, c_uint32, c_size_t, c_char_p, c_void_p
-CALLS: Dict[str, Tuple[Any, List[Any]]] = {
-    "brsp_save_state": (_U, [_M, _V, _Z, POINTER(_Z)]),
-    "brsp_load_state": (_U, [_M, _B, _Z]),
-    "brsp_savestate_refusal_text": (_Z, [_B, _Z, _Z, _V, _Z]),
-    "brsp_structure_text": (_Z, [_U, _V, _V, _Z]),
-    "brsp_structure_parts": (_Z, [_U, _V, _V, POINTER(_Part), _Z]),
-    "brsp_memory_parts": (_Z, [_U, _B, _B, _Z, POINTER(_Part), _Z]),
-    "brsp_part_text": (_Z, [POINTER(_Part), _B, _B, _V, _Z]),
-    "brsp_search_bytes": (_Z, [_Z]),
-    "brsp_search_begin": (_U, [_M, _U, _U, _V, _Z]),
-    "brsp_search_next": (_U, [_M, _V, POINTER(Request)]),
-    "brsp_search_difference": (None, [_V, POINTER(Found)]),
-    "brsp_search_parts": (None, [_V, POINTER(_Part)]),
-    "brsp_difference_text": (_Z, [POINTER(Found), _V, _Z]),
-    "brsp_refusal_text": (_Z, [_U, _B, _B, _V, _Z]),
-    "brsp_argument_name": (_B, [_B, _Z]),
-    "brsp_state_refusal_text": (_Z, [_V, _V, _Z]),
-    "brsp_operand_text": (_Z, [_V, _U, _V, _Z]),
-}
 _quick: Any = None
 
 
@@ -119,7 +69,7 @@ def text(call: str, *given: Any) -> str:
 
 def refusal(status: int, call: str, numbers: Sequence[int], owner: str = "machine") -> str:
     """Why a call was refused, in a sentence."""
-    if status == 101:
+    if status == shapes.Status.NO_MACHINE:
         return f"{call}: the {owner} is closed"
     return text("brsp_refusal_text", status, call.encode(), " ".join(f"{it:d}" for it in numbers).encode())
 
@@ -134,8 +84,8 @@ def _halves(number: int) -> Any:
     return (c_uint64 * 2)(number >> 64 & (1 << 64) - 1, number & (1 << 64) - 1)
 
 
-def _part_of(it: Part) -> _Part:
-    return _Part(it.name.encode()[:23], _halves(it.value), _halves(it.other), it.digits)
+def _part_of(it: Part) -> "shapes.Part":
+    return shapes.Part(it.name.encode()[:23], _halves(it.value), _halves(it.other), it.digits)
 
 
 def parts_of(found: Any) -> List[Part]:
@@ -148,7 +98,7 @@ def parts_of(found: Any) -> List[Part]:
 
 def structure_parts(kind: int, ours: Structure, theirs: Structure) -> List[Part]:
     """The parts in which two structures of a kind differ."""
-    found = (_Part * MOST_PARTS)()
+    found = (shapes.Part * shapes.PARTS)()
     count = _quick.brsp_structure_parts(kind, byref(ours), byref(theirs), found, len(found))
     return parts_of(found[:count])
 
@@ -157,16 +107,16 @@ def quadwords(ours: Sequence[bytes], theirs: Sequence[bytes]) -> Iterator[Part]:
     """The quadwords of memories that differ."""
     for bank, (here, there) in enumerate(zip(ours, theirs)):
         count = _quick.brsp_memory_parts(bank, here, there, len(here), None, 0)
-        found = (_Part * count)()
+        found = (shapes.Part * count)()
         _quick.brsp_memory_parts(bank, here, there, len(here), found, count)
         yield from parts_of(found)
 
 
-def found_of(search: Any) -> Found:
+def found_of(search: Any) -> "shapes.Difference":
     """What a search that is over has found, with its parts."""
-    found = Found()
+    found = shapes.Difference()
     _quick.brsp_search_difference(search, byref(found))
-    parts = (_Part * found.count)()
+    parts = (shapes.Part * found.count)()
     if found.count:
         _quick.brsp_search_parts(search, parts)
     found.parts = parts
@@ -175,6 +125,11 @@ def found_of(search: Any) -> Found:
 
 def difference_text(numbers: Sequence[int], name: str, parts: Sequence[Part]) -> str:
     """The text of a difference: its step, how many steps lead to it, the word, its address and its name."""
-    found = Found(*numbers, len(name), name.encode()[:67], count=len(parts))
-    found.parts = (_Part * len(parts))(*map(_part_of, parts))
+    step, steps, word, address = numbers
+    line = shapes.Line(word, address, len(name), name.encode()[:67])
+    found = shapes.Difference(step, steps, line, count=len(parts))
+    found.parts = (shapes.Part * len(parts))(*map(_part_of, parts))
     return text("brsp_difference_text", byref(found))
+
+
+from . import shapes  # noqa: E402  (which needs the names above)

@@ -4,7 +4,8 @@ import ctypes
 import re
 from typing import Callable, Iterable, List, Optional, Sequence, Tuple
 
-from . import Machine, Traced, _lib, _Stop
+from . import Machine, Traced, _lib
+from .shapes import Stop
 
 # Where the bytes of a register are in a State, how many they are, and where an entry of a trace has them: it
 # has the scalar and the vector register that its step wrote, and the flags.
@@ -46,7 +47,7 @@ class Register:
     def last_other(self, machine: Machine, steps: int, again: Callable[[], Machine]) -> Optional[int]:
         """Makes steps. The number of the last state, from 0 on, in which it has another value, or None.
         `again` gives another machine that is before these steps."""
-        out, stop, first = (Traced * steps)(), _Stop(), self._bytes(machine)
+        out, stop, first = (Traced * steps)(), Stop(), self._bytes(machine)
         machine._call_alone("trace", _lib.brsp_trace, out, steps, ctypes.byref(stop))
         places, columns = self._columns(bytes(out), again)
         pairs = enumerate(zip(columns, self._equal))

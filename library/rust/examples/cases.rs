@@ -52,12 +52,12 @@ impl Emulator for Mine {
         self.state = *state;
     }
 
-    fn memory(&self, bank: Bank, bytes: &mut [u8]) {
-        bytes.copy_from_slice(&self.memories[bank as usize]);
+    fn memory(&self, bank: Bank, address: u32, bytes: &mut [u8]) {
+        bytes.copy_from_slice(&self.memories[bank as usize][address as usize..][..bytes.len()]);
     }
 
-    fn load(&mut self, bank: Bank, bytes: &[u8]) {
-        self.memories[bank as usize].copy_from_slice(bytes);
+    fn load(&mut self, bank: Bank, address: u32, bytes: &[u8]) {
+        self.memories[bank as usize][address as usize..][..bytes.len()].copy_from_slice(bytes);
     }
 
     fn case(&mut self) -> StepEnd {

@@ -78,7 +78,7 @@ impl<E: Emulator + Default> Side<E> {
     }
 
     fn load(&mut self, memories: &[u8]) {
-        banks(memories.len()).for_each(|(bank, range)| self.emulator.load(bank, &memories[range]));
+        banks(memories.len()).for_each(|(bank, range)| self.emulator.load(bank, 0, &memories[range]));
     }
 
     /// Runs a case from the memories that the emulator was given. It has them again afterwards, except the case's word.
@@ -89,13 +89,13 @@ impl<E: Emulator + Default> Side<E> {
         let kept = before[at..at + 4].to_vec();
         before[at..at + 4].copy_from_slice(&case.word.to_be_bytes());
         emulator.set(&case.state);
-        emulator.load(Bank::Imem, &before[IMEM..RDRAM]);
+        emulator.load(Bank::Imem, 0, &before[IMEM..RDRAM]);
         let (status, state) = (status_of(emulator.case()), emulator.get());
-        banks(reach).for_each(|(bank, range)| emulator.memory(bank, &mut after[range]));
+        banks(reach).for_each(|(bank, range)| emulator.memory(bank, 0, &mut after[range]));
         let changed = digest(&before[..reach], &after[..reach]);
         before[at..at + 4].copy_from_slice(&kept);
         if changed != 0 {
-            banks(reach).for_each(|(bank, range)| emulator.load(bank, &before[range]));
+            banks(reach).for_each(|(bank, range)| emulator.load(bank, 0, &before[range]));
         }
         End { state, status, changed }
     }
@@ -138,7 +138,7 @@ pub unsafe fn load<E: Emulator + Default>(side: *mut Side<E>, memories: *const u
 #[doc(hidden)]
 pub unsafe fn look<E: Emulator>(side: *mut Side<E>, memories: *mut u8) {
     let memories = slice::from_raw_parts_mut(memories, MEMORIES);
-    guarded(|| banks(MEMORIES).for_each(|(bank, range)| (*side).emulator.memory(bank, &mut memories[range])));
+    guarded(|| banks(MEMORIES).for_each(|(bank, range)| (*side).emulator.memory(bank, 0, &mut memories[range])));
 }
 
 #[doc(hidden)]
@@ -163,8 +163,8 @@ pub unsafe fn steps<E: Emulator>(side: *mut Side<E>, steps: u32) -> u32 {
 /// #   fn run(&mut self, _: u32) {}
 /// #   fn get(&self) -> State { self.state }
 /// #   fn set(&mut self, state: &State) { self.state = *state; }
-/// #   fn memory(&self, _: Bank, _: &mut [u8]) {}
-/// #   fn load(&mut self, _: Bank, _: &[u8]) {}
+/// #   fn memory(&self, _: Bank, _: u32, _: &mut [u8]) {}
+/// #   fn load(&mut self, _: Bank, _: u32, _: &[u8]) {}
 /// }
 ///
 /// rsp::cases!(Mine);

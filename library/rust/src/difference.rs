@@ -1,5 +1,7 @@
 //! The parts in which two states differ.
 
+use crate::helpers::{part_text, state_parts};
+use crate::raw;
 use crate::{Scalars, State};
 use std::fmt::{Display, Formatter, Result};
 
@@ -40,11 +42,8 @@ pub enum Place {
     Interrupt,
 }
 
-const SP_NAMES: [&str; 8] =
-    ["SP_MEM_ADDR", "SP_DRAM_ADDR", "SP_RD_LEN", "SP_WR_LEN", "SP_STATUS", "SP_DMA_FULL", "SP_DMA_BUSY", "SP_SEMAPHORE"];
-
 impl Place {
-    /// All parts of a state, in the order of scripts.
+    /// All parts of a state, by their numbers in C.
     fn all() -> impl Iterator<Item = Place> {
         let lanes = (0..32).flat_map(|vector| (0..8).map(move |lane| Place::Lane { vector, lane }));
         let flags = [Place::Vco, Place::Vcc, Place::Vce, Place::DivIn, Place::DivOut, Place::DivLoaded];
@@ -53,37 +52,19 @@ impl Place {
         scalars.chain(vectors).chain((0..16).map(Place::Sp)).chain([Place::Interrupt])
     }
 
-    /// The number of its hexadecimal digits.
-    fn digits(self) -> usize {
-        match self {
-            Place::Pc | Place::Npc => 3,
-            Place::Register(_) | Place::Sp(_) => 8,
-            Place::Accumulator(_) => 12,
-            Place::Vce => 2,
-            Place::DivLoaded | Place::Interrupt => 1,
-            Place::Lane { .. } | Place::Vco | Place::Vcc | Place::DivIn | Place::DivOut => 4,
-        }
+    /// The part of two states that differ in all parts, which has its name and its digits.
+    fn part(self) -> raw::Part {
+        let every = State::from_bytes(&[0xff; State::SIZE]).unwrap_or_default();
+        let none = State::from_bytes(&[0; State::SIZE]).unwrap_or_default();
+        let mut named = Place::all().zip(state_parts(&every, &none));
+        named.find(|(it, _)| *it == self).map_or(raw::Part::default(), |(_, part)| part)
     }
 }
 
+/// Its name, as scripts show it: `$3`.
 impl Display for Place {
     fn fmt(&self, f: &mut Formatter<'_>) -> Result {
-        match self {
-            Place::Pc => f.write_str("pc"),
-            Place::Npc => f.write_str("npc"),
-            Place::Register(n) => write!(f, "${n}"),
-            Place::Lane { vector, lane } => write!(f, "$v{vector} lane {lane}"),
-            Place::Accumulator(n) => write!(f, "accumulator {n}"),
-            Place::Vco => f.write_str("vco"),
-            Place::Vcc => f.write_str("vcc"),
-            Place::Vce => f.write_str("vce"),
-            Place::DivIn => f.write_str("in"),
-            Place::DivOut => f.write_str("out"),
-            Place::DivLoaded => f.write_str("loaded"),
-            Place::Sp(n) if *n < 8 => f.write_str(SP_NAMES[*n]),
-            Place::Sp(n) => write!(f, "DPC register {}", n - 8),
-            Place::Interrupt => f.write_str("interrupt"),
-        }
+        f.write_str(String::from_utf8_lossy(&self.part().name).trim_end_matches('\0'))
     }
 }
 
@@ -100,10 +81,15 @@ pub struct Part {
 }
 
 impl Part {
+    /// A part that C has found; none if it is of a memory.
+    pub(crate) fn of(it: &raw::Part) -> Option<Part> {
+        let place = if it.bank == raw::NO_BANK as u32 { Place::all().nth(it.number as usize) } else { None };
+        place.map(|place| Part { place, value: it.value[1], other: it.other[1] })
+    }
+
     /// The sentence `$3 is fffffff0 HERE and 3ffffff0 THERE`.
     pub fn told(&self, here: &str, there: &str) -> String {
-        let digits = self.place.digits();
-        format!("{} is {:0digits$x} {here} and {:0digits$x} {there}", self.place, self.value, self.other)
+        part_text(&raw::Part { value: [0, self.value], other: [0, self.other], ..self.place.part() }, here, there)
     }
 }
 
@@ -136,8 +122,7 @@ impl State {
 
     /// The parts in which they differ, in the order of scripts.
     pub fn diff(&self, other: &State) -> Vec<Part> {
-        let parts = Place::all().map(|place| Part { place, value: self.part(place), other: other.part(place) });
-        parts.filter(|it| it.value != it.other).collect()
+        state_parts(self, other).iter().filter_map(Part::of).collect()
     }
 }
 

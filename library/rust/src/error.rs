@@ -1,7 +1,8 @@
 //! Why a call was refused.
 
-use crate::refusals::refusal;
-use crate::{raw, Fault, Operand};
+use crate::helpers::refusal;
+use crate::raw::{self, status};
+use crate::{Fault, Operand};
 use std::error::Error;
 use std::fmt;
 
@@ -81,9 +82,9 @@ impl RspError {
         self.assembly
     }
 
-    /// The error of a call with these numbers.
-    pub(crate) fn of(status: Status, call: &str, given: &[u64]) -> RspError {
-        RspError::with_message(status, refusal(status, call, given))
+    /// The error of a call with these numbers that is out of its range.
+    pub(crate) fn out_of_range(call: &str, given: &[u64]) -> RspError {
+        RspError::with_message(Status::OutOfRange, refusal(status::OUT_OF_RANGE, call, given))
     }
 
     /// The error with this sentence.
@@ -128,31 +129,31 @@ fn wrong_version(found: u32) -> RspError {
 }
 
 /// The status of a number of `brsp.h`; none if it is BRSP_OK.
-fn refused(status: u32) -> Option<Status> {
-    Some(match status {
-        0 => return None,
-        102 => Status::NoMemory,
-        103 => Status::OutOfRange,
-        106 => Status::NoMeaning,
-        107 => Status::TaskPlace,
-        108 => Status::TaskSize,
-        109 => Status::BreakFull,
-        110 => Status::BreakTwice,
-        111 => Status::NoBreak,
-        112 => Status::WatchFull,
-        113 => Status::NoWatch,
-        114 => Status::ShortHistory,
-        115 => Status::NoRoom,
-        116 => Status::Ended,
-        117 => Status::TooLong,
-        118 => Status::OtherWord,
+fn refused(number: u32) -> Option<Status> {
+    Some(match number {
+        status::OK => return None,
+        status::NO_MEMORY => Status::NoMemory,
+        status::OUT_OF_RANGE => Status::OutOfRange,
+        status::NO_MEANING => Status::NoMeaning,
+        status::TASK_PLACE => Status::TaskPlace,
+        status::TASK_SIZE => Status::TaskSize,
+        status::BREAK_FULL => Status::BreakFull,
+        status::BREAK_TWICE => Status::BreakTwice,
+        status::NO_BREAK => Status::NoBreak,
+        status::WATCH_FULL => Status::WatchFull,
+        status::NO_WATCH => Status::NoWatch,
+        status::SHORT_HISTORY => Status::ShortHistory,
+        status::NO_ROOM => Status::NoRoom,
+        status::ENDED => Status::Ended,
+        status::TOO_LONG => Status::TooLong,
+        status::OTHER_WORD => Status::OtherWord,
         other => Status::Unknown(other),
     })
 }
 
 /// The result that a status means, of a call with these numbers.
 pub(crate) fn done(status: u32, call: &str, given: &[u64]) -> Result<(), RspError> {
-    refused(status).map_or(Ok(()), |it| Err(RspError::of(it, call, given)))
+    refused(status).map_or(Ok(()), |it| Err(RspError::with_message(it, refusal(status, call, given))))
 }
 
 #[cfg(test)]

@@ -1,5 +1,6 @@
 //! The faults of a text.
 
+use crate::raw::fault;
 use std::error::Error;
 use std::fmt;
 
@@ -8,21 +9,21 @@ use std::fmt;
 #[non_exhaustive]
 pub enum Fault {
     /// A line is too long, has a byte that isn't printable, or no label before its colon.
-    BadLine = 10,
+    BadLine = fault::BAD_LINE as isize,
     /// No statement has this name.
-    UnknownName = 11,
+    UnknownName = fault::UNKNOWN_NAME as isize,
     /// There are too many or too few operands, or one has another form.
-    BadOperand = 12,
+    BadOperand = fault::BAD_OPERAND as isize,
     /// A number doesn't fit its field.
-    OutOfRange = 13,
+    OutOfRange = fault::OUT_OF_RANGE as isize,
     /// An earlier line has the same label.
-    LabelTwice = 14,
+    LabelTwice = fault::LABEL_TWICE as isize,
     /// No line has the label.
-    LabelMissing = 15,
+    LabelMissing = fault::LABEL_MISSING as isize,
     /// A word would be at 4096 or later.
-    PastEnd = 16,
+    PastEnd = fault::PAST_END as isize,
     /// The text isn't UTF-8.
-    NotText = 33,
+    NotText = fault::NOT_TEXT as isize,
 }
 
 const ALL: [Fault; 8] = [

@@ -1,6 +1,8 @@
 //! Registers as text, in the lines that scripts show, and where a run stopped, in words.
 
-use crate::{Accumulators, Bank, DivideState, FlagBits, Line, Machine, Reason, Scalars, State, Stop};
+use crate::helpers::{structure_text, Structure};
+use crate::raw::structure;
+use crate::{Accumulators, Bank, Changes, DivideState, FlagBits, Line, Machine, Reason, Scalars, SpWords, State, Stop, Traced};
 use std::fmt::{Debug, Display, Formatter, Result};
 
 impl From<&State> for Scalars {
@@ -9,52 +11,32 @@ impl From<&State> for Scalars {
     }
 }
 
-/// Writes a line of numbers after its name, each with a space before it.
-fn line(f: &mut Formatter<'_>, name: &str, n: usize, numbers: impl IntoIterator<Item = impl Into<u32>>, digits: usize) -> Result {
-    write!(f, "\n{name}{n:02}")?;
-    numbers.into_iter().try_for_each(|it| write!(f, " {:0digits$x}", it.into()))
-}
-
-/// The lines of `regs`: pc and npc, then four registers a line.
-impl Display for Scalars {
-    fn fmt(&self, f: &mut Formatter<'_>) -> Result {
-        write!(f, "pc {:03x} npc {:03x}", self.pc, self.npc)?;
-        self.words.chunks(4).enumerate().try_for_each(|(n, four)| line(f, "r", 4 * n, four.iter().copied(), 8))
-    }
-}
-
-/// The lines of `acc`: the 48 bits of an accumulator a line.
-impl Display for Accumulators {
-    fn fmt(&self, f: &mut Formatter<'_>) -> Result {
-        for lane in 0..8 {
-            let end = if lane == 0 { "" } else { "\n" };
-            write!(f, "{end}a{lane} {:04x}{:04x}{:04x}", self.high[lane], self.middle[lane], self.low[lane])?;
+/// The lines that scripts show of a struct.
+macro_rules! shown {
+    ($($name:ident is $kind:ident: $lines:literal)*) => {$(
+        // SAFETY: the struct is the one of C of this kind, which the tests of this crate see.
+        unsafe impl Structure for $name {
+            const KIND: u32 = structure::$kind;
         }
-        Ok(())
-    }
+
+        #[doc = $lines]
+        impl Display for $name {
+            fn fmt(&self, f: &mut Formatter<'_>) -> Result {
+                f.write_str(&structure_text(self))
+            }
+        }
+    )*};
 }
 
-/// The first half of the line of `flags`: VCO, VCC and VCE.
-impl Display for FlagBits {
-    fn fmt(&self, f: &mut Formatter<'_>) -> Result {
-        write!(f, "vco {:02x}{:02x} vcc {:02x}{:02x} vce {:02x}", self.differ, self.carry, self.clip, self.compare, self.extra)
-    }
-}
-
-/// The second half of the line of `flags`.
-impl Display for DivideState {
-    fn fmt(&self, f: &mut Formatter<'_>) -> Result {
-        write!(f, "in {:04x} out {:04x} loaded {}", self.input, self.output, self.loaded)
-    }
-}
-
-/// The lines of `regs`, `vregs` and `flags`.
-impl Display for State {
-    fn fmt(&self, f: &mut Formatter<'_>) -> Result {
-        write!(f, "{}", Scalars::from(self))?;
-        self.vectors.iter().enumerate().try_for_each(|(n, lanes)| line(f, "v", n, lanes.iter().copied(), 4))?;
-        write!(f, "\n{} {}", self.flags, self.divider)
-    }
+shown! {
+    Scalars is SCALARS: "The lines of `regs`: pc and npc, then four registers a line."
+    Accumulators is ACCUMULATORS: "The lines of `acc`: the 48 bits of an accumulator a line."
+    FlagBits is FLAGS: "The first half of the line of `flags`: VCO, VCC and VCE."
+    DivideState is DIVIDER: "The second half of the line of `flags`."
+    State is STATE: "The lines of `regs`, `vregs` and `flags`."
+    SpWords is SP: "A line for each register, and one for the interrupt flag."
+    Traced is TRACED: "A step in a line: what was executed, and what it wrote."
+    Changes is CHANGES: "The line of its entry in a trace, the lines of `acc`, and the rest in a line."
 }
 
 /// The line of `dis`: the address, the word and its disassembly.

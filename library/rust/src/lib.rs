@@ -23,15 +23,17 @@ mod difference;
 mod error;
 mod faults;
 mod formatting;
+mod helpers;
 mod machine;
 mod numbers;
 mod operand;
 mod raw;
-mod refusals;
 mod savestate;
 mod script;
 mod session;
 mod shapes;
+mod state;
+mod stops;
 mod texts;
 
 pub use compare::{first_difference, Emulator, FirstDifference, Quadword};
@@ -43,8 +45,7 @@ pub use numbers::NoSuchNumber;
 pub use operand::Operand;
 pub use script::{run_script_strict, ScriptError};
 pub use session::{run_script, Session};
-pub use shapes::{
-    Accumulators, Bank, Changes, DivideState, Dma, Event, Field, FlagBits, Line, MoveEnd, Reason, Scalars, SpWords, State, StepEnd, Stop,
-    Traced,
-};
+pub use shapes::{Accumulators, Changes, DivideState, Dma, FlagBits, Scalars, SpWords, State, Traced};
+pub use state::Field;
+pub use stops::{Bank, Event, Line, MoveEnd, Reason, StepEnd, Stop};
 pub use texts::{assemble, explain_reply, explain_text, labels, text, version};

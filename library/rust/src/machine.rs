@@ -1,11 +1,10 @@
 //! A machine.
 
 use crate::error::{done, right_version};
-use crate::raw;
-use crate::refusals::state_refusal;
-use crate::shapes::{
-    Accumulators, Bank, Changes, DivideState, Dma, Event, FlagBits, Line, MoveEnd, Reason, Scalars, SpWords, State, StepEnd, Stop, Traced,
-};
+use crate::helpers::state_refusal;
+use crate::raw::{self, reason, status};
+use crate::shapes::{Accumulators, Changes, DivideState, Dma, FlagBits, Scalars, SpWords, State, Traced};
+use crate::stops::{Bank, Event, Line, MoveEnd, Reason, StepEnd, Stop};
 use crate::texts::{line_of, NO_LINE};
 use crate::{RspError, Status};
 use std::cell::UnsafeCell;
@@ -20,7 +19,7 @@ pub const STATUS_WRITES: u32 = 1 << 16;
 // SAFETY of all calls below: the handle is BRSP_NONE or as the last call left it, since nothing else writes it; it isn't copied; as it isn't
 // `Sync`, one call at a time has it; and each pointer is of a borrow with its own length.
 pub struct Machine {
-    handle: UnsafeCell<raw::Handle>,
+    handle: UnsafeCell<raw::Machine>,
 }
 
 // SAFETY: a machine is memory of malloc that its handle alone leads to, and no call keeps anything of a thread.
@@ -46,7 +45,7 @@ impl Machine {
 
     /// A handle that holds no machine.
     fn none() -> Machine {
-        Machine { handle: UnsafeCell::new(raw::Handle { at: ptr::null_mut() }) }
+        Machine { handle: UnsafeCell::new(raw::Machine { at: ptr::null_mut() }) }
     }
 
     /// The number of bytes of the image of RDRAM.
@@ -57,7 +56,7 @@ impl Machine {
         out
     }
 
-    fn at(&self) -> *mut raw::Handle {
+    pub(crate) fn at(&self) -> *mut raw::Machine {
         self.handle.get()
     }
 
@@ -75,9 +74,9 @@ impl Machine {
 
     /// Sets all registers, and empties the history. The memories stay unchanged.
     pub fn set(&mut self, state: &State) -> Result<(), RspError> {
-        match state.fault() {
-            Some(field) => Err(RspError::with_message(Status::OutOfRange, state_refusal(field, state))),
-            None => done(unsafe { raw::brsp_set(self.at(), state) }, "set", &[]),
+        match unsafe { raw::brsp_set(self.at(), state) } {
+            status::OUT_OF_RANGE => Err(RspError::with_message(Status::OutOfRange, format!("set: {}", state_refusal(state)))),
+            other => done(other, "set", &[]),
         }
     }
 
@@ -152,7 +151,7 @@ impl Machine {
         done(
             unsafe { raw::brsp_run_until_move(self.at(), steps, reads.into(), writes.into(), &mut out) },
             "run_until_move",
-            &[steps.into()],
+            &[steps.into(), reads.into(), writes.into()],
         )?;
         Ok(seen_move(&out))
     }
@@ -166,8 +165,12 @@ impl Machine {
     /// interrupt, and [`Reason::Status`] if not. So compare [`Event::interrupt`] with its value before, because the reason can hide an interrupt.
     pub fn event(&mut self, steps: u32, reads: u16, writes: u32) -> Result<Event, RspError> {
         let mut out = raw::Reached::default();
-        done(unsafe { raw::brsp_event(self.at(), steps, reads.into(), writes, &mut out) }, "event", &[steps.into(), writes.into()])?;
-        let dma = (out.at.stop.reason == AT_DMA).then_some(out.dma);
+        done(
+            unsafe { raw::brsp_event(self.at(), steps, reads.into(), writes, &mut out) },
+            "event",
+            &[steps.into(), reads.into(), writes.into()],
+        )?;
+        let dma = (out.at.stop.reason == reason::DMA).then_some(out.dma);
         Ok(Event { at: seen_move(&out.at), dma, status: out.status, interrupt: out.interrupt == 1 })
     }
 
@@ -261,7 +264,7 @@ impl Machine {
     /// Sets scalar register `n`, below 32, and empties the history. Register 0 takes only 0.
     pub fn set_reg(&mut self, n: u32, value: u32) -> Result<(), RspError> {
         if n > 31 || (n == 0 && value != 0) {
-            return Err(RspError::of(Status::OutOfRange, "set_reg", &[n.into(), value.into()]));
+            return Err(RspError::out_of_range("set_reg", &[n.into(), value.into()]));
         }
         let mut state = self.get()?;
         state.words[n as usize] = value;
@@ -271,7 +274,7 @@ impl Machine {
     /// Sets the lanes of vector register `n`, below 32, and empties the history.
     pub fn set_vreg(&mut self, n: u32, lanes: [u16; 8]) -> Result<(), RspError> {
         let mut state = self.get()?;
-        *state.vectors.get_mut(n as usize).ok_or_else(|| RspError::of(Status::OutOfRange, "set_vreg", &[n.into()]))? = lanes;
+        *state.vectors.get_mut(n as usize).ok_or_else(|| RspError::out_of_range("set_vreg", &[n.into()]))? = lanes;
         self.set(&state)
     }
 
@@ -338,7 +341,7 @@ impl Machine {
     /// The words of IMEM from an address on, each with its disassembly.
     pub fn listing(&self, address: u32, count: usize) -> Result<Vec<Line>, RspError> {
         if count > 1024 {
-            return Err(RspError::of(Status::OutOfRange, "listing", &[address.into(), count as u64]));
+            return Err(RspError::out_of_range("listing", &[address.into(), count as u64]));
         }
         let mut lines = vec![NO_LINE; count];
         done(
@@ -350,22 +353,17 @@ impl Machine {
     }
 }
 
-/// The reason of a run that stopped before a move.
-const AT_MOVE: u32 = 5;
-/// The reason of a stop before a DMA.
-const AT_DMA: u32 = 6;
-
 /// The end of a step, or of a call that passes over one, which never ends at a reserved word.
 fn step_end(status: u32, call: &str) -> Result<StepEnd, RspError> {
     match status {
-        104 => Ok(StepEnd::Halted),
-        105 => Ok(StepEnd::Reserved),
+        status::HALTED => Ok(StepEnd::Halted),
+        status::RESERVED => Ok(StepEnd::Reserved),
         other => done(other, call, &[]).map(|()| StepEnd::Done),
     }
 }
 
 fn seen_move(out: &raw::Move) -> MoveEnd {
-    if out.stop.reason != AT_MOVE && out.stop.reason != AT_DMA {
+    if out.stop.reason != reason::MOVE && out.stop.reason != reason::DMA {
         return MoveEnd::Stop(seen_stop(&out.stop));
     }
     let (steps, pc) = (out.stop.steps, out.stop.pc);
@@ -374,12 +372,12 @@ fn seen_move(out: &raw::Move) -> MoveEnd {
 
 fn seen_stop(out: &raw::Stop) -> Stop {
     let reason = match out.reason {
-        0 => Reason::Reserved,
-        1 => Reason::Halt,
-        2 => Reason::Watch(out.watch),
-        3 => Reason::Break,
-        7 => Reason::Interrupt,
-        8 => Reason::Status,
+        reason::RESERVED => Reason::Reserved,
+        reason::HALT => Reason::Halt,
+        reason::WATCH => Reason::Watch(out.watch),
+        reason::BREAK => Reason::Break,
+        reason::INTERRUPT => Reason::Interrupt,
+        reason::STATUS => Reason::Status,
         _ => Reason::Limit,
     };
     let word = (reason == Reason::Reserved).then_some(out.word);

@@ -1,21 +1,18 @@
 //! A session, which answers scripts.
 
 use crate::error::{done, right_version};
-use crate::raw;
-use crate::shapes::Bank;
+use crate::raw::{self, REPLIES};
+use crate::stops::Bank;
 use crate::RspError;
 use std::cell::UnsafeCell;
 use std::ptr;
-
-/// The bytes of a buffer for replies.
-const ROOM: usize = 16384;
 
 /// Answers a script as `rsp run` does, on a machine of its own.
 ///
 /// A script of more than 1048576 bytes is refused with [`TooLong`](crate::Status::TooLong), and so is any later `feed` or `end`. A session is `Send`, but not `Sync`.
 // SAFETY of all calls below: as in `Machine`.
 pub struct Session {
-    handle: UnsafeCell<raw::SessionHandle>,
+    handle: UnsafeCell<raw::Session>,
     image_length: usize,
 }
 
@@ -26,12 +23,12 @@ impl Session {
     /// A session whose machine has this image: 64 to 8388608 bytes, a multiple of 8.
     pub fn new(image: &[u8]) -> Result<Session, RspError> {
         right_version()?;
-        let session = Session { handle: UnsafeCell::new(raw::SessionHandle { at: ptr::null_mut() }), image_length: image.len() };
+        let session = Session { handle: UnsafeCell::new(raw::Session { at: ptr::null_mut() }), image_length: image.len() };
         done(unsafe { raw::brsp_session_new(session.at(), image.as_ptr(), image.len()) }, "Session", &[image.len() as u64])?;
         Ok(session)
     }
 
-    fn at(&self) -> *mut raw::SessionHandle {
+    fn at(&self) -> *mut raw::Session {
         self.handle.get()
     }
 
@@ -47,7 +44,7 @@ impl Session {
 
     /// Yields these replies one by one, up to a refusal. The session takes a line when its reply is asked for.
     pub fn feed_iter<'a>(&'a mut self, script: &'a [u8]) -> impl Iterator<Item = Result<Vec<u8>, RspError>> + 'a {
-        let (mut at, mut is_over, mut room) = (0, false, vec![0; ROOM]);
+        let (mut at, mut is_over, mut room) = (0, false, vec![0; REPLIES]);
         std::iter::from_fn(move || {
             while !is_over {
                 let taken = self.take(&script[at..], &mut room);
@@ -74,8 +71,8 @@ impl Session {
     /// Ends the script. Returns the reply to a last line without LF, and the fault of an open `asm` block. Any later `feed` or `end` is refused
     /// with [`Ended`](crate::Status::Ended).
     pub fn end(&mut self) -> Result<Vec<u8>, RspError> {
-        let (mut written, mut reply) = (0, vec![0; ROOM]);
-        done(unsafe { raw::brsp_session_end(self.at(), reply.as_mut_ptr(), ROOM, &mut written) }, "end", &[])?;
+        let (mut written, mut reply) = (0, vec![0; REPLIES]);
+        done(unsafe { raw::brsp_session_end(self.at(), reply.as_mut_ptr(), REPLIES, &mut written) }, "end", &[])?;
         reply.truncate(written);
         Ok(reply)
     }

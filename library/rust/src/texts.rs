@@ -1,12 +1,9 @@
 //! Assembling and disassembling.
 
 use crate::error::{done, right_version, AssemblyFault};
-use crate::raw;
-use crate::shapes::Line;
+use crate::raw::{self, status};
+use crate::stops::Line;
 use crate::{Operand, RspError};
-
-const NO_MEANING: u32 = 106;
-const NO_ROOM: u32 = 115;
 
 pub(crate) const NO_LINE: raw::Line = raw::Line { word: 0, address: 0, len: 0, text: [0; 68] };
 
@@ -20,12 +17,12 @@ pub fn assemble(text: &str, origin: u32) -> Result<Vec<u32>, RspError> {
     let mut words = vec![0; 1024];
     let mut out = raw::Assembled::default();
     // SAFETY: each pointer is of a borrow, with its own length.
-    let status = unsafe { raw::brsp_assemble(origin, text.as_ptr(), text.len(), words.as_mut_ptr(), words.len(), &mut out) };
-    if status == NO_MEANING {
+    let ended = unsafe { raw::brsp_assemble(origin, text.as_ptr(), text.len(), words.as_mut_ptr(), words.len(), &mut out) };
+    if ended == status::NO_MEANING {
         let fault = AssemblyFault { line: out.line, fault: out.fault, operand: Operand::of(text, origin) };
         return Err(RspError::of_text(text, fault));
     }
-    done(status, "assemble", &[origin.into()])?;
+    done(ended, "assemble", &[origin.into()])?;
     words.truncate(out.count);
     Ok(words)
 }
@@ -45,12 +42,12 @@ pub fn labels(text: &str, origin: u32) -> Result<Vec<(String, u16)>, RspError> {
 fn said(call: &str, given: &[u64], make: impl Fn(&mut [u8], &mut usize) -> u32) -> Result<String, RspError> {
     right_version()?;
     let (mut out, mut count) = (vec![0; 1024], 0);
-    let mut status = make(&mut out, &mut count);
-    if status == NO_ROOM {
+    let mut ended = make(&mut out, &mut count);
+    if ended == status::NO_ROOM {
         out.resize(count, 0);
-        status = make(&mut out, &mut count);
+        ended = make(&mut out, &mut count);
     }
-    done(status, call, given)?;
+    done(ended, call, given)?;
     Ok(String::from_utf8_lossy(&out[..count]).into_owned())
 }
 

@@ -25,7 +25,7 @@ loop: vadd $v2, $v2, $v1
       sqv $v2[0], 32($0)
       break
 ";
-const HEAD: u64 = 9;
+const HEAD: u32 = 9;
 const IMAGE: [u8; 64] = [5; 64];
 
 /// A machine that spoils something after the instruction at an address while $2 has a value.
@@ -55,13 +55,13 @@ impl Emulator for Faulty {
         self.machine.set(state).unwrap();
     }
 
-    fn memory(&self, bank: Bank, bytes: &mut [u8]) {
-        self.machine.memory(bank, 0, bytes).unwrap();
+    fn memory(&self, bank: Bank, address: u32, bytes: &mut [u8]) {
+        self.machine.memory(bank, address, bytes).unwrap();
     }
 
-    fn load(&mut self, bank: Bank, bytes: &[u8]) {
-        assert!(!bytes.is_empty(), "{bank}");
-        self.machine.load(bank, 0, bytes).unwrap();
+    fn load(&mut self, bank: Bank, address: u32, bytes: &[u8]) {
+        assert!(address == 0 && bytes.len() == if bank == Bank::Rdram { 64 } else { 4096 }, "{bank}");
+        self.machine.load(bank, address, bytes).unwrap();
     }
 }
 
@@ -80,6 +80,10 @@ fn byte_of_imem(machine: &mut Machine) {
 }
 
 fn byte_of_rdram(machine: &mut Machine) {
+    machine.load(Bank::Rdram, 0xb, &[0x85]).unwrap();
+}
+
+fn byte_where_no_dma_wrote(machine: &mut Machine) {
     machine.load(Bank::Rdram, 0x13, &[0x85]).unwrap();
 }
 
@@ -90,7 +94,7 @@ fn pair(place: u16, turn: u32, spoil: fn(&mut Machine)) -> (Machine, Faulty) {
 }
 
 /// The state after so many steps of the machine alone.
-fn alone(steps: u64) -> State {
+fn alone(steps: u32) -> State {
     let (mut machine, _) = pair(0, 99, lane);
     (0..steps).for_each(|_| assert_eq!(machine.step(), Ok(StepEnd::Done)));
     machine.get().unwrap()
@@ -119,14 +123,76 @@ fn a_fault_is_found_at_its_step() {
 fn a_dma_is_compared_in_rdram() {
     let (mut machine, mut emulator) = pair(32, 40, byte_of_rdram);
     let found = first_difference(&mut machine, &mut emulator, 64, 1000).unwrap().unwrap();
-    assert_eq!((found.step, found.line.text.as_str(), found.registers.len()), (9, "mtc0 $1, $c3", 0));
+    assert_eq!((found.step, found.steps, found.line.text.as_str(), found.registers.len()), (9, 1, "mtc0 $1, $c3", 0));
+    assert_eq!((found.memories.len(), found.memories[0].bank, found.memories[0].address), (1, Bank::Rdram, 0));
+}
+
+#[test]
+fn rdram_is_compared_at_the_end() {
+    let (mut machine, mut emulator) = pair(32, 40, byte_where_no_dma_wrote);
+    let found = first_difference(&mut machine, &mut emulator, 64, 1000).unwrap().unwrap();
+    let last = HEAD + 4 * 40 + 1;
+    assert_eq!((found.step, found.steps, found.line.address, found.before), (last, last, 0, alone(0)));
     assert_eq!((found.memories.len(), found.memories[0].bank, found.memories[0].address), (1, Bank::Rdram, 16));
+    let head = format!("steps 1 to {last}, from 000 on: RDRAM differs where no DMA wrote: repeat with a smaller limit\n");
+    assert!(found.to_string().starts_with(&head), "{found}");
+}
+
+/// One whose `get` or `run` isn't right from a step on.
+struct Wrong {
+    inner: Faulty,
+    steps: u32,
+    lies: bool,
+}
+
+const FROM: u32 = 50;
+
+impl Emulator for Wrong {
+    fn run(&mut self, steps: u32) {
+        self.steps += steps;
+        self.inner.run(if !self.lies && self.steps == FROM { steps - 1 } else { steps });
+    }
+
+    fn get(&self) -> State {
+        let mut state = self.inner.get();
+        state.words[9] += u32::from(self.lies && (1..30).contains(&state.words[2]));
+        state
+    }
+
+    fn set(&mut self, state: &State) {
+        self.inner.set(state);
+    }
+
+    fn memory(&self, bank: Bank, address: u32, bytes: &mut [u8]) {
+        self.inner.memory(bank, address, bytes);
+    }
+
+    fn load(&mut self, bank: Bank, address: u32, bytes: &[u8]) {
+        self.inner.load(bank, address, bytes);
+    }
+}
+
+/// $2 is 29 after this step, and not 1 to 29 in any state before it.
+#[test]
+fn a_wrong_get_is_found_at_its_step() {
+    for every in [1, 7, 64] {
+        let (mut machine, inner) = pair(0, 99, lane);
+        let found = first_difference(&mut machine, &mut Wrong { inner, steps: 0, lies: true }, every, 1000).unwrap().unwrap();
+        assert_eq!((found.step, found.steps, found.registers[0].place.to_string()), (HEAD + 4 * 10 + 2, 1, "$9".to_string()));
+    }
+}
+
+#[test]
+fn a_step_that_isnt_made_is_found() {
+    let (mut machine, inner) = pair(0, 99, lane);
+    let found = first_difference(&mut machine, &mut Wrong { inner, steps: 0, lies: false }, 1, 1000).unwrap().unwrap();
+    assert_eq!((found.step, found.before), (FROM, alone(FROM - 1)));
 }
 
 #[test]
 fn none() {
     let (mut machine, mut emulator) = pair(0, 99, lane);
-    assert_eq!(first_difference(&mut machine, &mut emulator, 64, u64::MAX), Ok(None));
+    assert_eq!(first_difference(&mut machine, &mut emulator, 64, u32::MAX), Ok(None));
     assert_eq!((machine.step(), machine.get().unwrap()), (Ok(StepEnd::Halted), alone(HEAD + 4 * 40 + 1)));
     for limit in [0, 20, 21] {
         let (mut machine, mut emulator) = pair(36, 17, lane);
@@ -150,9 +216,9 @@ impl Emulator for Empty {
 
     fn set(&mut self, _: &State) {}
 
-    fn memory(&self, _: Bank, _: &mut [u8]) {}
+    fn memory(&self, _: Bank, _: u32, _: &mut [u8]) {}
 
-    fn load(&mut self, _: Bank, _: &[u8]) {}
+    fn load(&mut self, _: Bank, _: u32, _: &[u8]) {}
 }
 
 #[test]
@@ -162,38 +228,54 @@ fn an_emulator_that_keeps_nothing_differs_before_the_first_step() {
     assert_eq!((found.step, found.registers.len(), found.memories[0].bank), (0, 0, Bank::Imem));
 }
 
-/// One that panics: in its first run, or when its registers are asked for.
+/// One that panics in a method.
 struct Panics {
-    is_in_run: bool,
+    inner: Faulty,
+    method: &'static str,
+}
+
+impl Panics {
+    fn enter(&self, method: &'static str) {
+        if method == self.method {
+            std::panic::panic_any(method);
+        }
+    }
 }
 
 impl Emulator for Panics {
-    fn run(&mut self, _: u32) {
-        assert!(!self.is_in_run, "a run");
+    fn run(&mut self, steps: u32) {
+        self.enter("run");
+        self.inner.run(steps);
     }
 
     fn get(&self) -> State {
-        assert!(self.is_in_run, "registers");
-        alone(0)
+        self.enter("get");
+        self.inner.get()
     }
 
-    fn set(&mut self, _: &State) {}
-
-    fn memory(&self, bank: Bank, bytes: &mut [u8]) {
-        pair(0, 99, lane).0.memory(bank, 0, bytes).unwrap();
+    fn set(&mut self, state: &State) {
+        self.enter("set");
+        self.inner.set(state);
     }
 
-    fn load(&mut self, _: Bank, _: &[u8]) {}
+    fn memory(&self, bank: Bank, address: u32, bytes: &mut [u8]) {
+        self.enter("memory");
+        self.inner.memory(bank, address, bytes);
+    }
+
+    fn load(&mut self, bank: Bank, address: u32, bytes: &[u8]) {
+        self.enter("load");
+        self.inner.load(bank, address, bytes);
+    }
 }
 
 #[test]
 fn a_panic_of_an_emulator_leaves_the_machine_whole() {
-    for is_in_run in [false, true] {
-        let (mut machine, _) = pair(0, 99, lane);
-        let ended = catch_unwind(AssertUnwindSafe(|| first_difference(&mut machine, &mut Panics { is_in_run }, 1, 9)));
-        let message = if is_in_run { "a run" } else { "registers" };
-        assert_eq!(ended.unwrap_err().downcast_ref(), Some(&message));
-        assert_eq!(machine.get().unwrap(), alone(u64::from(is_in_run)));
+    for method in ["run", "get", "set", "memory", "load"] {
+        let (mut machine, inner) = pair(0, 99, lane);
+        let ended = catch_unwind(AssertUnwindSafe(|| first_difference(&mut machine, &mut Panics { inner, method }, 1, 9)));
+        assert_eq!(ended.unwrap_err().downcast_ref(), Some(&method));
+        assert_eq!(machine.get().unwrap(), alone(u32::from(method == "run")));
         assert_eq!(machine.run(9).unwrap().steps, 9);
     }
 }
@@ -217,12 +299,12 @@ impl Emulator for Whole {
         self.0.set(state);
     }
 
-    fn memory(&self, bank: Bank, bytes: &mut [u8]) {
-        self.0.memory(bank, bytes);
+    fn memory(&self, bank: Bank, address: u32, bytes: &mut [u8]) {
+        self.0.memory(bank, address, bytes);
     }
 
-    fn load(&mut self, bank: Bank, bytes: &[u8]) {
-        self.0.load(bank, bytes);
+    fn load(&mut self, bank: Bank, address: u32, bytes: &[u8]) {
+        self.0.load(bank, address, bytes);
     }
 }
 
@@ -231,6 +313,6 @@ fn a_stretch_is_named_if_single_steps_dont_show_it() {
     let (mut machine, emulator) = pair(0, 99, lane);
     let found = first_difference(&mut machine, &mut Whole(emulator), 3, 1000).unwrap().unwrap();
     assert_eq!((found.step, found.steps, found.line.address, found.before), (3, 3, 0, alone(0)));
-    let head = "steps 1 to 3, from 000 on: no step alone differs, so get and set leave something out\n";
+    let head = "steps 1 to 3, from 000 on: no step alone differs, so get and set leave something out: repeat with every = 1\n";
     assert!(found.to_string().starts_with(head), "{found}");
 }

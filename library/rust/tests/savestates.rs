@@ -51,8 +51,7 @@ fn what_is_refused_changes_nothing() -> Result<(), RspError> {
     }
     for bytes in given {
         let fault = machine.load_state(&bytes).unwrap_err();
-        let sentence = "load_state: the bytes aren't a savestate of a machine with an image of this length";
-        assert_eq!((fault.status(), fault.to_string().as_str()), (Status::OutOfRange, sentence));
+        assert!(fault.status() == Status::OutOfRange && fault.to_string().starts_with("load_state: "), "{fault}");
         assert!(machine.save_state()? == saved);
     }
     Ok(())

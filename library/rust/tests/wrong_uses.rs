@@ -31,12 +31,12 @@ impl Emulator for Faulty {
         assert!(self.1 == Wrong::Set || self.0.set(state).is_ok());
     }
 
-    fn memory(&self, bank: Bank, bytes: &mut [u8]) {
-        assert!(self.1 == Wrong::Memory || self.0.memory(bank, 0, bytes).is_ok());
+    fn memory(&self, bank: Bank, address: u32, bytes: &mut [u8]) {
+        assert!(self.1 == Wrong::Memory || self.0.memory(bank, address, bytes).is_ok());
     }
 
-    fn load(&mut self, bank: Bank, bytes: &[u8]) {
-        assert!(self.1 == Wrong::Load || self.0.load(bank, 0, bytes).is_ok());
+    fn load(&mut self, bank: Bank, address: u32, bytes: &[u8]) {
+        assert!(self.1 == Wrong::Load || self.0.load(bank, address, bytes).is_ok());
     }
 }
 

@@ -16,28 +16,16 @@ Interface = Dict[str, str]  # by kind and name
 
 def numbers() -> Iterator[Tuple[str, str]]:
     """The enumerators and macros of the headers that are numbers."""
-    text = without_comments(page("library/c/brsp.h") + page("library/c/brsp_helpers.h"))
+    text = re.sub(r"(?s)/\*.*?\*/", "", page("library/c/brsp.h") + page("library/c/brsp_helpers.h"))
     yield from re.findall(r"\b(BRSP_\w+) = (\d+)", text)
     yield from re.findall(r"(?m)^#define (BRSP_\w+) (\d+)$", text)
 
 
-def without_comments(text: str) -> str:
-    return re.sub(r"(?s)/\*.*?\*/", "", text)
-
-
-def helpers() -> Iterator[Tuple[str, str]]:
-    """The calls of brsp_helpers.h, with what C declares of each."""
-    text = without_comments(page("library/c/brsp_helpers.h"))
-    for result, name, given in re.findall(r"(?ms)^(\w[\w *]*?) ?\b(brsp_\w+)\(([^;{]*)\);", text):
-        yield name, f"{result} ({' '.join(given.split())})"
-
-
 def interface() -> Interface:
-    """The interface of brsp.h, brsp_helpers.h and rsp_c as they are."""
-    found = {f"symbol {name}": f"{result} ({given})" for name, result, given in shapes.exported()}
-    found.update({f"symbol {name}": text for name, text in helpers()})
-    for struct, (size, fields) in shapes.layouts(shapes.structs()).items():
-        name = shapes.c_name(struct)
+    """The interface of both headers and of rsp_c as they are."""
+    pairs = ((call.name, *shapes.in_c(call)) for call in shapes.INTERFACE.calls)
+    found = {f"symbol {name}": f"{result} ({given})" for name, result, given in pairs}
+    for name, (size, fields) in shapes.layouts().items():
         found[f"struct {name}"] = f"{size} bytes"
         found.update({f"field {name}.{it}": f"{width} bytes at {at}" for it, at, width in fields})
     found.update({f"number {name}": value for name, value in numbers()})

@@ -30,9 +30,9 @@ def assert_raises(kind: Type[BaseException], text: str, call: Callable[..., Any]
     assert caught.type is kind
 
 
-def loaded(source: str, depth: int = 0) -> rsp.Rsp:
+def loaded(source: str, depth: int = 0) -> rsp.Machine:
     """A machine with a program in IMEM."""
-    machine = rsp.Rsp(bytes(4096), depth)
+    machine = rsp.Machine(bytes(4096), depth)
     machine.load_words(rsp.IMEM, 0, rsp.assemble(source))
     return machine
 

@@ -7,8 +7,8 @@ from typing import Any
 import pytest
 
 from lib import TESTS, TOP
+from lib.library import shapes
 from lib.processes import STRICT, compiled, run, succeeds
-from rsp_tools.systems import header
 
 HERE = TESTS / "library/c"
 # What of the library is in C, for the sanitizers, which don't see what is compiled without them.
@@ -49,7 +49,7 @@ def assert_passes(program: Path, *words: object, **how: Any) -> None:
 
 def other_version(folder: Path, without: str = "") -> Path:
     """A folder with libraries whose calls do nothing: of version 2, or of version 1 without a call."""
-    names = [name for name in header.calls() if name != without]
+    names = [name for name in shapes.CALLS if name != without]
     version = 1 if without else 2
     calls = (f"unsigned {it}(void) {{ return {version if it == 'brsp_version' else 0}; }}\n" for it in names)
     (folder / "calls.c").write_text("".join(calls))

@@ -20,7 +20,9 @@ def rows(language: str) -> Dict[str, Tuple[str, str]]:
     """The status and the sentence of each row that a language can express, by its calls."""
     lines = (TESTS / "library/refusals.tsv").read_text().splitlines()[1:]
     table = (line.split("\t") for line in lines)
-    return {calls: (status, text) for calls, status, text, no in table if language not in no.split()}
+    return {
+        calls: (status, text) for calls, status, text, left_out in table if language not in left_out.split()
+    }
 
 
 def assert_refused(language: str, output: str) -> None:

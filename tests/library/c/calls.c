@@ -1,5 +1,6 @@
 /* Each call of library/c/brsp.h, in its range and out of it. It is C99 and C++11. The last line is `N passed, M failed`. */
 #include "brsp.h"
+#include "each_call.h"
 #include <stdio.h>
 #include <string.h>
 
@@ -26,84 +27,41 @@ static void load(brsp_machine *m, const char *text)
     SEE(brsp_load_words(m, BRSP_IMEM, 0, words, out.count) == BRSP_OK);
 }
 
+#define ROOM(n) room[n]
+#define SEE_NONE(call, given) SEE(call given == BRSP_NO_MACHINE);
+
+/* Each call on a handle that holds nothing, also with numbers that are out of their range. */
 static void without_machine(void)
 {
-    brsp_machine none = BRSP_NONE, freed = BRSP_NONE;
+    static uint64_t room[4][128];
+    brsp_machine none = BRSP_NONE, freed = BRSP_NONE, to = BRSP_NONE;
+    brsp_session session = BRSP_NONE;
     brsp_machine *handles[2];
-    uint8_t byte = 0;
-    uint32_t word = 0;
-    size_t number = 0;
     brsp_stop stop;
-    brsp_scalars scalars;
-    brsp_lanes lanes;
-    brsp_accumulators acc;
-    brsp_flag_bits flags;
-    brsp_divide_state divider;
-    brsp_line line;
-    brsp_sp_words sp;
     brsp_move move;
     brsp_reached reached;
     brsp_traced traced;
-    brsp_changes changed;
-    brsp_dma dma;
-    brsp_machine to = BRSP_NONE;
+    uint32_t word = 0;
+    uint8_t byte = 0;
     int i;
-    memset(&sp, 0, sizeof sp);
-    memset(&dma, 0, sizeof dma);
     SEE(brsp_new(&freed, image, 64, 0) == BRSP_OK);
     brsp_free(&freed);
     brsp_free(&freed);
     handles[0] = &none;
     handles[1] = &freed;
-    memset(&state, 0, sizeof state);
     for (i = 0; i < 2; i++) {
         brsp_machine *m = handles[i];
-        SEE(brsp_get(m, &state) == BRSP_NO_MACHINE);
-        SEE(brsp_set(m, &state) == BRSP_NO_MACHINE);
-        SEE(brsp_load(m, 0, 0, &byte, 1) == BRSP_NO_MACHINE);
+        EACH_CALL(SEE_NONE, m, &session, ROOM)
         SEE(brsp_load(m, 9, ANY, &byte, 1) == BRSP_NO_MACHINE);
-        SEE(brsp_load_words(m, 0, 0, &word, 1) == BRSP_NO_MACHINE);
-        SEE(brsp_memory(m, 0, 0, &byte, 1) == BRSP_NO_MACHINE);
-        SEE(brsp_start_task(m, 0) == BRSP_NO_MACHINE);
-        SEE(brsp_set_pc(m, 0) == BRSP_NO_MACHINE);
-        SEE(brsp_set_pc(m, 1) == BRSP_NO_MACHINE);
-        SEE(brsp_step(m) == BRSP_NO_MACHINE);
-        SEE(brsp_step_changes(m, &changed) == BRSP_NO_MACHINE);
-        SEE(brsp_run(m, 1, &stop) == BRSP_NO_MACHINE);
         SEE(brsp_run(m, 0, &stop) == BRSP_NO_MACHINE);
-        SEE(brsp_run_until_move(m, 1, 0, 0, &move) == BRSP_NO_MACHINE);
         SEE(brsp_run_until_move(m, 0, ANY, ANY, &move) == BRSP_NO_MACHINE);
-        SEE(brsp_event(m, 1, 0, 0, &reached) == BRSP_NO_MACHINE);
         SEE(brsp_event(m, 0, ANY, ANY, &reached) == BRSP_NO_MACHINE);
-        SEE(brsp_trace(m, &traced, 1, &stop) == BRSP_NO_MACHINE);
         SEE(brsp_trace(m, &traced, 0, &stop) == BRSP_NO_MACHINE);
-        SEE(brsp_back(m, 1) == BRSP_NO_MACHINE);
-        SEE(brsp_add_break(m, 0) == BRSP_NO_MACHINE);
-        SEE(brsp_drop_break(m, 0) == BRSP_NO_MACHINE);
-        SEE(brsp_add_watch(m, 0, 1, &number) == BRSP_NO_MACHINE);
-        SEE(brsp_drop_watch(m, 0) == BRSP_NO_MACHINE);
-        SEE(brsp_reg(m, 0, &word) == BRSP_NO_MACHINE);
-        SEE(brsp_regs(m, &scalars) == BRSP_NO_MACHINE);
-        SEE(brsp_vreg(m, 0, &lanes) == BRSP_NO_MACHINE);
-        SEE(brsp_acc(m, &acc) == BRSP_NO_MACHINE);
-        SEE(brsp_flags(m, &flags) == BRSP_NO_MACHINE);
-        SEE(brsp_divider(m, &divider) == BRSP_NO_MACHINE);
-        SEE(brsp_read(m, 7, &word) == BRSP_NO_MACHINE);
-        SEE(brsp_peek(m, 7, &word) == BRSP_NO_MACHINE);
-        SEE(brsp_write(m, 0, 8) == BRSP_NO_MACHINE);
-        SEE(brsp_write_dma(m, 2, 8, &dma) == BRSP_NO_MACHINE && dma.rows == 0);
-        SEE(brsp_listing(m, 0, &line, 1) == BRSP_NO_MACHINE);
-        SEE(brsp_memory_words(m, 0, 0, &word, 1) == BRSP_NO_MACHINE);
         SEE(brsp_memory_words(m, 9, ANY, &word, SIZE_MAX) == BRSP_NO_MACHINE);
-        SEE(brsp_sp(m, &sp) == BRSP_NO_MACHINE);
-        SEE(brsp_set_sp(m, &sp) == BRSP_NO_MACHINE);
-        SEE(brsp_pass_move(m, 1) == BRSP_NO_MACHINE);
-        SEE(brsp_pass_dma(m) == BRSP_NO_MACHINE);
-        SEE(brsp_history(m, &number) == BRSP_NO_MACHINE && number == 0);
-        SEE(brsp_image_length(m, &number) == BRSP_NO_MACHINE && number == 0);
         SEE(brsp_copy(&to, m) == BRSP_NO_MACHINE && to.at == NULL);
         SEE(m->at == NULL);
     }
+    SEE(room[0][0] == 0 && room[1][0] == 0);
 }
 
 static void lives(void)

@@ -6,6 +6,7 @@
  *   - All that was taken is freed: also by calls.c, whose main is all_calls here. */
 #include "brsp.h"
 #include "counted.h"
+#include "each_call.h"
 #include <stdio.h>
 #include <stdlib.h>
 #include <string.h>
@@ -301,30 +302,28 @@ static void refused_calls(brsp_machine *m)
     REFUSED(brsp_listing(m, 0, lines, 1025));
 }
 
+#define ROOM(n) room[n]
+#define MAKE(call, given) NONE(call given);
+
 static void other_calls(brsp_machine *m)
 {
+    static uint64_t room[4][128];
     static brsp_line lines[1024];
     static uint8_t bytes[4096];
     static uint32_t words[1024];
     static brsp_state state;
     static brsp_traced entries[64];
-    static brsp_changes changes;
+    brsp_session none = BRSP_NONE;
     brsp_move move;
     brsp_reached reached;
     brsp_stop stop;
-    brsp_scalars scalars;
-    brsp_lanes lanes;
-    brsp_accumulators accumulators;
-    brsp_flag_bits flags;
-    brsp_divide_state divider;
-    brsp_sp_words sp;
-    brsp_dma dma;
     size_t number;
     uint32_t word, k;
     NONE(brsp_version());
     NONE(brsp_get(m, &state));
     NONE(brsp_set(m, &state));
     NONE(brsp_state_fault(&state, &word));
+    EACH_CALL(MAKE, m, &none, ROOM)
     for (k = 0; k < 4; k++) {
         NONE(brsp_load(m, k, 0, bytes, 64));
         NONE(brsp_load_words(m, k, 0, words, 16));
@@ -332,39 +331,23 @@ static void other_calls(brsp_machine *m)
         NONE(brsp_memory(m, k, 0, bytes, 4096));
         NONE(brsp_memory_words(m, k, 0, words, 1024));
     }
-    NONE(brsp_start_task(m, 0));
     NONE(brsp_set_pc(m, 0));
-    NONE(brsp_step(m));
-    NONE(brsp_step_changes(m, &changes));
     NONE(brsp_run(m, 1000000, &stop));
     NONE(brsp_run(m, 0, &stop));
     NONE(brsp_run_until_move(m, 1000, 0xffff, 0xffff, &move));
     NONE(brsp_trace(m, entries, 64, &stop));
     NONE(brsp_back(m, 50));
     NONE(brsp_event(m, 1000, 0xffff, 0xffff, &reached));
-    NONE(brsp_pass_move(m, 1));
-    NONE(brsp_pass_dma(m));
-    NONE(brsp_history(m, &number));
-    NONE(brsp_image_length(m, &number));
     for (k = 0; k < 17; k++) NONE(brsp_add_break(m, 4 * k));
     for (k = 0; k < 9; k++) NONE(brsp_add_watch(m, k, 64, &number));
     NONE(brsp_run(m, 1000, &stop));
     NONE(brsp_drop_break(m, 0));
     NONE(brsp_drop_watch(m, 0));
-    NONE(brsp_reg(m, 1, &word));
-    NONE(brsp_regs(m, &scalars));
-    NONE(brsp_vreg(m, 1, &lanes));
-    NONE(brsp_acc(m, &accumulators));
-    NONE(brsp_flags(m, &flags));
-    NONE(brsp_divider(m, &divider));
     for (k = 0; k < 16; k++) {
         NONE(brsp_read(m, k, &word));
-        NONE(brsp_peek(m, k, &word));
         NONE(brsp_write(m, k, k == 4 ? 1 : 8));
         NONE(brsp_write_dma(m, k, k == 4 ? 1 : 8, &dma));
     }
-    NONE(brsp_sp(m, &sp));
-    NONE(brsp_set_sp(m, &sp));
     NONE(brsp_text(0x4a631050u, 0, lines));
     NONE(brsp_listing(m, 0, lines, 1024));
 }

@@ -8,6 +8,7 @@
 #include <pthread.h>
 #endif
 #include "brsp.h"
+#include "each_call.h"
 #include <stdio.h>
 #include <stdlib.h>
 #include <string.h>
@@ -23,11 +24,6 @@ static brsp_state state;
 static brsp_sp_words sp;
 static brsp_line lines[1024];
 static brsp_stop stop;
-static brsp_scalars scalars;
-static brsp_lanes lanes;
-static brsp_accumulators accumulators;
-static brsp_flag_bits flags;
-static brsp_divide_state divider;
 static brsp_assembled assembled;
 static brsp_operand operand;
 static brsp_label found[4];
@@ -54,34 +50,17 @@ static void memory(void) { word = brsp_memory(&m, BRSP_DMEM, 0, bytes, 4096); }
 static void load_words(void) { word = brsp_load_words(&m, BRSP_IMEM, 0, words, 1024); }
 static void memory_words(void) { word = brsp_memory_words(&m, BRSP_IMEM, 0, words, 1024); }
 static void task(void) { word = brsp_start_task(&m, 0); }
-static void set_pc(void) { word = brsp_set_pc(&m, 0); }
 static void step(void) { word = brsp_step(&m); }
 static void changed(void) { word = brsp_step_changes(&m, &changes); }
-static void back(void) { word = brsp_back(&m, 1); }
-static void pass(void) { word = brsp_pass_move(&m, 1); }
 static void run(void) { word = brsp_run(&m, 100000, &stop); }
 static void run_until_move(void) { word = brsp_run_until_move(&m, 100000, 1, 0, &move); }
 static void event(void) { word = brsp_event(&m, 100000, 0xffff, 0xffff, &reached); }
-static void pass_dma(void) { word = brsp_pass_dma(&m); }
-static void image_length(void) { word = brsp_image_length(&m, &number); }
-static void history(void) { word = brsp_history(&m, &number); }
 static void traced(void) { word = brsp_trace(&m, entries, 256, &stop); }
 static void add_break(void) { word = brsp_add_break(&m, 4092); }
 static void add_watch(void) { word = brsp_add_watch(&m, 4032, 64, &number); }
-static void drop_break(void) { word = brsp_drop_break(&m, 4092); }
-static void drop_watch(void) { word = brsp_drop_watch(&m, 0); }
-static void reg(void) { brsp_reg(&m, 1, &word); }
-static void regs(void) { word = brsp_regs(&m, &scalars); }
-static void vreg(void) { word = brsp_vreg(&m, 1, &lanes); }
-static void acc(void) { word = brsp_acc(&m, &accumulators); }
-static void flag(void) { word = brsp_flags(&m, &flags); }
-static void divide(void) { word = brsp_divider(&m, &divider); }
-static void peek(void) { brsp_peek(&m, 4, &word); }
-static void taken(void) { brsp_read(&m, 4, &word); }
 static void transfer(void) { word = brsp_write(&m, 2, 0xfffff); }
 static void described(void) { word = brsp_write_dma(&m, 2, 0xfffff, &reached.dma); }
-static void sp_words(void) { word = brsp_sp(&m, &sp); }
-static void set_sp(void) { word = brsp_set_sp(&m, &sp); }
+static void set_sp(void) { word = brsp_sp(&m, &sp) | brsp_set_sp(&m, &sp); }
 static void assemble(void) { word = brsp_assemble(0, (const uint8_t *)text, strlen(text), words, 1024, &assembled); }
 static void explain(void) { word = brsp_explain(0, (const uint8_t *)text, strlen(text), &operand); }
 static void explain_text(void) { word = brsp_explain_text(0, (const uint8_t *)faulty + 6, strlen(faulty) - 6, reply, sizeof reply, &number); }
@@ -107,6 +86,13 @@ static void session_memory(void) { word = brsp_session_memory(&b, BRSP_RDRAM, 0,
 static void session_end(void) { give("vregs", 5); word = brsp_session_end(&b, reply, sizeof reply, &written); }
 static void session_free(void) { brsp_session_free(&b); }
 
+/* Those above are given what costs them most; here is each call on a handle, given little. */
+static uint64_t room[4][128];
+#define ROOM(n) room[n]
+#define MAKE(call, given) static void each_##call(void) { word = call given; }
+#define ENTRY(call, given) { #call " of 1", each_##call },
+EACH_CALL(MAKE, &m, &b, ROOM)
+
 /* In an order in which they follow one another: `assemble` fills `words`, and the steps run what it made. */
 static const struct {
     const char *name;
@@ -116,17 +102,14 @@ static const struct {
     { "brsp_explain", explain }, { "brsp_explain_text", explain_text }, { "brsp_explain_reply", explain_reply }, { "brsp_labels", labels },
     { "brsp_load", load }, { "brsp_memory", memory }, { "brsp_memory_words", memory_words }, { "brsp_step", step }, { "brsp_run", run },
     { "brsp_step_changes", changed },
-    { "brsp_run_until_move", run_until_move }, { "brsp_event", event }, { "brsp_pass_dma", pass_dma }, { "brsp_history", history },
-    { "brsp_image_length", image_length },
-    { "brsp_trace", traced },
-    { "brsp_back", back }, { "brsp_add_watch", add_watch }, { "brsp_add_break", add_break }, { "brsp_run with both", run },
-    { "brsp_drop_break", drop_break }, { "brsp_drop_watch", drop_watch }, { "brsp_copy", copied }, { "brsp_free", freed }, { "brsp_get", get },
-    { "brsp_set", set }, { "brsp_state_fault", fault }, { "brsp_set_pc", set_pc }, { "brsp_pass_move", pass }, { "brsp_reg", reg }, { "brsp_regs", regs },
-    { "brsp_vreg", vreg }, { "brsp_acc", acc }, { "brsp_flags", flag }, { "brsp_divider", divide }, { "brsp_peek", peek }, { "brsp_read", taken },
-    { "brsp_write", transfer }, { "brsp_write_dma", described }, { "brsp_sp", sp_words }, { "brsp_set_sp", set_sp }, { "brsp_text", disassemble }, { "brsp_listing", listing },
+    { "brsp_run_until_move", run_until_move }, { "brsp_event", event }, { "brsp_trace", traced },
+    { "brsp_add_watch", add_watch }, { "brsp_add_break", add_break }, { "brsp_run with both", run },
+    { "brsp_copy", copied }, { "brsp_free", freed }, { "brsp_get", get },
+    { "brsp_set", set }, { "brsp_state_fault", fault },
+    { "brsp_write", transfer }, { "brsp_write_dma", described }, { "brsp_set_sp", set_sp }, { "brsp_text", disassemble }, { "brsp_listing", listing },
     { "brsp_start_task", task }, { "brsp_session_new", session }, { "brsp_session_take of lines", open_block }, { "brsp_session_take of end", close_block },
     { "brsp_session_take of run", session_run }, { "brsp_session_take of looks", session_looks }, { "brsp_session_memory", session_memory },
-    { "brsp_session_end", session_end }, { "brsp_session_free", session_free }
+    { "brsp_session_end", session_end }, { "brsp_session_free", session_free }, EACH_CALL(ENTRY, &m, &b, ROOM)
 };
 
 #ifdef _WIN32

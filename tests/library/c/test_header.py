@@ -11,14 +11,15 @@ from typing import Dict
 import pytest
 
 from lib import TOP
-from lib.library import shapes
+from lib.library import names, shapes
 from lib.library.programs import main_of, output_of
 from lib.packages import need
-from lib.pages import data, page
+from lib.pages import page
 from lib.processes import STRICT, compiled, succeeds
-from rsp_tools.systems import header
+from rsp_tools.shapes import header
 
 HEADER = page("library/c/brsp.h")
+NUMBERS = shapes.PROVED.numbers
 FOLDERS = [f"-I{TOP / it}" for it in ("examples/c", "conformance/campaigns")]
 # How files that use the headers are compiled: for one standard at each level, and for each standard at one
 # level, because all levels of all standards take minutes.
@@ -31,13 +32,15 @@ USES = [
     *product(C_FILES, ("gcc", "clang"), OF_C),
     *product(["tests/library/c/uses.cpp"], ("g++", "clang++"), [f"-std=c++20 {it}" for it in LEVELS]),
     *product(["tests/library/c/uses.cpp"], ("g++", "clang++"), OF_CPP),
+    *product(["tests/library/c/machine.cpp"], ("g++", "clang++"), ["-std=c++20 -O2"]),
 ]
 
 
 def test_calls() -> None:
     """They are those of rsp_c, and each has a comment above it, in lines of fewer than 110 columns."""
-    calls = sorted(shapes.exported())
-    assert sorted(shapes.declared(HEADER)) == calls and len(calls) > 20
+    declared = sorted(header.calls("library/c/brsp.h"))
+    assert [call.types() for call in declared] == [call.types() for call in shapes.PROVED.calls]
+    assert len(declared) > 20
     assert re.findall(r"(?m)^(?!.*\*/$).*\n\w+ (brsp_\w+)\(", HEADER) == []
     assert [line for line in HEADER.splitlines() if len(line) >= 110] == []
 
@@ -46,7 +49,7 @@ def test_calls() -> None:
 def test_exports(library: Path) -> None:
     output = succeeds("nm", "-D", "--defined-only", "--without-symbol-versions", library / "libbrsp.so")
     names = {it.split()[-1] for it in output.splitlines()}
-    assert {it for it in names if not it.startswith("BRSP_")} == {*header.calls()}
+    assert {it for it in names if not it.startswith("BRSP_")} == {*shapes.CALLS}
 
 
 def named(prefix: str, text: str = HEADER) -> Dict[str, int]:
@@ -56,26 +59,25 @@ def named(prefix: str, text: str = HEADER) -> Dict[str, int]:
 
 def test_numbers() -> None:
     statuses, banks = re.findall(r"(?s)enum brsp_(?:status|bank) \{.*?\}", HEADER)
-    assert (named("", statuses), named("", banks)) == (shapes.STATUSES, shapes.BANKS)
-    assert named("AT_") == shapes.REASONS
-    assert re.findall(r"#define BRSP_REPLIES (\d+)", HEADER) == [str(shapes.REPLIES)]
-    assert named("FIELD_") == {"NONE": 0, **shapes.FIELDS}
-    faults = {re.sub(r"(?<!^)(?=[A-Z])", "_", it).upper(): number for it, number in shapes.FAULTS.items()}
-    assert named("FAULT_") == {"NONE": 0, **faults}
+    assert (named("", statuses), named("", banks)) == (NUMBERS["status"], NUMBERS["bank"])
+    assert named("AT_") == NUMBERS["reason"]
+    assert re.findall(r"#define BRSP_REPLIES (\d+)", HEADER) == [str(shapes.PROVED.constants["REPLIES"])]
+    assert named("FIELD_") == {"NONE": 0, **NUMBERS["field"]}
+    assert named("FAULT_") == {"NONE": 0, **NUMBERS["fault"]}
 
 
 def test_apart() -> None:
     """No status but BRSP_OK has the number of a fault of scripts."""
     faults = {int(line.split()[0]) for line in page("docs/data/faults.tsv").splitlines()[1:]}
-    assert len(faults) > 20 and not faults & {*shapes.STATUSES.values()}
+    assert len(faults) > 20 and not faults & {*NUMBERS["status"].values()}
 
 
 @pytest.mark.needs("cc")
 def test_layouts(library: Path, folder: Path) -> None:
     """offsetof and sizeof, as the C compiler has them."""
-    layouts = shapes.layouts(shapes.structs())
+    layouts = shapes.layouts()
     lines, expected = [], []
-    for name, (size, fields) in zip(map(shapes.c_name, layouts), layouts.values()):
+    for name, (size, fields) in layouts.items():
         lines.append(f'printf("{name} %zu\\n", sizeof({name}));')
         expected.append(f"{name} {size}")
         for field, offset, width in fields:
@@ -83,17 +85,18 @@ def test_layouts(library: Path, folder: Path) -> None:
             lines.append(f'printf("{name}.{field} %zu %zu\\n", {numbers});')
             expected.append(f"{name}.{field} {offset} {width}")
     assert output_of(folder, main_of("\n".join(lines))).splitlines() == expected
-    assert len(layouts) == 17
+    assert len(layouts) == 20
 
 
 @pytest.mark.needs("cc")
 def test_names(library: Path, folder: Path) -> None:
     """The tables of names in brsp.h beside the library's numbers, for the numbers 0 to 149."""
     lines, expected = ["unsigned n;"], []
-    tables = {"status": shapes.STATUSES, "fault": shapes.FAULTS, "reason": shapes.REASONS}
-    for kind, known in tables.items():
+    for kind in ("status", "fault", "reason"):
         lines.append(f'for (n = 0; n < 150; n++) printf("{kind} %u %s\\n", n, brsp_{kind}_name(n));')
-        names = {value: name for name, value in known.items()}
+        names = {value: name for name, value in NUMBERS[kind].items()}
+        if kind == "fault":  # as scripts name it
+            names = {value: name.title().replace("_", "") for value, name in names.items()}
         expected += [f"{kind} {n} {names.get(n, 'unknown')}" for n in range(150)]
     assert output_of(folder, main_of("\n".join(lines))).splitlines() == expected
 
@@ -108,6 +111,7 @@ def test_warnings(source: str, compiler: str, way: str, folder: Path) -> None:
 
 def test_uses() -> None:
     """What is compiled for warnings uses each name of brsp.hpp, and each function that brsp.h defines."""
-    used = re.findall(r"\w+", page("tests/library/c/uses.c") + page("tests/library/c/uses.cpp"))
-    names = [row["C++"].rpartition("::")[2].strip("~-") for row in data("calls")]
-    assert {*names, *re.findall(r"static inline .*(brsp_\w+)\(", HEADER)} - {*used, ""} == set()
+    files = ("uses.c", "uses.cpp", "machine.cpp")
+    used = re.findall(r"\w+", "".join(page(f"tests/library/c/{name}") for name in files))
+    expected = [name.rpartition("::")[2].strip("~") for name in names.named("C++")]
+    assert {*expected, *re.findall(r"static inline .*(brsp_\w+)\(", HEADER)} - {*used} == set()

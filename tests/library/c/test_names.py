@@ -1,31 +1,18 @@
-"""docs/data/calls.tsv: each call of brsp.h has one name in all languages, or a reason why it hasn't.
+"""Each call of brsp.h has the same name in all languages, or docs/data/calls.tsv says which, and why.
 
-They fail if a language lacks a call that the table names, or a name differs and nothing says why.
+They fail if a language lacks a call, or has it by another name.
 """
 
 import re
 from pathlib import Path
-from typing import List
 
 import pytest
 
 from lib import TOP
-from lib.library import shapes
+from lib.library import names
 from lib.packages import need
 from lib.pages import data, page
 from lib.processes import run
-
-ROWS = data("calls")
-# What a name begins with that isn't the call's own: the class, of a machine or of a session.
-OWNERS = ("machine::", "Machine.", "Machine::")
-INTERNAL = "brsp_compare_"
-# The helpers that are calls in each language. The others are what languages make texts and searches of.
-HELPERS = {"brsp_save_state", "brsp_load_state"}
-
-
-def named(column: str) -> List[str]:
-    """The names of a column, without the rows that have none."""
-    return [it[column] for it in ROWS if it[column] != "-"]
 
 
 def body(text: str, form: str) -> str:
@@ -34,21 +21,18 @@ def body(text: str, form: str) -> str:
 
 
 def test_rows() -> None:
-    inline = re.findall(r"^static inline \w+ (brsp_\w+)\(", page("library/c/brsp_compare.h"), re.M)
-    exported = {name for name, *_ in shapes.exported()}
-    calls = exported | HELPERS | {it for it in inline if not it.startswith(INTERNAL)}
-    assert {*named("C")} == calls and len(ROWS) == len(calls)
-    for row in ROWS:
-        own = row["C"][len("brsp_") :]
-        names = [row[it] for it in ("C++", "Python", "Rust", "JavaScript")]
-        is_same = all(own in (it, *(it[len(way) :] for way in OWNERS if it.startswith(way))) for it in names)
-        assert is_same == (row["Why the names differ"] == "-"), row
+    """Each row is of a call whose names aren't the usual ones, and says why."""
+    rows = data("calls")
+    assert rows and {row["C"] for row in rows} <= {*names.calls()}
+    for row in rows:
+        usual = names.usual(row["C"])
+        assert {it: row[it] for it in usual} != usual and row["Why the names differ"] != "-", row
 
 
 def test_cpp(folder: Path) -> None:
     need("c++")
     lines = []
-    for name in named("C++"):
+    for name in names.named("C++"):
         owner, _, method = name.rpartition("::")
         used = f"&brsp::{name}" + "<brsp::machine>" * (name == "first_difference")
         kind = {"~": "std::is_destructible_v", "": "std::is_constructible_v"}.get(method.replace(owner, ""))
@@ -63,17 +47,16 @@ def test_cpp(folder: Path) -> None:
 def test_python() -> None:
     import rsp
 
-    for name in named("Python"):
+    for name in names.named("Python"):
         owner, _, item = name.rpartition(".")
         made = getattr(rsp, owner) if owner else rsp
-        names = made.__init__.__code__.co_names if owner else ()  # of fields
-        assert hasattr(made, item) or item in names, name
-    assert rsp.Rsp is rsp.Machine
+        fields = made.__init__.__code__.co_names if owner else ()
+        assert hasattr(made, item) or item in fields, name
 
 
 def test_rust() -> None:
     text = "\n".join(it.read_text() for it in sorted((TOP / "library/rust/src").glob("*.rs")))
-    for name in named("Rust"):
+    for name in names.named("Rust"):
         owner, _, item = name.rpartition("::")
         where = body(text, f"(?:impl|pub struct) {owner} ") if owner else text
         assert re.search(rf"(?m)^ *pub (?:fn )?{item}[(:]", where), name
@@ -81,7 +64,7 @@ def test_rust() -> None:
 
 def test_javascript() -> None:
     text = page("library/js/rsp.d.ts")
-    for name in named("JavaScript"):
+    for name in names.named("JavaScript"):
         owner, _, item = name.rpartition(".")
         where = body(text, f"export class {owner} ") if owner else text
         assert re.search(rf"(?m)^ *(?:export (?:function|class|const) |readonly )?{item}\b", where), name

@@ -22,9 +22,9 @@ TEXT = " ".join(page("docs/EMBEDDING.md").split())
 LARGEST, DMA_IN, DMA_OUT, STORE = 0xEC8FFFFF, 0x40811000, 0x40811800, 0xAC000000
 
 
-def machine(word: int) -> "rsp.Rsp":
+def machine(word: int) -> "rsp.Machine":
     """A machine whose IMEM is full of a word, with all that a run can stop at."""
-    made = rsp.Rsp(bytes(8 << 20), depth=256)
+    made = rsp.Machine(bytes(8 << 20), depth=256)
     made.load_words(rsp.IMEM, 0, [word] * 1006 + [0x08000000] + [0] * 17)
     state = made.get()
     state.words[1], state.sp[0], state.sp[1] = LARGEST, 8, 0x63248

@@ -16,7 +16,9 @@ from typing import Any, Dict, Iterator, List, Tuple
 import pytest
 
 from lib import TESTS, TOP
-from lib.library import LOCKSTEP
+from lib.library import LOCKSTEP, values
+from lib.library.refusals import assert_refused, given
+from lib.library.savestates import IMAGE, STEPS, TEXT
 from lib.packages import need
 from lib.pages import page
 from lib.script_cases import ScriptCase, all_cases
@@ -56,10 +58,46 @@ def test_names(runner: Any) -> None:
     assert {*names["methods"]} == {*methods, "constructor"}
 
 
+SAVED = """import { IMEM, Machine, assemble } from "rsp";
+const machine = new Machine(Uint8Array.from({ length: 256 }, (_, n) => n), 5);
+machine.load_words(IMEM, 0, assemble(TEXT));
+machine.run(STEPS);
+console.log([...machine.save_state()].map((it) => it.toString(16).padStart(2, "0")).join(""));
+"""
+
+
+@in_javascript
+@pytest.mark.usefixtures("library")
+def test_savestates(runner: Any) -> None:
+    """The bytes of a savestate are those of Python."""
+    import rsp
+
+    machine = rsp.Machine(IMAGE, 5)
+    machine.load_words(rsp.IMEM, 0, rsp.assemble(TEXT))
+    machine.run(STEPS)
+    text = SAVED.replace("TEXT", json.dumps(TEXT)).replace("STEPS", str(STEPS))
+    assert runner.says("saved.js", text) == f"{machine.save_state().hex()}\n"
+
+
 @in_javascript
 def test_wrong_uses(runner: Any) -> None:
     table = (TESTS / "library/wrong_uses.tsv").read_text()
     assert runner.test("wrong_uses.js").decode().split("\n") == table.splitlines()[1:]
+
+
+@in_javascript
+def test_values(runner: Any) -> None:
+    """What calls give, by the table of Python and JavaScript."""
+    rows = values.rows()
+    (runner.at / "values.json").write_text(json.dumps({"text": values.TEXT, "rows": [*rows]}))
+    found = runner.test("values.js", "/at/values.json").decode().splitlines()
+    assert dict(zip(rows, map(json.loads, found))) == rows
+
+
+@in_javascript
+def test_refusals(runner: Any) -> None:
+    (runner.at / "refusals.txt").write_text(given("JavaScript"))
+    assert_refused("JavaScript", runner.test("refusals.js", "/at/refusals.txt").decode())
 
 
 @in_javascript

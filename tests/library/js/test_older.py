@@ -1,14 +1,11 @@
-"""The ES module beside a library that lacks calls: it names them before it makes one, and checks for all."""
+"""The ES module beside a library that lacks calls: it names them before it makes one."""
 
-import re
 import shutil
 from pathlib import Path
 
 import pytest
 
 from lib import TOP
-from lib.library import shapes
-from lib.pages import page
 from lib.processes import succeeds
 
 # A module whose only export is brsp_version, which returns 1.
@@ -32,9 +29,4 @@ def test_older_library(folder: Path) -> None:
     shutil.copytree(TOP / "library/js", folder / "js")
     (folder / "js/rsp.wasm").write_bytes(OLDER)
     output = succeeds("node", "-e", LOADING, cwd=folder / "js")
-    assert output.startswith("rsp.wasm is older than this module: it lacks brsp_new, brsp_copy, ")
-
-
-def test_calls() -> None:
-    (words,) = re.findall(r"(?s)\nconst CALLS = `(.*?)`", page("library/js/rsp.js"))
-    assert {f"brsp_{it}" for it in words.split()} == {name for name, *_ in shapes.exported()}
+    assert output.startswith("rsp.wasm is older than this module: it lacks brsp_acc, brsp_add_break, ")

@@ -1,13 +1,13 @@
-"""The structs, numbers and declarations of library/js, as far as they can be seen without its library.
+"""The layouts and declarations of library/js, as far as they can be seen without its library.
 
-They fail if one differs from crates/rsp_c, or a method from the class of Python.
+They fail if a layout or a declared number differs from crates/rsp_c, or a method from the class of Python.
 """
 
 import ast
 import json
 import re
 from pathlib import Path
-from typing import Any, Dict, Set
+from typing import Dict, Set
 
 import pytest
 
@@ -16,6 +16,7 @@ from lib.library import shapes
 from lib.packages import need
 from lib.pages import page
 from lib.processes import succeeds
+from rsp_tools.shapes.python import SHOWN
 
 FOLDER = TOP / "library/js"
 TYPES = page("library/js/rsp.d.ts")
@@ -23,36 +24,13 @@ TYPES = page("library/js/rsp.d.ts")
 RENAMED = {"bytes": "stored_bytes"}
 # What one of the classes of Python and JavaScript has alone: a call of numpy, and how a machine is freed.
 PYTHON_ALONE, JAVASCRIPT_ALONE = {"run_to_halt", "close", "memory_array"}, {"free"}
-# The fields of a state that can have a fault and another name than the number has.
-FIELDS = {"ZERO": "words[0]", "LOADED": "divider.loaded", "SP": "sp[0]"}
-# A script that prints the numbers and the layouts of shapes.js, and the calls of errors.js.
-DESCRIPTION = f"""
-import * as shapes from "{FOLDER}/shapes.js";
-import {{ ARGUMENTS }} from "{FOLDER}/errors.js";
-const layout = (it) => {{
-  const {{ size, fields }} = shapes.layout(it);
-  return [size, fields.map((it) => [it.name, it.offset, it.size])];
-}};
-const layouts = Object.fromEntries(Object.keys(shapes.STRUCTS).map((it) => [it, layout(it)]));
-const {{ Status, Bank, Reason, FAULTS, FIELDS }} = shapes, calls = Object.keys(ARGUMENTS);
-console.log(JSON.stringify({{ layouts, Status, Bank, Reason, FAULTS, FIELDS, calls }}));
+# A script that prints the layouts of the structs as layout.js computes them.
+LAYOUTS = f"""
+import {{ STRUCTS }} from "{FOLDER}/shapes.js";
+import {{ layout }} from "{FOLDER}/layout.js";
+const places = ({{ size, fields }}) => [size, fields.map((it) => [it.name, it.offset, it.size])];
+console.log(JSON.stringify(Object.fromEntries(Object.keys(STRUCTS).map((it) => [it, places(layout(it))]))));
 """
-
-
-@pytest.fixture
-def library_js(folder: Path) -> Dict[str, Any]:
-    """The description of library/js by Node."""
-    need("node")
-    (folder / "description.mjs").write_text(DESCRIPTION)
-    found: Dict[str, Any] = json.loads(succeeds("node", folder / "description.mjs"))
-    return found
-
-
-def numbers(enum: Dict[str, Any]) -> Dict[str, int]:
-    """The names of an enum of JavaScript with their numbers. Each number has its name too."""
-    names = {name: value for name, value in enum.items() if not name.isdigit()}
-    assert {str(value): name for name, value in names.items()}.items() <= enum.items()
-    return names
 
 
 def python_names(name: str) -> Set[str]:
@@ -63,21 +41,11 @@ def python_names(name: str) -> Set[str]:
     return {it for it in names if not it.startswith("_")}
 
 
-def test_layouts(library_js: Dict[str, Any]) -> None:
-    assert library_js["layouts"] == json.loads(json.dumps(shapes.layouts(shapes.structs())))
-
-
-def test_numbers_and_calls(library_js: Dict[str, Any]) -> None:
-    assert numbers(library_js["Status"]) == shapes.STATUSES
-    assert numbers(library_js["Bank"]) == shapes.BANKS
-    assert numbers(library_js["Reason"]) == shapes.REASONS
-    assert {name: int(number) for number, name in library_js["FAULTS"].items()} == shapes.FAULTS
-    fields = {FIELDS.get(name, name.lower()): number for name, number in shapes.FIELDS.items()}
-    fields.update({f"sp[{n}]": fields["sp[0]"] + n for n in range(8)})
-    assert {it: int(n) for n, it in library_js["FIELDS"].items()} == fields
-    functions = "Machine assemble explain_text explain_reply text first_difference".split()
-    known = python_names("Machine") | {*functions}
-    assert {*library_js["calls"]} - known == set()
+def test_layouts(folder: Path) -> None:
+    need("node")
+    (folder / "layouts.mjs").write_text(LAYOUTS)
+    output = succeeds("node", folder / "layouts.mjs")
+    assert json.loads(output) == json.loads(json.dumps(shapes.layouts()))
 
 
 def body(head: str) -> str:
@@ -97,17 +65,16 @@ def methods_of(name: str) -> Set[str]:
     return {*re.findall(r"(?m)^  (?:readonly )?(\w+)[(:]", body(f"class {name}"))} - {"constructor"}
 
 
-@pytest.mark.parametrize("struct", shapes.CLASSES)
-def test_declared_fields(struct: str) -> None:
-    fields = (field for field, *_ in shapes.structs()[struct]._fields_ if field != "zero")
+@pytest.mark.parametrize("struct, name", SHOWN.items())
+def test_declared_fields(struct: str, name: str) -> None:
+    fields = (it.name for it in shapes.INTERFACE.structs[struct].fields if it.name != "zero")
     expected = [RENAMED.get(field, field) for field in fields]
-    assert re.findall(r"(?m)^  (?:readonly )?(\w+): ", body(f"class {shapes.CLASSES[struct]}")) == expected
+    assert re.findall(r"(?m)^  (?:readonly )?(\w+): ", body(f"class {name}")) == expected
 
 
-def test_declared_numbers() -> None:
-    assert enum_of("Status") == shapes.STATUSES
-    assert enum_of("Bank") == shapes.BANKS
-    assert enum_of("Reason") == shapes.REASONS
+@pytest.mark.parametrize("name", ("Status", "Fault", "Bank", "Reason"))
+def test_declared_numbers(name: str) -> None:
+    assert enum_of(name) == shapes.INTERFACE.numbers[name.lower()]
 
 
 @pytest.mark.parametrize("name", ("Machine", "Session"))

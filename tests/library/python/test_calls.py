@@ -8,6 +8,7 @@ import pickle
 import signal
 import sys
 from contextlib import suppress
+from inspect import signature
 from pathlib import Path
 from typing import Any, Callable, Dict, Iterator, Set, Tuple, Union
 from unittest import mock
@@ -35,21 +36,30 @@ transfer: mtc0 $3, $c3
 end: break
 """
 
-# Each call of a machine and of a session, with arguments: numbers come first.
-CALLS: Dict[str, Tuple[Any, ...]] = {
-    "copy": (), "get": (), "set": (State(),), "load": (0, 0, b"abcd"), "load_words": (0, 0, [1]),
-    "memory": (0, 0, 4), "memory_words": (0, 0, 1), "start_task": (0,), "set_pc": (8,), "step": (),
-    "step_changes": (), "run": (1,), "run_until_move": (1, 0, 0), "trace": (1,), "back": (1,),
-    "pass_move": (0,), "add_break": (4,), "drop_break": (4,), "add_watch": (0, 1), "drop_watch": (0,),
-    "reg": (1,), "regs": (), "vreg": (1,), "set_reg": (1, 0), "set_vreg": (1, range(8)), "acc": (),
-    "flags": (), "divider": (), "read": (7,), "peek": (7,), "write": (4, 2), "write_dma": (4, 2),
-    "sp": (),
-    "set_sp": (rsp.SpWords(),), "listing": (0, 1), "event": (1, 0, 0), "pass_dma": (), "history": (),
-    "close": (),
+# The arguments of calls of a machine that aren't all 1: numbers come first.
+GIVEN: Dict[str, Tuple[Any, ...]] = {
+    "set": (State(),), "load": (0, 0, b"abcd"), "load_words": (0, 0, [1]), "memory": (0, 0, 4),
+    "memory_words": (0, 0, 1), "start_task": (0,), "set_pc": (8,), "run_until_move": (1, 0, 0),
+    "event": (1, 0, 0), "add_break": (4,), "drop_break": (4,), "add_watch": (0, 1), "set_reg": (1, 0),
+    "set_vreg": (1, range(8)), "write": (4, 2), "write_dma": (4, 2), "set_sp": (rsp.SpWords(),), "listing": (0, 1),
 }  # fmt: skip
 OF_A_SESSION: Dict[str, Tuple[Any, ...]] = {"feed": ("step\n",), "end": (), "close": ()}
 # Those that are made of other calls.
-NO_CALL = {"iter_trace", "memory_array", "iter_feed", "save_state", "load_state", "run_to_halt"}
+NO_CALL = {"iter_trace", "memory_array", "save_state", "load_state", "run_to_halt"}
+
+
+def methods_of(kind: type) -> Set[str]:
+    """The public methods of a class."""
+    return {name for name in dir(kind) if callable(getattr(kind, name)) and not name.startswith("_")}
+
+
+def usual(name: str) -> Tuple[int, ...]:
+    """The arguments of a method of a machine that takes numbers alone."""
+    return (1,) * (len(signature(getattr(rsp.Machine, name)).parameters) - 1)
+
+
+# Each call of a machine, with arguments.
+CALLS = {name: GIVEN.get(name, usual(name)) for name in sorted(methods_of(rsp.Machine) - NO_CALL)}
 # Calls that aren't a machine's, or give no result at once, by their numbers.
 FUNCTIONS: Dict[str, Callable[..., object]] = {
     "Machine": lambda depth: rsp.Machine(bytes(64), depth),
@@ -69,14 +79,8 @@ def halted() -> rsp.Machine:
     return machine
 
 
-def methods_of(kind: type) -> Set[str]:
-    """The public methods of a class."""
-    return {name for name in dir(kind) if callable(getattr(kind, name)) and not name.startswith("_")}
-
-
 def test_calls_at_work() -> None:
     """While another call is at work, each call is refused, and the library isn't reached."""
-    assert methods_of(rsp.Rsp) == {*CALLS} | NO_CALL - {"iter_feed"}
     assert methods_of(rsp.Session) == {*OF_A_SESSION, "iter_feed"}
     machine, session = loaded("nop\nbreak\n", 4), rsp.Session(bytes(64))
     before, dmem = machine.get(), machine.memory(rsp.DMEM, 0, 4096)
@@ -96,7 +100,7 @@ def test_calls_at_work() -> None:
 class Closes:
     """A number that closes a machine when it is asked for."""
 
-    def __init__(self, number: int, machine: rsp.Rsp) -> None:
+    def __init__(self, number: int, machine: rsp.Machine) -> None:
         self.number, self.machine = number, machine
 
     def __index__(self) -> int:
@@ -208,10 +212,10 @@ REFUSALS: Tuple[Refusal, ...] = (
     (OUT, "set_reg: register 0 holds 0, and not 3", lambda it: it.set_reg(0, 3)),
     (ValueError, "vectors[3] has 7 items, not 8", lambda it: it.set_vreg(3, [0] * 7)),
     (ValueError, "lane 2 is 65536", lambda it: it.set_vreg(3, [0, 0, 65536, 0, 0, 0, 0, 0])),
-    (TypeError, "Machine: image is of type str", lambda it: ANY.Rsp("image")),
-    (OUT, "image has 65 bytes, not a multiple of 8 from 64 to 8388608", lambda it: rsp.Rsp(bytes(65))),
-    (OUT, "image has 0 bytes", lambda it: rsp.Rsp(b"")),
-    (OUT, "image has 8388616 bytes", lambda it: rsp.Rsp(bytes(8388616))),
+    (TypeError, "Machine: image is of type str", lambda it: ANY.Machine("image")),
+    (OUT, "image has 65 bytes, not a multiple of 8 from 64 to 8388608", lambda it: rsp.Machine(bytes(65))),
+    (OUT, "image has 0 bytes", lambda it: rsp.Machine(b"")),
+    (OUT, "image has 8388616 bytes", lambda it: rsp.Machine(bytes(8388616))),
     (TypeError, "text is of type bytes", lambda it: ANY.assemble(b"nop")),
     (TypeError, "explain_text: text is of type bytes", lambda it: ANY.explain_text(b"nop")),
     (rsp.AssemblyError, "fault 11 UnknownName line 2: foo $1", lambda it: rsp.assemble("nop\n foo $1")),
@@ -222,7 +226,7 @@ REFUSALS: Tuple[Refusal, ...] = (
 @pytest.mark.parametrize("case", REFUSALS, ids=operator.itemgetter(1))
 def test_refusal(case: Refusal) -> None:
     """A refused call has the right error, and changes nothing."""
-    machine, (kind, message, call) = rsp.Rsp(), case
+    machine, (kind, message, call) = rsp.Machine(), case
     assert_raises(RspError if isinstance(kind, Status) else kind, message, call, machine)
     if isinstance(kind, Status):
         assert_refused(kind, call, machine)
@@ -242,7 +246,7 @@ RACE = """
 import sys, threading
 import rsp
 sys.setswitchinterval(1e-5)
-machine, session = rsp.Rsp(bytes(4096), 64), rsp.Session(bytes(64))
+machine, session = rsp.Machine(bytes(4096), 64), rsp.Session(bytes(64))
 messages = []
 def steps():
     for _ in range(5000):
@@ -411,7 +415,7 @@ def test_single_registers() -> None:
 
 
 def test_sp_registers() -> None:
-    machine = rsp.Rsp()
+    machine = rsp.Machine()
     words = machine.sp()
     assert list(words.words) == [machine.peek(n) for n in range(16)] and words.interrupt == 0
     for number, word in {0: 0x1FF8, 4: 0x50E2, 7: 1, 15: 5}.items():
@@ -422,7 +426,7 @@ def test_sp_registers() -> None:
 
 
 def test_state() -> None:
-    machine = rsp.Rsp()
+    machine = rsp.Machine()
     state = machine.get()
     state.words[31], state.vectors[31][7], state.accumulators.high[7], state.sp[15] = 1, 2, 3, 4
     state.divider.loaded = state.interrupt = 1
@@ -439,7 +443,7 @@ def test_state() -> None:
 
 
 def test_memories() -> None:
-    machine = rsp.Rsp(bytes(range(64)))
+    machine = rsp.Machine(bytes(range(64)))
     assert machine.memory(rsp.RDRAM, 3, 4) == bytes((3, 4, 5, 6))
     machine.load(rsp.DMEM, 10, b"\1\0\2")
     assert machine.memory(rsp.DMEM, 9, 5) == b"\0\1\0\2\0"

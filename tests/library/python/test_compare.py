@@ -31,7 +31,7 @@ HEAD, TURN, TURNS = 9, 4, 40
 IMAGE = bytes(range(64))
 
 
-class Faulty(rsp.Rsp):
+class Faulty(rsp.Machine):
     """A machine that spoils something after the instruction at an address while $2 has a value."""
 
     fault: Optional[Tuple[int, int, Callable[["Faulty"], None]]] = None
@@ -54,9 +54,9 @@ def byte(bank: int, address: int) -> Callable[[Faulty], None]:
     return lambda it: it.load(bank, address, bytes([it.memory(bank, address, 1)[0] ^ 0x80]))
 
 
-def machines(source: str = PROGRAM, *fault: Any) -> Tuple[rsp.Rsp, Faulty]:
+def machines(source: str = PROGRAM, *fault: Any) -> Tuple[rsp.Machine, Faulty]:
     """A machine with a program, and one with a fault: an address, a value of $2, and what it does."""
-    machine, emulator = rsp.Rsp(IMAGE), Faulty(IMAGE)
+    machine, emulator = rsp.Machine(IMAGE), Faulty(IMAGE)
     machine.load_words(rsp.IMEM, 0, rsp.assemble(source))
     if fault:
         emulator.fault = fault[0], fault[1], fault[2]
@@ -140,9 +140,9 @@ def test_no_difference_in_the_limit() -> None:
     assert rsp.first_difference(machine, emulator, limit=HEAD) is None, "a fault after it"
 
 
-def emulator_with(base: type = rsp.Rsp, **methods: Any) -> rsp.Rsp:
+def emulator_with(base: type = rsp.Machine, **methods: Any) -> rsp.Machine:
     """An emulator that has these methods."""
-    made: rsp.Rsp = type("Other", (base,), methods)(IMAGE)
+    made: rsp.Machine = type("Other", (base,), methods)(IMAGE)
     return made
 
 
@@ -151,7 +151,9 @@ def test_different_from_the_beginning() -> None:
     state = machine.get()
     state.words[3] = 5
     machine.set(state)
-    forgetful = emulator_with(set=lambda it, state: rsp.Rsp.set(it, rsp.State(pc=state.pc, npc=state.npc)))
+    forgetful = emulator_with(
+        set=lambda it, state: rsp.Machine.set(it, rsp.State(pc=state.pc, npc=state.npc))
+    )
     found = rsp.first_difference(machine, forgetful)
     head = "step 0, 000: ori $1, $0, 0x0007"
     assert str(found) == f"{head}\n  $3 is 00000005 on the machine and 00000000 in the emulator"
@@ -190,8 +192,8 @@ def test_state_that_is_kept() -> None:
     assert found is None, "the machine doesn't get what it changes"
 
 
-SHORT = {"memory": lambda it, *place: rsp.Rsp.memory(it, *place)[:8]}
-SHORT_IMEM = {"memory": lambda it, bank, *place: rsp.Rsp.memory(it, bank, *place)[: 8 if bank else 4096]}
+SHORT = {"memory": lambda it, *place: rsp.Machine.memory(it, *place)[:8]}
+SHORT_IMEM = {"memory": lambda it, bank, *place: rsp.Machine.memory(it, bank, *place)[: 8 if bank else 4096]}
 WRONG: Dict[str, Tuple[Dict[str, Any], Type[Exception]]] = {
     "first_difference: the emulator's memory(0, 0, 4096) has 8 bytes": (SHORT, ValueError),
     "first_difference: the emulator's memory(1, 0, 4096) has 8 bytes": (SHORT_IMEM, ValueError),
@@ -210,7 +212,7 @@ def test_wrong_emulator(message: str) -> None:
     assert machine.get() == alone(0)
 
 
-class Interrupts(rsp.Rsp):
+class Interrupts(rsp.Machine):
     """An emulator in whose n-th call Ctrl-C comes."""
 
     left = 0

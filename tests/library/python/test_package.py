@@ -26,7 +26,7 @@ OURS, EXAMPLES, HERE = TOP / "library/python", TOP / "examples/python", TESTS / 
 PIP = ("-m", "pip", "--disable-pip-version-check", "install", "-q", "--no-index")
 MODULES = sorted((OURS / "rsp").glob("*.py*"))
 SOURCES = [*MODULES, OURS / "wheels.py", *sorted(EXAMPLES.glob("*.py"))]
-ASKED = "import rsp; print(rsp.__file__, rsp.Rsp().run(3).steps, getattr(rsp, 'ADDED', 0))"
+ASKED = "import rsp; print(rsp.__file__, rsp.Machine().run(3).steps, getattr(rsp, 'ADDED', 0))"
 in_site = pytest.mark.xdist_group("installed package")
 
 
@@ -219,12 +219,12 @@ state = rsp.State(pc=4)
 state.words = [0] * 32
 state.vectors[3] = range(8)
 lane: int = state.vectors[3][1]
-with rsp.Rsp(depth=3) as machine:
+with rsp.Machine(depth=3) as machine:
     machine.set(state)
     stop: rsp.Stop = machine.run(4)
     found: rsp.Difference = machine.get().diff(state)
     reveal_type(machine.get().words[1])
-    first = rsp.first_difference(machine, rsp.Rsp())
+    first = rsp.first_difference(machine, rsp.Machine())
     number: int = first.step if first else 0
 """
 FIRST = "state = rsp.State(pc=4)"

@@ -109,7 +109,7 @@ def test_table(name: str) -> None:
     assert set(routines.PREMISES[name]) == set(premises_of(name, TEXTS[name], definitions()))
 
 
-def machine_at(name: str, place: int, scalars: Dict[int, int], before: str = "") -> rsp.Rsp:
+def machine_at(name: str, place: int, scalars: Dict[int, int], before: str = "") -> rsp.Machine:
     """A machine that is about to run a routine at an address of IMEM, after other instructions."""
     machine = loaded(before)
     machine.load_words(rsp.IMEM, place, [*routines.WORDS[name], *rsp.assemble("break")])
@@ -138,7 +138,7 @@ def test_premises() -> None:
 
 
 def test_places() -> None:
-    machine = rsp.Rsp()
+    machine = rsp.Machine()
     machine.load_words(rsp.IMEM, 4088, routines.WORDS["clip"][:2])
     machine.load_words(rsp.IMEM, 0, routines.WORDS["clip"][2:])
     machine.set_pc(4088)

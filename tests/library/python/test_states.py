@@ -70,7 +70,7 @@ def test_refused_field(case: Refusal) -> None:
 
 def test_fields() -> None:
     state = State()
-    assert state == rsp.Rsp().get()
+    assert state == rsp.Machine().get()
     state.words, state.vectors[3], state.words[-1] = range(32), [1, 2, 3, 4, 5, 6, 7, 8], 9
     state.vectors[4:6] = [[4] * 8, (5,) * 8]
     assert state.words == [*range(31), 9]
@@ -82,7 +82,7 @@ def test_fields() -> None:
     assert parts == (8, 12, 5, 3, 0xFF8)
     assert rsp.Flags(1, 2, 3, clip=4) == rsp.Flags(carry=1, differ=2, compare=3, clip=4)
     assert State([0] * 32) == State()
-    machine = rsp.Rsp()
+    machine = rsp.Machine()
     machine.set(built)
     assert machine.get() == built
     assert repr(built) == "<rsp.State: pc 008, npc 00c>"
@@ -94,7 +94,7 @@ def test_equality() -> None:
     gap, zero = bytearray(one), ANY.State.zero.offset
     gap[zero] = 0xA5
     assert State.from_buffer_copy(gap) == one, "the byte `zero` doesn't count"
-    machine = rsp.Rsp()
+    machine = rsp.Machine()
     machine.set(State.from_buffer_copy(gap))
     assert bytearray(machine.get()) == bytearray(one), "the byte `zero` is 0 in a machine's state"
     for n in {*range(len(gap))} - {zero}:
@@ -116,7 +116,7 @@ def test_subclass() -> None:
     """One of State has its fields, and is taken where a state is."""
     one = Mine(pc=8, words=[0, 5] + [0] * 30)
     assert (one.pc, one.npc, one.total(), repr(one)) == (8, 12, 5, "<Mine: pc 008, npc 00c>")
-    machine = rsp.Rsp()
+    machine = rsp.Machine()
     machine.set(one)
     assert machine.get() == one and one == machine.get() and not machine.get().diff(one)
     assert Mine.from_buffer_copy(machine.get()) == one and one != State()
@@ -220,13 +220,13 @@ def test_failed_starts() -> None:
     with mock.patch("sys.unraisablehook", unraisable.append):
         for words in (("x",), (65,), (bytes(64), None), (1, 2, 3), (bytes(65),)):
             with pytest.raises((TypeError, RspError)):
-                ANY.Rsp(*words)
+                ANY.Machine(*words)
         gc.collect()
     assert not unraisable
 
 
 def test_buffers() -> None:
-    machine = rsp.Rsp()
+    machine = rsp.Machine()
     words = array.array("I", [1, 2])
     high_first = struct.pack(">2I", *words)
     if sys.byteorder == "little":
@@ -241,13 +241,13 @@ def test_buffers() -> None:
     machine.load(rsp.DMEM, 0, memoryview(bytes(range(24)))[::2])
     assert machine.memory(rsp.DMEM, 0, 13) == bytes([*range(0, 24, 2), 0]), "every second byte"
     image: Any = array.array("B", range(128))
-    assert rsp.Rsp(image).memory(rsp.RDRAM, 0, 128) == image.tobytes()
+    assert rsp.Machine(image).memory(rsp.RDRAM, 0, 128) == image.tobytes()
 
 
 @mock.patch.dict("sys.modules", numpy=None)
 def test_without_numpy() -> None:
     assert not hasattr(rsp, "STATE")
-    assert_raises(ImportError, "memory_array needs numpy", rsp.Rsp().memory_array, rsp.DMEM, 0, 8)
+    assert_raises(ImportError, "memory_array needs numpy", rsp.Machine().memory_array, rsp.DMEM, 0, 8)
 
 
 @pytest.mark.needs("python:numpy")
@@ -272,7 +272,7 @@ def test_states_as_arrays() -> None:
 def test_memories_as_arrays() -> None:
     import numpy
 
-    machine: Any = rsp.Rsp()
+    machine: Any = rsp.Machine()
     machine.load_words(rsp.DMEM, 0, numpy.array([0x01020304, 0x05060708], numpy.uint32))
     words = machine.memory_array(rsp.DMEM, 0, 8, ">u4")
     assert words.tolist() == [0x01020304, 0x05060708]

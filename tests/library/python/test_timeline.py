@@ -32,7 +32,7 @@ outside = pytest.mark.outside("1,000 programs take a minute")
 Seen = Tuple[int, int, bytes]  # a hash of the whole machine, pc, DMEM
 
 
-def seen(machine: rsp.Rsp) -> Seen:
+def seen(machine: rsp.Machine) -> Seen:
     state, dmem = machine.get(), machine.memory(rsp.DMEM, 0, 4096)
     rest = machine.memory(rsp.IMEM, 0, 4096) + machine.memory(rsp.RDRAM, 0, machine.image_length)
     return hash(bytes(state) + dmem + rest), state.pc, dmem
@@ -42,7 +42,7 @@ def words(text: str) -> bytes:
     return b"".join(it.to_bytes(4, "big") for it in rsp.assemble(text.replace("; ", "\n")))
 
 
-def change(machine: rsp.Rsp, task: bool) -> None:
+def change(machine: rsp.Machine, task: bool) -> None:
     """Changes a register and RDRAM, or starts a task, which is the program again, as a user does."""
     if task:
         machine.start_task(0x100)
@@ -53,7 +53,7 @@ def change(machine: rsp.Rsp, task: bool) -> None:
 
 def both(chance: random.Random) -> Tuple[rsp.Timeline, List[Seen]]:
     """A timeline at its end, which was changed in its middle, and all its steps."""
-    machine, code = rsp.Rsp(chance.randbytes(1 << 17)), words(PROGRAM)
+    machine, code = rsp.Machine(chance.randbytes(1 << 17)), words(PROGRAM)
     task = bytes(8) + (0x1000).to_bytes(4, "big") + len(code).to_bytes(4, "big") + chance.randbytes(48)
     for at, data in (0x100, task), (0x200, words(OVERLAYS[0])), (0x220, words(OVERLAYS[1])), (0x1000, code):
         machine.load(rsp.RDRAM, at, data)
@@ -211,7 +211,7 @@ mtc0 $1, $c1; mtc0 $9, $c3; addu $1, $1, $7; bne $1, $2, next; nop; j turn; addi
 
 def test_memory() -> None:
     """Marks keep at most 40 MiB, whatever the microcode does: then a process takes some 80 MB."""
-    machine = rsp.Rsp(bytes(8 << 20))
+    machine = rsp.Machine(bytes(8 << 20))
     machine.load(rsp.IMEM, 0, words(GREEDY))
     line = rsp.Timeline(machine, 1 << 17)
     line.run_to(5000000)

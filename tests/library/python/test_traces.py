@@ -13,10 +13,10 @@ import pytest
 
 import rsp
 from lib import worked_cases
-from lib.library.shapes import groups
 from lib.pages import data
 from rsp_conformance.library_states import state_of
 from rsp_conformance.states import numbers_of
+from rsp_tools.shapes.interface import groups
 
 # Jumps and branches write no register, or register 31 as a link.
 NOTHING = {"beq", "bne", "blez", "bgtz", "bltz", "bgez", "j", "jr", "break", "ctc2", "mtc0", "vnop", "vnull"}
@@ -70,9 +70,9 @@ def changed(before: rsp.State, dmem: bytes, by: rsp.Changes) -> Tuple[rsp.State,
     return after, bytes(at.get(n, byte) for n, byte in enumerate(dmem))
 
 
-def machine_of(case: Dict[str, str]) -> rsp.Rsp:
+def machine_of(case: Dict[str, str]) -> rsp.Machine:
     """A machine that is about to run the instruction of a worked case."""
-    machine, before = rsp.Rsp(bytes(4096)), worked_cases.state_of(case["Before"])
+    machine, before = rsp.Machine(bytes(4096)), worked_cases.state_of(case["Before"])
     machine.set(state_of(numbers_of(before)))
     for address, digits in before.get("dmem", {}).items():
         machine.load(rsp.DMEM, int(address, 16), bytes.fromhex(digits))

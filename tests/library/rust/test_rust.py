@@ -1,6 +1,6 @@
-"""The crate of library/rust over the library: its layouts, declarations, tests, documentation and examples.
+"""The crate of library/rust over the library: its tests, documentation and examples.
 
-They fail if a layout or a call differs from crates/rsp_c, a test fails, or cargo warns of anything.
+They fail if a test fails, or cargo warns of anything.
 """
 
 import os
@@ -14,11 +14,10 @@ from typing import Any, Callable, Iterator
 import pytest
 
 from lib import TESTS, TOP
-from lib.library import FIRST_DIFFERENCE, LOCKSTEP, shapes
+from lib.library import FIRST_DIFFERENCE, LOCKSTEP
 from lib.library.programs import other_version
 from lib.library.savestates import IMAGE, STEPS, TEXT
 from lib.packages import need
-from lib.pages import page
 from lib.processes import Ended, run
 
 CRATE = TOP / "library/rust"
@@ -26,14 +25,6 @@ EXAMPLES = {"lockstep": LOCKSTEP, "first_difference": FIRST_DIFFERENCE}
 RUN = ("run", "--offline", "-q", "--example")
 Cargo = Callable[..., "Ended[str]"]
 in_crate = pytest.mark.xdist_group("crate of Rust")
-
-
-def test_layouts_and_calls() -> None:
-    raw = page("library/rust/src/raw.rs")
-    made = shapes.structs_of(raw, shapes.structs_of(page("library/rust/src/shapes.rs")))
-    layouts = shapes.layouts({f"Rsp{name}": struct for name, struct in made.items()})
-    assert layouts == shapes.layouts(shapes.structs())
-    assert sorted(shapes.declared_in_rust(raw)) == sorted(shapes.exported())
 
 
 @pytest.fixture(scope="session")
@@ -46,6 +37,7 @@ def cargo(library: Path) -> Iterator[Cargo]:
         given = {"RSP_LIB_DIR": library, "CARGO_TARGET_DIR": f"{folder}/target"}
         where: Any = {**os.environ, **given, "RSP_SCRIPTS": TESTS / "program/scripts"}
         where["RSP_WRONG_USES"] = TESTS / "library/wrong_uses.tsv"
+        where["RSP_REFUSALS"] = TESTS / "library/refusals.tsv"
         yield lambda *words, **more: run("cargo", *words, cwd=at, env={**where, **more})
 
 

@@ -28,20 +28,16 @@ function lives() {
   same("a new machine", [machine.regs().npc, machine.image_length], [4, 64]);
   machine.free();
   machine.free();
-  const calls = {
-    get: [], step: [], regs: [], acc: [], flags: [], divider: [], sp: [], copy: [], pass_move: [], reg: [4], vreg: [4],
-    read: [4], peek: [4], run: [4], back: [4], trace: [4], add_break: [4], drop_break: [4], set_pc: [4],
-    save_state: [], load_state: [new Uint8Array(9040)], memory: [0, 0, 4], memory_words: [0, 0, 4], load: [0, 0, new Uint8Array(4)], load_words: [0, 0, [1]], write: [0, 8], write_dma: [0, 8],
-    set: [new rsp.State()], set_sp: [new rsp.SpWords()], run_until_move: [1, 0, 0], add_watch: [0, 4], drop_watch: [0],
-    event: [4], pass_dma: [], history: [],
-    listing: [0, 1], start_task: [8], step_changes: [], set_reg: [1, 1], set_vreg: [1, new Uint16Array(8)],
+  const objects = {
+    load_state: [new Uint8Array(9040)], load: [0, 0, new Uint8Array(4)], load_words: [0, 0, [1]], set: [new rsp.State()],
+    set_sp: [new rsp.SpWords()], set_vreg: [1, new Uint16Array(8)],
   };
-  for (const [name, given] of Object.entries(calls)) {
+  const others = ["constructor", "free", "image_length", "iter_trace"];
+  for (const name of Object.getOwnPropertyNames(Machine.prototype).filter((it) => !others.includes(it))) {
+    const given = objects[name] ?? Array(machine[name].length).fill(4);
     refused(Status.NO_MACHINE, () => machine[name](...given), `${name}: the machine is freed`);
   }
   refused(Status.NO_MACHINE, () => machine.iter_trace().next());
-  const tested = [...Object.keys(calls), "constructor", "free", "image_length", "iter_trace"].sort();
-  same("all calls", Object.getOwnPropertyNames(Machine.prototype).sort(), tested);
 }
 
 function copies() {
@@ -225,7 +221,7 @@ function changes() {
   same("the accumulators", last.accumulators.low, [0, 2, 0, 0, 0, 0, 0, 0]);
   const [line, a0] = String(last).split("\n");
   same("its lines", [line, a0, String(last).split("\n").length], [String(entries[3]), "a0 000000000000", 10]);
-  same("what differs", last.diff(store).some((it) => it.name === "bytes" && it.digits === 64), true);
+  same("what differs", last.diff(store).some((it) => it.name === "bytes[0]" && it.digits === 32), true);
   same("none of a halted machine", machine.step_changes(), null);
 }
 
@@ -467,6 +463,7 @@ function differences() {
   const line = "$2 is 00000028 on the machine and 00010028 in the emulator";
   same("the first", String(found), `step 158, 004: addiu $2, $2, 1\n  ${line}`);
   same("its state before", [found.before.words[2], found.steps, found.address], [39, 1, 4]);
+  same("its part", [found.parts.length, found.parts[0].value, found.parts[0].other], [1, 0x28, 0x10028]);
   const memory = (bank, address, length) => new Uint8Array(length);
   const bare = { run() {}, get: () => new rsp.State(), set() {}, memory, load() {} };
   const kept = rsp.first_difference(begun(), bare);
@@ -490,7 +487,8 @@ function keeping(pc, bank, address) {
     if (is_here) machine.load(bank, address, Uint8Array.of(0xee));
   };
   return {
-    get: () => state, set: (it) => { state = it; }, memory: (n) => memories[n], load: (n, _, it) => { memories[n] = it; },
+    get: () => state, set: (it) => { state = it; }, load: (n, _, it) => { memories[n] = it; },
+    memory: (n, at, length) => memories[n].subarray(at, at + length),
     run(steps) {
       machine.set(state);
       memories.forEach((it, n) => machine.load(n, 0, it));
@@ -501,17 +499,83 @@ function keeping(pc, bank, address) {
   };
 }
 
-/** The guilty step amid those of its stretch, and a DMA. */
+/** The guilty step amid those of its stretch, and a DMA. What changes elsewhere in RDRAM is found at the end. */
 function guilty_steps() {
-  for (const [pc, bank, name] of [[8, rsp.DMEM, "DMEM 800"], [8, rsp.IMEM, "IMEM 800"], [12, rsp.RDRAM, "RDRAM 800"]]) {
-    const machine = loaded("ori $1, $0, 7\nnop\nnop\nmtc0 $1, $c3\nnop\nbreak\n");
-    const found = rsp.first_difference(machine, keeping(pc, bank, 0x800));
+  const source = "ori $1, $0, 7\nnop\nnop\nmtc0 $1, $c3\nnop\nbreak\n", moves = [12, rsp.RDRAM];
+  for (const [pc, bank, at, name] of [[8, rsp.DMEM, 0x800, "DMEM 800"], [8, rsp.IMEM, 0x800, "IMEM 800"], [...moves, 4, "RDRAM 000"]]) {
+    const found = rsp.first_difference(loaded(source), keeping(pc, bank, at));
     same(name, [found.step, found.steps, found.parts.map((it) => it.name)], [pc / 4 + 1, 1, [name]]);
   }
+  const moving = loaded("ori $1, $0, 7\nori $2, $0, 64\nmtc0 $2, $c1\nmtc0 $1, $c3\nbreak\n");
+  moving.load(rsp.DMEM, 0, bytes("moved to 64"));
+  same("a DMA past the first bytes", rsp.first_difference(moving, new Machine(new Uint8Array(4096))), null);
+  const found = rsp.first_difference(loaded(source), keeping(...moves, 0x800)), parts = found.parts.map((it) => it.name);
+  same("elsewhere", [found.step, found.steps, found.address, parts], [6, 6, 0, ["RDRAM 800"]]);
+  const head = "steps 1 to 6, from 000 on: RDRAM differs where no DMA wrote: repeat with a smaller limit";
+  same("and its text", String(found).split("\n")[0], head);
+}
+
+/** A machine whose methods are changed, as an emulator. */
+function changed(methods) { return Object.assign(new Machine(new Uint8Array(4096)), methods); }
+
+/** An emulator that lies in `get`, one that makes a step too few, and one that is wrong in stretches alone. */
+function wrong_methods() {
+  const source = "addiu $2, $2, 1\n".repeat(20) + "break\n";
+  function get() {
+    const state = Machine.prototype.get.call(this);
+    if (state.words[2] >= 9) state.words[7] = 1;
+    return state;
+  }
+  const lying = rsp.first_difference(loaded(source), changed({ get }), 64);
+  same("a lie", [lying.step, lying.steps, String(lying.parts)], [9, 1, "$7 is 00000000 here and 00000001 in the other"]);
+  let made = 0;
+  function run(steps) {
+    made += steps;
+    if (made !== 5) Machine.prototype.run.call(this, steps);
+  }
+  same("a step that isn't made", rsp.first_difference(loaded(source), changed({ run }), 1).step, 5);
+  function spoil(steps) {
+    Machine.prototype.run.call(this, steps);
+    if (steps > 1) this.set_reg(9, 1);
+  }
+  const whole = rsp.first_difference(loaded(source), changed({ run: spoil }), 4);
+  same("a stretch", [whole.step, whole.steps, whole.address], [4, 4, 0]);
+  const head = "steps 1 to 4, from 000 on: no step alone differs, so get and set leave something out: repeat with every = 1";
+  same("and its text", String(whole).split("\n")[0], head);
+  refused(TypeError, () => rsp.first_difference(loaded(source), changed({ get: () => ({}) })), "get() is of type object, not State");
+  const large = []; // the library's memory grows for them, and then has another place
+  const growing = {
+    get() {
+      for (let n = 0; n < 4; n++) large.push(new Machine(new Uint8Array(1 << 23)));
+      return Machine.prototype.get.call(this);
+    },
+  };
+  same("an emulator for which memory grows", rsp.first_difference(loaded(source), changed(growing)), null);
+  large.forEach((it) => it.free());
+}
+
+/** What an emulator throws comes to the caller. The machine can be used, and the memory of the search is given back. */
+function throwing(wasm) {
+  const next = () => {
+    const at = wasm.malloc(1n << 14n);
+    wasm.free(at);
+    return at;
+  };
+  for (const name of ["run", "get", "set", "memory", "load"]) {
+    const machine = loaded("addiu $2, $2, 1\nbreak\n"), emulator = changed({ [name]() { throw new EvalError(name); } }), before = next();
+    refused(EvalError, () => rsp.first_difference(machine, emulator), name);
+    same(`the place of the next bytes after ${name}`, next(), before);
+    machine.set_pc(0);
+    machine.write(4, 1); // it may have halted
+    same(`a run after ${name}`, [machine.run(9).reason, machine.get().pc], [Reason.HALT, 8]);
+  }
+  const machine = loaded("nop\nbreak\n");
+  refused(Status.NO_MACHINE, () => rsp.first_difference(machine, changed({ run: () => machine.free() })), "the machine is freed");
 }
 
 export async function run(library) {
-  ({ rsp } = await watched(library));
+  const made = await watched(library);
+  ({ rsp } = made);
   ({ Status, Reason, Machine } = rsp);
   OUT = Status.OUT_OF_RANGE;
   report = new Report();
@@ -520,7 +584,8 @@ export async function run(library) {
   refused = report.refused.bind(report);
   const parts = [lives, copies, runs, stops, passes, moves, events, interrupts, savestates, traces, changes, sessions, strict_scripts,
     single_registers, sp_registers, states, memories,
-    texts, differences, guilty_steps];
+    texts, differences, guilty_steps, wrong_methods];
   parts.forEach((part) => part());
+  throwing(made.wasm);
   return report.end();
 }
