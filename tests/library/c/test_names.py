@@ -34,9 +34,11 @@ def test_cpp(folder: Path) -> None:
     lines = []
     for name in names.named("C++"):
         owner, _, method = name.rpartition("::")
-        used = f"&brsp::{name}" + "<brsp::machine>" * (name == "first_difference")
+        used = f"using brsp::{name};"
+        if owner:
+            used = f"{{ struct of_class : brsp::{owner} {{ {used} }}; }}"
         kind = {"~": "std::is_destructible_v", "": "std::is_constructible_v"}.get(method.replace(owner, ""))
-        lines.append(f"static_assert({kind}<brsp::{owner}>);" if kind else f"static_cast<void>({used});")
+        lines.append(f"static_assert({kind}<brsp::{owner}>);" if kind else used)
     source = folder / "names.cpp"
     source.write_text('#include "brsp.hpp"\nvoid use()\n{\n' + "\n".join(lines) + "\n}\n")
     ran = run("c++", "-std=c++17", f"-I{TOP / 'library/c'}", "-fsyntax-only", source)
