@@ -37,6 +37,7 @@ class Edit(NamedTuple):
 
 MEMORIES, RUNNER = "plugin/memories.c", "conformance/runner.c"
 SEARCH, SAVESTATE = "library/c/helpers/search.c", "library/c/helpers/savestate.c"
+WRITER = "library/c/helpers/writer.h"
 # The faults of each target: numbers of faults.c, or edits of the sources in C.
 FAULTS_OF: Dict[str, List[int]] = {"calls": [1, 2, 3], "scripts": [4, 5, 6], "texts": [7, 8, 9]}
 EDITS_OF: Dict[str, List[Edit]] = {
@@ -51,7 +52,7 @@ EDITS_OF: Dict[str, List[Edit]] = {
         Edit(RUNNER, " || h.size > (size_t)(file->end - file->at)", ""),
     ],
     "helpers": [
-        Edit("library/c/helpers/writer.h", "w->length + 1 < w->capacity", "w->length < w->capacity"),
+        Edit(WRITER, "w->length < w->capacity ? w->length", "w->length <= w->capacity ? w->length"),
         Edit(
             SEARCH, "return (size_t)((to < s->image ? to : s->image) - from);", "return (size_t)(to - from);"
         ),
