@@ -52,7 +52,9 @@ EDITS_OF: Dict[str, List[Edit]] = {
     ],
     "helpers": [
         Edit("library/c/helpers/writer.h", "w->length + 1 < w->capacity", "w->length < w->capacity"),
-        Edit(SEARCH, "return (size_t)((to < s->image ? to : s->image) - from);", "return (size_t)(to - from);"),
+        Edit(
+            SEARCH, "return (size_t)((to < s->image ? to : s->image) - from);", "return (size_t)(to - from);"
+        ),
         Edit(SAVESTATE, "if (length < AT_LENGTH) return BRSP_SAVESTATE_LENGTH;", ""),
     ],
 }
@@ -111,7 +113,8 @@ def test_arguments(arguments: str, status: int, folder: Path) -> None:
 
 
 def test_each_call_is_made() -> None:
-    made = "".join((FUZZ / f"{name}.c").read_text() for name in ("calls", "scripts", "texts", "helpers"))
+    names = ("calls", "scripts", "texts", "helpers")
+    made = "".join((FUZZ / f"{name}.c").read_text() for name in names)
     macros = {f"brsp_{name}" for name in re.findall(r"^(?:LOOK|LOOK_AT|CHANGE)\((\w+)", made, re.M)}
     named = {*re.findall(r"\bbrsp_\w+", made + (FUZZ / "fuzz.h").read_text()), *macros}
     assert {*header.calls()} - named - {"brsp_memory_parts"} == set()  # which a difference is made of

@@ -1,8 +1,8 @@
-"""Refused calls in C, C++ and Python, by the one table of all languages (refusals.tsv, ranges.tsv). Rust's test
-is in library/rust/tests, JavaScript's in tests/systems/wasm.
+"""Refused calls in C, C++ and Python, by the one table of all languages (refusals.tsv, ranges.tsv). Rust's
+test is in library/rust/tests, JavaScript's in tests/systems/wasm.
 
-They fail if a language has another status or another sentence, or if a sentence names another argument than the
-first that is wrong, or another range.
+They fail if a language has another status or another sentence, or if a sentence names another argument than
+the first that is wrong, or another range.
 """
 
 from pathlib import Path

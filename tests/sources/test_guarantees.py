@@ -28,7 +28,7 @@ from lib.pages import data, page, tables
 from lib.processes import run
 from lib.same_items import assert_same_items
 from rsp_tools.page_tables import crates
-from rsp_tools.systems import wasm
+from rsp_tools.systems import helpers, wasm
 
 GUARANTEES = "docs/GUARANTEES.md"
 MAIN_THEOREM = TOP / "crates/rsp_bench/src/run.rt"
@@ -164,6 +164,7 @@ def linked() -> Set[str]:
     trees = [ast.parse(path.read_text()) for folder in folders for path in TOP.glob(f"{folder}/*.py")]
     texts = [it.value for tree in trees for it in ast.walk(tree) if isinstance(it, ast.Constant)]
     named = {str(text).rpartition("/")[2] for text in texts if re.fullmatch(r"[\w/]+\.c", str(text))}
+    named.update(path.name for path in helpers.SOURCES)
     return named | {f"{part}.c" for part in wasm.PARTS if part != "rsp"}
 
 

@@ -31,7 +31,7 @@ from . import shapes as _shapes
 from .compare import Emulator, FirstDifference, first_difference
 from .script import Ran, ScriptError
 from .script import strict_replies as _strict_replies
-from .formatting import Difference, Part
+from .helpers import Difference, Part
 from .symbols import resolved as _resolved
 from .state import Accumulators, Changes, Divider, Flags, Scalars, SpWords, State, Traced, unset
 from .errors import FAULTS
@@ -323,12 +323,8 @@ def assemble(text: str, origin: int = 0, symbols: Optional[Mapping[str, int]] = 
     if status == Status.NO_MEANING:
         found = _shapes.Operand()
         _lib.brsp_explain(origin, raw, len(raw), byref(found))  # without memory for it `found` stays zeros
-        raise AssemblyError(
-            out.line,
-            out.fault,
-            text.split("\n")[out.line - 1].strip(),
-            _helpers.text("brsp_operand_text", byref(found), out.fault),
-        )
+        allowed = _helpers.text("brsp_operand_text", byref(found), out.fault)
+        raise AssemblyError(out.line, out.fault, text.split("\n")[out.line - 1].strip(), allowed)
     _check(status, "assemble", [origin])
     return Words(words[: out.count], raw, origin)
 

@@ -5,7 +5,7 @@ from html import escape
 from typing import TYPE_CHECKING, Any, NamedTuple, Optional, Protocol
 
 from . import helpers as _helpers
-from .formatting import Difference
+from .helpers import Difference
 from .shapes import Request, RequestKind
 from .state import State
 

@@ -1,7 +1,8 @@
 """The calls of brsp_helpers.h, which are tested, not proved: texts, and what differs between structures."""
 
 from ctypes import Structure, byref, c_uint64, create_string_buffer
-from typing import Any, Iterator, List, NamedTuple, Sequence
+from html import escape
+from typing import Any, Iterable, Iterator, List, NamedTuple, Sequence, Tuple
 
 
 class Part(NamedTuple):
@@ -19,6 +20,33 @@ class Part(NamedTuple):
     def told(self, here: str, there: str) -> str:
         """The sentence `$3 is fffffff0 HERE and 3ffffff0 THERE`."""
         return text("brsp_part_text", byref(_part_of(self)), here.encode(), there.encode())
+
+
+class Difference(Tuple[Part, ...]):
+    """The parts that differ between two states, in the session's order. It is false if there is none."""
+
+    def __str__(self) -> str:
+        return self.told("here", "in the other")
+
+    def told(self, here: str, there: str) -> str:
+        """A line for each part, such as `$3 is fffffff0 on the machine and 3ffffff0 in the emulator`."""
+        return "\n".join(it.told(here, there) for it in self) or "no difference"
+
+    def __repr__(self) -> str:
+        return f"<rsp.Difference: {', '.join(it.name for it in self) or 'none'}>"
+
+    def _repr_html_(self) -> str:
+        rows = [[it.name, f"{it.value:0{it.digits}x}", f"{it.other:0{it.digits}x}"] for it in self]
+        return table([["", "here", "the other"], *rows])
+
+
+def table(rows: Iterable[Iterable[str]]) -> str:
+    """A table in HTML; the first cell of a row is its heading."""
+    lines = []
+    for first, *others in rows:
+        cells = "".join(f"<td><code>{escape(it)}</code></td>" for it in others)
+        lines.append(f"<tr><th>{escape(first)}</th>{cells}</tr>")
+    return f"<table>{''.join(lines)}</table>"
 
 
 _quick: Any = None

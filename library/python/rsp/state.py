@@ -4,9 +4,9 @@ the session shows."""
 from ctypes import Structure, byref
 from typing import TYPE_CHECKING, Any, ClassVar, Dict, Iterator, List, Type, TypeVar
 
-from . import formatting, helpers
+from . import helpers
 from .fields import taken
-from .formatting import Difference
+from .helpers import Difference
 
 if TYPE_CHECKING:  # the types of fields as a type checker sees them, and as ctypes does
     from .typed import U8, U16, U32, Lanes, Sp, SpItems, StoredBytes, Vectors, Words
@@ -86,7 +86,7 @@ class Plain(Structure):
         return helpers.text("brsp_structure_text", self._structure, byref(self))
 
     def _repr_html_(self) -> str:
-        return formatting.table(line.split() for line in str(self).splitlines())
+        return helpers.table(line.split() for line in str(self).splitlines())
 
     def diff(self: _P, other: _P) -> Difference:
         """The parts in which they differ, each with its name and both values."""

@@ -1,7 +1,8 @@
 """The helpers in C: the search for the first difference, and texts (helpers.c).
 
-They fail if of an emulator with a planted fault another step is named, if a text is cut or written past its end,
-if a word is named that the machine doesn't execute so, or if a program that calls brsp_run alone has a helper in it.
+They fail if of an emulator with a planted fault another step is named, if a text is cut or written past its
+end, if a word is named that the machine doesn't execute so, or if a program that calls brsp_run alone has a
+helper in it.
 """
 
 from pathlib import Path
@@ -35,9 +36,8 @@ def test_needs(folder: Path) -> None:
 def test_dropped(folder: Path) -> None:
     """The linker takes none for a program that needs none."""
     source = folder / "run.c"
-    source.write_text(
-        main_of("brsp_machine m = BRSP_NONE; brsp_stop s; return (int)brsp_run(&m, 1, &s) - 101;")
-    )
+    lines = "brsp_machine m = BRSP_NONE; brsp_stop s; return (int)brsp_run(&m, 1, &s) - 101;"
+    source.write_text(main_of(lines))
     program = compiled(folder / "run", *STRICT, source, TOP / "library/c/libbrsp.a")
     names = {line.split()[-1] for line in succeeds("nm", program).splitlines()}
     assert "brsp_run" in names and not {*header.helpers()} & names

@@ -188,7 +188,8 @@ def test_state_that_is_kept() -> None:
     found = rsp.first_difference(machines()[0], Keeps(IMAGE))
     assert found and (found.step, found.before) == (1, alone(0))
     Keeps.fault = None
-    assert rsp.first_difference(machines()[0], Keeps(IMAGE)) is None, "the machine doesn't get what it changes"
+    found = rsp.first_difference(machines()[0], Keeps(IMAGE))
+    assert found is None, "the machine doesn't get what it changes"
 
 
 SHORT = {"memory": lambda it, *place: rsp.Machine.memory(it, *place)[:8]}

@@ -93,10 +93,11 @@ def runner() -> Iterator[bytes]:
 
 
 def helpers() -> Iterator[bytes]:
-    """Searches over a DMA to RDRAM and a loop, with right answers and spoilt ones; then texts of each kind."""
+    """Searches over a DMA to RDRAM and a loop, with right answers and spoilt ones; then texts."""
     transfer = bytes.fromhex("3401004034020fff40810800408218002108ffff1500fffe0000000d")
     for image, every, spoilt in product(range(4), (1, 13), (0, 240)):
-        yield bytes([4, image, every, 60, len(transfer) // 4]) + transfer + bytes([0, 0, spoilt, 0, 5, 9]) * 64
+        answers = bytes([0, 0, spoilt, 0, 5, 9]) * 64
+        yield bytes([4, image, every, 60, len(transfer) // 4]) + transfer + answers
     for kind, number in product(range(4), range(9)):
         yield bytes([kind, number, 20]) + bytes(range(256)) * 8
 

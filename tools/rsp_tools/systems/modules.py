@@ -54,7 +54,8 @@ HEAP = places.PARTS / "heap.c"
 WITH_HEAP = [HEAP, places.PARTS / "allocator.c", places.PARTS / "memory_wasm.c"]
 PROGRAM = Crate("rsp_main", "src/main.rt", "rsp", [HEAP], "rsp_main.made")
 LIBRARY = Crate("rsp_c", "src/lib.rt --crate-type staticlib", "lib", [HEAP], "rsp_c.made")
-# The library in WebAssembly has a mark of its own: cc compiles the helpers elsewhere, so a change of them makes only this file stale.
+# The library in WebAssembly has a mark of its own, because it has the helpers inside, which cc compiles on
+# other systems: a change of a helper makes only this file stale.
 WEB = LIBRARY._replace(end="wasm", parts=[*WITH_HEAP, *helpers.FILES], made="rsp_wasm.made")
 
 
