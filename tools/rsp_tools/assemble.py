@@ -86,9 +86,9 @@ def web() -> Files:
 
 
 def with_short_memory(module: bytes) -> Files:
-    """rsp.wasm with a 32-bit memory, and a file that says what lowered it, with the sum of the module that was
-    lowered. Other versions of these tools may write other bytes, so with them the files that are there stay
-    if they are of that module."""
+    """rsp.wasm with a 32-bit memory, and a file that says what lowered it, with the sum of the module that
+    was lowered. Other versions of these tools may write other bytes, so with them the files that are there
+    stay if they are of that module."""
     of = line_of("rsp.wasm with a 64-bit memory", module)
     there = {name: COMPILED / name for name in ("rsp.wasm", "lowering")}
     if all(path.is_file() for path in there.values()):

@@ -317,6 +317,7 @@ static void other_calls(brsp_machine *m)
     brsp_move move;
     brsp_reached reached;
     brsp_stop stop;
+    brsp_dma dma;
     size_t number;
     uint32_t word, k;
     NONE(brsp_version());

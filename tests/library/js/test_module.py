@@ -152,8 +152,8 @@ def test_in_javascript(runner: Any, name: str) -> None:
 
 @in_javascript
 def test_little_memory(runner: Any) -> None:
-    """Calls without memory for them, where the library's memory may have 128 pages, which are 8 MiB. They fail
-    if the library takes what a memory that can't grow returns for an address."""
+    """Calls without memory for them, where the library's memory may have 128 pages, which are 8 MiB. They
+    fail if the library takes what a memory that can't grow returns for an address."""
     shutil.copytree(runner.folder, runner.at / "tight")
     path = runner.at / "tight/rsp.wasm"
     before, section, after = re.split(rb"(\x05\x03\x01\x00.)", path.read_bytes(), maxsplit=1)

@@ -41,7 +41,8 @@ GIVEN: Dict[str, Tuple[Any, ...]] = {
     "set": (State(),), "load": (0, 0, b"abcd"), "load_words": (0, 0, [1]), "memory": (0, 0, 4),
     "memory_words": (0, 0, 1), "start_task": (0,), "set_pc": (8,), "run_until_move": (1, 0, 0),
     "event": (1, 0, 0), "add_break": (4,), "drop_break": (4,), "add_watch": (0, 1), "set_reg": (1, 0),
-    "set_vreg": (1, range(8)), "write": (4, 2), "write_dma": (4, 2), "set_sp": (rsp.SpWords(),), "listing": (0, 1),
+    "set_vreg": (1, range(8)), "write": (4, 2), "write_dma": (4, 2), "set_sp": (rsp.SpWords(),),
+    "listing": (0, 1),
 }  # fmt: skip
 OF_A_SESSION: Dict[str, Tuple[Any, ...]] = {"feed": ("step\n",), "end": (), "close": ()}
 # Those that are made of other calls.
