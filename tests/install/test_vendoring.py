@@ -136,7 +136,7 @@ def test_universal(folder: Path) -> None:
     succeeds("cmake", "-S", TOP, "-B", out, *words, f"-DCMAKE_OSX_SYSROOT={folder}", env=env)
     succeeds("cmake", "--build", out, "--target", "brsp_static.o", env=env)
     made = out / "CMakeFiles/brsp_static.dir/brsp_static.S.o"
-    expected = {f"_{name}" for name, *_ in shapes.exported()}
+    expected = {f"_{call.name}" for call in shapes.PROVED.calls}
     for processor in "arm64", "x86_64":
         names = succeeds(lipo.with_name("llvm-nm"), "-m", f"--arch={processor}", made)
         hidden = {it.split()[-1] for it in names.splitlines() if ") private external _brsp_" in it}

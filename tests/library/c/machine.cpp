@@ -128,7 +128,7 @@ static void test_buffers()
     refuses(BRSP_OUT_OF_RANGE, "load: the bytes from 4089 on pass the end of DMEM", [&] { m.load(BRSP_DMEM, 4089, given, 8); });
     refuses(BRSP_OUT_OF_RANGE, "memory: 8 bytes from 60 on pass the end of RDRAM", [&] { m.memory(BRSP_RDRAM, 60, taken, 8); });
     refuses(BRSP_OUT_OF_RANGE, "memory_words: count is 4294967296, not 0 to 4294967295", [&] { m.memory_words(BRSP_DMEM, 0, words_taken, size_t(1) << 32); });
-    refuses(BRSP_OUT_OF_RANGE, "load_state: there are fewer bytes, or more, than the savestate says", [&] { m.load_state(saved, 9039); });
+    refuses(BRSP_OUT_OF_RANGE, "load_state: there are 9039 bytes, not 8976 and those of the image", [&] { m.load_state(saved, 9039); });
 }
 
 // Readers of a const machine; none of them changes it.
