@@ -15,7 +15,7 @@ from lib.processes import succeeds
 from rsp_tools import assemble, record
 from rsp_tools.crates import LINES, uses, with_below
 from rsp_tools.systems import modules, objects
-from rsp_tools.systems.modules import LIBRARY, PROGRAM, Crate
+from rsp_tools.systems.modules import LIBRARY, PROGRAM, WEB, Crate
 from rsp_tools.systems.toolchain import Refused
 from rsp_tools.targets import PROCESSORS
 
@@ -97,6 +97,16 @@ def test_what_prove_says(
     assert run("kit 2", "sum 2", b"2\n") == (1, "2 passed, 3 failed")
     (folder / "b.s").write_bytes(b"2\n")
     assert run("kit 2", "sum 1", b"2\n", LIBRARY) == (1, "4 passed, 1 failed")
+
+
+def test_helpers(monkeypatch: pytest.MonkeyPatch) -> None:
+    """A change of the helpers makes rsp.wasm stale, and not the assembly, with which cc compiles them."""
+    monkeypatch.setattr(assemble, "kit", lambda: "kit 1")
+    monkeypatch.setattr(assemble, "sources", lambda _: "names\nsum -\n")
+    names = {crate.made: assemble.mark(crate, {}).split()[6::2] for crate in (PROGRAM, LIBRARY, WEB)}
+    assert {name for name in names if "library/c/helpers/search.c" in names[name]} == {"rsp_wasm.made"}
+    assert "tools/rsp_tools/systems/allocator.c" in names["rsp_wasm.made"]
+    assert [it for listed in names.values() for it in listed if not (TOP / it).is_file()] == []
 
 
 def test_mutations(folder: Path) -> None:

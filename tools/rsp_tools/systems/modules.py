@@ -9,7 +9,7 @@ import shutil
 import subprocess
 import tempfile
 from pathlib import Path
-from typing import Callable, List, NamedTuple
+from typing import List, NamedTuple, Tuple
 
 from rsp_tools import build
 from rsp_tools.proof import guarded
@@ -29,10 +29,6 @@ class Module(NamedTuple):
     words: List[str] = []
 
 
-# What gives the module for a processor.
-Source = Callable[[str], Module]
-
-
 class Crate(NamedTuple):
     """A crate of which there are modules, with the words of `rattle build` for it; and of its files in
     compiled/ how their names end, the C in them, and the name of their mark."""
@@ -40,7 +36,7 @@ class Crate(NamedTuple):
     name: str
     words: str
     end: str
-    parts: List[Path]
+    parts: Tuple[Path, ...]
     made: str
 
     @property
@@ -52,11 +48,11 @@ class Crate(NamedTuple):
 # have those (tests/install/test_assembled.py).
 HEAP = places.PARTS / "heap.c"
 WITH_HEAP = [HEAP, places.PARTS / "allocator.c", places.PARTS / "memory_wasm.c"]
-PROGRAM = Crate("rsp_main", "src/main.rt", "rsp", [HEAP], "rsp_main.made")
-LIBRARY = Crate("rsp_c", "src/lib.rt --crate-type staticlib", "lib", [HEAP], "rsp_c.made")
+PROGRAM = Crate("rsp_main", "src/main.rt", "rsp", (HEAP,), "rsp_main.made")
+LIBRARY = Crate("rsp_c", "src/lib.rt --crate-type staticlib", "lib", (HEAP,), "rsp_c.made")
 # The library in WebAssembly has a mark of its own, because it has the helpers inside, which cc compiles on
 # other systems: a change of a helper makes only this file stale.
-WEB = LIBRARY._replace(end="wasm", parts=[*WITH_HEAP, *helpers.FILES], made="rsp_wasm.made")
+WEB = LIBRARY._replace(end="wasm", parts=(*WITH_HEAP, *helpers.FILES), made="rsp_wasm.made")
 
 
 def mark(crate: Crate) -> str:
