@@ -15,7 +15,7 @@ from lib.processes import succeeds
 from rsp_tools import assemble, record
 from rsp_tools.crates import LINES, uses, with_below
 from rsp_tools.systems import modules, objects
-from rsp_tools.systems.modules import LIBRARY, PROGRAM, Crate
+from rsp_tools.systems.modules import LIBRARY, PROGRAM, WEB, Crate
 from rsp_tools.systems.toolchain import Refused
 from rsp_tools.targets import PROCESSORS
 
@@ -114,6 +114,16 @@ def test_other_tools(monkeypatch: pytest.MonkeyPatch, folder: Path) -> None:
         (folder / name).write_bytes(data)
     assert made("2", b"a") == first
     assert made("2", b"b")["rsp.wasm"] == b"2b"
+
+
+def test_helpers(monkeypatch: pytest.MonkeyPatch) -> None:
+    """A change of the helpers makes rsp.wasm stale, and not the assembly, with which cc compiles them."""
+    monkeypatch.setattr(assemble, "kit", lambda: "kit 1")
+    monkeypatch.setattr(assemble, "sources", lambda _: "names\nsum -\n")
+    names = {crate.made: assemble.mark(crate, {}).split()[6::2] for crate in (PROGRAM, LIBRARY, WEB)}
+    assert {name for name in names if "library/c/helpers/search.c" in names[name]} == {"rsp_wasm.made"}
+    assert "tools/rsp_tools/systems/allocator.c" in names["rsp_wasm.made"]
+    assert [it for listed in names.values() for it in listed if not (TOP / it).is_file()] == []
 
 
 def test_mutations(folder: Path) -> None:
