@@ -106,8 +106,8 @@ private:
     static void to_bytes(uint8_t *to, const uint32_t *from, size_t count)
     {
         for (size_t i = 0; i < count; i++, to += 4) {
-            const uint32_t n = from[i]; // once: a compiler takes the four stores below for one
-            to[0] = uint8_t(n >> 24), to[1] = uint8_t(n >> 16), to[2] = uint8_t(n >> 8), to[3] = uint8_t(n);
+            const uint8_t bytes[] = { uint8_t(from[i] >> 24), uint8_t(from[i] >> 16), uint8_t(from[i] >> 8), uint8_t(from[i]) };
+            std::memcpy(to, bytes, 4); // as one store, which four stores aren't for gcc at -O3
         }
     }
     static void from_bytes(uint8_t *to, const uint8_t *from, size_t count) { std::memcpy(to, from, count); }
