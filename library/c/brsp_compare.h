@@ -84,8 +84,12 @@ static inline uint32_t brsp_first_difference(brsp_machine *m, const brsp_emulato
     }
     if (status == BRSP_OK) brsp_search_difference(search, out);
     if (out->count) out->parts = (brsp_part *)malloc(out->count * sizeof(brsp_part));
-    if (out->parts) brsp_search_parts(search, out->parts);
-    else if (out->count) status = BRSP_NO_MEMORY, out->count = 0;
+    if (out->parts) {
+        brsp_search_parts(search, out->parts);
+    } else if (out->count) {
+        status = BRSP_NO_MEMORY;
+        out->count = 0;
+    }
     free(search);
     return status;
 }

@@ -73,19 +73,24 @@ def test_shown(folder: Path) -> None:
 
 @pytest.mark.needs("objdump")
 def test_shared(folder: Path) -> None:
-    """Otherwise only: that the library is static although the project asks for shared ones."""
-    shared = plugin(folder / "out", "-DBUILD_SHARED_LIBS=ON")
+    """Otherwise only: that the library is static although the project asks for shared ones, or doesn't
+    compile where the project joins its sources."""
+    shared = plugin(folder / "out", "-DBUILD_SHARED_LIBS=ON", "-DCMAKE_UNITY_BUILD=ON")
     assert f"libbrsp.so.{header.interface()}" in succeeds("objdump", "-p", shared)
     assert versions(shared) == "1"
 
 
 def test_other_copy(folder: Path) -> None:
-    """Otherwise only: that nothing tells that a part's own copy, of another version, isn't built."""
+    """Otherwise only: that nothing tells that a part's own copy, of another version, isn't built, or that a
+    version without a day counts as none."""
     shutil.copy(TOP / "CMakeLists.txt", folder)
-    (folder / "VERSION").write_text("9.8.7 (unreleased)\n")
-    made = configured(folder / "out", second=folder)
-    said = " ".join(made.stdout.split())
-    assert made.returncode == 0 and f"has brsp::brsp of {header.version()} already, so 9.8.7 in" in said
+    for version in "9.8.7 (unreleased)", "9.8.7":
+        (folder / "VERSION").write_text(f"{version}\n")
+        made = configured(folder / "out", second=folder)
+        said = " ".join(made.stdout.split())
+        assert made.returncode == 0 and f"has brsp::brsp of {header.version()} already, so 9.8.7 in" in said
+    (folder / "VERSION").write_text("9.8 of today\n")
+    assert "VERSION isn't of the form" in " ".join(configured(folder / "out", second=folder).stdout.split())
 
 
 def test_installed_with_a_core(folder: Path) -> None:

@@ -156,8 +156,7 @@ CROSS: Tuple[Target, ...] = (
     Target(
         name="wasm",
         title="browsers, Node, Deno",
-        tier="natively, in Chromium and in Node 20, both without 64-bit memories, because Safari has none; "
-        "not in Safari",
+        tier="natively, in Chromium and in Node 20, which has no 64-bit memories, as Safari; not in Safari",
         command="`./release wasm`, `npm install ./dist/wasm`",
         ending="tgz",
         packages={"node": "nodejs"},

@@ -18,10 +18,10 @@ from rsp_tools.systems.toolchain import llvm
 PAGES = places.TOP / "tests/systems/wasm"
 PROGRAMS = ("chromium", "chromedriver", "python:selenium")
 # As root Chromium has no sandbox of its own; a small window, with room for replies beside scripts, is painted
-# sooner; gc() is for machines that are dropped; Safari has no 64-bit memories.
+# sooner; gc() is for machines that are dropped.
 WORDS = """
 --headless=new --no-sandbox --disable-gpu --disable-dev-shm-usage --no-first-run
---window-size=1000,400 --js-flags=--expose-gc,--no-experimental-wasm-memory64
+--window-size=1000,400 --js-flags=--expose-gc
 """.split()
 LONGEST = 1800  # seconds that a script in a page may take
 PROBES = places.TOP / "tests/systems/page/probes.js"  # what tests ask of a page
