@@ -17,8 +17,8 @@ STEP = "crates/rsp_machine/src/step.rt"
 CALLS = ["step", "step_recorded", "steps", "steps_recorded_until", "steps_until"]
 UNSAFE = [
     "crates/rsp_c/src/handle.rt: unsafe { Box::from_raw(alloc, ptr) }",
-    "crates/rsp_c/src/handle.rt: unsafe impl Send for Handle {}",
-    "crates/rsp_c/src/handle.rt: unsafe impl Send for BenchHandle {}",
+    "crates/rsp_c/src/handle.rt: unsafe impl Send for RspMachine {}",
+    "crates/rsp_c/src/handle.rt: unsafe impl Send for RspSession {}",
 ]
 # What matches on an instruction, in each crate. While a step executes, these are called, except `stored_at`,
 # the encoder's `canonical_word` and the debugger's `take`.

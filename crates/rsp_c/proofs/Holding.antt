@@ -16,8 +16,8 @@ use Rattle.std.proofs.GlobalToken.{dealloc_token-Testable}
 use Rattle.std.proofs.alloc.Calls.{Fits, handle_tells}
 use Rattle.std_heap.specs.contracts.GlobalAllocator.TheImpl.{ghosts}
 use Rattle.rsp_c.specs.Holding.{holding}
-use Rattle.rsp_c.specs.contracts.handle.Handle as Handle
-use Rattle.rsp_c.specs.contracts.handle.BenchHandle as BenchHandle
+use Rattle.rsp_c.specs.contracts.handle.RspMachine as RspMachine
+use Rattle.rsp_c.specs.contracts.handle.RspSession as RspSession
 use Rattle.rsp_c.proofs.AsBox.{E, EB}
 
 abbrev pub boxed : (row : RattleType) → Global → Ptr → row.Denot → base.Fml.Fml
@@ -42,27 +42,27 @@ module _ {M : Type 1} {𝓤 : Ura M} {𝓛 : Logic 𝓤} {K : Type 0} {Γ : List
       use1 𝓛 (given (Testable (block_ptr b o)) (‵ (boxed row a (block_ptr b o) x))) (tested 𝓛 row a (block_ptr b o) x) $ learn t (λ test. one b o x e refl test))
 
   -- a handle by value is [what it holds; the allocator]
-  pub held_out : K → (d : Handle.the_row.Denot) (vs : List Val)
-      → ((h : Val) → vs ≡ pair (ptr_val d.at) h ∷ [] → Fits E.al h → Seq K 𝓛 (‵ (holding E.row d.alloc d.at d.debugger) ∷ ‵ (E.al.row.own_val d.alloc (h ∷ [])) ∷ Γ) G) → Seq K 𝓛 (‵ (Handle.the_row.own_val d vs) ∷ Γ) G
+  pub held_out : K → (d : RspMachine.the_row.Denot) (vs : List Val)
+      → ((h : Val) → vs ≡ pair (ptr_val d.at) h ∷ [] → Fits E.al h → Seq K 𝓛 (‵ (holding E.row d.alloc d.at d.debugger) ∷ ‵ (E.al.row.own_val d.alloc (h ∷ [])) ∷ Γ) G) → Seq K 𝓛 (‵ (RspMachine.the_row.own_val d vs) ∷ Γ) G
   held_out t d vs k =
       fsplit t $ fpick t (λ vss. fsplit t $ feq_l t (λ ev. fsplit t $ feq_l t (λ ep. fsplit t $ handle_tells E.al t d.alloc vss.1.0 (λ h ea fits. move t (1 ∷ []) $ drop t $ move t (1 ∷ []) $ k h
       (subst (λ (ws : List Val). vs ≡ vstruct (of_list (ptr_val d.at ∷ (ws ++ []))) ∷ []) ea (subst (λ (ps : List Val). vs ≡ vstruct (of_list (ps ++ (vss.1.0 ++ []))) ∷ []) ep ev)) fits))))
 
-  pub held_in : K → (d : Handle.the_row.Denot) (h : Val)
-      → Step K 𝓛 (‵ (Handle.the_row.own_val d (pair (ptr_val d.at) h ∷ [])) ∷ Γ) G (‵ (holding E.row d.alloc d.at d.debugger) ∷ ‵ (E.al.row.own_val d.alloc (h ∷ [])) ∷ Γ) G
+  pub held_in : K → (d : RspMachine.the_row.Denot) (h : Val)
+      → Step K 𝓛 (‵ (RspMachine.the_row.own_val d (pair (ptr_val d.at) h ∷ [])) ∷ Γ) G (‵ (holding E.row d.alloc d.at d.debugger) ∷ ‵ (E.al.row.own_val d.alloc (h ∷ [])) ∷ Γ) G
   held_in t d h = step (λ s. let v : Val = pair (ptr_val d.at) h in let p : List Val = ptr_val d.at ∷ [] in
       nothing t $ move t (2 ∷ 0 ∷ []) $ fjoin t $ feq_i t (List Val) p p refl $ fjoin t $ feq_i t (List Val) (v ∷ []) (v ∷ []) refl $ fjoin t $
-      fpack t (Valss (RawPtr ∷ E.al.row ∷ [])) (within (shape Handle.the_type) (d.at, (((tt, tt), tt), tt)) (v ∷ [])) (p, (h ∷ [], tt)) $ fjoin t $ s)
+      fpack t (Valss (RawPtr ∷ E.al.row ∷ [])) (within (shape RspMachine.the_type) (d.at, (((tt, tt), tt), tt)) (v ∷ [])) (p, (h ∷ [], tt)) $ fjoin t $ s)
 
   -- the same of a bench's handle
-  pub bench_out : K → (d : BenchHandle.the_row.Denot) (vs : List Val)
-      → ((h : Val) → vs ≡ pair (ptr_val d.at) h ∷ [] → Fits EB.al h → Seq K 𝓛 (‵ (holding EB.row d.alloc d.at d.bench) ∷ ‵ (EB.al.row.own_val d.alloc (h ∷ [])) ∷ Γ) G) → Seq K 𝓛 (‵ (BenchHandle.the_row.own_val d vs) ∷ Γ) G
+  pub bench_out : K → (d : RspSession.the_row.Denot) (vs : List Val)
+      → ((h : Val) → vs ≡ pair (ptr_val d.at) h ∷ [] → Fits EB.al h → Seq K 𝓛 (‵ (holding EB.row d.alloc d.at d.bench) ∷ ‵ (EB.al.row.own_val d.alloc (h ∷ [])) ∷ Γ) G) → Seq K 𝓛 (‵ (RspSession.the_row.own_val d vs) ∷ Γ) G
   bench_out t d vs k =
       fsplit t $ fpick t (λ vss. fsplit t $ feq_l t (λ ev. fsplit t $ feq_l t (λ ep. fsplit t $ handle_tells EB.al t d.alloc vss.1.0 (λ h ea fits. move t (1 ∷ []) $ drop t $ move t (1 ∷ []) $ k h
       (subst (λ (ws : List Val). vs ≡ vstruct (of_list (ptr_val d.at ∷ (ws ++ []))) ∷ []) ea (subst (λ (ps : List Val). vs ≡ vstruct (of_list (ps ++ (vss.1.0 ++ []))) ∷ []) ep ev)) fits))))
 
-  pub bench_in : K → (d : BenchHandle.the_row.Denot) (h : Val)
-      → Step K 𝓛 (‵ (BenchHandle.the_row.own_val d (pair (ptr_val d.at) h ∷ [])) ∷ Γ) G (‵ (holding EB.row d.alloc d.at d.bench) ∷ ‵ (EB.al.row.own_val d.alloc (h ∷ [])) ∷ Γ) G
+  pub bench_in : K → (d : RspSession.the_row.Denot) (h : Val)
+      → Step K 𝓛 (‵ (RspSession.the_row.own_val d (pair (ptr_val d.at) h ∷ [])) ∷ Γ) G (‵ (holding EB.row d.alloc d.at d.bench) ∷ ‵ (EB.al.row.own_val d.alloc (h ∷ [])) ∷ Γ) G
   bench_in t d h = step (λ s. let v : Val = pair (ptr_val d.at) h in let p : List Val = ptr_val d.at ∷ [] in
       nothing t $ move t (2 ∷ 0 ∷ []) $ fjoin t $ feq_i t (List Val) p p refl $ fjoin t $ feq_i t (List Val) (v ∷ []) (v ∷ []) refl $ fjoin t $
-      fpack t (Valss (RawPtr ∷ EB.al.row ∷ [])) (within (shape BenchHandle.the_type) (d.at, (((tt, tt), tt), tt)) (v ∷ [])) (p, (h ∷ [], tt)) $ fjoin t $ s)
+      fpack t (Valss (RawPtr ∷ EB.al.row ∷ [])) (within (shape RspSession.the_type) (d.at, (((tt, tt), tt), tt)) (v ∷ [])) (p, (h ∷ [], tt)) $ fjoin t $ s)

@@ -9,7 +9,7 @@ ghost use Rattle.rsp_c.specs.Calls.{status_of, IsFilled};
 ghost use Rattle.rsp_c.specs.Changes.{quadwords_of, changes_by, c_changes};
 
 use crate::c_structs::{RspAccumulators, RspDivideState};
-use crate::handle::{Handle, with_held};
+use crate::handle::{RspMachine, with_held};
 use crate::status::{OK, status_of_step};
 use crate::to_c::{c_accumulators, c_divider};
 use rsp_acc::PlaneAcc;
@@ -79,7 +79,11 @@ fn changes_by(pc: u16, word: u32, writes: Writes, debugger: &Debugger<PlaneAcc>)
 
 /// Makes one step, as `brsp_step` does, and reports what it changed. Nothing is reported if the machine can't.
 #[unsafe(no_mangle)]
-pub extern "C" fn brsp_step_changes(handle: &mut Handle, alloc: Global, out: &mut RspChanges) -> u32
+pub extern "C" fn brsp_step_changes(
+    handle: &mut RspMachine,
+    alloc: Global,
+    out: &mut RspChanges,
+) -> u32
     ensures answer { result ≡ status_of (λ d. step_status (step_of d.state).0) handle.old.debugger }
     ensures next { handle.new.debugger ≡ option_map after_debugger_step handle.old.debugger }
     ensures changes { IsFilled result (λ d. c_changes d.state (step_of d.state).1) handle.old.debugger out.old out.new }

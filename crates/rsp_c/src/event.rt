@@ -9,7 +9,7 @@ ghost use Rattle.rsp_c.specs.Calls.{status_of, IsDoneIf, IsNext, IsFilled};
 ghost use Rattle.rsp_c.specs.Events.{event_end, c_reached, is_status_write, c_after_status, event_of, after_event};
 
 use crate::c_structs::RspMove;
-use crate::handle::{Handle, with_held};
+use crate::handle::{RspMachine, with_held};
 use crate::status::{OK, OUT_OF_RANGE, status_of_pass};
 use crate::to_c::{AT_DMA, AT_INTERRUPT, AT_STATUS, c_move};
 use rsp_acc::Acc;
@@ -117,7 +117,7 @@ fn step_status<A: Acc>(debugger: &mut Debugger<A>, steps: u32) -> RspReached
 /// `writes` is below 131072.
 #[unsafe(no_mangle)]
 pub extern "C" fn brsp_event(
-    handle: &mut Handle,
+    handle: &mut RspMachine,
     alloc: Global,
     n: u32,
     reads: u32,
@@ -152,7 +152,7 @@ pub extern "C" fn brsp_event(
 /// Passes over the DMA at pc, whose bytes the host then moves, and empties the history. All is as after a step, the SP registers too, but
 /// the memories stay. HALTED if the machine is halted, OTHER_WORD if the word at pc starts no DMA.
 #[unsafe(no_mangle)]
-pub extern "C" fn brsp_pass_dma(handle: &mut Handle, alloc: Global) -> u32
+pub extern "C" fn brsp_pass_dma(handle: &mut RspMachine, alloc: Global) -> u32
     ensures answer { result ≡ status_of (λ d. pass_status (pass_dma_of d.state)) handle.old.debugger }
     ensures next { IfSome handle.old.debugger (λ d. IfOk (pass_dma_of d.state) (λ s. handle.new.debugger ≡ Some (set_by_host s d))) }
     ensures same { (result ≡ OK → ⊥) → handle.new.debugger ≡ handle.old.debugger }

@@ -41,38 +41,38 @@ impl<T, A: Allocator> BoxParts<T, A> {
     }
 }
 
-/// Owns a debugger with its machine, or nothing. In C it is `rsp`, a struct of one pointer. Contracts see it as `debugger`.
+/// Owns a debugger with its machine, or nothing. In C it is `brsp_machine`, a struct of one pointer. Contracts see it as `debugger`.
 #[repr(C)]
-pub struct Handle {
+pub struct RspMachine {
     at: *mut u8,
     alloc: Global,
     pub ghost debugger: { Option Opened },
 }
 
-impl Model for Handle {
+impl Model for RspMachine {
     ghost also_owns = { λ h. holding debugger_row h.alloc h.at h.debugger };
 }
 
 // The pointer is to a block that the handle alone owns, and nothing in a debugger is bound to a thread.
-unsafe impl Send for Handle {}
+unsafe impl Send for RspMachine {}
 
-impl Handle {
+impl RspMachine {
     /// A handle that owns nothing.
-    pub fn none(alloc: Global) -> Handle
+    pub fn none(alloc: Global) -> RspMachine
         ensures { result.debugger ≡ None }
     {
-        Handle {
+        RspMachine {
             at: std::ptr::null_mut(),
             alloc,
         }
     }
 
     /// The handle of a debugger.
-    pub fn of(parts: BoxParts<Debugger<PlaneAcc>, Global>) -> Handle
+    pub fn of(parts: BoxParts<Debugger<PlaneAcc>, Global>) -> RspMachine
         ensures { result.debugger ≡ Some parts.value }
     {
         let BoxParts { ptr, alloc } = parts;
-        Handle {
+        RspMachine {
             at: ptr as *mut u8,
             alloc,
         }
@@ -82,7 +82,7 @@ impl Handle {
     pub fn into_parts(self) -> Option<BoxParts<Debugger<PlaneAcc>, Global>>
         ensures { MatchOption result (self.debugger ≡ None) (λ p. self.debugger ≡ Some p.value) }
     {
-        let Handle { at, alloc } = self;
+        let RspMachine { at, alloc } = self;
         if at.is_null() {
             return None;
         }
@@ -97,7 +97,7 @@ impl Handle {
         ensures was { MatchOption result (self.old.debugger ≡ None) (λ b. self.old.debugger ≡ Some b.value) }
         ensures now { self.new.debugger ≡ None }
     {
-        let held = std::mem::replace(self, Handle::none(alloc));
+        let held = std::mem::replace(self, RspMachine::none(alloc));
         match held.into_parts() {
             None => None,
             Some(parts) => Some(parts.into_box()),
@@ -109,11 +109,11 @@ impl Handle {
         requires { self.old.debugger ≡ None }
         ensures { self.new.debugger ≡ Some debugger.value }
     {
-        std::mem::forget(std::mem::replace(self, Handle::of(BoxParts::of(debugger))));
+        std::mem::forget(std::mem::replace(self, RspMachine::of(BoxParts::of(debugger))));
     }
 }
 
-impl Drop for Handle {
+impl Drop for RspMachine {
     fn drop(self) {
         if let Some(parts) = self.into_parts() {
             drop(parts.into_box());
@@ -123,38 +123,38 @@ impl Drop for Handle {
 
 /// Owns a bench, or nothing. In C it is `brsp_session`, a struct of one pointer. A bench isn't a machine with more calls, because each
 /// call on a machine would then have to say what it does to a script that is only partly answered. An export of a generic struct is
-/// refused, so this says again what [`Handle`] says of a debugger.
+/// refused, so this says again what [`RspMachine`] says of a debugger.
 #[repr(C)]
-pub struct BenchHandle {
+pub struct RspSession {
     at: *mut u8,
     alloc: Global,
     pub ghost bench: { Option OpenedBench },
 }
 
-impl Model for BenchHandle {
+impl Model for RspSession {
     ghost also_owns = { λ h. holding bench_row h.alloc h.at h.bench };
 }
 
-// As of a `Handle`.
-unsafe impl Send for BenchHandle {}
+// As of a `RspMachine`.
+unsafe impl Send for RspSession {}
 
-impl BenchHandle {
+impl RspSession {
     /// A handle that owns nothing.
-    pub fn none(alloc: Global) -> BenchHandle
+    pub fn none(alloc: Global) -> RspSession
         ensures { result.bench ≡ None }
     {
-        BenchHandle {
+        RspSession {
             at: std::ptr::null_mut(),
             alloc,
         }
     }
 
     /// The handle of a bench.
-    pub fn of(parts: BoxParts<HeldBench, Global>) -> BenchHandle
+    pub fn of(parts: BoxParts<HeldBench, Global>) -> RspSession
         ensures { result.bench ≡ Some parts.value }
     {
         let BoxParts { ptr, alloc } = parts;
-        BenchHandle {
+        RspSession {
             at: ptr as *mut u8,
             alloc,
         }
@@ -164,7 +164,7 @@ impl BenchHandle {
     pub fn into_parts(self) -> Option<BoxParts<HeldBench, Global>>
         ensures { MatchOption result (self.bench ≡ None) (λ p. self.bench ≡ Some p.value) }
     {
-        let BenchHandle { at, alloc } = self;
+        let RspSession { at, alloc } = self;
         if at.is_null() {
             return None;
         }
@@ -179,7 +179,7 @@ impl BenchHandle {
         ensures was { MatchOption result (self.old.bench ≡ None) (λ b. self.old.bench ≡ Some b.value) }
         ensures now { self.new.bench ≡ None }
     {
-        let held = std::mem::replace(self, BenchHandle::none(alloc));
+        let held = std::mem::replace(self, RspSession::none(alloc));
         match held.into_parts() {
             None => None,
             Some(parts) => Some(parts.into_box()),
@@ -191,11 +191,11 @@ impl BenchHandle {
         requires { self.old.bench ≡ None }
         ensures { self.new.bench ≡ Some bench.value }
     {
-        std::mem::forget(std::mem::replace(self, BenchHandle::of(BoxParts::of(bench))));
+        std::mem::forget(std::mem::replace(self, RspSession::of(BoxParts::of(bench))));
     }
 }
 
-impl Drop for BenchHandle {
+impl Drop for RspSession {
     fn drop(self) {
         if let Some(parts) = self.into_parts() {
             drop(parts.into_box());

@@ -5,7 +5,7 @@ ghost use Rattle.rsp_machine.specs.State.{start_of};
 ghost use Rattle.rsp_memory.specs.Image.{IsImageLength};
 ghost use Rattle.rsp_debug.specs.Debugging.{debugging_of};
 
-use crate::handle::{Handle, with_held};
+use crate::handle::{RspMachine, with_held};
 use crate::status::{NO_MACHINE, NO_MEMORY, OK, OUT_OF_RANGE};
 use rsp_acc::{Acc, PlaneAcc};
 use rsp_debug::Debugger;
@@ -66,7 +66,7 @@ fn new_debugger(
 /// Makes a machine with a copy of an image of the RDRAM, 64 to 8388608 bytes and a multiple of 8, and a history of `depth` states, at most
 /// 4096. What the handle held is freed. OUT_OF_RANGE for another length or depth, before anything is copied.
 #[unsafe(no_mangle)]
-pub extern "C" fn brsp_new(handle: &mut Handle, alloc: Global, image: &[u8], depth: u32) -> u32
+pub extern "C" fn brsp_new(handle: &mut RspMachine, alloc: Global, image: &[u8], depth: u32) -> u32
     ensures ok { result ≡ OK → handle.new.debugger ≡ Some (debugging_of depth (start_of image.now)) }
     ensures range { (result ≡ OUT_OF_RANGE) ↔ ((4096 < depth) ⊎ ¬ (IsImageLength (length image.now))) }
     ensures answer { (result ≡ OK) ⊎ (result ≡ NO_MEMORY) ⊎ (result ≡ OUT_OF_RANGE) }
@@ -119,7 +119,7 @@ fn copy_of(
 /// Makes in `to` a second machine in the same state, memories included, with as long a history, which is empty, and without breakpoints and
 /// watches. What `to` held is freed.
 #[unsafe(no_mangle)]
-pub extern "C" fn brsp_copy(to: &mut Handle, alloc: Global, from: &mut Handle) -> u32
+pub extern "C" fn brsp_copy(to: &mut RspMachine, alloc: Global, from: &mut RspMachine) -> u32
     ensures none { IfNone from.old.debugger (result ≡ NO_MACHINE) }
     ensures ok { result ≡ OK → IfSome from.old.debugger (λ d. to.new.debugger ≡ Some (debugging_of d.depth d.state)) }
     ensures answer { IfSome from.old.debugger (λ d. (result ≡ OK) ⊎ (result ≡ NO_MEMORY)) }
@@ -138,7 +138,7 @@ pub extern "C" fn brsp_copy(to: &mut Handle, alloc: Global, from: &mut Handle) -
 
 /// Frees the machine, if the handle holds one. It holds none afterwards.
 #[unsafe(no_mangle)]
-pub extern "C" fn brsp_free(handle: &mut Handle, alloc: Global)
+pub extern "C" fn brsp_free(handle: &mut RspMachine, alloc: Global)
     ensures { handle.new.debugger ≡ None }
 {
     drop(handle.take(alloc));

@@ -9,7 +9,7 @@ ghost use Rattle.rsp_c.specs.Calls.{status_of, IsDoneIf, IsFilled};
 ghost use Rattle.rsp_memory.specs.Words.{words_bytes};
 ghost use Rattle.byteorder.specs.Endian.{IsRead, big_number};
 
-use crate::handle::{Handle, with_held};
+use crate::handle::{RspMachine, with_held};
 use crate::status::{OK, OUT_OF_RANGE, bank_of};
 use byteorder::{BigEndian, ByteOrder};
 use rsp_acc::{Acc, PlaneAcc};
@@ -45,7 +45,7 @@ pub fn bytes_of<A: Acc>(machine: &Machine<A>, bank: Bank, a: u32, n: usize) -> O
 
 /// The number of bytes of the image of RDRAM.
 #[unsafe(no_mangle)]
-pub extern "C" fn brsp_image_length(handle: &mut Handle, alloc: Global, out: &mut usize) -> u32
+pub extern "C" fn brsp_image_length(handle: &mut RspMachine, alloc: Global, out: &mut usize) -> u32
     ensures answer { result ≡ status_of (λ _. OK) handle.old.debugger }
     ensures value { IsFilled result (λ d. length d.state.rdram) handle.old.debugger out.old out.new }
     ensures same { handle.new.debugger ≡ handle.old.debugger }
@@ -56,7 +56,7 @@ pub extern "C" fn brsp_image_length(handle: &mut Handle, alloc: Global, out: &mu
 /// Writes bytes to a bank from an address on, and empties the history.
 #[unsafe(no_mangle)]
 pub extern "C" fn brsp_load(
-    handle: &mut Handle,
+    handle: &mut RspMachine,
     alloc: Global,
     number: u32,
     address: u32,
@@ -91,7 +91,7 @@ fn copy(from: &[u8], to: &mut [u8])
 /// Reads bytes of a bank from an address on, as many as the buffer has.
 #[unsafe(no_mangle)]
 pub extern "C" fn brsp_memory(
-    handle: &mut Handle,
+    handle: &mut RspMachine,
     alloc: Global,
     number: u32,
     address: u32,
@@ -138,7 +138,7 @@ fn read_words(machine: &Machine<PlaneAcc>, bank: Bank, address: u32, words: &mut
 /// Writes words to a bank from an address on, and empties the history.
 #[unsafe(no_mangle)]
 pub extern "C" fn brsp_load_words(
-    handle: &mut Handle,
+    handle: &mut RspMachine,
     alloc: Global,
     number: u32,
     address: u32,
@@ -162,7 +162,7 @@ pub extern "C" fn brsp_load_words(
 /// Reads words of a bank from an address on, as many as the buffer has.
 #[unsafe(no_mangle)]
 pub extern "C" fn brsp_memory_words(
-    handle: &mut Handle,
+    handle: &mut RspMachine,
     alloc: Global,
     number: u32,
     address: u32,

@@ -7,7 +7,7 @@ ghost use Rattle.rsp_c.specs.Calls.{status_of, IsDoneIf, IsFilled};
 ghost use Rattle.rsp_c.specs.ToC.{c_accumulators, c_flags, c_divider};
 
 use crate::c_structs::{RspAccumulators, RspDivideState, RspFlagBits, RspLanes, RspScalars};
-use crate::handle::{Handle, with_held};
+use crate::handle::{RspMachine, with_held};
 use crate::status::OK;
 use crate::to_c::{c_accumulators, c_divider, c_flags};
 use rsp_debug::Scalars;
@@ -15,7 +15,7 @@ use std::alloc::Global;
 
 /// Scalar register `n`, below 32.
 #[unsafe(no_mangle)]
-pub extern "C" fn brsp_reg(handle: &mut Handle, alloc: Global, n: u32, out: &mut u32) -> u32
+pub extern "C" fn brsp_reg(handle: &mut RspMachine, alloc: Global, n: u32, out: &mut u32) -> u32
     ensures range { IsDoneIf (λ d. n < 32) handle.old.debugger result }
     ensures value { IsFilled result (λ d. register d.state.registers n) handle.old.debugger out.old out.new }
     ensures same { handle.new.debugger ≡ handle.old.debugger }
@@ -25,7 +25,7 @@ pub extern "C" fn brsp_reg(handle: &mut Handle, alloc: Global, n: u32, out: &mut
 
 /// pc, npc and the scalar registers.
 #[unsafe(no_mangle)]
-pub extern "C" fn brsp_regs(handle: &mut Handle, alloc: Global, out: &mut RspScalars) -> u32
+pub extern "C" fn brsp_regs(handle: &mut RspMachine, alloc: Global, out: &mut RspScalars) -> u32
     ensures answer { result ≡ status_of (λ _. OK) handle.old.debugger }
     ensures pc { IfSome handle.old.debugger (λ d. out.new.pc ≡ d.state.pc) }
     ensures npc { IfSome handle.old.debugger (λ d. out.new.npc ≡ d.state.npc) }
@@ -41,7 +41,12 @@ pub extern "C" fn brsp_regs(handle: &mut Handle, alloc: Global, out: &mut RspSca
 
 /// Vector register `n`, below 32.
 #[unsafe(no_mangle)]
-pub extern "C" fn brsp_vreg(handle: &mut Handle, alloc: Global, n: u32, out: &mut RspLanes) -> u32
+pub extern "C" fn brsp_vreg(
+    handle: &mut RspMachine,
+    alloc: Global,
+    n: u32,
+    out: &mut RspLanes,
+) -> u32
     ensures range { IsDoneIf (λ d. n < 32) handle.old.debugger result }
     ensures value { result ≡ OK → IfSome handle.old.debugger (λ d. out.new.lanes ≡ vector d.state.vectors n) }
     ensures refused { (result ≡ OK → ⊥) → out.new ≡ out.old }
@@ -54,7 +59,7 @@ pub extern "C" fn brsp_vreg(handle: &mut Handle, alloc: Global, n: u32, out: &mu
 
 /// The accumulators.
 #[unsafe(no_mangle)]
-pub extern "C" fn brsp_acc(handle: &mut Handle, alloc: Global, out: &mut RspAccumulators) -> u32
+pub extern "C" fn brsp_acc(handle: &mut RspMachine, alloc: Global, out: &mut RspAccumulators) -> u32
     ensures answer { result ≡ status_of (λ _. OK) handle.old.debugger }
     ensures value { IsFilled result (λ d. c_accumulators d.state.accumulators) handle.old.debugger out.old out.new }
     ensures same { handle.new.debugger ≡ handle.old.debugger }
@@ -64,7 +69,7 @@ pub extern "C" fn brsp_acc(handle: &mut Handle, alloc: Global, out: &mut RspAccu
 
 /// The flags, a bit for each lane.
 #[unsafe(no_mangle)]
-pub extern "C" fn brsp_flags(handle: &mut Handle, alloc: Global, out: &mut RspFlagBits) -> u32
+pub extern "C" fn brsp_flags(handle: &mut RspMachine, alloc: Global, out: &mut RspFlagBits) -> u32
     ensures answer { result ≡ status_of (λ _. OK) handle.old.debugger }
     ensures value { IsFilled result (λ d. c_flags d.state.flags) handle.old.debugger out.old out.new }
     ensures same { handle.new.debugger ≡ handle.old.debugger }
@@ -74,7 +79,11 @@ pub extern "C" fn brsp_flags(handle: &mut Handle, alloc: Global, out: &mut RspFl
 
 /// What the divide instructions keep from one to the next.
 #[unsafe(no_mangle)]
-pub extern "C" fn brsp_divider(handle: &mut Handle, alloc: Global, out: &mut RspDivideState) -> u32
+pub extern "C" fn brsp_divider(
+    handle: &mut RspMachine,
+    alloc: Global,
+    out: &mut RspDivideState,
+) -> u32
     ensures answer { result ≡ status_of (λ _. OK) handle.old.debugger }
     ensures value { IsFilled result (λ d. c_divider d.state.divider) handle.old.debugger out.old out.new }
     ensures same { handle.new.debugger ≡ handle.old.debugger }

@@ -11,7 +11,7 @@ ghost use Rattle.rsp_c.specs.Answers.{bank_of};
 ghost use Rattle.rsp_c.specs.Bytes.{bank_bytes};
 ghost use Rattle.rsp_c.specs.Calls.{IsDoneIf, IsNext};
 
-use crate::handle::{BenchHandle, with_held};
+use crate::handle::{RspSession, with_held};
 use crate::held_bench::HeldBench;
 use crate::life::{is_image_length, rdram_of};
 use crate::memory::bytes_of;
@@ -44,7 +44,7 @@ fn new_bench(alloc: Global, image: &[u8]) -> Result<Box<HeldBench, Global>, Allo
 /// Makes a bench whose machine has a copy of an image of the RDRAM, 64 to 8388608 bytes and a multiple of 8. What the handle held is
 /// freed. OUT_OF_RANGE for another length, before anything is copied.
 #[unsafe(no_mangle)]
-pub extern "C" fn brsp_session_new(handle: &mut BenchHandle, alloc: Global, image: &[u8]) -> u32
+pub extern "C" fn brsp_session_new(handle: &mut RspSession, alloc: Global, image: &[u8]) -> u32
     ensures ok { result ≡ OK → handle.new.bench ≡ Some (first_bench image.now) }
     ensures range { (result ≡ OUT_OF_RANGE) ↔ (¬ (IsImageLength (length image.now))) }
     ensures answer { (result ≡ OK) ⊎ (result ≡ NO_MEMORY) ⊎ (result ≡ OUT_OF_RANGE) }
@@ -69,7 +69,7 @@ pub extern "C" fn brsp_session_new(handle: &mut BenchHandle, alloc: Global, imag
 /// bench takes nothing more.
 #[unsafe(no_mangle)]
 pub extern "C" fn brsp_session_take(
-    handle: &mut BenchHandle,
+    handle: &mut RspSession,
     alloc: Global,
     bytes: &[u8],
     used: &mut usize,
@@ -129,7 +129,7 @@ fn put_both(first: &[u8], second: &[u8], out: &mut [u8]) -> usize
 /// still open, and `written` the length of both. It refuses as brsp_session_take does.
 #[unsafe(no_mangle)]
 pub extern "C" fn brsp_session_end(
-    handle: &mut BenchHandle,
+    handle: &mut RspSession,
     alloc: Global,
     reply: &mut [u8],
     written: &mut usize,
@@ -166,7 +166,7 @@ pub extern "C" fn brsp_session_end(
 /// Reads bytes of a bank of the bench's machine from an address on, as many as the buffer has.
 #[unsafe(no_mangle)]
 pub extern "C" fn brsp_session_memory(
-    handle: &mut BenchHandle,
+    handle: &mut RspSession,
     alloc: Global,
     number: u32,
     address: u32,
@@ -191,7 +191,7 @@ pub extern "C" fn brsp_session_memory(
 
 /// Frees the bench, if the handle holds one. It holds none afterwards.
 #[unsafe(no_mangle)]
-pub extern "C" fn brsp_session_free(handle: &mut BenchHandle, alloc: Global)
+pub extern "C" fn brsp_session_free(handle: &mut RspSession, alloc: Global)
     ensures { handle.new.bench ≡ None }
 {
     drop(handle.take(alloc));

@@ -14,7 +14,7 @@ ghost use Rattle.rsp_c.specs.States.{c_sp, sp_from_c};
 
 use crate::c_structs::RspSpWords;
 use crate::fault::are_sp;
-use crate::handle::{Handle, with_held};
+use crate::handle::{RspMachine, with_held};
 use crate::status::OK;
 use crate::to_c::{c_sp, sp_from_c};
 use rsp_acc::Acc;
@@ -24,7 +24,7 @@ use std::alloc::Global;
 
 /// Reads an SP register. A read of the semaphore, register 7, takes it and empties the history.
 #[unsafe(no_mangle)]
-pub extern "C" fn brsp_read(handle: &mut Handle, alloc: Global, n: u32, out: &mut u32) -> u32
+pub extern "C" fn brsp_read(handle: &mut RspMachine, alloc: Global, n: u32, out: &mut u32) -> u32
     ensures answer { result ≡ status_of (λ _. OK) handle.old.debugger }
     ensures value { IsFilled result (λ d. read_value n d.state.sp) handle.old.debugger out.old out.new }
     ensures next { handle.new.debugger ≡ option_map (after_register_read n) handle.old.debugger }
@@ -34,7 +34,7 @@ pub extern "C" fn brsp_read(handle: &mut Handle, alloc: Global, n: u32, out: &mu
 
 /// The word that a read of an SP register would give. Nothing changes.
 #[unsafe(no_mangle)]
-pub extern "C" fn brsp_peek(handle: &mut Handle, alloc: Global, n: u32, out: &mut u32) -> u32
+pub extern "C" fn brsp_peek(handle: &mut RspMachine, alloc: Global, n: u32, out: &mut u32) -> u32
     ensures answer { result ≡ status_of (λ _. OK) handle.old.debugger }
     ensures value { IsFilled result (λ d. read_value n d.state.sp) handle.old.debugger out.old out.new }
     ensures same { handle.new.debugger ≡ handle.old.debugger }
@@ -44,7 +44,7 @@ pub extern "C" fn brsp_peek(handle: &mut Handle, alloc: Global, n: u32, out: &mu
 
 /// Writes an SP register, and empties the history. A write of a length register, 2 or 3, does its DMA.
 #[unsafe(no_mangle)]
-pub extern "C" fn brsp_write(handle: &mut Handle, alloc: Global, n: u32, value: u32) -> u32
+pub extern "C" fn brsp_write(handle: &mut RspMachine, alloc: Global, n: u32, value: u32) -> u32
     ensures answer { result ≡ status_of (λ _. OK) handle.old.debugger }
     ensures next { handle.new.debugger ≡ option_map (λ d. set_by_host (register_written n value d.state) d) handle.old.debugger }
 {
@@ -84,7 +84,7 @@ fn write_dma<A: Acc>(debugger: &mut Debugger<A>, n: u32, value: u32) -> RspDma
 /// whose bytes the host then moves; zeros if it starts none.
 #[unsafe(no_mangle)]
 pub extern "C" fn brsp_write_dma(
-    handle: &mut Handle,
+    handle: &mut RspMachine,
     alloc: Global,
     n: u32,
     value: u32,
@@ -99,7 +99,7 @@ pub extern "C" fn brsp_write_dma(
 
 /// All SP registers, each as `brsp_peek` gives it, with the interrupt flag. Nothing changes.
 #[unsafe(no_mangle)]
-pub extern "C" fn brsp_sp(handle: &mut Handle, alloc: Global, out: &mut RspSpWords) -> u32
+pub extern "C" fn brsp_sp(handle: &mut RspMachine, alloc: Global, out: &mut RspSpWords) -> u32
     ensures answer { result ≡ status_of (λ _. OK) handle.old.debugger }
     ensures value { IsFilled result (λ d. c_sp d.state.sp) handle.old.debugger out.old out.new }
     ensures same { handle.new.debugger ≡ handle.old.debugger }
@@ -111,7 +111,7 @@ pub extern "C" fn brsp_sp(handle: &mut Handle, alloc: Global, out: &mut RspSpWor
 /// those of a machine.
 #[unsafe(no_mangle)]
 #[tactic(auto, using(crate::proofs::Fields::fields))]
-pub extern "C" fn brsp_set_sp(handle: &mut Handle, alloc: Global, given: &RspSpWords) -> u32
+pub extern "C" fn brsp_set_sp(handle: &mut RspMachine, alloc: Global, given: &RspSpWords) -> u32
     ensures range { IsDoneIf (λ d. IsTrue (are_sp given.now)) handle.old.debugger result }
     ensures next { IsNext result (λ d. set_by_host (record d.state { sp = sp_of (sp_from_c given.now) }) d) handle.old.debugger handle.new.debugger }
 {

@@ -10,7 +10,7 @@ ghost use Rattle.rsp_c.specs.Calls.{status_of, IsDoneIf, IsNext, IsFilled};
 ghost use Rattle.rsp_c.specs.ToC.{c_stop, c_move};
 
 use crate::c_structs::{RspMove, RspStop};
-use crate::handle::{Handle, with_held};
+use crate::handle::{RspMachine, with_held};
 use crate::status::{NO_MACHINE, OK, OUT_OF_RANGE, SHORT_HISTORY, status_of_pass, status_of_step};
 use crate::to_c::{c_move, c_stop};
 use rsp_debug::{BackFault, Moves, TraceEntry as RspTraced};
@@ -18,7 +18,7 @@ use std::alloc::Global;
 
 /// Makes one step. HALTED or RESERVED if the machine can't, and then nothing changes.
 #[unsafe(no_mangle)]
-pub extern "C" fn brsp_step(handle: &mut Handle, alloc: Global) -> u32
+pub extern "C" fn brsp_step(handle: &mut RspMachine, alloc: Global) -> u32
     ensures answer { result ≡ status_of (λ d. step_status (step_of d.state).0) handle.old.debugger }
     ensures next { handle.new.debugger ≡ option_map after_debugger_step handle.old.debugger }
 {
@@ -29,7 +29,7 @@ pub extern "C" fn brsp_step(handle: &mut Handle, alloc: Global) -> u32
 
 /// Makes steps up to a breakpoint, a watch, a halt, a reserved word, or `n` of them, 1 to 1000000, and reports where it stopped.
 #[unsafe(no_mangle)]
-pub extern "C" fn brsp_run(handle: &mut Handle, alloc: Global, n: u32, out: &mut RspStop) -> u32
+pub extern "C" fn brsp_run(handle: &mut RspMachine, alloc: Global, n: u32, out: &mut RspStop) -> u32
     ensures range { IsDoneIf (λ d. (1 ≤ n) × (n ≤ 1000000)) handle.old.debugger result }
     ensures stop { IsFilled result (λ d. c_stop (stop_in n d) (after_run n d).state.imem) handle.old.debugger out.old out.new }
     ensures next { IsNext result (after_run n) handle.old.debugger handle.new.debugger }
@@ -48,7 +48,7 @@ pub extern "C" fn brsp_run(handle: &mut Handle, alloc: Global, n: u32, out: &mut
 /// 1000000 and both masks are below 65536.
 #[unsafe(no_mangle)]
 pub extern "C" fn brsp_run_until_move(
-    handle: &mut Handle,
+    handle: &mut RspMachine,
     alloc: Global,
     n: u32,
     reads: u32,
@@ -75,7 +75,7 @@ pub extern "C" fn brsp_run_until_move(
 /// OUT_OF_RANGE unless there are 1 to 1000000.
 #[unsafe(no_mangle)]
 pub extern "C" fn brsp_trace(
-    handle: &mut Handle,
+    handle: &mut RspMachine,
     alloc: Global,
     out: &mut [RspTraced],
     stop: &mut RspStop,
@@ -99,7 +99,7 @@ pub extern "C" fn brsp_trace(
 /// Skips the MFC0 or MTC0 at pc, and empties the history: pc and npc advance, and the register of an MFC0 becomes the value. SP registers
 /// stay, but single step halts as after any instruction. HALTED if the machine is halted, OTHER_WORD if another word is at pc.
 #[unsafe(no_mangle)]
-pub extern "C" fn brsp_pass_move(handle: &mut Handle, alloc: Global, value: u32) -> u32
+pub extern "C" fn brsp_pass_move(handle: &mut RspMachine, alloc: Global, value: u32) -> u32
     ensures answer { result ≡ status_of (λ d. pass_status (pass_of value d.state)) handle.old.debugger }
     ensures next { IfSome handle.old.debugger (λ d. IfOk (pass_of value d.state) (λ s. handle.new.debugger ≡ Some (set_by_host s d))) }
     ensures same { (result ≡ OK → ⊥) → handle.new.debugger ≡ handle.old.debugger }
@@ -112,7 +112,7 @@ pub extern "C" fn brsp_pass_move(handle: &mut Handle, alloc: Global, value: u32)
 
 /// Undoes `n` steps, 1 to 1000000. SHORT_HISTORY if the history holds fewer.
 #[unsafe(no_mangle)]
-pub extern "C" fn brsp_back(handle: &mut Handle, alloc: Global, n: u32) -> u32
+pub extern "C" fn brsp_back(handle: &mut RspMachine, alloc: Global, n: u32) -> u32
     ensures none { IfNone handle.old.debugger (result ≡ NO_MACHINE) }
     ensures count { IfSome handle.old.debugger (λ d. (result ≡ OUT_OF_RANGE) ↔ ((n ≡ 0) ⊎ (1000000 < n))) }
     ensures short { IfSome handle.old.debugger (λ d. (result ≡ SHORT_HISTORY) ↔ ((0 < n) × (n ≤ 1000000) × (length d.past < n))) }
@@ -128,7 +128,7 @@ pub extern "C" fn brsp_back(handle: &mut Handle, alloc: Global, n: u32) -> u32
 
 /// How many states the history has: so many steps can be undone.
 #[unsafe(no_mangle)]
-pub extern "C" fn brsp_history(handle: &mut Handle, alloc: Global, out: &mut usize) -> u32
+pub extern "C" fn brsp_history(handle: &mut RspMachine, alloc: Global, out: &mut usize) -> u32
     ensures answer { result ≡ status_of (λ _. OK) handle.old.debugger }
     ensures value { IsFilled result (λ d. length d.past) handle.old.debugger out.old out.new }
     ensures same { handle.new.debugger ≡ handle.old.debugger }

@@ -8,14 +8,14 @@ ghost use Rattle.rsp_debug.specs.Debugging.{with_breakpoint, without_breakpoint,
 ghost use Rattle.rsp_c.specs.Answers.{is_imem_address, add_break_status, drop_break_status, add_watch_status, drop_watch_status};
 ghost use Rattle.rsp_c.specs.Calls.{status_of, IsNext};
 
-use crate::handle::{Handle, with_held};
+use crate::handle::{RspMachine, with_held};
 use crate::status::{NO_BREAK, NO_WATCH, OK, is_imem_address, status_of_break, status_of_watch};
 use std::alloc::Global;
 
 /// Sets a breakpoint at an address of IMEM, a multiple of 4 below 4096. BREAK_TWICE if it has one, else BREAK_FULL if sixteen addresses have
 /// one.
 #[unsafe(no_mangle)]
-pub extern "C" fn brsp_add_break(handle: &mut Handle, alloc: Global, address: u32) -> u32
+pub extern "C" fn brsp_add_break(handle: &mut RspMachine, alloc: Global, address: u32) -> u32
     ensures answer { result ≡ status_of (λ d. add_break_status address d.breaks) handle.old.debugger }
     ensures next { IsNext result (with_breakpoint address) handle.old.debugger handle.new.debugger }
 {
@@ -29,7 +29,7 @@ pub extern "C" fn brsp_add_break(handle: &mut Handle, alloc: Global, address: u3
 
 /// Removes the breakpoint of an address of IMEM. NO_BREAK if it has none.
 #[unsafe(no_mangle)]
-pub extern "C" fn brsp_drop_break(handle: &mut Handle, alloc: Global, address: u32) -> u32
+pub extern "C" fn brsp_drop_break(handle: &mut RspMachine, alloc: Global, address: u32) -> u32
     ensures answer { result ≡ status_of (λ d. drop_break_status address d.breaks) handle.old.debugger }
     ensures next { IsNext result (without_breakpoint address) handle.old.debugger handle.new.debugger }
 {
@@ -45,7 +45,7 @@ pub extern "C" fn brsp_drop_break(handle: &mut Handle, alloc: Global, address: u
 /// there are eight watches.
 #[unsafe(no_mangle)]
 pub extern "C" fn brsp_add_watch(
-    handle: &mut Handle,
+    handle: &mut RspMachine,
     alloc: Global,
     address: u32,
     len: u32,
@@ -69,7 +69,7 @@ pub extern "C" fn brsp_add_watch(
 
 /// Removes the watch of a number. NO_WATCH if there is none.
 #[unsafe(no_mangle)]
-pub extern "C" fn brsp_drop_watch(handle: &mut Handle, alloc: Global, number: u32) -> u32
+pub extern "C" fn brsp_drop_watch(handle: &mut RspMachine, alloc: Global, number: u32) -> u32
     ensures answer { result ≡ status_of (λ d. drop_watch_status number d.watches) handle.old.debugger }
     ensures next { IsNext result (with_watch_dropped number) handle.old.debugger handle.new.debugger }
 {

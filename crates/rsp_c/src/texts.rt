@@ -10,7 +10,7 @@ ghost use Rattle.rsp_c.specs.Calls.{IsDoneIf, IsFilled};
 ghost use Rattle.rsp_c.specs.ToC.{c_line, c_lines, IsEnded, assembled_words, assembled_fault, assembled_no_memory, assembled_no_text};
 
 use crate::c_structs::{RspAssembled, RspLine};
-use crate::handle::{Handle, with_held};
+use crate::handle::{RspMachine, with_held};
 use crate::status::{
     NO_MEANING, NO_MEMORY, NO_ROOM, OK, OUT_OF_RANGE, fault_number, is_imem_address,
 };
@@ -148,7 +148,7 @@ fn fill_lines(imem: &SpMem, address: u16, lines: &mut [RspLine])
 /// 64 bytes, and a zero after it. OUT_OF_RANGE if the words pass the end of IMEM.
 #[unsafe(no_mangle)]
 pub extern "C" fn brsp_listing(
-    handle: &mut Handle,
+    handle: &mut RspMachine,
     alloc: Global,
     address: u32,
     lines: &mut [RspLine],

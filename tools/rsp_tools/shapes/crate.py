@@ -17,8 +17,8 @@ from rsp_tools.shapes.interface import (
 )
 
 SOURCE = TOP / "crates/rsp_c/src"
-# The structs of one pointer, by the names that they would have if they were named as the others are.
-HANDLES = {"Handle": "Machine", "BenchHandle": "Session"}
+# The structs of one pointer.
+HANDLES = ("Machine", "Session")
 # The files with structs. Those of crates below rsp_c have another name there than in rsp_c.
 OWN = ("c_structs.rt", "explain.rt", "changes.rt", "event.rt")
 BELOW = (
@@ -29,9 +29,9 @@ BELOW = (
 
 
 def element_of(name: str) -> str:
-    """A number, a handle, or a struct without the prefix that all of them have in rsp_c."""
-    if name in PLAIN or name in HANDLES:
-        return HANDLES.get(name, name)
+    """A number, or a struct without the prefix that all of them have in rsp_c."""
+    if name in PLAIN:
+        return name
     return str(groups(r"Rsp(\w+)", name)[0])
 
 
@@ -121,4 +121,4 @@ def interface() -> Interface:
         "reason": reasons(),
         "field": constants("fault.rt", r"\w+"),
     }
-    return Interface(sorted(calls()), structs(), tuple(HANDLES.values()), numbers, replies)
+    return Interface(sorted(calls()), structs(), HANDLES, numbers, replies)

@@ -16,7 +16,7 @@ use Rattle.rsp_acc.specs.contracts.planes.PlaneAcc as PlaneAcc
 use Rattle.rsp_acc.specs.contracts.planes.PlaneAccAcc.TheImpl as Acc
 use Rattle.rsp_acc.proofs.planes.PlaneAcc.TheSendSync as planes
 use Rattle.rsp_debug.proofs.debugger.Debugger.TheSendSync as debugger
-use Rattle.rsp_c.specs.contracts.handle.Handle.{the_row, the_type}
+use Rattle.rsp_c.specs.contracts.handle.RspMachine.{the_row, the_type}
 
 held : (a : Global) (p : Ptr) (s : Option debugger_row.Denot) → Keyless (holding debugger_row a p s)
 held a p None = tt

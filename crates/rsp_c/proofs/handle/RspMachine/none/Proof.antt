@@ -3,10 +3,10 @@ use Rattle.rsp_c.proofs.Walks.{refl, sym, subst, List, [], ◌∷◌, ◌++◌, 
 use Rattle.std.proofs.alloc.Calls.{α, handle_tells}
 use Rattle.rsp_c.proofs.AsBox.{E}
 use Rattle.rsp_c.proofs.Holding.{pair, held_in}
-use Rattle.rsp_c.specs.contracts.handle.Handle.none as F
-use Rattle.rsp_c.specs.contracts.handle.Handle.none.Key.{name as #self}
-use Rattle.rsp_c.proofs.handle.Handle.none.Statement.{statement}
-use Rattle.rsp_c.proofs.handle.Handle.none.Code as code
+use Rattle.rsp_c.specs.contracts.handle.RspMachine.none as F
+use Rattle.rsp_c.specs.contracts.handle.RspMachine.none.Key.{name as #self}
+use Rattle.rsp_c.proofs.handle.RspMachine.none.Statement.{statement}
+use Rattle.rsp_c.proofs.handle.RspMachine.none.Code as code
 
 pub none_spec : {M : Type 1} → statement M
 none_spec 𝓤 𝓛 𝓜 𝓡 wired =

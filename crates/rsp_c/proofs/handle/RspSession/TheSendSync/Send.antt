@@ -13,7 +13,7 @@ use Rattle.std_alloc.proofs.SendSync.{lies, quiet}
 use Rattle.std_heap.proofs.Global.TheSendSync as heap
 use Rattle.rsp_c.specs.Holding.{holding, bench_row}
 use Rattle.rsp_c.proofs.held_bench.HeldBench.TheSendSync as bench
-use Rattle.rsp_c.specs.contracts.handle.BenchHandle.{the_row, the_type}
+use Rattle.rsp_c.specs.contracts.handle.RspSession.{the_row, the_type}
 
 held : (a : Global) (p : Ptr) (s : Option bench_row.Denot) → Keyless (holding bench_row a p s)
 held a p None = tt

@@ -3,10 +3,10 @@ use Rattle.rsp_c.proofs.Walks.{refl, sym, subst, List, [], ◌∷◌, ◌++◌, 
 use Rattle.std.proofs.alloc.Calls.{α, handle_tells}
 use Rattle.rsp_c.proofs.AsBox.{EB}
 use Rattle.rsp_c.proofs.Holding.{pair, bench_in}
-use Rattle.rsp_c.specs.contracts.handle.BenchHandle.none as F
-use Rattle.rsp_c.specs.contracts.handle.BenchHandle.none.Key.{name as #self}
-use Rattle.rsp_c.proofs.handle.BenchHandle.none.Statement.{statement}
-use Rattle.rsp_c.proofs.handle.BenchHandle.none.Code as code
+use Rattle.rsp_c.specs.contracts.handle.RspSession.none as F
+use Rattle.rsp_c.specs.contracts.handle.RspSession.none.Key.{name as #self}
+use Rattle.rsp_c.proofs.handle.RspSession.none.Statement.{statement}
+use Rattle.rsp_c.proofs.handle.RspSession.none.Code as code
 
 pub none_spec : {M : Type 1} → statement M
 none_spec 𝓤 𝓛 𝓜 𝓡 wired =

@@ -6,20 +6,20 @@ use Rattle.std.proofs.BoxSteps.Form.{D, B, word, box_typed}
 use Rattle.std.proofs.BoxSteps.Steps.{box_in}
 use Rattle.rsp_c.proofs.AsBox.{E, parts_row}
 use Rattle.rsp_c.proofs.Holding.{pair, either, held_out}
-use Rattle.rsp_c.specs.contracts.handle.Handle as Handle
-use Rattle.rsp_c.specs.contracts.handle.Handle.into_parts as F
-use Rattle.rsp_c.specs.contracts.handle.Handle.into_parts.Key.{name as #self}
-use Rattle.rsp_c.proofs.handle.Handle.into_parts.Statement.{statement}
-use Rattle.rsp_c.proofs.handle.Handle.into_parts.Code as code
+use Rattle.rsp_c.specs.contracts.handle.RspMachine as RspMachine
+use Rattle.rsp_c.specs.contracts.handle.RspMachine.into_parts as F
+use Rattle.rsp_c.specs.contracts.handle.RspMachine.into_parts.Key.{name as #self}
+use Rattle.rsp_c.proofs.handle.RspMachine.into_parts.Statement.{statement}
+use Rattle.rsp_c.proofs.handle.RspMachine.into_parts.Code as code
 
 pub into_parts_spec : {M : Type 1} → statement M
 into_parts_spec 𝓤 𝓛 𝓜 𝓡 wired =
     let st : Stays F.ended.signature.params F.ended.kept = (stay_dropped _ yes, tt) in
     let c = F.clauses 𝓛 𝓜.mem 𝓡.returns in let W = walk_of 𝓛 F.ended st c in let 𝓣 = tables 𝓤 𝓛.H 𝓜 𝓡 𝓡.env in
-    proved_at 𝓛 F.ended st c 𝓜 𝓡 (Goes-dropped 𝓛 0 (plain (λ _. Handle.the_row)) yes (λ κs x f. refl), tt) #self code.function (code.unfolded 𝓤 𝓛.H 𝓜 𝓡 wired) (λ z are.
+    proved_at 𝓛 F.ended st c 𝓜 𝓡 (Goes-dropped 𝓛 0 (plain (λ _. RspMachine.the_row)) yes (λ κs x f. refl), tt) #self code.function (code.unfolded 𝓤 𝓛.H 𝓜 𝓡 wired) (λ z are.
     let d = z.0.3.0 in
     let Out = type_at F.signature.result tt in
-    qed 𝓛 ((‵ ftrue ⊛ ‵ (fsep (Handle.the_row.own_val d z.0.4.0) ftrue)) ∷ raw (emp 𝓤) ∷ []) ∵ split ! $ drop ! $ fsplit ! $
+    qed 𝓛 ((‵ ftrue ⊛ ‵ (fsep (RspMachine.the_row.own_val d z.0.4.0) ftrue)) ∷ raw (emp 𝓤) ∷ []) ∵ split ! $ drop ! $ fsplit ! $
     held_out ! d z.0.4.0 (λ hv ws fa. move ! (2 ∷ 3 ∷ []) $ drop ! $ drop ! $
     let Goes : List Val → SProp 𝓤 = λ us. WpFn 𝓤 𝓛.H 𝓣.C 𝓣.Λ code.function (us ++ []) (W.post z) in
     either E.row ! d.alloc d.at d.debugger
