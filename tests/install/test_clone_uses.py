@@ -223,10 +223,10 @@ def test_cargo(folder: Path, how: str) -> None:
 
 @pytest.mark.needs("cmark-gfm")
 def test_page(stranger: User, home: Path) -> None:
-    """Made in five seconds, and served below a path; otherwise only: that a file is missing, or named by an
-    address that is right only at the top of a server, or that another library is served than that of
-    compiled/."""
-    prints(stranger, "timeout 5 ./release page && mv dist/page ~ && rmdir dist")
+    """Made in five seconds of the processor, and served below a path; otherwise only: that a file is missing,
+    or named by an address that is right only at the top of a server, or that another library is served than
+    that of compiled/."""
+    prints(stranger, "(ulimit -t 5; ./release page) && mv dist/page ~ && rmdir dist")
     top = home / "page"
     handler = functools.partial(SimpleHTTPRequestHandler, directory=str(top.parent))
     server = ThreadingHTTPServer(("127.0.0.1", 0), handler)

@@ -96,7 +96,8 @@ class ToyRepository:
     def __init__(self, folder: Path) -> None:
         self.root, self.results, self.go = folder / "repository", dict[str, Result](), folder / "go"
         shutil.copytree(TOP / "tools", self.root / "tools")
-        texts = {"crates.txt": CRATES, "library/c/brsp.h": HEADER}
+        texts = {"crates.txt": CRATES, "library/c/brsp.h": HEADER, "library/c/brsp_helpers.h": ""}
+        texts["library/c/helpers/words.c"] = "int brsp_none;\n"
         texts.update({f"compiled/Linux-{PROCESSOR}-{kind}.s": "" for kind in ("rsp", "lib")})
         texts.update({f"crates/{name}": text for name, text in SOURCES.items()})
         texts.update({name: (TOP / name).read_text() for name in COPIED.split()})
