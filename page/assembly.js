@@ -27,8 +27,16 @@ export function is_bare(text) {
   return lines.filter(is_assembly).length * 2 > lines.length;
 }
 
-/** The text in a block, with a run after it that shows its registers. @param {string} text */
+/** What sets a register of either kind: bytes of DMEM, the instruction that loads these, and which values they are. */
+const VECTOR = ["00010002000300040005000600070008", "lqv", "[0]", "1 to 8"], SCALAR = ["00000005", "lw", "", "5"];
+
+/** The text in a block, with a run after it that shows its registers. These begin as zeros, so two comments become lines that
+ * set a register of the text, if their # is removed: lines 1 and 3. @param {string} text */
 export function in_block(text) {
-  const vectors = /\$v\d/.test(text) ? "vregs\n" : "";
-  return `asm 0\n${text.trimEnd()}\nend\nrun 1000\nregs\n${vectors}`;
+  const vectors = text.match(/\$v\d+/g), found = vectors ?? text.match(/\$[1-9]\d?\b/g) ?? ["$1"];
+  const register = found[1] ?? found[0]; // an instruction writes the first one
+  const [bytes, load, element, values] = vectors ? VECTOR : SCALAR;
+  const first = `#load dmem 0 ${bytes} # to set ${register}, remove the first # of this line and of line 3`;
+  const third = `#${load} ${register}${element}, 0($0) # then ${register} begins as ${values}, not as 0`;
+  return `${first}\nasm 0\n${third}\n${text.trimEnd()}\nend\nrun 1000\nregs\n${vectors ? "vregs\n" : ""}`;
 }

@@ -5,6 +5,8 @@ The colours are drawn below a text area whose letters are transparent: so they f
 where the text area has it.
 """
 
+import re
+
 import pytest
 
 from lib.pages import page as text_of
@@ -145,13 +147,14 @@ def test_undo_of_typing(page: Page) -> None:
         page.press("z", CONTROL)
 
 
-PASTED = "# mine\nstart: li $1, 5\n  addiu $2, $0, 7\n  vxor $v1, $v1, $v1\n  break"
+PASTED = "# mine\nstart: addiu $1, $0, 5\n  vaddc $v1, $v2, $v2\n  nop\n  break"
+DOUBLED = "v01 0002 0004 0006 0008 000a 000c 000e 0010\n"
 # Texts that aren't pasted assembly: commands, a block, half of each, nothing.
 OTHER = "step\nbreak 0\n", "asm 0\nbreak\nbreak\nbreak\nend\n", "break\nx\n", "# add $1, $1, $1\n", ""
 
 
 def test_pasted_assembly(page: Page) -> None:
-    """A button puts it into a block, runs it and shows the registers; undo takes it back."""
+    """A button puts it into a block, runs it, shows the registers, and how to set one; undo takes it back."""
     for text in OTHER:
         page.type(text)
         assert page.value("the('block').hidden"), text
@@ -159,8 +162,11 @@ def test_pasted_assembly(page: Page) -> None:
     assert not page.value("the('block').hidden")
     page.click("block")
     assert page.replies() == replies_to(f"asm 0\n{PASTED}\nend\nrun 1000\nregs\nvregs\n")
+    set_up = re.sub("(?m)^#(?! )", "", page.script)
     page.press("z", CONTROL)
-    assert page.script == PASTED
+    assert page.script == PASTED and page.value("document.title") == "mine - rsp"
+    page.type(set_up)
+    assert DOUBLED in page.run()
 
 
 def opened(page: Page) -> str:
