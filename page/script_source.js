@@ -7,10 +7,8 @@ import { fragment_of, script_of } from "./link.js";
 const KEPT = "This script has bytes that its text can't hold, as CR. It keeps them until you change the text.";
 /** The draft's name in the browser's storage, and after how many milliseconds without a change it is put there. */
 const DRAFT = "rsp-draft", PAUSE = 500;
-/** How a script comes back that was replaced. */
 const BACK = "More > Bring back the previous script";
-/** A comment that is alone in its line: the window's title, which without one is the page's. A # beside its text is before
- * a line that is left out. */
+/** A comment that is alone in its line, with a blank after its #: the window's title, which else is the page's. */
 const COMMENT = /^[ \t]*#+[ \t]+(\S.*)$/m, { title: TITLE } = document;
 
 export class ScriptSource {
@@ -96,8 +94,8 @@ export class ScriptSource {
 
   /** Puts assembly text into a block, with a run after it. Undo takes it back. */
   put_in_block() {
-    const set = "The text is between asm 0 and end. To set a register, which is 0 at first, see lines 1 and 3.";
-    this.#show(new TextEncoder().encode(in_block(the("script").value)), `${set} Ctrl+Z, or ${BACK}, takes it back.`);
+    const set = "Registers begin as 0: the lines with # at the left set some, if you remove each #.";
+    this.#show(new TextEncoder().encode(in_block(the("script").value)), `${set} ${BACK} takes all back.`);
     this.edited(true);
   }
 
@@ -130,10 +128,9 @@ export class ScriptSource {
         this.#forget_link();
         return false;
       }
-      const [, page] = location.hash.match(/^#block=(\w+)/) ?? [], help = page === "TUTORIAL" ? "tutorial" : "help";
-      const from = page ? `is from the ${help}` : "came by a link";
+      const block = location.hash.match(/^#block=(TUTORIAL)?/), page = block?.[1] ? "tutorial" : "help";
       const back = the("script").value && ` The script before it comes back by ${BACK}.`;
-      this.#show(linked, `This script ${from}.${back}`);
+      this.#show(linked, `This script ${block ? `is from the ${page}` : "came by a link"}.${back}`);
       return true;
     } catch (fault) {
       this.#say(fault.message);
