@@ -27,8 +27,13 @@ export function is_bare(text) {
   return lines.filter(is_assembly).length * 2 > lines.length;
 }
 
-/** The text in a block, with a run after it that shows its registers. @param {string} text */
+/** The text in a block, with a run after it that shows its registers. These begin as zeros, so comments above and below
+ * `asm 0` become lines that set those which the text reads first, if their # is removed. @param {string} text */
 export function in_block(text) {
-  const vectors = /\$v\d/.test(text) ? "vregs\n" : "";
-  return `asm 0\n${text.trimEnd()}\nend\nrun 1000\nregs\n${vectors}`;
+  const vectors = text.match(/\$v\d+/g), found = vectors ?? text.match(/\$[1-9]\d?\b/g) ?? ["$1"];
+  const read = [...new Set(found.length > 1 ? found.slice(1, 3) : found)]; // an instruction writes the first one
+  const bytes = vectors ? "00010002000300040005000600070008" : "00000005";
+  const loads = read.map((it) => `#${vectors ? `lqv ${it}[0]` : `lw ${it}`}, 0($0)\n`).join("");
+  const first = `#load dmem 0 ${bytes}\nasm 0 # to set ${read.join(" and ")}, remove the # above and below\n`;
+  return `${first}${loads}${text.trimEnd()}\nend\nrun 1000\nregs\n${vectors ? "vregs\n" : ""}`;
 }

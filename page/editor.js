@@ -15,7 +15,7 @@ const LEAST_COLUMNS = 30;
 /** How many columns long comments leave to the replies. */
 const REPLIES = 80;
 /** What the foot of the page says of a line of which it knows nothing. */
-const START = "Put the caret in a line, and read here what it does.";
+const START = "Put the caret in a line with a command or an instruction, and read here what it does.";
 
 export class Editor {
   #area = the("script");
@@ -60,12 +60,14 @@ export class Editor {
     return this.#text;
   }
 
-  /** Brings a line into view, selects it, and gives the focus to the text area, so the line is read aloud.
-   * @param {number} line */
-  go_to(line) {
+  /** Brings a line into view, and gives the focus to the text area: the line is selected, so it is read aloud; or the caret is
+   * so many pixels from the left, where the numbers begin. @param {number} line @param {number} [pixels] */
+  go_to(line, pixels) {
     const at = Math.min(line, this.text.count - 1), { begin, end } = this.text.range(at);
+    const column = Math.round(((pixels ?? 0) - the("numbers").offsetWidth) / view.letter);
+    const caret = Math.min(begin + Math.max(0, column), end), is_all = pixels === undefined;
     this.#area.focus({ preventScroll: true });
-    this.#area.setSelectionRange(begin, end);
+    this.#area.setSelectionRange(is_all ? begin : caret, is_all ? end : caret);
     go_to(at);
   }
 

@@ -2,12 +2,10 @@
 
 /** An element of index.html. @param {string} id @returns {any} */
 export function the(id) { return document.getElementById(id); }
-/** A new element with a text. @param {string} name @param {string} text @param {string} kind its class */
-export function element(name, text, kind = "") {
-  const made = document.createElement(name);
-  made.textContent = text;
-  if (kind) made.className = kind;
-  return made;
+/** A new element with a text. @param {string} name @param {string} text @param {string} kind its class
+ * @param {string} title what a mouse shows */
+export function element(name, text, kind = "", title = "") {
+  return Object.assign(document.createElement(name), { textContent: text, className: kind, title });
 }
 /** A number in groups of digits. @param {number} count */
 export function grouped(count) { return count.toLocaleString("en"); }

@@ -1,8 +1,8 @@
 /** What a reply shows that the earlier one to the same command didn't. Zeros are what the first `regs`, `vregs`, `acc` and
  * `flags` are compared with, because the machine begins with them. */
 
-/** A part of a row, with its kinds: a value that has changed, one that is zero, 16 bits of a memory; or none.
- * @typedef {[kind: string, text: string]} Part */
+/** A part of a row: its kinds, as of a value that has changed, one that is zero, 16 bits of a memory; and how it has changed.
+ * @typedef {[kind: string, text: string, how?: string]} Part */
 
 /** The commands whose replies are compared, and whether the first one is compared with zeros. */
 const COMPARED = new Map(Object.entries({ regs: true, vregs: true, acc: true, flags: true, sp: false, mem: false }));
@@ -34,9 +34,10 @@ function marked(row, before, is_zeroed) {
     const is_zero = /^0+$/.test(text), is_value = /^[\da-f]+$/.test(text);
     const is_changed = older ? text !== older[n] : is_zeroed && is_value && !is_zero;
     const kind = is_changed ? "changed" : is_zero ? "zero" : "", last = parts[parts.length - 1];
-    if (is_memory) parts.push([`half ${kind}`.trim(), text]);
+    const how = !is_changed ? "" : older ? `It was ${older[n]} in the same command's reply above.` : "It was 0.";
+    if (is_memory) parts.push([`half ${kind}`.trim(), text, how]);
     else if (last[0] === kind || last[0] === "zero" && !text.trim()) last[1] += text;
-    else parts.push([kind, text]);
+    else parts.push([kind, text, how]);
   }
   return parts;
 }

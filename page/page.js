@@ -120,9 +120,13 @@ function save(name, parts) {
 
 function listen() {
   the("example").onchange = () => source.choose() && running.run_instead();
+  let is_whole = false; // whether all of the text is replaced: no line is left then that a reply is of
+  the("script").addEventListener("beforeinput", ({ target: it }) => {
+    is_whole = it.selectionEnd - it.selectionStart === it.value.length;
+  });
   the("script").oninput = () => {
     say("");
-    source.edited();
+    source.edited(is_whole);
   };
   the("script").onkeydown = on_script_key;
   the("undo").onclick = () => source.undo();
@@ -134,8 +138,9 @@ function listen() {
   the("faults").onclick = () => running.lead_to_fault();
   the("again").onclick = run_strictly;
   the("view").onclick = () => running.is_read ? running.edit(0) : running.show_replies(true);
-  the("replies").onclick = ({ target }) => {
-    if (target.closest("code")) running.edit(target.closest("li").dataset.line - 1);
+  the("replies").onclick = ({ target, clientX }) => {
+    const code = target.closest("code");
+    if (code) running.edit(code.parentElement.dataset.line - 1, clientX - code.getBoundingClientRect().left);
   };
   the("zeros").onclick = () => take_image();
   the("whole").onchange = () => (replies.is_whole = the("whole").checked);
@@ -153,6 +158,7 @@ function listen() {
   window.onpagehide = () => source.is_at_stake && source.keep(); // telephones don't ask before
   menu.hidden = !has_popovers;
   if (!has_popovers) the("more").onclick = () => (menu.hidden = !menu.hidden);
+  menu.onclick = ({ target }) => { if (target.closest("a")) close_menu(); };
 }
 
 /** Begins with the script of a link, which runs for a while; else with the draft of an earlier visit, which doesn't run; else
@@ -171,7 +177,7 @@ async function begin() {
   }
   const said = the("said").textContent; // of a link that isn't whole
   source.show_example(0);
-  say(said);
+  say(said || "This runs microcode of the Nintendo 64's vector processor. Paste assembly, or choose an example.");
   running.run();
 }
 

@@ -14,8 +14,8 @@ import { VirtualList, bring, go_to, set, show_whole, view } from "./virtual_list
 const MOST = 400000, AROUND = 200;
 /** The columns of a row: at most so many, and beside the script at least so many, where there is room for so many rem. */
 const WIDEST = 90, LEAST = 52, BESIDE = 44;
-/** So many rows of a result come into view; and below its line no reply is folded that has fewer. */
-const RESULT = 9, FEW = 4;
+/** Rows of a result that come into view; how few aren't folded below a line; from which width on a fold says more. */
+const RESULT = 9, FEW = 4, WIDE = 900;
 const LF = 10, TEXT = new TextDecoder();
 
 /** The rows of a line of text, which breaks between words if it can.
@@ -45,7 +45,7 @@ function reply_rows(text, columns) {
 function row_element({ parts, page, is_rest }) {
   const made = element("samp", "", is_rest ? "rest" : ""), link = page ? made.appendChild(element("a", "")) : made;
   if (page) Object.assign(link, { href: page, target: "help" });
-  for (const [kind, text] of parts) link.append(kind ? element("span", text, kind) : text);
+  for (const [kind, text, how] of parts) link.append(kind ? element("span", text, kind, how) : text);
   return made;
 }
 
@@ -94,6 +94,7 @@ export class Replies {
     this.answers = new Answers(script);
     this.#unfolded.clear();
     this.#row_of = (line) => line;
+    the("legend").hidden = true;
     the("answers").classList.remove("old");
     this.#again();
   }
@@ -264,6 +265,7 @@ export class Replies {
       made.append(is_end ? element("em", "the script's end") : text);
     }
     const rows = this.#rows(line), seen = folded ? chosen(rows, rows.length - folded) : new Set(rows);
+    if (rows.some(is_changed)) the("legend").hidden = false;
     for (const row of rows) {
       const last = made.lastElementChild, text = row.parts.map(([, it]) => it).join("");
       if (seen.has(row)) made.append(row_element(row));
@@ -279,8 +281,8 @@ export class Replies {
 
   /** @param {number} line @param {Row[]} folded the rows that aren't seen @param {number} count of all */
   #fold_button(line, folded, count) {
-    const { length } = folded, made = element("button", length ? `+${length}` : "fold");
-    const changed = folded.filter(is_changed).length, told = changed ? `, ${changed} of them changed` : "";
+    const { length } = folded, changed = folded.filter(is_changed).length, told = changed ? `, ${changed} changed` : "";
+    const made = element("button", length ? `+${length}${this.is_below || view.width > WIDE ? told : ""}` : "fold");
     const does = length ? `${length} more of ${count} lines${told}` : "fold its reply";
     made.setAttribute("aria-label", `Line ${this.#row_of(line) + 1}: ${does}`);
     made.setAttribute("aria-expanded", String(!length));

@@ -145,10 +145,10 @@ export class RunControl {
     this.#replies.add([]);
   }
 
-  /** Where there is no room beside: shows the script again, and a line of it. @param {number} line */
-  edit(line) {
+  /** Where there is no room beside: shows the script again, with the caret in a line. @param {number} line */
+  edit(line, pixels = 0) {
     this.show_replies(false);
-    this.#editor.go_to(line);
+    this.#editor.go_to(line, pixels);
   }
 
   /** Lays out for paper: each line with its reply, or the script if it was changed since; or for the screen again.

@@ -7,8 +7,9 @@ import { fragment_of, script_of } from "./link.js";
 const KEPT = "This script has bytes that its text can't hold, as CR. It keeps them until you change the text.";
 /** The draft's name in the browser's storage, and after how many milliseconds without a change it is put there. */
 const DRAFT = "rsp-draft", PAUSE = 500;
-/** A comment that is alone in its line: the window's title, which without one is the page's. */
-const COMMENT = /^[ \t]*#+[ \t]*(\S.*)$/m, { title: TITLE } = document;
+const BACK = "More > Bring back the previous script";
+/** A comment that is alone in its line, with a blank after its #: the window's title, which else is the page's. */
+const COMMENT = /^[ \t]*#+[ \t]+(\S.*)$/m, { title: TITLE } = document;
 
 export class ScriptSource {
   #script;
@@ -93,8 +94,8 @@ export class ScriptSource {
 
   /** Puts assembly text into a block, with a run after it. Undo takes it back. */
   put_in_block() {
-    const sentence = "The text is between asm 0 and end. Ctrl+Z, or More, takes it back.";
-    this.#show(new TextEncoder().encode(in_block(the("script").value)), sentence);
+    const set = "Registers begin as 0: the lines with # at the left set some, if you remove each #.";
+    this.#show(new TextEncoder().encode(in_block(the("script").value)), `${set} ${BACK} takes all back.`);
     this.edited(true);
   }
 
@@ -127,7 +128,9 @@ export class ScriptSource {
         this.#forget_link();
         return false;
       }
-      this.#show(linked, "This script came by a link.");
+      const block = location.hash.match(/^#block=(TUTORIAL)?/), page = block?.[1] ? "tutorial" : "help";
+      const back = the("script").value && ` The script before it comes back by ${BACK}.`;
+      this.#show(linked, `This script ${block ? `is from the ${page}` : "came by a link"}.${back}`);
       return true;
     } catch (fault) {
       this.#say(fault.message);

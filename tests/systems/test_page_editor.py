@@ -51,9 +51,8 @@ def test_colours(page: Page) -> None:
     assert ["".join(text for _, text in it) for it in drawn] == [*COLOURS]
     kinds = [" ".join(f"{kind}:{text}" for kind, text in it if kind) for it in drawn]
     assert kinds == [*COLOURS.values()]
-    assert page.value("[...the('numbers').children].map((it) => it.textContent)") == [
-        str(n + 1) for n in range(len(COLOURS))
-    ]
+    numbers = [str(n + 1) for n in range(len(COLOURS))]
+    assert page.value("[...the('numbers').children].map((it) => it.textContent)") == numbers
     assert page.value("new Set(all('#colours span').map((it) => probes.style(it).color)).size") == 5
 
 
@@ -145,13 +144,13 @@ def test_undo_of_typing(page: Page) -> None:
         page.press("z", CONTROL)
 
 
-PASTED = "# mine\nstart: li $1, 5\n  addiu $2, $0, 7\n  vxor $v1, $v1, $v1\n  break"
+PASTED = "# mine\nstart: addiu $1, $0, 5\n  vaddc $v1, $v2, $v3\n  nop\n  break"
 # Texts that aren't pasted assembly: commands, a block, half of each, nothing.
 OTHER = "step\nbreak 0\n", "asm 0\nbreak\nbreak\nbreak\nend\n", "break\nx\n", "# add $1, $1, $1\n", ""
 
 
 def test_pasted_assembly(page: Page) -> None:
-    """A button puts it into a block, runs it and shows the registers; undo takes it back."""
+    """A button puts it into a block, runs it, shows the registers, and how to set one; undo takes it back."""
     for text in OTHER:
         page.type(text)
         assert page.value("the('block').hidden"), text
@@ -160,7 +159,10 @@ def test_pasted_assembly(page: Page) -> None:
     page.click("block")
     assert page.replies() == replies_to(f"asm 0\n{PASTED}\nend\nrun 1000\nregs\nvregs\n")
     page.press("z", CONTROL)
-    assert page.script == PASTED
+    assert page.script == PASTED and page.value("document.title") == "mine - rsp"
+    page.click("block")
+    page.type(page.script.replace("\n#l", "\nl").removeprefix("#"))
+    assert "v01 0002 0004 0006 0008 000a 000c 000e 0010\n" in page.run()
 
 
 def opened(page: Page) -> str:
@@ -169,7 +171,8 @@ def opened(page: Page) -> str:
     (other,) = (it for it in page.driver.window_handles if it != mine)
     page.driver.switch_to.window(other)
     page.until("document.readyState === 'complete' && location.href !== 'about:blank'")
-    address, is_there = page.address, page.value("!location.hash || !!document.querySelector(':target')")
+    top = "document.querySelector(':target')?.getBoundingClientRect().top"  # with room above it
+    address, is_there = page.address, page.value(f"!location.hash || {top} > 30")
     page.driver.close()
     page.driver.switch_to.window(mine)
     assert is_there, address
@@ -182,9 +185,9 @@ SHORT.update({it["Command"].split()[0]: it["Command"] + it["In short"] for it in
 PAGES = {
     "load dmem 0 00": ("SCRIPT.html#command-load", SHORT["load"]),
     "foo": ("SCRIPT.html#commands", None),
-    "VADD $v1, $v2, $v3": ("INSTRUCTIONS.html#vadd", SHORT["VADD"]),
+    "VADD $v1,$v2,$v3[1q]": ("INSTRUCTIONS.html#vadd", SHORT["VADD"] + "; [1q]: lane 1 of each pair of $vT"),
     "asm 0": ("SCRIPT.html#command-asm", SHORT["asm"]),
-    "x: vmulf $v1, $v2, $v3": ("INSTRUCTIONS.html#vmulf", SHORT["VMULF"]),
+    "x: vrcp $v1[0], $v3[3]": ("INSTRUCTIONS.html#vrcp", SHORT["VRCP"]),
     "fooo": ("ASSEMBLY.html", None),
     "break": ("INSTRUCTIONS.html#break", SHORT["BREAK"]),
     "end": ("SCRIPT.html#command-end", SHORT["end"]),

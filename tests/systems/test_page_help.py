@@ -95,7 +95,7 @@ def test_scripts_run(name: str, page: Page, host: Host) -> None:
         page.driver.switch_to.window(other)
         page.value(f"{links}[{number}].click()")
         page.driver.switch_to.window(mine)
-        page.until(f"location.hash === '#block={name}-{number + 1}' && the('said').textContent")
+        page.until(f"location.hash.endsWith('={name}-{number + 1}') && /from/.test(the('said').innerText)")
         assert page.replies() == replies_to(page.script)
         assert page.script.partition("\n")[2] == session
     page.driver.switch_to.window(other)

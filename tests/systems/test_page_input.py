@@ -68,9 +68,8 @@ def test_link(fragment: str, message: str, page: Page) -> None:
 def test_image(page: Page) -> None:
     """One that isn't taken leaves the one that is there."""
     page.open_image(bytes(64))
-    why = dict.fromkeys(
-        (0, 56, 60, 68, 8388604), "Session: image has {} bytes, not a multiple of 8 from 64 to 8388608."
-    )
+    wrong = "Session: image has {} bytes, not a multiple of 8 from 64 to 8388608."
+    why = dict.fromkeys((0, 56, 60, 68, 8388604), wrong)
     for length, form in {**why, 8388616: "it has {:,} bytes, and at most 8,388,608 fit."}.items():
         said = page.open_file("image-file", bytes(length), "bad.bin")
         assert said == f"bad.bin isn't taken: {form.format(length)}"
@@ -164,8 +163,7 @@ def test_older_browser(scheme: str, ground: int, page: Page, lacking: Path) -> N
         for act in (lambda: page.click("more"), lambda: page.press(ESCAPE)) * 2:
             act()
             heights.append(page.value("the('menu').offsetHeight"))
-            contrast = page.value("probes.contrast()")
-            assert contrast >= 4.5
+            assert page.value("probes.contrast()") >= 4.5
         assert page.value("probes.style(document.body).backgroundColor").startswith(f"rgb({ground},")
     assert [it > 100 for it in heights] == [False, True, False, True, False]
 

@@ -195,9 +195,7 @@ def test_sources(page: Page, host: Host) -> None:
     assert host.url_of("page.js") in urls
 
 
-REFUSED = (
-    "base-uri connect-src form-action frame-src img-src script-src-elem style-src-elem worker-src".split()
-)
+REFUSED = "base-uri connect-src form-action frame-src img-src script-src-elem style-src-elem worker-src"
 
 
 @pytest.mark.parametrize("name", ("index.html", "help/SCRIPT.html"))
@@ -206,4 +204,4 @@ def test_rules(name: str, page: Page, host: Host) -> None:
     page.open(host.url_of(name))
     title = page.value("document.title")
     assert page.value("probes.image()")
-    assert page.value("probes.refused()") == [title, REFUSED]
+    assert page.value("probes.refused()") == [title, REFUSED.split()]

@@ -45,13 +45,15 @@ def test_replies_are_beside_their_lines(page: Page) -> None:
 
 
 def test_replies_go_with_their_lines(page: Page) -> None:
-    """Until the script runs again, replies stay beside the lines that they are of, and are seen to be old."""
+    """Until the script runs again, replies stay beside their lines, seen to be old; if any line is left."""
     page.answered("step\nstep\nregs\n")
     ink = "probes.style(the('replies').firstElementChild.firstElementChild).color"
     before = page.value(ink)
     page.insert(5, "pc 0\n\n")
     assert page.value(BESIDE) == [[1, 0], [4, 0], [5, 0]]
     assert page.value(ink) != before
+    page.type("step\n")
+    assert page.count() == 0
 
 
 @pytest.mark.parametrize("width, most", ((1400, 60), (360, 120)))
@@ -84,14 +86,14 @@ def test_run_on_a_small_screen(width: int, height: int, page: Page) -> None:
         page.click("faults")
         page.settle()
         is_seen = is_in_view(page, "li.fault")
-        page.value("document.querySelector('li.fault > code').click()")
+        page.value("all('.fault code')[0].dispatchEvent(new MouseEvent('click', {bubbles: 1, clientX: 99}))")
         page.settle()
-        chosen = page.value(f"[document.activeElement.id, {SELECTED}]")
+        chosen = page.value(f"[document.activeElement.id, {SELECTED}, the('script').selectionStart]")
     assert run < height
     lines = enumerate(("# a", "", "step", "regs", "asm 0", "nop"), 1)
     assert [it[:2] for it in items] == [*([str(n), line] for n, line in lines), ["", "the script's end"]]
     assert [len(it) - 2 for it in items] == [0, 0, 1, 2, 0, 0, 1] and items[3][2] == "pc 004 npc 008"
-    assert is_seen and chosen == ["script", "x"]
+    assert is_seen and chosen == ["script", "", len("step\n" * 50) + 1]
 
 
 def test_next_reply(page: Page) -> None:
@@ -136,16 +138,17 @@ STORY += "mem dmem 0 20\nregs\nstep\n"
 ZEROS = f"000000: {'00' * 16}"
 SHOWN = ["pc 000 npc 004", "r00 00000000 00000001 00000000 00000000", f"v09 0000 0012{' 0000' * 6}"]
 SHOWN += [ZEROS, "000010: 00ff0000", ZEROS, "pc 00c npc 010"]
-MARKS = "00000001", "+8", "0012", "00ff"
+MARKS = ["00000001", "00000000"], ["+8, 1 changed", ""], ["0012", "0."], ["00ff", "0000"]
 
 
 def test_changes_are_marked(page: Page) -> None:
     """Values that differ from the command's earlier reply, or at first from zeros. All is heard in order."""
     page.answered(STORY)
     assert page.value("all('li:has([aria-expanded]) samp:not(.folded)').map((it) => it.textContent)") == SHOWN
-    assert page.value("all('.changed').map((it) => it.textContent)") == [*MARKS]
+    was = "it.title.split(' ')[2] ?? ''"
+    assert page.value(f"all('#replies .changed').map((it) => [it.textContent, {was}])") == [*MARKS]
     inks = "all('samp, .zero').map((it) => probes.style(it).color)"
-    assert page.value(f"new Set({inks}).size") == 3
+    assert page.value(f"the('legend').offsetHeight && new Set({inks}).size") == 3
     heard = " ".join(name for role, name, _ in page.read_aloud() if role == "StaticText")
     assert re.findall(r"\bv(\d\d) +0000", heard) == [f"{n:02}" for n in range(32)]
     assert page.value("probes.style(document.querySelector('.folded')).clipPath") == "inset(50%)"
@@ -168,9 +171,7 @@ def test_result_comes_into_view(page: Page) -> None:
     assert page.value("the('surface').scrollTop") == 40
 
 
-@pytest.mark.parametrize(
-    "width, script", ((704, "flags\n"), (1000, f"# {62 * 'a'}\n"), (1000, f"# {200 * 'a'}\n"))
-)
+@pytest.mark.parametrize("width, script", ((704, "flags\n"), *((1000, f"# {n * 'a'}\n") for n in (62, 200))))
 def test_room(width: int, script: str, page: Page) -> None:
     """A reply of `flags` is in one row from 704 px on, and a long comment takes no room from replies."""
     with page.sized(width, 600):

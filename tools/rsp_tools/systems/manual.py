@@ -78,6 +78,9 @@ def converted(name: str) -> str:
     body = call(CONVERTER, "--unsafe", "--extension", "table", "--to", "html", text=text)
     body = re.sub(r"<h([1-6])>(.*?)</h\1>", with_anchor, body)
     body = re.sub(r'(<a href="\w+)\.md(?=["#])', r"\1.html", body)
+    # What a link leads to is marked: the row that begins with an anchor, or the word after it.
+    body = re.sub(r'<tr>\n<td><a id="([\w-]+)"></a>', r'<tr id="\1">\n<td>', body)
+    body = re.sub(r'<a id="([\w-]+)"></a>(\w+)', r'<span id="\1">\2</span>', body)
     body = body.replace("<table>", '<div class="wide"><table>').replace("</table>", "</table></div>")
     return with_rows(with_runs(body, name))
 
