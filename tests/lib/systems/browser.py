@@ -12,7 +12,6 @@ from lib.packages import need
 from lib.processes import Ended
 from lib.systems.runners import Runner
 from rsp_tools.systems import places, wasm
-from rsp_tools.systems.lowering import lowered
 from rsp_tools.systems.toolchain import llvm
 
 PAGES = places.TOP / "tests/systems/wasm"
@@ -93,7 +92,8 @@ class Server(ThreadingHTTPServer):
 
 class Chromium(Runner):
     """WebAssembly in a browser. `folder` is the library's, with rsp.js. Programs in C are linked with the
-    objects of which the library was linked, which are made again."""
+    objects of which the library was linked, which are made again. They keep their 64-bit memory, because
+    binaryen can't read their table of functions."""
 
     programs = PROGRAMS
 
@@ -144,7 +144,6 @@ class Chromium(Runner):
         more = [Path(it) for it in [*words, *libraries] if it.endswith(".o")]
         made = self.at / f"{name or source.stem}{self.ending}"
         wasm.link(made, [part, *more], "--export=test_main", "--import-undefined", *linked)
-        made.write_bytes(lowered(made.read_bytes()))
         return made
 
     def does(self, url: str, library: str, *words: object) -> Tuple[bytes, int]:
