@@ -52,7 +52,7 @@ def test_name_of_a_word(word: int, text: str) -> None:
 @pytest.mark.needs("git")
 @pytest.mark.parametrize("command", ["campaign mine.so out --here", "library"])
 def test_vectors_alone(command: str, folder: Path) -> None:
-    """What the README packs has no library. Who needs it is told where it is."""
+    """What the README packs has no library. The message says where it is."""
     pack = block_with("conformance/README.md", "git archive").replace("-o ~/vectors.tar.gz", "").strip()
     succeeds("sh", "-c", f"{pack} | tar -x -C '{folder}'")
     ended = run("sh", "-c", f"conformance/{command}", cwd=folder)
