@@ -10,11 +10,12 @@ import itertools
 import json
 import os
 import re
+import runpy
 import subprocess
 import sys
 from pathlib import Path
 from types import ModuleType
-from typing import Any, Dict, Iterable, Iterator
+from typing import Any, Dict, Iterable, Iterator, Sequence
 from unittest.mock import patch
 
 import pytest
@@ -143,7 +144,7 @@ def test_name_of_a_byte() -> None:
 
 
 def runner_class() -> Any:
-    """The library as the class `Rsp` of the runners of conformance/README.md."""
+    """The library as the class `Rsp` of conformance/steps.py and conformance/programs.py."""
     import rsp
     from rsp_conformance import library_states
 
@@ -175,14 +176,14 @@ def runner_class() -> Any:
     return Rsp
 
 
-def output_of_runner(number: int, path: Path) -> str:
-    """What a runner of conformance/README.md, by its number there, prints about a file on the library."""
-    text = re.findall(r"(?ms)^```python\n(.*?)^```$", page("conformance/README.md"))[number]
+def output_of_runner(name: str, path: Path, rsp_class: Any = None, lacks: Sequence[str] = ()) -> str:
+    """What a runner prints about a file on the library, or on another class `Rsp`."""
     output, mine = io.StringIO(), ModuleType("mine")  # type: io.StringIO, Any
-    mine.Rsp = runner_class()
-    with patch.dict(sys.modules, mine=mine), patch.object(sys, "argv", ["runner.py", str(path)]):
+    mine.Rsp, mine.LACKS = rsp_class or runner_class(), lacks
+    words = patch.object(sys, "argv", [f"{name}.py", str(path)])
+    with patch.dict(sys.modules, mine=mine), words, patch.object(sys, "path", [*sys.path]):
         with contextlib.redirect_stdout(output), pytest.raises(SystemExit) as ended:
-            exec(text, {})
+            runpy.run_path(str(TOP / f"conformance/{name}.py"), run_name="__main__")
     assert bool(ended.value.code) == (not output.getvalue().endswith(" passed, 0 failed\n"))
     return output.getvalue()
 
@@ -197,30 +198,30 @@ RUNNERS = pytest.mark.parametrize("name", ("VADDC", "SQV", "MTC0", "BEQ", "STV")
 
 @RUNNERS
 def test_runners_of_steps(name: str, program: Path, library: Path, folder: Path) -> None:
-    """The runner on the page and conformance/run pass an instruction's first cases, and name spoilt ones."""
+    """conformance/steps.py and conformance/run pass an instruction's first cases, and name spoilt ones."""
     all_entries, random, path = entries_in(VECTORS, name), Random("runner", name), folder / "steps.jsonl"
     entries = [*all_entries[:2], *[entry for entry in all_entries if "choice" in entry][:1]]
     path.write_text("".join(f"{json.dumps(entry)}\n" for entry in entries))
-    assert output_of_runner(0, path) == f"{len(entries)} passed, 0 failed\n"
+    assert output_of_runner("steps", path) == f"{len(entries)} passed, 0 failed\n"
     assert not any(steps.run_entries(str(program), entries))
     for entry in entries:
         spoilt = [*spoilt_entries(entry, random)]
         for false, found in zip(spoilt, steps.run_entries(str(program), spoilt)):
             path.write_text(json.dumps(false))
-            output = output_of_runner(0, path)
+            output = output_of_runner("steps", path)
             assert output.startswith(head_of(entry)) and output.endswith("\n0 passed, 1 failed\n"), false
             assert found and all(complaint.startswith(f"{entry['name']} (") for complaint in found), false
 
 
 @RUNNERS
 def test_runners_of_programs(name: str, library: Path, folder: Path) -> None:
-    """The runner on the page passes an instruction's programs, and names the case and the field of a wrong
+    """conformance/programs.py passes an instruction's programs, and names the case and the field of a wrong
     byte. A missing byte is a difference for conformance/run.
     """
     for path in (check.PROGRAMS / f"{name}.json", *check.PROGRAMS.glob(f"{name}-*")):
         (folder / path.name).write_bytes(path.read_bytes())
     count = len(manifest_in(VECTORS, name)["programs"])
-    assert output_of_runner(1, folder / f"{name}.json") == f"{count} passed, 0 failed\n"
+    assert output_of_runner("programs", folder / f"{name}.json") == f"{count} passed, 0 failed\n"
     random = Random("spoilt", name)
     entry = random.pick(manifest_in(VECTORS, name)["programs"])
     case = random.pick(entry["cases"])
@@ -229,13 +230,74 @@ def test_runners_of_programs(name: str, library: Path, folder: Path) -> None:
     right = path.read_bytes()
     path.write_bytes(right[:at] + bytes([right[at] ^ 1]) + right[at + 1 :])
     difference = f"expected {right[at] ^ 1:02x}, got {right[at]:02x}"
-    assert output_of_runner(1, folder / f"{name}.json").splitlines() == [
+    assert output_of_runner("programs", folder / f"{name}.json").splitlines() == [
         f"{head_of(case)}{field}, DMEM {at:03x}: {difference}",
         f"{count - 1} passed, 1 failed",
     ]
     assert run_programs.complaints(entry, right, right[:at]) == [
         f"{entry['name']}: {at} bytes, and 4096 are expected"
     ]
+
+
+@pytest.mark.parametrize("name", ("VRCPH", "VRSQH", "VNOP"))
+def test_runner_for_an_emulator_that_lacks_registers(name: str, library: Path) -> None:
+    """What LACKS names is neither set nor compared, and DIV_OUT is set by the two instructions of README."""
+    import rsp
+
+    lacks = ("interrupt", "c15", "rdram")
+    whole: Any = runner_class()
+    words = rsp.assemble("vrcph $v1[0], $v2[0]\nvrcpl $v1[0], $v2[1]\n")
+
+    class Lacking(whole):
+        def set(self, key: str, text: str) -> None:
+            assert key not in lacks
+            if key != "out":
+                super().set(key, text)
+
+        def get(self, key: str) -> str:
+            assert key not in lacks
+            return str(super().get(key))
+
+        def load(self, bank: str, data: bytes) -> None:
+            assert bank not in lacks
+            super().load(bank, data)
+
+        def memory(self, bank: str) -> bytes:
+            assert bank not in lacks
+            return bytes(super().memory(bank))
+
+        def divide(self, text: str) -> None:
+            self.load("imem", b"".join(word.to_bytes(4, "big") for word in words))
+            super().set("v2", text.ljust(32, "0"))
+            self.step()
+            self.step()
+
+    path, count = VECTORS / f"steps/{name}.jsonl", len(entries_in(VECTORS, name))
+    assert output_of_runner("steps", path, Lacking, lacks) == f"{count} passed, 0 failed\n"
+    del Lacking.divide
+    assert not output_of_runner("steps", path, Lacking, lacks).startswith(f"{count} passed")
+
+
+@pytest.mark.parametrize("name, file", (("steps", "steps/SW.jsonl"), ("programs", "programs/SW.json")))
+def test_runner_of_a_memory_that_is_too_long(name: str, file: str, library: Path) -> None:
+    whole: Any = runner_class()
+
+    class Long(whole):
+        def memory(self, bank: str) -> bytes:
+            return bytes(super().memory(bank)) + bytes(bank == "dmem")
+
+    output = output_of_runner(name, VECTORS / file, Long)
+    assert "bytes of dmem: expected 4096, got 4097\n" in output and "\n0 passed, " in output
+
+
+@pytest.mark.parametrize("name, other", (("steps", "programs/SW.json"), ("programs", "steps/SW.jsonl")))
+def test_runner_of_a_wrong_file(name: str, other: str, folder: Path) -> None:
+    """A file that isn't there, or is for the other runner, is named without a traceback."""
+    (folder / "mine.py").touch()
+    for path in folder / "none", VECTORS / other:
+        ran = run(sys.executable, TOP / f"conformance/{name}.py", path, cwd=folder)
+        assert ran.returncode == 1 and ran.stdout.startswith(f"{name}.py: can't read the ")
+        assert f" of {path}: " in ran.stdout and ran.stdout.count("\n") == 1
 
 
 # A case of ADD, which changes no memory; $11 has the default value, 0b0b0b0b.

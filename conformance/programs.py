@@ -1,0 +1,76 @@
+"""Runs the test vectors of `programs` on your emulator. In the folder of your mine.py, run
+
+    python3 /path/to/conformance/programs.py /path/to/conformance/vectors/programs/*.json
+
+mine.py contains a class Rsp with three methods, and each program gets a new Rsp:
+
+    load(bank, data)   fills a memory, "imem" or "dmem", with these 4096 bytes
+    run()              executes from pc 000, with SP_STATUS 0, until BREAK
+    memory(bank)       returns the 4096 bytes of a memory
+
+Each byte of DMEM that differs is printed in a line, with its case and its field. The status is 0 if all
+programs passed, otherwise 1.
+"""
+
+import json
+import os
+import sys
+from pathlib import Path
+from typing import Any, Dict, Iterator
+
+
+def fields_of(program: Dict[str, Any]) -> Dict[int, str]:
+    """What the bytes of DMEM are after a program, by their address: a case and a field of its results."""
+    fields = {}
+    for case in program["cases"]:
+        mark = ", choice" if "choice" in case else ""
+        for field, offset, length in program["layouts"][case["layout"]]:
+            for at in range(length):
+                address = (int(case["at"], 16) + offset + at) % 4096
+                fields[address] = f"{case['name']} ({case['text']}{mark}), {field}, "
+    return fields
+
+
+def differences(rsp: Any, program: Dict[str, Any], folder: Path) -> Iterator[str]:
+    """Runs a program: a line for each byte of DMEM that differs after it."""
+    name, fields = program["name"], fields_of(program)
+    imem, dmem, after = ((folder / f"{name}.{end}").read_bytes() for end in ("imem", "dmem", "after"))
+    rsp.load("imem", imem)
+    rsp.load("dmem", dmem)
+    rsp.run()
+    found = bytes(rsp.memory("dmem"))
+    if len(found) != len(after):
+        yield f"{name}, bytes of dmem: expected {len(after)}, got {len(found)}"
+    for at, (expected, got) in enumerate(zip(after, found)):
+        if expected != got:
+            yield f"{fields.get(at, name + ', ')}DMEM {at:03x}: expected {expected:02x}, got {got:02x}"
+
+
+def main() -> int:
+    if not sys.argv[1:] or sys.argv[1] in ("-h", "--help"):
+        print(__doc__, end="")
+        return 0 if sys.argv[1:] else 2
+    sys.path.insert(0, os.getcwd())
+    try:
+        import mine  # your emulator
+    except ModuleNotFoundError as error:
+        if error.name != "mine":
+            raise
+        sys.exit("programs.py: this folder has no mine.py, which --help describes")
+
+    passed = failed = 0
+    for manifest in map(Path, sys.argv[1:]):
+        try:
+            programs = json.loads(manifest.read_text())["programs"]
+        except (OSError, ValueError) as error:
+            sys.exit(f"programs.py: can't read the programs of {manifest}: {error}")
+        for program in programs:
+            wrong = [*differences(mine.Rsp(), program, manifest.parent)]
+            print("".join(f"{line}\n" for line in wrong), end="")
+            passed, failed = passed + (not wrong), failed + bool(wrong)
+    print(f"{passed} passed, {failed} failed")
+    return int(failed > 0 or not passed)
+
+
+if __name__ == "__main__":
+    sys.exit(main())

@@ -1,0 +1,105 @@
+"""Runs the test vectors of `steps` on your emulator. In the folder of your mine.py, run
+
+    python3 /path/to/conformance/steps.py /path/to/conformance/vectors/steps/*.jsonl
+
+mine.py contains a class Rsp with five methods, and each case gets a new Rsp:
+
+    set(key, text)     sets a register, such as "r4" to "0000000c", or "npc" to "004"
+    get(key)           returns a register as such a text
+    load(bank, data)   fills a memory with these bytes: 4096 of "dmem" or "imem", 131072 of "rdram"
+    memory(bank)       returns as many bytes of a memory
+    step()             executes the instruction at pc, with the whole DMA that it starts
+
+README.md lists the registers with their digits. mine.py may also have
+
+    LACKS = {"interrupt", "rdram"}   registers and memories that are neither set nor compared
+    divide(text), a method of Rsp    sets DIV_OUT by two instructions: README.md says which
+
+Each register or byte that differs is printed in a line. The status is 0 if all cases passed, otherwise 1.
+"""
+
+import fileinput
+import json
+import os
+import sys
+from typing import Any, Dict, Iterator, Tuple
+
+SIZES = {"dmem": 4096, "imem": 4096, "rdram": 131072}
+# The registers before a case, unless the case says otherwise.
+DEFAULT = {"pc": "000", "npc": "004", "vco": "0000", "vcc": "0000", "vce": "00", "interrupt": "0"}
+DEFAULT.update({"in": "0000", "out": "0000", "loaded": "0"})
+DEFAULT.update({f"r{n}": f"{n * 0x01010101:08x}" for n in range(32)})
+DEFAULT.update({f"v{n}": "".join(f"{n * 0x100 + i * 0x11:04x}" for i in range(8)) for n in range(32)})
+DEFAULT.update({f"a{i}": f"{(i + 1) * 0x000100010001:012x}" for i in range(8)})
+DEFAULT.update({f"c{n}": "00000ff8" if n in (2, 3) else "00000000" for n in range(16)})
+
+
+def put(memories: Dict[str, bytearray], pieces: Dict[str, Any]) -> None:
+    """Writes the runs of bytes of `before` or `after` into the memories."""
+    for bank, memory in memories.items():
+        for address, text in pieces.get(bank, {}).items():
+            at = int(address, 16)
+            memory[at : at + len(text) // 2] = bytes.fromhex(text)
+
+
+def differences(rsp: Any, case: Dict[str, Any], lacks: Any) -> Iterator[Tuple[str, str, str]]:
+    """Runs a case: what differs after it, with what is expected and what was found."""
+    state = {**DEFAULT, **case["before"]}
+    keys = [key for key in DEFAULT if key not in lacks]
+    memories = {bank: bytearray(size) for bank, size in SIZES.items() if bank not in lacks}
+    put(memories, case["before"])
+    put(memories, {"imem": {state["pc"]: case["word"]}})
+
+    if "divided" in state and hasattr(rsp, "divide"):
+        rsp.divide(state["divided"])  # first, because it changes other registers, which are set below
+    for key in keys:
+        rsp.set(key, state[key])
+    for bank, memory in memories.items():
+        rsp.load(bank, bytes(memory))
+    rsp.step()
+
+    state.update(case["after"])
+    put(memories, case["after"])
+    for key in keys:
+        if (got := rsp.get(key)) != state[key]:
+            yield key, state[key], got
+    for bank, memory in memories.items():
+        found = bytes(rsp.memory(bank))
+        if len(found) != len(memory):
+            yield f"bytes of {bank}", str(len(memory)), str(len(found))
+        elif found != memory:
+            for at, (expected, byte) in enumerate(zip(memory, found)):
+                if expected != byte:
+                    yield f"{bank} {at:03x}", f"{expected:02x}", f"{byte:02x}"
+
+
+def main() -> int:
+    if not sys.argv[1:] or sys.argv[1] in ("-h", "--help"):
+        print(__doc__, end="")
+        return 0 if sys.argv[1:] else 2
+    sys.path.insert(0, os.getcwd())
+    try:
+        import mine  # your emulator
+    except ModuleNotFoundError as error:
+        if error.name != "mine":
+            raise
+        sys.exit("steps.py: this folder has no mine.py, which --help describes")
+
+    try:
+        cases = [json.loads(line) for line in fileinput.input()]
+    except (OSError, ValueError) as error:
+        sys.exit(f"steps.py: can't read the cases of {fileinput.filename()}: {error}")
+
+    passed = failed = 0
+    for case in cases:
+        wrong = [*differences(mine.Rsp(), case, getattr(mine, "LACKS", ()))]
+        mark = ", choice" if "choice" in case else ""
+        for what, expected, got in wrong:
+            print(f"{case['name']} ({case['text']}{mark}), {what}: expected {expected}, got {got}")
+        passed, failed = passed + (not wrong), failed + bool(wrong)
+    print(f"{passed} passed, {failed} failed")
+    return int(failed > 0 or not passed)
+
+
+if __name__ == "__main__":
+    sys.exit(main())
