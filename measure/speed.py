@@ -1,13 +1,20 @@
 """Prints what steps and lines of scripts cost.
 
 These are host instructions, as valgrind's callgrind counts them, for each step of three loops: scalar
-instructions, vector computing instructions, and both mixed with loads and stores. The steps are made by calls
-of the library for C (measure/speed.c), without a history and with one of 100 states, and by the program's
+instructions, vector computing instructions, and both mixed with loads and stores. The last three instructions
+of each loop, an addition, a branch and its delay slot, count as steps too. The steps are made by calls of the
+library for C (measure/speed.c), without a history and with one of 100 states, and by the program's
 `run`, which records its steps too: with nothing to stop at, with a breakpoint that is never reached, and with
 a watch of bytes that never change. Then follow calls without a step, and lines of a script: what the program
 takes to read one, to carry it out and to write its reply.
 
 A figure is the difference between a long and a short run, divided by the difference of their steps or lines.
+The figure of a call includes 18 host instructions for the loop that makes the calls.
+
+A change of one line can cost each step some 60 host instructions. After a change of the decoder, run
+`nm crates/rsp_main/out/rsp | grep Machine::perform`: if this lists a function, LLVM doesn't inline the
+execution of an instruction, and steps are slower.
+
 With --time, `run` and the plugin z64 take turns, and the least time counts, so that other work disturbs
 little. It needs library/c/build, cc and valgrind, and for --z64 and --time Debian's mupen64plus-rsp-z64.
 """

@@ -1,7 +1,7 @@
-# blocks: copies blocks of RDRAM to another address there, through two buffers of DMEM in turn.
+# blocks: copies blocks of RDRAM to another address there, by double buffering in DMEM.
 #
-# In       $1 the address of the first block in RDRAM, $2 where it goes there, $3 the number of bytes of a block less 1, $6 that
-#          number, $5 the address of a buffer in DMEM, $7 the sum of the addresses of both buffers, $8 the number of blocks
+# In       $1 the address of the first block in RDRAM, $2 where it goes there, $6 the number of bytes of a block, $3 that
+#          number less 1, $5 the address of a buffer in DMEM, $7 the sum of the addresses of both buffers, $8 the number of blocks
 # Out      the blocks, one after the other
 # Needs    one block at least, of 4096 bytes at most; the addresses and the number of bytes multiples of 8; the buffers' addresses
 #          below 1000 in hexadecimal; the blocks, and what they go to, inside RDRAM; they go to where they are, or before it, or to

@@ -1,4 +1,4 @@
-# multiply: eight products of numbers with 16 whole bits and 16 bits of fraction.
+# multiply: eight products of s15.16 numbers, which have 16 whole bits and 16 bits of fraction.
 #
 # In       the high halves in $v1 and $v3, the low halves in $v2 and $v4; $v0 all 0
 # Out      $v9 the high halves of the products, $v10 the low halves

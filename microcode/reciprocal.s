@@ -1,4 +1,4 @@
-# reciprocal: one half of 1 / x from the table, made better by a step of Newton's method.
+# reciprocal: one half of 1 / x from the table, made better by a Newton-Raphson step.
 #
 # In       lane 0 of $v1 and $v2 the high and the low half of x; $v8 lanes 0 to 2 the numbers 2, 1 and -2; $v0 all 0
 # Out      lane 0 of $v11 the high half of the result, of $v12 the low half

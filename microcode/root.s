@@ -1,4 +1,4 @@
-# root: the square root of x, from the table's inverse root and a step of Newton's method.
+# root: the square root of x, from the table's inverse root and a Newton-Raphson step.
 #
 # In       lane 0 of $v1 and $v2 the high and the low half of x, which isn't negative; $v8 lanes 0 to 3 the numbers 3, 8000, fffe
 #          and 0200 in hexadecimal; $v0 all 0

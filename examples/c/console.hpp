@@ -1,4 +1,4 @@
-// A console that owns RDRAM and the registers of the RDP, for the machine of brsp.hpp (C++17). See docs/EMBEDDING.md.
+// A console that owns RDRAM and the registers of the RDP, for the machine of brsp.hpp (C++17). See docs/EMULATOR.md.
 // A Unit is uint8_t, or uint32_t for RDRAM as words of the host.
 #pragma once
 #include "brsp.hpp"

@@ -1,5 +1,5 @@
-/* Lock step: an emulator of a few scalar instructions beside the proved machine, from one state on. The first difference is reported with the text of its
- * instruction. The emulator has a fault that is planted: its SRA shifts zeros in. See docs/EMBEDDING.md. */
+/* Lockstep: an emulator of a few scalar instructions beside the proved machine, from one state on. The first difference is reported with the text of its
+ * instruction. The emulator has a fault that is planted: its SRA shifts zeros in. See docs/EMULATOR.md. */
 #include "brsp.h"
 #include <stdio.h>
 #include <string.h>

@@ -33,7 +33,8 @@ static void compare(const brsp_changes &ours, const brsp_changes &theirs)
     snprintf(name, sizeof name, "$%u", ours.traced.scalar); FIELD(name, traced.value);
     snprintf(name, sizeof name, "$v%u lane ", ours.traced.vector); LANES(name, traced.lanes);
     FIELD("store", traced.stored); FIELD("address", traced.address); FIELD("quadword", quadword);
-    check("byte of the quadword and the next: ", ours.bytes, theirs.bytes, 1, sizeof ours.bytes);
+    snprintf(name, sizeof name, "DMEM from %03x on, byte ", ours.quadword);
+    check(name, ours.bytes, theirs.bytes, 1, sizeof ours.bytes);
     FIELD("VCO", traced.vco); FIELD("VCC", traced.vcc); FIELD("VCE", traced.vce);
     LANES("accumulator high lane ", accumulators.high); LANES("accumulator middle lane ", accumulators.middle);
     LANES("accumulator low lane ", accumulators.low);

@@ -1,6 +1,6 @@
-/** Lock step: an interpreter of a few scalar instructions beside the proved machine, from one state on. The first
+/** Lockstep: an interpreter of a few scalar instructions beside the proved machine, from one state on. The first
  * difference is reported with the text of its instruction. The interpreter has a fault that is planted: its SRA shifts
- * zeros in. See docs/EMBEDDING.md. */
+ * zeros in. See docs/EMULATOR.md. */
 
 import { IMEM, Machine, Scalars, Status, assemble, state_fault, text } from "rsp";
 

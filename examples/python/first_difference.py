@@ -1,5 +1,5 @@
 """The first step after which an emulator of three instructions differs from the machine. Its SRA has a
-planted fault. See docs/EMBEDDING.md."""
+planted fault. See docs/EMULATOR.md."""
 
 import rsp
 

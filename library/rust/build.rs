@@ -51,7 +51,7 @@ fn is_for(target: &str, machine: &str) -> bool {
 /// The folder with the library that library/c/build makes below cargo's own folder, of the sources as they are.
 fn built(target: &str) -> PathBuf {
     let variable = format!("CC_{}", target.replace('-', "_"));
-    let compiler = env::var(&variable).or_else(|_| env::var("CC")).unwrap_or("cc".into());
+    let compiler = env::var(&variable).or_else(|_| env::var("CC")).unwrap_or_else(|_| "cc".into());
     let machine = machine(&compiler);
     assert!(
         is_for(target, &machine),

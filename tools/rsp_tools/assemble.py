@@ -215,7 +215,7 @@ def stop(number: int, _: object) -> NoReturn:
 
 def check_kit() -> None:
     if not kit():
-        fail("`rt`, the command of the Rattle kit, isn't on this machine (README.md names its version)")
+        fail("`rt`, the command of the Rattle kit, isn't on this machine (compiled/record names its version)")
     if not kit().endswith(LOGIC):
         fail(f"the kit here is `{kit()}`, and the proofs are for one of `{LOGIC}` (tools/logic)")
 

@@ -144,14 +144,15 @@ fault_numbers = {numbers} ∷ []
 
 
 def systems() -> str:
-    """The rows of the systems that have tests of their own."""
-    return "".join(f"| {it.title} | {it.tier} | {it.command} |\n" for it in (NATIVE, *CROSS))
+    """The rows of the systems that have tests of their own, by their tiers."""
+    rows = sorted((NATIVE, *CROSS), key=lambda it: it.tier)
+    return "".join(f"| {it.tier} | {it.title} | {it.tested} | {it.command} |\n" for it in rows)
 
 
 def made() -> Dict[str, str]:
     """Each file as this module writes it, by its name."""
     layers = "".join(f"{name:19} {comment}\n" for name, (comment, _) in reversed(crates().items()))
-    head_of_systems = r"(?m)^\| System \| Its .*\n\|[-|]+\|\n((?:\|.*\n)+)"
+    head_of_systems = r"(?m)^\| Tier \| System .*\n\|[-|]+\|\n((?:\|.*\n)+)"
     return {
         **{file: with_table(page(file), name) for name, file in TABLES.items()},
         LAYERS: with_group(page(LAYERS), r"(?ms)^## Layers\n.*?^```text\n(.*?)^```$", layers),

@@ -83,7 +83,7 @@ def check_packages(names: List[str], is_tested: bool) -> None:
     """Ends if the kit or a package is missing that makes these, or that the newcomer's commands need."""
     programs = [it for name in names for it in PROGRAMS.get(name, ())]
     if "rt" in programs and not shutil.which("rt"):
-        fail("there is no `rt`, the command of the Rattle kit (README.md names its version)")
+        fail("there is no `rt`, the command of the Rattle kit (compiled/record names its version)")
     packages = missing(*programs)
     more = output_of("tools/python", "lib.install.needed_packages") if is_tested else ""
     if packages:

@@ -31,8 +31,9 @@ class Target(NamedTuple):
 
     name: str  # of its folder and of its archive
     title: str  # what SYSTEMS.md calls it
-    tier: str = ""  # how its tests were run
-    command: str = ""  # what who has a clone types
+    tier: int = 0  # 1: its tests were run natively; 2: in an emulator; 3: it was only assembled
+    tested: str = ""  # how its tests were run
+    command: str = ""  # what a user runs in a clone
     ending: str = ""  # of the archive's file, if ./release makes one
     triples: Mapping[str, str] = {}  # what clang calls the system, for each processor
     # The file of rsp_tools/systems by which the program begins, and the words that link it.
@@ -64,7 +65,8 @@ class Target(NamedTuple):
 NATIVE = Target(
     name="linux-x86_64",
     title="Linux on x86-64-v2",
-    tier="natively: all tests of the repository",
+    tier=1,
+    tested="natively: all tests of the repository",
     command="`./rsp`",
     triples={"x86_64": "x86_64-unknown-linux-gnu"},
     start="start_x86_64.c",
@@ -81,7 +83,8 @@ CROSS: Tuple[Target, ...] = (
     Target(
         name="linux-aarch64",
         title="Linux on ARM",
-        tier="in an emulator, qemu-aarch64",
+        tier=2,
+        tested="in the emulator qemu-aarch64, not on an ARM processor",
         command="`./rsp`",
         triples={"aarch64": "aarch64-unknown-linux-gnu"},
         start="start_aarch64.c",
@@ -102,7 +105,8 @@ CROSS: Tuple[Target, ...] = (
     Target(
         name="linux-x86_64-musl",
         title="Linux on x86-64-v2 with musl",
-        tier="natively, with musl 1.2.3",
+        tier=1,
+        tested="natively, with musl 1.2.3",
         command="`CC=musl-gcc ./rsp`",
         triples={"x86_64": "x86_64-unknown-linux-musl"},
         start="start.c",
@@ -119,7 +123,8 @@ CROSS: Tuple[Target, ...] = (
     Target(
         name="windows-x86_64",
         title="Windows on x86-64-v2",
-        tier="in an emulator, wine",
+        tier=2,
+        tested="in wine, not on Windows",
         command="`./release windows-x86_64`, or CMake with mingw",
         ending="zip",
         triples={"x86_64": "x86_64-w64-windows-gnu"},
@@ -143,7 +148,8 @@ CROSS: Tuple[Target, ...] = (
     Target(
         name="macos",
         title="macOS 11 on ARM and x86-64-v2",
-        tier="only assembled: nothing ran on a Mac, but the code was taken out and ran on Linux",
+        tier=3,
+        tested="nothing ran on a Mac, but the code was taken out and ran on Linux",
         command="CMake with clang",
         triples={"x86_64": "x86_64-apple-macosx11.0.0", "aarch64": "arm64-apple-macosx11.0.0"},
         start="posix_macos.c",
@@ -156,7 +162,8 @@ CROSS: Tuple[Target, ...] = (
     Target(
         name="wasm",
         title="browsers, Node, Deno",
-        tier="natively, in Chromium and in Node 20, which has no 64-bit memories, as Safari; not in Safari",
+        tier=2,
+        tested="in part, natively: Chromium, and vectors in Node 20, which like Safari lacks 64-bit memories",
         command="`./release wasm`, `npm install ./dist/wasm`",
         ending="tgz",
         packages={"node": "nodejs"},

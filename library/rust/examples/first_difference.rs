@@ -1,4 +1,4 @@
-//! The first step after which an emulator of three instructions differs from the machine. Its SRA has a planted fault. See docs/EMBEDDING.md.
+//! The first step after which an emulator of three instructions differs from the machine. Its SRA has a planted fault. See docs/EMULATOR.md.
 
 use rsp::{assemble, first_difference, Bank, Emulator, Machine, RspError, State};
 

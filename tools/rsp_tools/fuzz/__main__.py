@@ -37,7 +37,7 @@ def build_library(folder: Path) -> List[Path]:
     instrumented. The module takes minutes, and is kept until a source of the library changes."""
     if not shutil.which("rt"):
         raise Refused(
-            "there is no `rt`, the command of the Rattle kit (README.md names its version), whose module of "
+            "there is no `rt`, the command of the Rattle kit (compiled/record names it), whose module of "
             "the library gets coverage and sanitizers: what compiled/ has is compiled already"
         )
     source, made, heap = module("x86_64").text, folder / "library.o", folder / "heap.o"

@@ -33,7 +33,7 @@ PARTS: Dict[str, List[str]] = {
     "wasm": PAGES,
     "page": ["CHANGELOG.md"],
 }
-NOT_THERE = ("docs/PLUGIN.md", "docs/CAMPAIGN.md")
+NOT_THERE = ("docs/PLUGIN.md", "docs/CAMPAIGN.md", "docs/HDL.md")
 UNIX = 3  # the system of a zip file whose entries have rights
 
 

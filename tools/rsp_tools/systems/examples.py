@@ -8,7 +8,6 @@ from typing import Dict, Iterator, List
 from . import places
 from .toolchain import Refused
 
-README = places.TOP / "README.md"
 COOKBOOK = places.TOP / "docs" / "COOKBOOK.md"
 FIRST = places.TOP / "examples" / "first.rsp"
 Example = Dict[str, str]
@@ -29,16 +28,13 @@ def example(group: str, name: str, script: str) -> Example:
     return {"group": group, "name": words[0].upper() + words[1:], "script": script}
 
 
-def first(page: str) -> Example:
-    """The README's example, named by the words in bold before it."""
-    title = re.search(r"(?m)^## Example\n\n\*\*([^*]*)\.\*\*", page)
-    if not title:
-        raise Refused("README.md has no section Example that begins with words in bold")
-    return example("First steps", title[1], FIRST.read_text())
+def first(script: str) -> Example:
+    """The first example, named by its first line up to a colon."""
+    return example("First steps", script.lstrip("# ").partition(":")[0], script)
 
 
 def scripts(page: str) -> Iterator[Example]:
-    """The scripts of examples/ except the README's, with their descriptions from the cookbook's tables."""
+    """The scripts of examples/ except the first, with their descriptions from the cookbook's tables."""
     described = dict(re.findall(r"(?m)^\| \[(\w+)\.rsp\]\(\S*\) \| ([^|]*) \|", page))
     texts = {it.stem: it.read_text() for it in sorted(places.TOP.glob("examples/*.rsp")) if it != FIRST}
     if missing := texts.keys() - described.keys():
@@ -50,11 +46,13 @@ def scripts(page: str) -> Iterator[Example]:
 
 
 def idioms(page: str) -> Iterator[Example]:
-    """The cookbook's blocks of text, by the heading or the bold words before each, assembled and listed."""
+    """The cookbook's blocks of text, by the heading or the bold words before each, assembled and listed.
+
+    An anchor may be before the bold words."""
     section = page[page.index("## Idioms") : page.index("## Your microcode in CI")]
     title = ""
     for head, bold, text in re.findall(
-        r"(?ms)^### (.*?)$|(?<=\n\n)\*\*(.*?)\*\*|^```asm\n(.*?)^```$", section
+        r"(?ms)^### (.*?)$|(?<=\n\n)(?:<a id=\S+></a>)?\*\*(.*?)\*\*|^```asm\n(.*?)^```$", section
     ):
         if text:
             script = f"# {title}\nasm 0\n{text}end\ndis 0 {len(text.splitlines())}\n"
@@ -75,4 +73,4 @@ def examples() -> List[Example]:
     """All scripts to choose from."""
     page = COOKBOOK.read_text()
     routines = map(routine, sorted(places.TOP.glob("microcode/*.rsp")))
-    return [first(README.read_text()), *scripts(page), *idioms(page), *routines]
+    return [first(FIRST.read_text()), *scripts(page), *idioms(page), *routines]

@@ -51,7 +51,7 @@ def call(program: str, *words: Word, executable: str = "", text: str = "") -> st
 def kit() -> Path:
     """The folder of the Rattle kit. Refused if there is none, or if its clang is another one."""
     if not shutil.which("rt"):
-        raise Refused("there is no `rt`, the command of the Rattle kit (README.md names its version)")
+        raise Refused("there is no `rt`, the command of the Rattle kit (compiled/record names its version)")
     folder = Path(call("rt", "doc").strip()).parent
     output = call("clang", "--version", executable=f"{folder}/toolchain/bin/clang")
     version = re.findall(r"clang version (\S+)", output)
