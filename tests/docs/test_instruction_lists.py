@@ -13,6 +13,7 @@ import pytest
 from lib.same_items import assert_same_items
 from lib.pages import data, names_of, page, tables
 from rsp_conformance import table
+from rsp_conformance.vectors import VECTORS
 
 # What selects an instruction, in the words of docs/data: the bits that all such instructions share, the
 # lowest bit of the values, and the values.
@@ -80,6 +81,14 @@ def test_anchors() -> None:
     listed = re.findall(r'"(\w+)"', before)
     assert_same_items(listed, heading.lower().split(", "))
     assert not others and [anchor for anchor, name in anchors if anchor != name.lower()] == listed
+
+
+def test_choices() -> None:
+    """The line of an instruction has the mark if a test vector of it shows a choice."""
+    lines, names = page(PAGE).splitlines(), [line["Instruction"] for line in data("instructions")]
+    marked = {it for it in names for line in lines if f'<a id="{it.lower()}">' in line and "(choice" in line}
+    shown = {it for it in names if '"choice"' in (VECTORS / f"steps/{it}.jsonl").read_text()}
+    assert shown and not shown - marked
 
 
 def test_reserved_functions(rows: Rows) -> None:

@@ -1,4 +1,5 @@
-"""Lines in the syntax of other assemblers: those of docs/data/syntax.tsv and of docs/ASSEMBLY.md.
+"""Lines in the syntax of other assemblers: those of docs/data/syntax.tsv, docs/ASSEMBLY.md and
+docs/FROM_LIBDRAGON.md.
 
 It fails if the program takes what is said to be refused, refuses what is said to be taken, or makes another
 word of a line that means something else. What `--explain` says is in tests/program/explanations.tsv.
@@ -6,13 +7,15 @@ word of a line that means something else. What `--explain` says is in tests/prog
 
 import re
 from pathlib import Path
-from typing import Dict
+from typing import Dict, List
 
 import pytest
 
 from lib.pages import data, page, replies, tables
+from lib.processes import run
 
 PAGE, HEADING = "docs/ASSEMBLY.md", "## Coming from another assembler"
+OF_LIBDRAGON = [*tables("docs/FROM_LIBDRAGON.md", "## What differs in the text")]
 
 
 @pytest.mark.parametrize("line", data("syntax"), ids=lambda line: line["Line"])
@@ -31,3 +34,14 @@ def test_page(program: Path) -> None:
     lines = [line for cell in cells for line in re.findall(r"`([.\w]+ \S[^`]*)`", cell)]
     printed = replies(program, "".join(f"asm 0\n{line}\nend\n" for line in lines))
     assert len(lines) >= 5 and printed == "ok 1 words\n" * len(lines)
+
+
+@pytest.mark.parametrize("row", OF_LIBDRAGON, ids=str)
+def test_line_of_libdragon(row: List[str], program: Path) -> None:
+    """A line is refused. What the page says to write is assembled, and has what `--explain` shows."""
+    theirs, ours = (re.findall("`(.*?)`", cell)[0] for cell in row)
+    printed = run(program, "run", "--explain", input=f"asm 0\n{theirs}\nend\n").stdout
+    shown = re.findall(r"(?m)^  (?:try: (.*)|help: (\$\S+) if .*|help: the assembler .*)$", printed)
+    assert printed.startswith("fault 1") and shown
+    assert not [part for parts in shown for part in parts if part not in ours]
+    assert replies(program, f"asm 0\n{ours}\nend\n") == "ok 1 words\n"

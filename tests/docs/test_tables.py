@@ -23,7 +23,7 @@ import pytest
 
 from lib import TOP, worked_cases
 from lib.same_items import assert_same_items
-from lib.pages import block_with, cells_of, data, page, replies, sentences, tables, words_of
+from lib.pages import cells_of, data, page, replies, sentences, tables, words_of
 from lib.processes import run
 from rsp_conformance import bench, flat, programs
 from rsp_conformance.table import ROWS, Row
@@ -203,22 +203,21 @@ def test_forms_planned_otherwise() -> None:
 
 
 def test_figures() -> None:
-    """What pages count: vectors, cases, planted faults, routines, instructions, and lines to copy."""
+    """What pages count: vectors, cases, planted faults, routines, instructions, and lines of examples."""
     steps = [path.read_text().count("\n") for path in VECTORS.glob("steps/*.jsonl")]
     (each,) = re.findall(r"(?m)^CASES = (\d+)$", page("tests/campaigns/test_planted.py"))
     agreed = f"in {len(ROWS) * int(each) // 100_000 / 10} million cases"
     bugs, routines = page("tests/campaigns/bugs.tsv").splitlines()[1:], len([*TOP.glob("microcode/*.s")])
     z64 = json.loads(page("conformance/z64/campaign.json"))["instructions"].values()
     covered = {line.split("\t")[0] for line in page("conformance/coverage.tsv").splitlines()[1:]}
-    runners = [block_with(OF_VECTORS, f"# python3 {name}.py").count("\n") for name in ("steps", "programs")]
     bench, command = (page(f"examples/{it}").count("\n") for it in ("hdl/tb.sv", "js/cases.mjs"))
     figures = {
-        "README.md": f"Run {sum(steps):,} [test vectors]; {agreed}; one of {routines} [proved routines]; "
+        "README.md": f"{sum(steps):,} [test vectors]; {agreed}; {routines} [proved routines]; "
         f"its {len(ROWS)} instructions; differs on [{sum(it['differ'] > 0 for it in z64)} of {len(ROWS)}]",
         GUARANTEES: f"{agreed}; [{len(bugs)} faults were planted in it]",
-        OF_VECTORS: f"{sum(steps):,} cases, {min(steps)} to {max(steps)} of each of the {len(steps)}; "
-        f"runner of {runners[0]} lines; runner of {runners[1]} lines; bench of {bench} lines; "
-        f"some {round(command, -1)} lines, such as [cases.mjs]; outcomes of {len(covered)} instructions",
+        OF_VECTORS: f"{sum(steps):,} test vectors; {min(steps)} to {max(steps)} of each of the {len(steps)}; "
+        f"the {bench} lines of [tb.sv]; some {round(command, -1)} lines, such as [cases.mjs]; "
+        f"outcomes of {len(covered)} instructions",
     }
     assert not [it for name in figures for it in figures[name].split("; ") if it not in sentences(name)]
 

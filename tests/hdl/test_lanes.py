@@ -16,7 +16,7 @@ from lib import TESTS, TOP
 from lib.pages import block_with, sentences
 from lib.processes import run, succeeds
 
-HDL, PAGE = TOP / "examples/hdl", "docs/CAMPAIGN.md"
+HDL, PAGE = TOP / "examples/hdl", "docs/HDL.md"
 MODEL = (HDL / "lanes.sv").read_text()
 INSTRUCTIONS = (line.split("\t") for line in (TOP / "docs/data/instructions.tsv").read_text().splitlines())
 NAMES = [name for name, bits, *_ in INSTRUCTIONS if bits.startswith("COP2 (opcode 0x12), function")]

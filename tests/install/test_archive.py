@@ -36,11 +36,12 @@ docs/SYSTEMS.md examples/c/lockstep.c microcode/copy.s
 library/rust/lib/x86_64-pc-windows-gnu/libbrsp.a library/rust/lib/x86_64-pc-windows-msvc/brsp_static.lib
 """,
     "wasm": """
-package.json rsp.js rsp.d.ts rsp.wasm docs/EMBEDDING.md examples/js/lockstep.js microcode/copy.s
+package.json rsp.js rsp.d.ts rsp.wasm docs/EMBEDDING.md docs/EMULATOR.md examples/js/lockstep.js
+microcode/copy.s
 """,
     "page": "index.html",
 }
-ABSENT = "plugin docs/PLUGIN.md docs/CAMPAIGN.md conformance".split()
+ABSENT = "plugin docs/PLUGIN.md docs/CAMPAIGN.md docs/HDL.md conformance".split()
 NUMBER = install_tree.version()[0]
 
 

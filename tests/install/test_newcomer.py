@@ -1,5 +1,5 @@
-"""What a newcomer does first, in a clone of HEAD in a folder `a b/rsp`: README's two commands, then the
-blocks of all pages.
+"""What a newcomer does first, in a clone of HEAD in a folder `a b/rsp`: the two commands that build and
+test, then the blocks of all pages.
 
 It fails if one doesn't end well there, or leaves the work tree of the clone changed. The newcomer has only
 the system's programs, an empty HOME and no kit. If root starts this, he is the user nobody.
@@ -42,9 +42,9 @@ def stranger() -> Iterator[User]:
 @pytest.mark.outside("it takes a quarter of an hour; ./release runs it")
 @pytest.mark.timeout(3700)
 def test_two_commands(stranger: User, record_property: Callable[[str, object], None]) -> None:
-    """README's block as it is, except that tests which would do the same anywhere are left out. The report of
-    this test has those that were skipped, for ./release."""
-    (block,) = [it for it in blocks_in("README.md") if "\ntests/all " in it.text]
+    """CONTRIBUTING's block as it is, except that tests which would do the same anywhere are left out. The
+    report of this test has those that were skipped, for ./release."""
+    (block,) = [it for it in blocks_in("CONTRIBUTING.md") if "\ntests/all" in it.text]
     assert [path for path in ELSEWHERE if not (TOP / path).exists()] == []
     ended = stranger.types(f'export PYTEST_ADDOPTS="{LEFT}"\n{block.text}')
     assert ended.returncode == 0, f"{ended.stdout[-5000:]}{ended.stderr[-1000:]}"

@@ -12,11 +12,9 @@ import pytest
 from lib import TOP, packages
 from lib.install import needed_packages
 from lib.page_blocks import Block, check_typed, parse_mark
-from lib.pages import page
 from lib.processes import run, succeeds
 from lib.user import User
 from rsp_tools import release
-from rsp_tools.build import LOGIC
 from rsp_tools.systems.toolchain import Refused
 from rsp_tools.targets import CROSS, Target
 
@@ -127,11 +125,6 @@ def test_packages_of_the_newcomer(monkeypatch: pytest.MonkeyPatch) -> None:
     monkeypatch.setattr(release, "missing", lambda *_: "binutils pkg-config")
     with pytest.raises(SystemExit, match="missing: apt-get install binutils pkg-config libmupen64plus-dev$"):
         release.check_packages([], True)
-
-
-def test_logic_of_the_kit() -> None:
-    """README names the one for which tools/build asks."""
-    assert f"`{LOGIC}`" in page("README.md")
 
 
 @pytest.mark.parametrize("name", [*release.DATED, *release.NUMBERS])

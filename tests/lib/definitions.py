@@ -1,4 +1,7 @@
-"""The files of definitions, specs/*.antt, and which of them a file rests on."""
+"""The files of definitions, specs/*.antt, and which of them a file rests on.
+
+`tools/python lib.definitions` lists those on which the main theorem rests.
+"""
 
 import re
 from pathlib import Path
@@ -6,6 +9,7 @@ from typing import Iterator, Optional
 
 from lib import TOP
 
+MAIN_THEOREM = TOP / "crates/rsp_bench/src/run.rt"
 # A line `use MODULE.{NAME, NAME as OTHER}`, or of a module alone.
 USED = re.compile(r"^(?:ghost |unfoldable )*(pub )?use ([\w.]+?)(?:\.\{(.*?)\}| as \w+)?;?$", re.M)
 
@@ -43,3 +47,7 @@ def rests_on(file: Path) -> tuple[set[Path], set[str]]:
         elif not module.startswith("Rattle.rsp_"):
             kit.add(module)
     return files, kit
+
+
+if __name__ == "__main__":
+    print(*sorted(path.relative_to(TOP) for path in rests_on(MAIN_THEOREM)[0]), sep="\n")

@@ -1,7 +1,21 @@
 """The fenced blocks of the repository's pages, with the marks above them, which say how tests run them.
 
+The word after the fence is the kind of a block:
+
+  rsp           a script with its replies after `#`; `rsp continues` continues the session before it
+  asm           a text that is assembled
+
 A mark is an HTML comment directly above the fence. Each of its lines is `KEY` or `KEY: VALUE`, and a line
-that begins with two spaces continues the value above it. CONTRIBUTING.md says what the keys mean.
+that begins with two spaces continues the value above it:
+
+  from: FILE            the block quotes FILE; `..` in the block is any text
+  file: NAME            the block is the file NAME
+  with: NAME            the block needs the file NAME of this page, or `NAME of PAGE`
+  not run: REASON       the tests of pages don't type this block of `sh`: why, or which other test types it
+  run                   a test types this block of `sh` in a clone; `run: in the repository`: in this one
+  first: , then:        commands that the test types before and after the block
+  instead: OLD -> NEW   words that the test replaces in the block
+  prints:               the output; `..` is any text, and `the block below` is the text of the next block
 """
 
 import re

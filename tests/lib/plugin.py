@@ -1,6 +1,6 @@
 """The plugin of mupen64plus under test: its driver, microcode, an emulator's ROM, and plugins with a fault.
 
-`tools/python lib.plugin FOLDER [PROGRAM]` makes what the hunt of docs/PLUGIN.md needs: the plugin,
+`tools/python lib.plugin FOLDER [PROGRAM]` makes what the hunt of tests/plugin/HUNT.md needs: the plugin,
 one with a fault, and the ROM, whole and without the tasks that wait for the CPU.
 """
 

@@ -1,20 +1,22 @@
 """The idioms of docs/COOKBOOK.md that work on vectors, on random numbers, against mathematics.
 
 A block leaves sums and products of the numbers that went in, and the program leaves what the page's table of
-products has.
+products has. The page's list of idioms has as many words for each as its block.
 """
 
+import re
 from pathlib import Path
 from random import Random
 from typing import Callable, Dict, List, Tuple
 
 import pytest
 
-from lib.fixed_point import clamp, join_halves, pack_halves, random_half
-from lib.pages import block_with, replies, tables
+from lib.fixed_point import clamp, join_halves, pack_halves, random_half, to_signed
+from lib.pages import block_with, page, replies, tables
 
 ROUNDS = 8
 SCALAR = 31  # the vector register whose lane 0 shows the scalar register $1
+COOKBOOK = "docs/COOKBOOK.md"
 Lanes = List[int]
 Registers = Dict[int, Lanes]  # vector registers with their lanes
 Results = Dict[int, Lanes]  # the same, or only the first lanes, where the others aren't known
@@ -50,6 +52,12 @@ def fractions(v: Registers) -> Results:
     return {5: [clamp((it + 16384) // 32768) for it in sums]}
 
 
+def matrix(v: Registers) -> Results:
+    columns = [join_halves(v[n], v[n + 4]) for n in range(1, 5)]
+    sums = [sum(columns[k][i] * v[9][i // 4 * 4 + k] for k in range(4)) for i in range(8)]
+    return halves_of(10, 11, [clamp(to_signed(it, 48), 32) for it in sums])
+
+
 def long_sums(v: Registers) -> Results:
     sums, differences = [x + y for x, y in longs(v)], [x - y for x, y in longs(v)]
     high, low = [clamp(it >> 16) for it in sums], [it & 0xFFFF for it in sums]
@@ -61,14 +69,17 @@ def sum_of_lanes(v: Registers) -> Results:
     return {1: [sum(v[1])]}
 
 
-def larger_smaller(v: Registers) -> Results:
-    v[3] = [min(abs(it), 32767) for it in v[3]]
-    within = [max(-w, min(w, it)) for it, w in zip(v[1], v[3])]
+def max_and_min(v: Registers) -> Results:
     pairs = [*zip(v[1], v[2])]
-    return {5: [max(a, b) for a, b in pairs], 6: [min(a, b) for a, b in pairs], 7: within}
+    return {5: [max(a, b) for a, b in pairs], 6: [min(a, b) for a, b in pairs]}
 
 
-def choice(v: Registers) -> Results:
+def clamped(v: Registers) -> Results:
+    v[3] = [min(abs(it), 32767) for it in v[3]]
+    return {7: [max(-w, min(w, it)) for it, w in zip(v[1], v[3])]}
+
+
+def select(v: Registers) -> Results:
     return {5: [x if a < b else y for a, b, x, y in zip(v[1], v[2], v[6], v[7])]}
 
 
@@ -84,7 +95,16 @@ def clip_codes(v: Registers) -> Results:
     return {SCALAR: [low | high], 5: by_high, 6: within[6]}
 
 
-# By the beginning of a block its rule, which changes registers 1 to 7 to numbers that the block is for, and
+def newton_raphson(v: Registers) -> Results:
+    w = [max(65536, abs(it) // 2) for it in join_halves(v[1], v[2])]
+    r = [(1 << 31) // it * 511 // 512 for it in w]  # near 1 / 2w
+    for high, low, numbers in (1, 2, w), (3, 4, r):
+        v.update(halves_of(high, low, numbers))
+    v[5] = [1] * 8
+    return halves_of(8, 9, [4 * ((65536 - (x * y >> 16)) * y >> 16) for x, y in zip(w, r)])
+
+
+# By the beginning of a block its rule, which changes registers 1 to 9 to numbers that the block is for, and
 # returns the results.
 RULES: Dict[str, Callable[[Registers], Results]] = {
     "addiu $1, $0, 5": lambda v: {1: [5] * 8},
@@ -93,13 +113,16 @@ RULES: Dict[str, Callable[[Registers], Results]] = {
     "vmudn $v6, $v2, $v3": product_by_whole,
     "vmudl $v6, $v2, $v3": shift_right,
     "vmulf $v5, $v1, $v2[0]": fractions,
+    "vmudn $v11, $v5, $v9[0h]": matrix,
     "vaddc $v6, $v2, $v4": long_sums,
     "vadd  $v1, $v1, $v1[1q]": sum_of_lanes,
     "vabs  $v2, $v1, $v1": lambda v: {2: [min(abs(it), 32767) for it in v[1]]},
-    "vge   $v5, $v1, $v2": larger_smaller,
+    "vge   $v5, $v1, $v2": max_and_min,
+    "vch   $v7, $v1, $v3": clamped,
     "vge   $v2, $v1, $v1[1q]": lambda v: {2: [max(v[1])]},
-    "vlt   $v4, $v1, $v2": choice,
+    "vlt   $v4, $v1, $v2": select,
     "vch   $v5, $v1, $v3": clip_codes,
+    "vmudl $v7, $v2, $v4": newton_raphson,
 }
 
 
@@ -116,9 +139,9 @@ def run_block(program: Path, block: str, before: Registers) -> Registers:
 @pytest.mark.parametrize("start", RULES)
 def test_idiom(start: str, program: Path) -> None:
     """The block leaves what its rule says, in each of some rounds."""
-    block, random = block_with("docs/COOKBOOK.md", start), Random(start)
+    block, random = block_with(COOKBOOK, start), Random(start)
     for _ in range(ROUNDS):
-        before = {n: [random_half(random) for _ in range(8)] for n in range(1, 8)}
+        before = {n: [random_half(random) for _ in range(8)] for n in range(1, 10)}
         expected, after = RULES[start](before), run_block(program, block, before)
         found = {n: after[n][: len(lanes)] for n, lanes in expected.items()}
         assert found == {n: [it % 65536 for it in lanes] for n, lanes in expected.items()}, f"of {before}"
@@ -126,10 +149,19 @@ def test_idiom(start: str, program: Path) -> None:
 
 def test_products(program: Path) -> None:
     """The page's table of products, by its block."""
-    block = block_with("docs/COOKBOOK.md", "vmudn $v3, $v1, $v2[0]")
-    rows = [*tables("docs/COOKBOOK.md", "### Products")]
+    block = block_with(COOKBOOK, "vmudn $v3, $v1, $v2[0]")
+    rows = [*tables(COOKBOOK, "### Products")]
     assert rows
     for factors, *expected in rows:
         before = {n: [int(it, 16)] * 8 for n, it in enumerate(factors.split(" by "), 1)}
         after = run_block(program, block, before)
         assert [f"{after[n][0]:04x}" for n in (3, 4, 5, 6)] == " ".join(expected).split(), factors
+
+
+def test_words() -> None:
+    """The list of idioms has as many words for each as the block after its anchor."""
+    listed = re.findall(r"\]\(#([\w-]+)\) (\d+)", "".join(it for _, it in tables(COOKBOOK, "## Idioms")))
+    assert len(listed) > 15
+    for anchor, count in listed:
+        block = page(COOKBOOK).split(f'<a id="{anchor}"></a>')[1].split("```")[1]
+        assert len(block.strip().splitlines()) - 1 == int(count), anchor

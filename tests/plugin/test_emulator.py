@@ -23,7 +23,7 @@ RESULTS = 79  # calls of `check` in rom/cpu.c, with those in loops
 # The semaphore, what the DMA registers hold after a DMA, and a DMA round the end of DMEM:
 # conformance/Z64.md, at MFC0 and MTC0.
 Z64_WRONG = {0x602, 0x604, 0x605, 0x606, 0x609, 0x60A, 0x60B, 0x610, 0x611}
-HUNT = page("docs/PLUGIN.md").partition("\n## Find a planted fault\n")[2]
+HUNT = page("tests/plugin/HUNT.md")
 MESSAGES = re.findall(r"^(RSP\D*: check: .*)", HUNT, re.M)  # what check mode says, by the page
 PLAYS = r"(?ms)^(\S*mupen64plus --.*?[^\\])$"  # a command of the page
 
@@ -75,7 +75,7 @@ def remove_reports(hunt: Bench) -> None:
 
 @pytest.mark.needs(str(HEADERS), str(CORE))
 def test_hunt_of_page(hunt: Bench) -> None:
-    """The hunt of PLUGIN.md, by the same plugins on the same ROM, and the script of its difference."""
+    """The hunt of HUNT.md, by the same plugins on the same ROM, and the script of its difference."""
     remove_reports(hunt)
     output, _ = hunt.play(hunt.folder / "all.z64", hunt.plugin, 2, "CheckAgainst=./faulty-1.so")
     found = re.findall(r"^rsp \d check: (.*)", output, re.M)

@@ -6,7 +6,6 @@ Labels and explanations are those that ASSEMBLY's rules give, and the blocks do 
 import re
 import struct
 import subprocess
-import sys
 from operator import ge, gt, le, lt
 from pathlib import Path
 from random import Random
@@ -17,11 +16,11 @@ import pytest
 
 from lib import TOP
 from lib.fixed_point import clamp, read_halves
+from lib.overlay import link
 from lib.pages import block_with, page, tables
-from lib.processes import compiled
 
 ASSEMBLY = "docs/ASSEMBLY.md"
-MIPS = "mips-linux-gnu-gcc"
+FROM_LIBDRAGON = "docs/FROM_LIBDRAGON.md"
 HEADER = Path("/usr/include/mupen64plus/m64p_plugin.h")
 # Opcodes with a distance in words from the delay slot, and the codes of opcode 1 that have one.
 BRANCHES = (4, 5, 6, 7)
@@ -205,7 +204,7 @@ def test_lines_put_in(at: int, files: Files) -> None:
 
 @pytest.mark.parametrize("base, at", ((0x1000, 0x080), (0x04001000, 0xC80), (0x0FFFF000, 0x400)), ids=hex)
 def test_linked_elsewhere(base: int, at: int, files: Files) -> None:
-    """Code that was linked elsewhere has labels once its jumps are cleared, as ASSEMBLY.md clears them."""
+    """Code that was linked elsewhere has labels once its jumps are cleared, as the page clears them."""
     words = files.assemble(SUM, "--at", hex(at))
     linked = [word | base >> 2 if word >> 26 in (2, 3) else word for word in words]
     texts = [line for line in files.disassemble(linked, "--at", hex(at), "--labels") if line[0] != "L"]
@@ -215,7 +214,7 @@ def test_linked_elsewhere(base: int, at: int, files: Files) -> None:
         assert texts[i] == f".word {linked[i]:#010x}{comment_of(linked[i])}"
         assert f"{words[i]:#010x}" in texts[i]
     (files.folder / "linked.bin").write_bytes(pack_words(linked))
-    files.run_shell(block_with(ASSEMBLY, "python3 -c 'code"))
+    files.run_shell(block_with(FROM_LIBDRAGON, "python3 -c 'code"))
     cleared = unpack_words((files.folder / "ucode.bin").read_bytes())
     assert cleared == words
     check_edited(files, cleared, at)
@@ -444,44 +443,14 @@ def test_explanation_of_size(rsp: Any, folder: Path) -> None:
 # Blocks of pages.
 
 
-# An overlay as libdragon links it: what begins at 0 adds two words of its data, and a command at 040 stores
-# a part of its first word. `mark` is a label of data.
-OVERLAY = """
-    .set noreorder
-    .text
-    .globl _start
-_start: lw $a0, 0($0)
-    jal add
-    lw $a1, 4($0)
-    sw $v0, 8($0)
-    break
-add: jr $ra
-    addu $v0, $a0, $a1
-    .org 0x40
-command: andi $t0, $a0, 0xff
-    jr $ra
-    sw $t0, 12($0)
-    .data
-    .word 30, 12
-mark: .word 0, 0
-"""
-COMPILED = "-mabi=32 -march=vr4300 -mno-abicalls -fno-pic -G0 -nostdlib -static -x assembler".split()
-LINKED = "-Wl,-Ttext=0x04001000,-Tdata=0x04000000,--build-id=none".split()
-
-
-def link(folder: Path, text: str) -> None:
-    (folder / "overlay.S").write_text(text)
-    compiled(folder / "rsp_mine.elf", *COMPILED, folder / "overlay.S", *LINKED, compiler=MIPS)
-
-
 @pytest.fixture
 def overlay(files: Files) -> Files:
     """The files with an ELF, and what the page makes of it up to the cleared code."""
-    link(files.folder, OVERLAY)
-    names = files.run_shell(block_with(ASSEMBLY, "mips-linux-gnu-objcopy -O binary -j .text"))
-    for form in "04000008 . mark", "04001000 T _start", "04001014 t add", "04001040 t command":
+    link(files.folder)
+    names = files.run_shell(block_with(FROM_LIBDRAGON, "mips-linux-gnu-objcopy -O binary -j .text"))
+    for form in "04000008 . sum", "04001000 T _start", "04001014 t add", "04001040 t command":
         assert re.search(rf"(?m)^{form}$", names), names
-    files.run_shell(block_with(ASSEMBLY, "python3 -c 'code"))
+    files.run_shell(block_with(FROM_LIBDRAGON, "python3 -c 'code"))
     return files
 
 
@@ -490,23 +459,23 @@ def test_elf_of_page(overlay: Files) -> None:
     """The text of the code has labels, by the ELF's names too, and is its bytes; and the code runs."""
     linked, code = ((overlay.folder / f"{name}.bin").read_bytes() for name in ("linked", "ucode"))
     assert ".word 0x0d000405" in overlay.disassemble(unpack_words(linked))
-    output = overlay.run_shell(block_with(ASSEMBLY, "rsp dis ucode.bin --labels > ucode.s"))
+    output = overlay.run_shell(block_with(FROM_LIBDRAGON, "rsp dis ucode.bin --labels > ucode.s"))
     assert output == f"ok {len(code) // 4} words\n" and (overlay.folder / "ucode.bin").read_bytes() == code
     assert "\njal L014\n" in (overlay.folder / "ucode.s").read_text()
-    overlay.run_shell(block_with(ASSEMBLY, "mips-linux-gnu-nm"))
+    overlay.run_shell(block_with(FROM_LIBDRAGON, "mips-linux-gnu-nm"))
     named = (overlay.folder / "ucode.s").read_text().splitlines()
     assert "jal add" in named and "add:" in named and overlay.assemble(named) == unpack_words(code)
     assert (overlay.folder / "data.bin").read_bytes() == pack_words([30, 12, 0, 0])
-    output = overlay.run_shell(block_with(ASSEMBLY, "loads() {"))
+    output = overlay.run_shell(block_with(FROM_LIBDRAGON, "loads() {"))
     assert output.endswith("stop Halted steps 7 pc 014\n000000: 0000001e0000000c0000002a00000000\n")
 
 
 @pytest.mark.needs("mips-linux-gnu-gcc")
 def test_command_of_overlay(overlay: Files) -> None:
     """The page's caller calls the command, which returns to it."""
-    loads = block_with(ASSEMBLY, "loads() {").replace("| rsp run", "")
+    loads = block_with(FROM_LIBDRAGON, "loads() {").replace("| rsp run", "")
     lines = overlay.run_shell(loads).partition("run")[0]
-    output = overlay.run(lines + block_with(ASSEMBLY, "asm 0xf80"))
+    output = overlay.run(lines + block_with(FROM_LIBDRAGON, "asm 0xf80"))
     assert output.endswith("stop Halted steps 8 pc f94\n000000: 0000001e0000000c0000000000000007\n")
 
 
@@ -535,14 +504,14 @@ def test_scalar_names(files: Files) -> None:
     numbers = scalar_names()
     lines = [f"addu $1, ${name}, $0" for name in numbers]
     link(files.folder, "\n".join([".set noat", ".text", "_start: .globl _start", *lines, ""]))
-    files.run_shell(block_with(ASSEMBLY, "mips-linux-gnu-objcopy -O binary -j .text").splitlines()[0])
+    files.run_shell(block_with(FROM_LIBDRAGON, "mips-linux-gnu-objcopy -O binary -j .text").splitlines()[0])
     words = unpack_words((files.folder / "linked.bin").read_bytes())[: len(lines)]
     assert len(lines) == 31 and files.assemble(lines) == words
     assert [word >> 21 & 31 for word in words] == list(numbers.values())
 
 
 def test_jump_of_page(files: Files) -> None:
-    line = block_with(ASSEMBLY, ".word 0x09000402 #").rstrip("\n")
+    line = block_with(FROM_LIBDRAGON, ".word 0x09000402 #").rstrip("\n")
     assert files.disassemble([0x09000402], "--labels") == [line]
 
 
@@ -554,9 +523,8 @@ def test_task_of_page(files: Files) -> None:
         made = pack_words(files.assemble(text.splitlines(), "--at", at))
         (files.folder / name).write_bytes(made + bytes(-len(made) % 8))
     (files.folder / "data.bin").write_bytes(data)
-    block = block_with("docs/MACHINE.md", "import struct")
-    subprocess.run([sys.executable, "-c", block], cwd=files.folder, check=True)
-    replies = files.run("task 0x100\nrun 1000000\nmem rdram 0x8000 16\n", "--rdram", "image")
-    assert replies.startswith("ok\nstop Halted")
+    (files.folder / "boot.s").write_text(texts[1])
+    (files.folder / "examples").symlink_to(TOP / "examples")
+    assert "\nok\nstop Halted" in files.run_shell(block_with("docs/MACHINE.md", "rsp asm boot.s boot.bin"))
     sums = [clamp(a + b) for a, b in zip(read_halves(data, 0), read_halves(data, 16))]
-    assert read_halves(bytes.fromhex(replies.split(": ")[-1]), 0) == sums
+    assert read_halves((files.folder / "image").read_bytes()[:0x8010], 0x8000) == sums

@@ -10,10 +10,12 @@ isn't there. They run nothing and prove nothing.
                                   tests are there
   docs/data/streams.tsv           each clause of run_bench
   docs/data/without_mutations.tsv   each crate without a file must-fail/*.edit
+  docs/data/unproved.tsv          each file that is linked into what we ship, or included from it, or changes
+                                  it, and isn't proved, with its tests
 
 Each part of what GUARANTEES has as proved has a contract or a law in the first two, and they have no other
-part. GUARANTEES names each module of the kit whose definitions the main theorem cites, and with its test each
-file that is linked into what we ship, or included from it, or changes it, and isn't proved.
+part. GUARANTEES names each module of the kit whose definitions the main theorem cites, and READING the
+definitions of which the contract of run_bench is made.
 """
 
 import ast
@@ -23,15 +25,14 @@ from pathlib import Path
 from typing import Dict, Iterator, List, NamedTuple, Optional, Set, Tuple
 
 from lib import TESTS, TOP
-from lib.definitions import rests_on, used_by
-from lib.pages import data, page, tables
+from lib.definitions import MAIN_THEOREM, rests_on, used_by
+from lib.pages import data, page
 from lib.processes import run
 from lib.same_items import assert_same_items
 from rsp_tools.page_tables import crates
 from rsp_tools.systems import helpers, wasm
 
 GUARANTEES = "docs/GUARANTEES.md"
-MAIN_THEOREM = TOP / "crates/rsp_bench/src/run.rt"
 # What a source is read by: the beginning and the end of a block of methods, a function, a precondition, and a
 # promise, which may have no name. Below are simpler forms, of which each must be found by it.
 FOUND = re.compile(
@@ -175,14 +176,14 @@ def headers() -> Set[str]:
 
 
 def test_unproved_files() -> None:
-    """GUARANTEES lists each such file, and each header with code, with its tests, which are there."""
-    rows = {row[0].strip("`"): row[3] for row in tables(GUARANTEES, "## Assumed") if len(row) == 4}
+    """The table has each such file, and each header with code, with its tests, which are there."""
+    rows = {row["File"]: row["Tested by"] for row in data("unproved")}
     files = {name for name in rows if name.endswith(".c")}
     assert {name.rpartition("/")[2] for name in files} == linked()
     # What changes the kit's module before or after clang compiles it.
     changing = {f"tools/rsp_tools/systems/{it}.py" for it in ("rewriting", "objects", "lowering")}
     assert {*rows} == files | headers() | changing
-    tests = {name: re.findall(r"`(tests/[^`]*)`", cell) for name, cell in rows.items()}
+    tests = {name: re.findall(r"tests/[\w/.]*\w", cell) for name, cell in rows.items()}
     assert [name for name, paths in tests.items() if not paths] == []
     assert [it for it in (*rows, *sum(tests.values(), [])) if not (TOP / it).exists()] == []
 
@@ -277,11 +278,11 @@ def test_contracts() -> None:
 
 
 def test_streams() -> None:
-    """The table has each clause of run_bench, by its first word, and GUARANTEES what they use of Run.antt."""
+    """The table has each clause of run_bench, by its first word, and READING what they use of Run.antt."""
     clauses = {name for _, call, name in promises() if call == "run_bench"}
     assert_same_items({row["Clause"].split()[0] for row in data("streams")}, clauses)
     (names,) = (names for module, names in used_by(MAIN_THEOREM) if module == "Rattle.rsp_bench.specs.Run")
-    (listed,) = re.findall(r"`rsp_bench/specs/Run.antt`:\n\n((?:- .*\n)+)", page(GUARANTEES))
+    (listed,) = re.findall(r"`rsp_bench/specs/Run.antt`:\n\n((?:- .*\n)+)", page("docs/READING.md"))
     assert_same_items(re.findall(r"(?m)^- `(\w+)", listed), names)
 
 

@@ -1,5 +1,5 @@
 """The library's calls on each system: each in its range and out of it, each allocation failing, the stack
-that a call uses, threads, and the lock step of examples."""
+that a call uses, threads, and the lockstep of examples."""
 
 from typing import Any
 

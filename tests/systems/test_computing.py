@@ -1,5 +1,5 @@
 """What the library computes on each system: all test vectors, and ten million steps of random programs of all
-instructions, DMA, undo, traces and watches among them, in lock step with Linux on x86-64.
+instructions, DMA, undo, traces and watches among them, in lockstep with Linux on x86-64.
 
 A library with a wrong table has to be found by both.
 """

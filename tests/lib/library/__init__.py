@@ -3,5 +3,5 @@
 from lib.pages import block_with, page
 
 LOCKSTEP = page("examples/c/lockstep.expected")
-# What docs/EMBEDDING.md says that the examples of first_difference print.
-FIRST_DIFFERENCE = block_with("docs/EMBEDDING.md", "step 3").lstrip("\n")
+# What docs/EMULATOR.md says that the examples of first_difference print.
+FIRST_DIFFERENCE = block_with("docs/EMULATOR.md", "step 3").lstrip("\n")

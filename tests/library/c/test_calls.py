@@ -1,4 +1,4 @@
-"""Each call of the library from C and C++, and what docs/EMBEDDING.md and brsp.h say of memory and threads.
+"""Each call of the library from C and C++, and what docs/EMULATOR.md and brsp.h say of memory and threads.
 
 They fail if a call in its range or out of it does something else, also under valgrind and with each
 allocation failing; if a call uses more stack than brsp.h says (stack.c), or another takes memory than those
@@ -37,12 +37,11 @@ def test_lockstep(compiler: str, folder: Path) -> None:
 
 @by_both
 def test_page(compiler: str, folder: Path) -> None:
-    """The program at the top of EMBEDDING.md, and its section for emulators, print what the page says."""
-    text = page("docs/EMBEDDING.md")
-    expected = re.findall(r"It prints `(.*)`", text)[0]
+    """The program at the top of EMBEDDING.md, and the calls of EMULATOR.md, print what the pages say."""
+    expected = re.findall(r"It prints `(.*)`", page("docs/EMBEDDING.md"))[0]
     first = block_with("docs/EMBEDDING.md", '#include "brsp.h"')
     assert output_of(folder, first, compiler) == f"{expected}\n"
-    section = re.findall(r"(?ms)^## The calls for an emulator\n(.*?)^## ", text)[0]
+    section = re.findall(r"(?ms)^## The calls for an emulator\n(.*?)^## ", page("docs/EMULATOR.md"))[0]
     lines = re.findall(r"[Tt]his\sprints\s`([^`]*)`", section)
     begin = "static const uint8_t image[64] = { 0 };\nbrsp_machine m = BRSP_NONE;\n"
     begin += "if (brsp_new(&m, image, 64, 100) != BRSP_OK) return 1;\n"
@@ -52,9 +51,9 @@ def test_page(compiler: str, folder: Path) -> None:
 
 @pytest.mark.needs("c++")
 def test_console(folder: Path) -> None:
-    """The console of the examples, which owns RDRAM, beside a machine that has all inside. EMBEDDING.md says
+    """The console of the examples, which owns RDRAM, beside a machine that has all inside. EMULATOR.md says
     how long it is."""
-    (lines,) = re.findall(r"(\d+) lines of\sC\+\+17", page("docs/EMBEDDING.md"))
+    (lines,) = re.findall(r"(\d+)\slines\sof\sC\+\+17", page("docs/EMULATOR.md"))
     assert len(CONSOLE.read_text().splitlines()) == int(lines) <= 120
     assert_passes(built(folder, HERE / "host.cpp", *BY_CONSOLE, compiler="c++"))
 

@@ -15,6 +15,7 @@ from typing import Dict, Tuple
 import pytest
 
 from lib import TOP, devices
+from lib.packages import need
 from lib.pages import blocks, page
 from lib.processes import compiled, run, succeeds
 from lib.sanitizers import sanitizers
@@ -145,9 +146,11 @@ def test_line_of_page(runner: Path, program: Path, folder: Path) -> None:
     assert run(runner, folder / "changed").stdout == f"{exchanged}19 passed, 1 failed\n"
 
 
-def test_emulator_of_page(folder: Path, vectors: bytes, library: Path) -> None:
-    """The functions that the page names are all that it takes: an emulator with these is linked, and named if
-    it executes nothing."""
+@pytest.mark.parametrize("compiler, end", [("cc", "c"), ("c++", "cpp")])
+def test_emulator_of_page(compiler: str, end: str, folder: Path, vectors: bytes, library: Path) -> None:
+    """The functions that the page names are all that it takes, in C and in C++: an emulator with these is
+    linked, and named if it executes nothing."""
+    need(compiler)
     text = " ".join(page("conformance/README.md").split())
     (sentence,) = re.findall(r"`mine\.c` defines (.*?), with", text)
     names = re.findall(r"`(brsp_\w+)`", sentence)
@@ -155,11 +158,13 @@ def test_emulator_of_page(folder: Path, vectors: bytes, library: Path) -> None:
     calls = [re.search(rf"(?m)^\w+ {name}\(.*\);$", header) for name in names]
     assert len(calls) == 7 and all(calls)
     bodies = [f"{it[0][:-1]} {{ {'' if it[0].startswith('void') else 'return 0; '}}}\n" for it in calls if it]
-    (folder / "mine.c").write_text("".join(['#include "brsp.h"\n', *bodies]))
-    sources = TOP / "conformance/runner.c", TOP / "library/c/helpers/texts.c", folder / "mine.c"
-    made = compiled(folder / "mine", f"-I{library}", *sources)
+    (folder / f"mine.{end}").write_text("".join(['#include "brsp.h"\n', *bodies]))
+    sources = TOP / "conformance/runner.c", TOP / "library/c/helpers/texts.c"
+    succeeds("cc", "-O2", "-c", f"-I{library}", *sources, cwd=folder)
+    words = ("-O2", f"-I{library}", f"mine.{end}", "runner.o", "texts.o", "-o", "mine")
+    succeeds(compiler, *words, cwd=folder)
     (folder / "SW.bin").write_bytes(vectors)
-    ran = run(made, folder / "SW.bin")
+    ran = run(folder / "mine", folder / "SW.bin")
     assert ran.returncode == 1 and ran.stdout.startswith("SW-000 (sw ")
     assert ran.stdout.endswith("\n0 passed, 20 failed\n")
 

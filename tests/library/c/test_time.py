@@ -1,4 +1,4 @@
-"""How long a call of the library takes at most: what docs/EMBEDDING.md says of the number of its steps.
+"""How long a call of the library takes at most: what docs/EMULATOR.md says of the number of its steps.
 
 It fails if so many of the slowest steps that a search found take longer than the page says, by the
 processor's time, the least of five calls.
@@ -17,7 +17,7 @@ pytestmark = [
     pytest.mark.usefixtures("library"),
     pytest.mark.outside("it measures milliseconds, which other work on the processor makes longer"),
 ]
-TEXT = " ".join(page("docs/EMBEDDING.md").split())
+TEXT = " ".join(page("docs/EMULATOR.md").split())
 # 256 rows of 4096 bytes with a skip; the moves to SP_RD_LEN and SP_WR_LEN, and a store.
 LARGEST, DMA_IN, DMA_OUT, STORE = 0xEC8FFFFF, 0x40811000, 0x40811800, 0xAC000000
 

@@ -26,6 +26,7 @@ import rsp
 from lib import TOP
 from lib.library import module
 from lib.library.module import loaded
+from lib.overlay import link
 from lib.pages import block_with, page
 from lib.processes import run, succeeds
 from rsp.gdb import Stub, Wire, after_script
@@ -162,6 +163,16 @@ def test_session(name: str, folder: Path) -> None:
     assert not re.search("identical|corrupt|SIGTRAP|qrsp.texts|m4001000,1000", output)
 
 
+def check_page(name: str, command: str, begin: str, folder: Path, before: str = "") -> None:
+    """GDB, started by a command of the page, replies to the session that begins so what the page shows."""
+    path = f"{folder}:{Path(sys.executable).parent}:{os.environ['PATH']}"
+    session = block_with(name, f"(gdb) {begin}")
+    typed = before + "\n".join(re.findall(r"(?m)^\(gdb\) (.*)$", session))
+    words = "sh", "-ec", block_with(name, command)
+    output = succeeds(*words, cwd=folder, env={**ENV, "PATH": path}, input=typed)
+    assert_parts(output, [it for it in session.splitlines() if it and not it.startswith("(gdb)")])
+
+
 @with_gdb
 @pytest.mark.parametrize("text, begin", (("scale.s scale", "| rsp-gdb --script"), ("names.s", "| rsp-gdb\n")))
 def test_page(text: str, begin: str, folder: Path) -> None:
@@ -172,13 +183,17 @@ def test_page(text: str, begin: str, folder: Path) -> None:
     (folder / "names.s").write_text("start: ori $17, $0, limit\nbreak\n")
     (folder / "data.s").write_text(block_with(name, "# DMEM: the samples"))
     (folder / "data.rsp").write_text(re.findall("`(load dmem .*?)`", page(name))[0])
-    session = block_with(name, f"(gdb) target remote {begin}")
     (folder / "examples").symlink_to(TOP / "examples")
-    path = f"{folder}:{Path(sys.executable).parent}:{os.environ['PATH']}"
-    typed = "\n".join(re.findall(r"(?m)^\(gdb\) (.*)$", session))
-    words = "sh", "-ec", block_with(name, f"python3 examples/python/make_elf.py {text}")
-    output = succeeds(*words, cwd=folder, env={**ENV, "PATH": path}, input=typed)
-    assert_parts(output, [it for it in session.splitlines() if it and not it.startswith("(gdb)")])
+    check_page(name, f"python3 examples/python/make_elf.py {text}", f"target remote {begin}", folder)
+
+
+@with_gdb
+@pytest.mark.parametrize("begin, before", (("target", ""), ("set var", "target remote | rsp-gdb\nload\n")))
+def test_page_for_libdragon(begin: str, before: str, folder: Path) -> None:
+    """The sessions of the page, on an ELF with libdragon's addresses."""
+    made(folder)
+    link(folder)
+    check_page("docs/FROM_LIBDRAGON.md", "gdb-multiarch", begin, folder, before)
 
 
 @with_gdb

@@ -6,7 +6,6 @@ of examples/ and of docs/COOKBOOK.md lacks none.
 
 import re
 import sys
-import textwrap
 from pathlib import Path
 from typing import Any, Dict, List, Optional, Tuple
 
@@ -279,17 +278,18 @@ def test_microcode(path: Path) -> None:
         assert list(rsp.waits.missing(machine)) == [], line
 
 
-def test_cookbook(folder: Path) -> None:
-    """The code of the page names the load that it says, in the loop of two buffers without its wait."""
+def test_cookbook() -> None:
+    """The page's code prints what it says of the example, which is the page's loop without its wait; of the
+    loop with its wait, `missing` finds nothing."""
     name = "docs/COOKBOOK.md"
-    code, line = (block_with(name, "import rsp, rsp.waits", more) for more in (0, 1))
+    code, lines = (block_with(name, "import rsp, rsp.waits", more) for more in (0, 1))
+    assert succeeds(sys.executable, "-c", code, cwd=TOP, env=ENV) == lines
     block = block_with(name, "        jal   fetch             # the first block")
-    text = "ori $1, $0, 0x800\nori $7, $0, 0xc00\n" + block.replace("# its address", "\nlw $5, 0($4)")
-    assert rsp.slow.difference(loaded(text)) is None
-    for program, expected in (text, []), (re.sub(r"(?m)^(next:).*\n.*\n", r"\1\n", text), [line.strip()]):
-        (folder / "text.s").write_text(program)
-        output = succeeds(sys.executable, "-c", textwrap.dedent(code), cwd=folder, env=ENV)
-        assert output.splitlines()[:1] == expected
+    right = "ori $1, $0, 0x800\nori $7, $0, 0xc00\n" + block.replace("# its address", "\nlw $5, 0($4)")
+    assert rsp.slow.difference(loaded(right)) is None
+    assert list(rsp.waits.missing(loaded(right))) == []
+    wrong = re.sub(r"(?m)^(next:).*\n.*\n", r"\1\n", right)
+    assert rsp.assemble(wrong) == rsp.assemble((TOP / "examples/double_buffer_no_wait.s").read_text())
 
 
 @pytest.mark.needs("cc")
