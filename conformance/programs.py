@@ -23,7 +23,7 @@ def fields_of(program: Dict[str, Any]) -> Dict[int, str]:
     """What the bytes of DMEM are after a program, by their address: a case and a field of its results."""
     fields = {}
     for case in program["cases"]:
-        mark = ", choice" if "choice" in case else ""
+        mark = f"; choice: {case['choice']}" if "choice" in case else ""
         for field, offset, length in program["layouts"][case["layout"]]:
             for at in range(length):
                 address = (int(case["at"], 16) + offset + at) % 4096

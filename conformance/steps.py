@@ -15,14 +15,16 @@ README.md lists the registers with their digits. mine.py may also have
     LACKS = {"interrupt", "rdram"}   registers and memories that are neither set nor compared
     divide(text), a method of Rsp    sets DIV_OUT by two instructions: README.md says which
 
-Each register or byte that differs is printed in a line. The status is 0 if all cases passed, otherwise 1.
+If step() raises NotImplementedError, the case is skipped. Each register or byte that differs is printed in
+a line, with the rule that we chose if the case depends on one. The status is 0 if no case failed and one
+passed, otherwise 1.
 """
 
 import fileinput
 import json
 import os
 import sys
-from typing import Any, Dict, Iterator, Tuple
+from typing import Any, Dict, Iterator, List, Tuple
 
 SIZES = {"dmem": 4096, "imem": 4096, "rdram": 131072}
 # The registers before a case, unless the case says otherwise.
@@ -73,6 +75,26 @@ def differences(rsp: Any, case: Dict[str, Any], lacks: Any) -> Iterator[Tuple[st
                     yield f"{bank} {at:03x}", f"{expected:02x}", f"{byte:02x}"
 
 
+def run(mine: Any, cases: List[Dict[str, Any]]) -> Dict[str, int]:
+    """Prints what differs in each case, and counts the cases by what became of them."""
+    counts = dict.fromkeys(("passed", "failed", "choices", "skipped"), 0)
+    for case in cases:
+        try:
+            wrong = [*differences(mine.Rsp(), case, getattr(mine, "LACKS", ()))]
+        except NotImplementedError:
+            counts["skipped"] += 1
+            continue
+        except Exception:
+            print(f"steps.py: an exception in {case['name']} ({case['text']}):", file=sys.stderr)
+            raise
+        mark = f"; choice: {case['choice']}" if "choice" in case else ""
+        for what, expected, got in wrong:
+            print(f"{case['name']} ({case['text']}{mark}), {what}: expected {expected}, got {got}")
+        counts["failed" if wrong else "passed"] += 1
+        counts["choices"] += bool(wrong and mark)
+    return counts
+
+
 def main() -> int:
     if not sys.argv[1:] or sys.argv[1] in ("-h", "--help"):
         print(__doc__, end="")
@@ -90,15 +112,13 @@ def main() -> int:
     except (OSError, ValueError) as error:
         sys.exit(f"steps.py: can't read the cases of {fileinput.filename()}: {error}")
 
-    passed = failed = 0
-    for case in cases:
-        wrong = [*differences(mine.Rsp(), case, getattr(mine, "LACKS", ()))]
-        mark = ", choice" if "choice" in case else ""
-        for what, expected, got in wrong:
-            print(f"{case['name']} ({case['text']}{mark}), {what}: expected {expected}, got {got}")
-        passed, failed = passed + (not wrong), failed + bool(wrong)
-    print(f"{passed} passed, {failed} failed")
-    return int(failed > 0 or not passed)
+    counts = run(mine, cases)
+    choices = f" ({counts['choices']} with a choice)" if counts["choices"] else ""
+    skipped = f", {counts['skipped']} skipped" if counts["skipped"] else ""
+    print(f"{counts['passed']} passed, {counts['failed']} failed{choices}{skipped}")
+    if lacks := ", ".join(sorted(getattr(mine, "LACKS", ()))):
+        print(f"not compared: {lacks}")
+    return int(counts["failed"] > 0 or not counts["passed"])
 
 
 if __name__ == "__main__":

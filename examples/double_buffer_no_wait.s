@@ -6,11 +6,14 @@
         jal   fetch             # the first block
         ori   $2, $0, 0x400
 next:   ori   $4, $2, 0         # before this, wait until the block has come
-        lw    $5, 0($4)         # the work on the block at $4
         xori  $2, $2, 0x100     # the next block comes to the other buffer
         jal   fetch
         addiu $1, $1, 256
+        lw    $5, 0($4)         # the work on the block at $4
         bne   $1, $7, next
+        nop
+last:   mfc0  $3, $c6
+        bne   $3, $0, last
         nop
         break
 fetch:  mtc0  $2, $c0

@@ -48,7 +48,7 @@ static void take(walk *w, walk *copy)
     memset(copy->found, 0, sizeof copy->found);
 }
 
-/* Names the read of a wait that leaves something behind if it turns. The copy that waits is answered that all is done, and has to come to the
+/* Names the read of a wait that changes something if it repeats. The copy that waits is answered that all is done, and has to come to the
  * instruction at which the machine leaves the wait, with the same registers and the same DMEM. */
 static void name_turn(walk *w, walk *copy, brsp_machine *out)
 {
@@ -57,7 +57,7 @@ static void name_turn(walk *w, walk *copy, brsp_machine *out)
     look(&copy->m, &turned), look(out, &straight);
     early *found = &w->found[turned.state.pc / 4];
     brsp_add_break(&copy->m, straight.state.pc), brsp_run(&copy->m, AHEAD, &stop), look(&copy->m, &turned);
-    if (turned.state.pc == straight.state.pc && memcmp(&turned, &straight, sizeof turned) != 0) *found = (early){ "leaves something behind if it turns", w->orders[w->count - 1].place };
+    if (turned.state.pc == straight.state.pc && memcmp(&turned, &straight, sizeof turned) != 0) *found = (early){ "changes something if it repeats", w->orders[w->count - 1].place };
 }
 
 /* Follows a copy that is answered that the last transfers are under way. A load between a read and the branch at which the ways part doesn't count,

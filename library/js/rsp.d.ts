@@ -506,7 +506,8 @@ export interface FirstDifference extends Line {
  * Breakpoints and watches are ignored. First the machine's registers and memories are copied into the emulator. Then
  * both run in stretches of at most `every` steps, 1 to 1000000, which end before a DMA. After each stretch all registers,
  * DMEM and IMEM are compared, after a DMA also the bytes of RDRAM to which it wrote, and at the end all of RDRAM. If
- * they differ, both go back to the last comparison and are stepped from there. Both are left after the step that differs,
+ * they differ, both go back to the last comparison and are stepped from there. (A wrong value that is overwritten before
+ * the end of its stretch isn't seen: with 1 for `every` none is missed.) Both are left after the step that differs,
  * and the machine's history is empty. Throws a RangeError if the emulator gives too few or too many bytes. */
 export function first_difference(
   machine: Machine, emulator: Emulator, every?: number, limit?: number,

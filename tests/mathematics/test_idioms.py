@@ -164,4 +164,4 @@ def test_words() -> None:
     assert len(listed) > 15
     for anchor, count in listed:
         block = page(COOKBOOK).split(f'<a id="{anchor}"></a>')[1].split("```")[1]
-        assert len(block.strip().splitlines()) - 1 == int(count), anchor
+        assert len(re.findall(r"(?m)^ *\w", block)) - 1 == int(count), anchor

@@ -184,13 +184,15 @@ def output_of_runner(name: str, path: Path, rsp_class: Any = None, lacks: Sequen
     with patch.dict(sys.modules, mine=mine), words, patch.object(sys, "path", [*sys.path]):
         with contextlib.redirect_stdout(output), pytest.raises(SystemExit) as ended:
             runpy.run_path(str(TOP / f"conformance/{name}.py"), run_name="__main__")
-    assert bool(ended.value.code) == (not output.getvalue().endswith(" passed, 0 failed\n"))
+    ((passed, failed),) = re.findall(r"(?m)^(\d+) passed, (\d+) failed", output.getvalue())
+    assert ended.value.code == (failed != "0" or passed == "0")
     return output.getvalue()
 
 
 def head_of(entry: Dict[str, Any]) -> str:
-    """The beginning of a runner's line about a case, in which a choice is marked."""
-    return f"{entry['name']} ({entry['text']}{', choice' * ('choice' in entry)}), "
+    """The beginning of a runner's line about a case, with the choice on which it depends."""
+    mark = f"; choice: {entry['choice']}" if "choice" in entry else ""
+    return f"{entry['name']} ({entry['text']}{mark}), "
 
 
 RUNNERS = pytest.mark.parametrize("name", ("VADDC", "SQV", "MTC0", "BEQ", "STV"))
@@ -209,7 +211,8 @@ def test_runners_of_steps(name: str, program: Path, library: Path, folder: Path)
         for false, found in zip(spoilt, steps.run_entries(str(program), spoilt)):
             path.write_text(json.dumps(false))
             output = output_of_runner("steps", path)
-            assert output.startswith(head_of(entry)) and output.endswith("\n0 passed, 1 failed\n"), false
+            end = f"\n0 passed, 1 failed{' (1 with a choice)' * ('choice' in entry)}\n"
+            assert output.startswith(head_of(entry)) and output.endswith(end), false
             assert found and all(complaint.startswith(f"{entry['name']} (") for complaint in found), false
 
 
@@ -273,9 +276,41 @@ def test_runner_for_an_emulator_that_lacks_registers(name: str, library: Path) -
             self.step()
 
     path, count = VECTORS / f"steps/{name}.jsonl", len(entries_in(VECTORS, name))
-    assert output_of_runner("steps", path, Lacking, lacks) == f"{count} passed, 0 failed\n"
+    end = "not compared: c15, interrupt, rdram\n"
+    assert output_of_runner("steps", path, Lacking, lacks) == f"{count} passed, 0 failed\n{end}"
     del Lacking.divide
     assert not output_of_runner("steps", path, Lacking, lacks).startswith(f"{count} passed")
+
+
+def test_runner_for_an_emulator_that_lacks_an_instruction(library: Path, capsys: Any) -> None:
+    """What `step` refuses by NotImplementedError is skipped; the case of another exception is named. The
+    failed cases with a choice are counted apart."""
+    whole: Any = runner_class()
+
+    class Lacking(whole):
+        refusal: Any = NotImplementedError
+
+        def get(self, key: str) -> str:
+            return "0" if key == "interrupt" else str(super().get(key))
+
+        def step(self) -> None:
+            if self.get("pc") != "000":
+                raise self.refusal
+            super().step()
+
+    path, entries = VECTORS / "steps/BREAK.jsonl", entries_in(VECTORS, "BREAK")
+    tried = [it for it in entries if "pc" not in it["before"]]
+    wrong = [it for it in tried if "1" in (it["before"].get("interrupt"), it["after"].get("interrupt"))]
+    lines = [f"{head_of(it)}interrupt: expected 1, got 0" for it in wrong]
+    counts = f"{len(tried) - len(wrong)} passed, {len(wrong)} failed ({len(wrong)} with a choice), "
+    skipped = f"{len(entries) - len(tried)} skipped"
+    assert wrong and "; choice: pc after BREAK), " in lines[0]
+    assert output_of_runner("steps", path, Lacking) == "\n".join([*lines, counts + skipped, ""])
+    Lacking.refusal = KeyError
+    with pytest.raises(KeyError):
+        output_of_runner("steps", path, Lacking)
+    first = next(it for it in entries if it not in tried)
+    assert f"steps.py: an exception in {first['name']} (break):\n" == capsys.readouterr().err
 
 
 @pytest.mark.parametrize("name, file", (("steps", "steps/SW.jsonl"), ("programs", "programs/SW.json")))

@@ -107,7 +107,8 @@ def first_difference(
     First the machine's registers and memories are copied into the emulator. Then both run in stretches of at
     most `every` steps, 1 to 1000000, which end before a DMA. After each stretch all registers, DMEM and IMEM
     are compared, after a DMA also the bytes of RDRAM that it wrote, and at the end all of RDRAM. If they
-    differ, both go back to the last comparison and are stepped from there. Both are left after the step
+    differ, both go back to the last comparison and are stepped from there. (A wrong value that is overwritten
+    before the end of its stretch isn't seen: with `every=1` none is missed.) Both are left after the step
     that differs, and the machine's history is empty. Raises RspError with OUT_OF_RANGE if `every` or `limit`,
     0 to 4294967295, isn't in its range, and ValueError if the emulator gives too few or too many bytes.
     """

@@ -78,7 +78,7 @@ class Transfer(NamedTuple):
 class Missing(NamedTuple):
     """An instruction before which a wait is missing: the `transfer`, the instruction's address `place` and
     its `text`, and `what` it does: `loads`, `stores`, `is fetched`, `writes a DMA register` or `ends`. Or the
-    instruction is a read in a wait, and `what` is `leaves another $18 behind if it turns`, for the first
+    instruction is a read in a wait, and `what` is `changes $18 if it repeats`, for the first
     register that is another one then, or the first quadword of DMEM.
 
     `read` is None, or the address of the last read of an SP register before the instruction, if the fault
@@ -218,7 +218,7 @@ class _Walk:
             return []
         mine, its = ([it.memory(DMEM, 0, 4096)] for it in (turned, out))
         parts = [*turned.get().diff(out.get()), *quadwords(mine, its)][:1]
-        whats = (f"leaves another {it.name} behind if it turns" for it in parts)
+        whats = (f"changes {it.name} if it repeats" for it in parts)
         return [Missing(copy.transfers[-1], read.address, read.text, it) for it in whats]
 
     def _write(self, pc: int, move: Move) -> List[Missing]:

@@ -182,7 +182,7 @@ def test_wrong(name: str) -> None:
     assert sorted(named(program)) == sorted(expected)
 
 
-# What a wait leaves behind if it turns, by what is in its delay slot.
+# What a wait changes if it repeats, by what is in its delay slot.
 LEAVES_BEHIND = {
     "addiu $18, $18, -1": "$18",
     "sb $4, 0x12($4)": "DMEM 010",
@@ -198,7 +198,7 @@ def test_turns(slot: str) -> None:
     """A wait in whose delay slot a counter, a store or bits go on, and others that may turn."""
     machine = loaded(BEGIN + GET + wait().replace("nop", slot) + "break\n")
     name, found = LEAVES_BEHIND[slot], [*rsp.waits.missing(machine, at_end=True)]
-    what = f"leaves another {name} behind if it turns"
+    what = f"changes {name} if it repeats"
     assert [(it.place, it.what, it.transfer.place) for it in found] == [(0x18, what, 0x14)] * bool(name)
 
 
@@ -285,9 +285,9 @@ def test_cookbook() -> None:
     code, lines = (block_with(name, "import rsp, rsp.waits", more) for more in (0, 1))
     assert succeeds(sys.executable, "-c", code, cwd=TOP, env=ENV) == lines
     block = block_with(name, "        jal   fetch             # the first block")
-    right = "ori $1, $0, 0x800\nori $7, $0, 0xc00\n" + block.replace("# its address", "\nlw $5, 0($4)")
+    right = "ori $1, $0, 0x800\nori $7, $0, 0xc00\n" + block.replace("# here work", "lw $5, 0($4) # work")
     assert rsp.slow.difference(loaded(right)) is None
-    assert list(rsp.waits.missing(loaded(right))) == []
+    assert list(rsp.waits.missing(loaded(right), at_end=True)) == []
     wrong = re.sub(r"(?m)^(next:).*\n.*\n", r"\1\n", right)
     assert rsp.assemble(wrong) == rsp.assemble((TOP / "examples/double_buffer_no_wait.s").read_text())
 
@@ -299,7 +299,7 @@ def test_in_c(folder: Path) -> None:
     made, text = built(folder, example), folder / "text.s"
     programs = {**WRONG, **{f"right: {name}": (text, []) for name, text in RIGHT.items()}}
     for slot, name in LEAVES_BEHIND.items():
-        read = [("mfc0 $4, $c6", "leaves something behind if it turns")] * bool(name)
+        read = [("mfc0 $4, $c6", "changes something if it repeats")] * bool(name)
         programs[slot] = BEGIN + GET + wait().replace("nop", slot), read
     for name, (program, expected) in programs.items():
         text.write_text(program + "break\n")
