@@ -1,8 +1,10 @@
 /* brsp.h: the Nintendo 64's Reality Signal Processor (RSP): emulator, debugger, assembler and disassembler,
  * for C and C++. Each call is proved to do what the instruction table and the definitions of this
- * repository say. (Only tests show that calls free the memory of a handle, and that an allocation failed if
- * a call returns BRSP_NO_MEMORY.) docs/EMBEDDING.md shows how to build and link the library, docs/SYSTEMS.md
- * lists the systems, and docs/FAULTS.md compares the statuses with the faults of scripts.
+ * repository say. (Only tested are that calls free the memory of a handle, that an allocation failed if a
+ * call returns BRSP_NO_MEMORY, the words that explain a fault, that brsp_load_words and brsp_memory_words
+ * refuse a length that no memory can have, and the four functions at the end, which are C.)
+ * docs/EMBEDDING.md shows how to build and link the library, docs/SYSTEMS.md lists the systems, and
+ * docs/FAULTS.md compares the statuses with the faults of scripts.
  *
  * Preconditions, which no call can check:
  *   - A handle is BRSP_NONE before its first call, and afterwards as the last call left it. Never write its
