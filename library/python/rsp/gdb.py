@@ -48,7 +48,7 @@ _HELP = """\
 monitor when           the number of the present step
 monitor goto STEP      goes to a step
 monitor counts [STEP]  how often each instruction was executed, from a step to the present one
-monitor wrote NAME     goes back to the last change of a register or lane: $r8, $v18[3], $acc, $vco
+monitor wrote NAME     goes back to the last change of a register or lane: $r8, $t0, $v18[3], $acc, $vco
 monitor waits          the waits for a DMA that are missing from here to the halt, or in 1000000 steps
 monitor why            why the last breakpoint or watch was refused
 These are as in a script for `rsp run`:

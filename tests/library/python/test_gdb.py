@@ -417,6 +417,24 @@ def test_wrote() -> None:
     assert asked._monitor("wrote", "$v32").startswith("fault: $v32 isn't a register")
 
 
+NAMES = """at a0 a1 a2 a3 t0 t1 t2 t3 t4 t5 t6 t7 s0 s1 s2 s3 s4 s5 s6 s7
+t8 t9 k0 k1 gp sp fp s8 ra""".split()
+
+
+def test_names() -> None:
+    """`wrote` takes the assembler's names of scalar registers, with `$` and without."""
+    line = rsp.Timeline(loaded("\n".join(f"addiu ${n}, $0, 1" for n in range(1, 32))))
+    for name in NAMES:
+        number = rsp.assemble(f"mtc0 ${name}, $c0")[0] >> 16 & 31
+        for written in name, f"${name}", f"$r{number}":
+            line.run_to(31)
+            assert line.wrote(written) == (rsp.Reason.WATCH, number - 1, None), written
+    line.run_to(31)
+    assert line.wrote("$zero") == line.wrote("zero") == (rsp.Reason.LIMIT, 0, None)
+    for name in "$$t0", "t$0", "$t0[0]", "$s9", "T0":
+        pytest.raises(ValueError, line.wrote, name)
+
+
 def test_semaphore() -> None:
     """A read by `monitor` takes it, which going back and forth doesn't undo."""
     asked = stub()
