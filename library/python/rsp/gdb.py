@@ -48,7 +48,7 @@ _HELP = """\
 monitor when           the number of the present step
 monitor goto STEP      goes to a step
 monitor counts [STEP]  how often each instruction was executed, from a step to the present one
-monitor wrote NAME     goes back to the last change of a register or lane: $r8, $v18[3], $acc, $vco
+monitor wrote NAME     goes back to the last change of a register or lane: $r8, $t0, $v18[3], $acc, $vco
 monitor waits          the waits for a DMA that are missing from here to the halt, or in 1000000 steps
 monitor why            why the last breakpoint or watch was refused
 These are as in a script for `rsp run`:
@@ -388,10 +388,12 @@ class Stub:
 
     @contextmanager
     def _slice(self) -> Iterator[None]:
-        """Gives a search half a second."""
+        """Gives a search half a second. No later packet has this limit, also if the search is refused."""
         self._was_interrupted, self._end = False, time.monotonic() + _SLICE
-        yield
-        self._end = math.inf
+        try:
+            yield
+        finally:
+            self._end = math.inf
 
     def _wrote(self, name: str, start: int) -> str:
         """Goes back to the step that changed a register last, and is then before it, as GDB is at a watched
@@ -404,6 +406,7 @@ class Stub:
         if self._was_interrupted and found.step:
             self._more = lambda: self._wrote(name, start)
             return f"step {found.step}, on the way back"
+        self._was_interrupted = False  # if the search took its time, that doesn't end the way back
         self.line.goto(start)
         return f"no step from {found.step} to {start} has changed {name}"
 

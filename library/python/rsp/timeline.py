@@ -138,8 +138,8 @@ class Timeline:
 
     def wrote(self, register: str, least: int = 0) -> Found:
         """Goes back to the last step that changed a register, so that pc is at its instruction, with
-        Reason.WATCH. Names are `$r8` or `$8`, `$v18`, `$v18[3]`, `$acc`, `$acc[3]`, `$vco`, `$vcc`, `$vce`,
-        `$vcc[3]`, `$div_in`, `$div_out` and `$div_loaded`; others raise ValueError.
+        Reason.WATCH. Names are `$r8`, `$8` or `$t0`, `$v18`, `$v18[3]`, `$acc`, `$acc[3]`, `$vco`, `$vcc`,
+        `$vce`, `$vcc[3]`, `$div_in`, `$div_out` and `$div_loaded`; others raise ValueError.
 
         The reason is LIMIT if no step from the one where this ends has changed it: that is `least`, or where
         you did, or as far as this came before it was interrupted, for which it asks at each mark.

@@ -14,6 +14,9 @@ _BYTES = {
     "acc": (640, 48, None), "div_in": (694, 2, None), "div_out": (696, 2, None), "div_loaded": (698, 2, None),
 }  # fmt: skip
 _SCALAR, _VECTOR, _ENTRY = 17, 18, 36  # of an entry: the numbers of these registers, and its length
+# The other names of scalar registers, as in assembly text: $v0 and $v1 are vector registers.
+_NAMES = "zero at r2 r3 a0 a1 a2 a3 t0 t1 t2 t3 t4 t5 t6 t7 s0 s1 s2 s3 s4 s5 s6 s7 t8 t9 k0 k1 gp sp fp ra"
+_SCALARS = {"s8": "30", **{name: str(n) for n, name in enumerate(_NAMES.split())}}
 _FORM = re.compile(r"\$?(?:([rv]?)(\d\d?)|(acc|vc[oce]|div_(?:in|out|loaded)))(?:\[([0-7])\])?")
 
 
@@ -27,10 +30,10 @@ class Register:
     """A register or its lane by its name, as for `Timeline.wrote`, with its value on a machine."""
 
     def __init__(self, name: str, machine: Machine) -> None:
-        found = _FORM.fullmatch(name)
+        found = _FORM.fullmatch(_SCALARS.get(name[name.startswith("$") :], name))
         kind, n, lane = (found[3] or found[1] or "r", int(found[2] or 0), found[4]) if found else ("", 32, "")
         if n > 31 or lane and kind[0] in "rd":
-            raise ValueError(f"{name[:80]} isn't a register such as $r8, $v18, $v18[3], $acc or $vco")
+            raise ValueError(f"{name[:80]} isn't a register such as $r8, $t0, $v18, $v18[3], $acc or $vco")
         at, self._size, self._shown = _BYTES[kind]
         self._kind, self._n, self._at = kind, n, at + n * self._size
         bits = self._size * [255]  # those of each byte that count

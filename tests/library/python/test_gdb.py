@@ -259,6 +259,17 @@ def test_screen(layout: str, folder: Path) -> None:
         assert "v00" in shown and "sp_mem_addr" in shown
 
 
+@with_gdb
+def test_refused_search(folder: Path) -> None:
+    """After one GDB runs on, also if the user types so slowly that a search would have been interrupted."""
+    with terminal(folder) as typed:
+        typed("monitor wrote $s9\n", "fault: $s9 isn't a register")
+        time.sleep(0.6)
+        shown = typed("stepi\ncontinue\nmonitor wrote $s1\noutput 40+2\n", "42(gdb) ")
+        assert "SIGINT" not in shown
+        assert_parts(shown, ["2\tori $17, $0, 0x80", "halted after 88 steps", "step 1: 004 34110080 ori"])
+
+
 # What only Ctrl-C ends. Before the last two GDB is at work between short runs for most of the time.
 ENDLESS = {
     "condition": ("break *0x04001000 if $r20 == 5", "continue"),
@@ -399,8 +410,9 @@ def test_packets() -> None:
     assert asked.reply(b"qRcmd," + b"when".hex().encode()) and asked.reply(b"qrsp.goto") == b""
 
 
-def test_wrote() -> None:
-    """`monitor wrote` finds in COOKBOOK's loop what the page says. It stays if there is nothing."""
+def test_wrote(monkeypatch: pytest.MonkeyPatch) -> None:
+    """`monitor wrote` finds in COOKBOOK's loop what the page says. It stays if there is nothing, however long
+    it has searched, and if it is refused, the next run isn't over before it begins."""
     begin = "        ori   $1, $0, 4\n        lqv"
     command, reply = block_with("docs/COOKBOOK.md", begin, 1).strip().split("\n")
     line = rsp.Timeline(loaded(block_with("docs/COOKBOOK.md", begin)), 4)
@@ -409,12 +421,32 @@ def test_wrote() -> None:
     assert asked._monitor(*command.split()[2:]) == f"{reply}\n" and line.step == 17
     line.goto(18)
     assert asked._monitor("wrote", "$r9") == "no step from 0 to 18 has changed $r9\n" and line.step == 18
-    asked.asked = lambda: True
+    monkeypatch.setattr(rsp.gdb, "_SLICE", -1)  # each search has taken too long at once
     parts = [asked._monitor("wrote", "$v02")]
     while asked._more:
         parts.append(asked._more())
-    assert len(parts) > 2 and parts[-1] == "no step from 0 to 18 has changed $v02"
+    assert len(parts) > 2 and parts[-1] == "no step from 0 to 18 has changed $v02" and line.step == 18
+    line.goto(5)
     assert asked._monitor("wrote", "$v32").startswith("fault: $v32 isn't a register")
+    assert (asked.reply(b"s") or b"").startswith(b"T05") and line.step == 6
+
+
+NAMES = """at a0 a1 a2 a3 t0 t1 t2 t3 t4 t5 t6 t7 s0 s1 s2 s3 s4 s5 s6 s7
+t8 t9 k0 k1 gp sp fp s8 ra""".split()
+
+
+def test_names() -> None:
+    """`wrote` takes the assembler's names of scalar registers, with `$` and without."""
+    line = rsp.Timeline(loaded("\n".join(f"addiu ${n}, $0, 1" for n in range(1, 32))))
+    for name in NAMES:
+        number = rsp.assemble(f"mtc0 ${name}, $c0")[0] >> 16 & 31
+        for written in name, f"${name}", f"$r{number}":
+            line.run_to(31)
+            assert line.wrote(written) == (rsp.Reason.WATCH, number - 1, None), written
+    line.run_to(31)
+    assert line.wrote("$zero") == line.wrote("zero") == (rsp.Reason.LIMIT, 0, None)
+    for name in "$$t0", "t$0", "$t0[0]", "$s9", "T0":
+        pytest.raises(ValueError, line.wrote, name)
 
 
 def test_semaphore() -> None:
