@@ -56,6 +56,14 @@ def test_rsp(block: Block, program: Path) -> None:
     assert matches(printed.splitlines(), expected.splitlines()), f"rsp replies\n{printed}and not\n{expected}"
 
 
+def test_example_of_readme() -> None:
+    """It is the script that the README's first command runs, and its replies."""
+    (block,) = (block for block in blocks_in("README.md") if block.kind == "rsp")
+    script, turns = split_replies(block.text)
+    assert script == page("examples/first.rsp")
+    assert "".join(reply for _, reply in turns) == page("examples/first.out")
+
+
 @for_blocks("asm", lambda block: block.kind == "asm")
 def test_asm(block: Block, program: Path) -> None:
     """The program assembles it, each line to a word."""

@@ -47,6 +47,16 @@ def shift_right(v: Registers) -> Results:
     return halves_of(5, 6, [x >> k for x, k in zip(join_halves(v[1], v[2]), shifts)])
 
 
+def shifts(v: Registers) -> Results:
+    left, right = v[2][0] % 15, v[3][0] % 16 + 1
+    v[2], v[3] = [1 << left] * 8, [1 << 16 - right] * 8
+    return {
+        4: [it << left for it in v[1]],
+        5: [it >> right for it in v[1]],
+        6: [it % 65536 >> right for it in v[1]],
+    }
+
+
 def fractions(v: Registers) -> Results:
     sums = [a * v[2][0] + b * v[2][1] + c * v[2][2] for a, b, c in zip(v[1], v[3], v[4])]
     return {5: [clamp((it + 16384) // 32768) for it in sums]}
@@ -112,6 +122,7 @@ RULES: Dict[str, Callable[[Registers], Results]] = {
     "vmudl $v6, $v2, $v4 ": lambda v: halves_of(5, 6, [clamp(x * y >> 16, 32) for x, y in longs(v)]),
     "vmudn $v6, $v2, $v3": product_by_whole,
     "vmudl $v6, $v2, $v3": shift_right,
+    "vmudn $v4, $v1, $v2[0]": shifts,
     "vmulf $v5, $v1, $v2[0]": fractions,
     "vmudn $v11, $v5, $v9[0h]": matrix,
     "vaddc $v6, $v2, $v4": long_sums,
