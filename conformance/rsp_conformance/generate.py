@@ -13,7 +13,8 @@ VRSQ for each of the 1,024 entries of the divide tables:
                                        after
   OUT/flat/NAME.bin                    with --flat: the cases of steps/, as brsp_state of brsp.h and bytes
   OUT/hex/NAME.hex, NAME-K.imem.hex .. with --hex: the cases of steps/ without memories, a line each, and the
-                                       memories of programs/; with brsp_state.svh and brsp_state.vhd
+                                       memories of programs/; with brsp_state.svh, brsp_state.vhd and
+                                       rsp_forms.svh
 README.md beside this command says how they are read. The same words give the same files.
 """
 
@@ -49,6 +50,7 @@ def write_forms(name: str, entries: List[steps.Entry], of: Path, out: Path, more
     if "hex" in more:
         hexadecimal.write_programs(of / "programs", name, out / "hex")
         hexadecimal.write_offsets(out / "hex")
+        hexadecimal.write_instructions(out / "hex")
 
 
 def write_row(program: str, row: Row, seed: str, numbers: range, out: Path, more: Sequence[str]) -> None:

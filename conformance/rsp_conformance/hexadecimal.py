@@ -1,4 +1,4 @@
-"""`hex`: cases and memories as lines of hexadecimal digits, and the offsets of a state's fields, for HDLs."""
+"""`hex`, for HDLs: lines of hexadecimal digits, and constants for the bits of states and instructions."""
 
 from pathlib import Path
 from typing import Iterator, List, Tuple
@@ -6,6 +6,7 @@ from typing import Iterator, List, Tuple
 from rsp_conformance.safe_files import read_file, write_file
 from rsp_conformance.flat import BANKS, FIELDS, STATE, states_of
 from rsp_conformance.steps import Entry
+from rsp_conformance.table import ROWS, ignored_bits
 
 STATE_BITS = 8 * STATE.size
 # The parts of a line from its last digit on, each with its number of bits.
@@ -18,6 +19,9 @@ CHANGES = {
     "high": (8, 16), "middle": (8, 16), "low": (8, 16), "bytes": (32, 8),
 }  # fmt: skip
 HEAD = "Made by conformance/generate --hex: where the parts of a line, a state and a record begin, by bits."
+WORDS_HEAD = """\
+// Made by conformance/generate --hex: an instruction's fixed bits, and a mask of its operands.
+// A random word is fixed | $urandom & mask. The RSP ignores bits that are in neither."""
 FORMS = {"svh": ("//", "localparam int {} = {};"), "vhd": ("--", "  constant {} : natural := {};")}
 
 
@@ -58,3 +62,12 @@ def write_offsets(out: Path) -> None:
         lines = [form.format(*constant) for constant in offsets()]
         lines = ["package brsp_state is", *lines, "end package;"] if suffix == "vhd" else lines
         write_file(out / f"brsp_state.{suffix}", "\n".join([f"{comment} {HEAD}", *lines, ""]))
+
+
+def write_instructions(out: Path) -> None:
+    """Writes rsp_forms.svh."""
+    lines = [WORDS_HEAD]
+    for row in ROWS.values():
+        operands = ~(row.mask | ignored_bits(row)) & 0xFFFFFFFF
+        lines.append(f"localparam [63:0] RSP_{row.name.upper()} = 64'h{row.value:08x}_{operands:08x};")
+    write_file(out / "rsp_forms.svh", "\n".join([*lines, ""]))

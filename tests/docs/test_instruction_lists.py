@@ -12,7 +12,7 @@ import pytest
 
 from lib.same_items import assert_same_items
 from lib.pages import data, names_of, page, tables
-from rsp_conformance import table
+from rsp_conformance import hexadecimal, table
 from rsp_conformance.vectors import VECTORS
 
 # What selects an instruction, in the words of docs/data: the bits that all such instructions share, the
@@ -112,6 +112,22 @@ def test_bits_of_the_table(program: Path) -> None:
     selected = [(row.name, bit) for (row, bit), name in found if row.mask & bit and name == row.name.upper()]
     named = [(row.name, bit) for (row, bit), name in found if not row.mask & bit and name]
     assert found and not selected and not named
+
+
+def test_constants_for_hdl(program: Path, folder: Path) -> None:
+    """A constant of rsp_forms.svh has the bits that select an instruction, and masks its operands."""
+    hexadecimal.write_instructions(folder)
+    found = re.findall(r"RSP_(\w+) = 64'h(\w{8})_(\w{8});", (folder / "rsp_forms.svh").read_text())
+    words = {line["Instruction"]: int(line["Word"].split()[0], 16) for line in data("instructions")}
+    fixed = {name: int(bits, 16) for name, bits, _ in found}
+    masks = {name: int(mask, 16) for name, _, mask in found}
+    assert_same_items(fixed, words)
+    assert [name for name, word in words.items() if word & ~masks[name] != fixed[name]] == []
+    shown = {name: mask & (0xFFFF03FF if name[0] == "B" else mask) for name, mask in masks.items()}  # in IMEM
+    bits = [0, *(1 << n for n in range(32))]
+    tries = [(name, word | bit) for name, word in fixed.items() for bit in bits if bit & ~shown[name] == 0]
+    named = names_of(program, [word for _, word in tries])
+    assert [it for it, name in zip(tries, named) if it[0] != name] == []
 
 
 def test_every_row() -> None:
