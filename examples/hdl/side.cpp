@@ -8,17 +8,20 @@ struct side_machine {
     uint8_t rdram[CASES_RDRAM_LENGTH]; // the core has no DMA
 };
 
+static const int LATE = 1000; // clocks without an instruction: the core hangs
+static const uint32_t HUNG = 1; // its status
+
 static void tick(Vcore *top) { top->clk = 1; top->eval(); top->clk = 0; top->eval(); }
 
-static int side_make(side_machine *m, const char *)
+static void reset(Vcore *top)
 {
-    m->top = new Vcore;
-    m->top->reset = 1;
-    tick(m->top);
-    tick(m->top);
-    m->top->reset = 0;
-    return 1;
+    top->reset = 1;
+    tick(top);
+    tick(top);
+    top->reset = 0;
 }
+
+static int side_make(side_machine *m, const char *) { m->top = new Vcore; reset(m->top); return 1; }
 
 static int side_is_shown(const brsp_case *) { return 1; }
 
@@ -39,17 +42,24 @@ static uint32_t run(side_machine *m, uint32_t n, uint32_t *status)
 {
     Vcore *top = m->top;
     uint32_t done = 0;
+    int idle = 0;
     brsp_state s;
     side_get(m, &s);
     *status = s.sp[4] & 1 ? BRSP_HALTED : BRSP_OK;
     if (s.sp[4] & 32 && n > 1) n = 1;
-    for (top->go = 1, top->eval(); *status == BRSP_OK && done < n; tick(top), top->eval())
-        if (top->issues) done++;
+    for (top->go = 1, top->eval(); *status == BRSP_OK && done < n && idle < LATE; tick(top), top->eval())
+        if (top->issues) done++, idle = 0;
         else if (top->is_reserved) *status = BRSP_RESERVED;
-    for (top->go = 0, top->eval(); top->is_busy;) tick(top);
+        else idle++;
+    for (top->go = 0, top->eval(); top->is_busy && idle < LATE; idle++) tick(top);
     side_get(m, &s);
     s.sp[4] |= done ? s.sp[4] >> 5 & 1 : 0;
-    if (done) side_set(m, &s);
+    if (idle == LATE) {
+        *status = HUNG;
+        done -= done > 0 && top->is_busy;
+        reset(top); // or the next case would hang, too
+    }
+    if (done || *status == HUNG) side_set(m, &s);
     return done;
 }
 

@@ -36,9 +36,9 @@ def failing(names: Sequence[str], cases: Path, folder: Path, model: str = MODEL)
     (folder / "lanes.sv").write_text(model)
     core = (HDL / "tb.sv", HDL / "vu_core.sv", HDL / "lanes_vu.sv")
     succeeds("iverilog", "-g2012", "-I", cases, "-I", folder, "-o", folder / "tb.vvp", *core)
-    outputs = {name: succeeds("vvp", "-n", folder / "tb.vvp", f"+hex={cases}/{name}.hex") for name in names}
+    outputs = {name: run("vvp", "-n", folder / "tb.vvp", f"+hex={cases}/{name}.hex").stdout for name in names}
     counts = {name: (cases / f"{name}.hex").read_text().count("\n") for name in names}
-    return [it for it in names if f"\n{counts[it] or 1} passed, 0 failed, 0 skipped, " not in outputs[it]]
+    return [it for it in names if f": {counts[it] or 1} passed, 0 failed, 0 skipped, " not in outputs[it]]
 
 
 @pytest.mark.needs("iverilog", "verilator", "make", "c++", "python:numpy")
