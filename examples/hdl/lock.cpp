@@ -44,15 +44,19 @@ static void compare(const brsp_changes &ours, const brsp_changes &theirs)
 extern "C" int lock_open(void) { static uint8_t image[64]; brsp_free(&m); instructions = 0; is_wrong = 0; return !brsp_new(&m, image, sizeof image, 0); }
 extern "C" int lock_load(int bank, int address, int word) { uint32_t w = (uint32_t)word; return !brsp_load_words(&m, (uint32_t)bank, (uint32_t)address, &w, 1); }
 
-// Steps the library, and compares. pc and npc after the step aren't compared: a wrong branch shows in the next record. 0 if something differs.
-extern "C" int lock_retire(const svBitVecVal *record)
+// Steps the library, and compares those bits of the record that are valid. pc and npc after the step aren't compared: a wrong branch shows in the
+// next record. 0 if something differs.
+extern "C" int lock_retire(const svBitVecVal *record, const svBitVecVal *valid)
 {
     brsp_changes ours, theirs;
     brsp_scalars now;
-    memcpy(&theirs, record, sizeof theirs);
+    svBitVecVal bits[sizeof theirs / sizeof *record];
     if (brsp_regs(&m, &now) || brsp_listing(&m, now.pc, &line, 1)) return 0;
     instructions++;
     if (brsp_step_changes(&m, &ours)) { printf("instruction %lu, %03x %s: the library stops\n", instructions, line.address, line.text); return 0; }
+    memcpy(bits, &ours, sizeof bits);
+    for (size_t i = 0; i < sizeof bits / sizeof *bits; i++) bits[i] ^= (bits[i] ^ record[i]) & valid[i];
+    memcpy(&theirs, bits, sizeof theirs);
     compare(ours, theirs);
     return !is_wrong;
 }

@@ -19,7 +19,7 @@ import pytest
 from lib import TESTS, TOP
 from lib.campaigns import programs_in
 from lib.pages import block_with, matches, sentences
-from lib.processes import run, succeeds
+from lib.processes import STRICT, compiled, run, succeeds
 from rsp_conformance.vectors import VECTORS, entries_in
 
 OUTSIDE = pytest.mark.outside("what Verilator makes takes minutes to compile")
@@ -183,3 +183,18 @@ def test_lock_step(folder: Path) -> None:
         assert re.match(rf"instruction \d+, \w+.*: .*{form}\n", ended.stdout), ended.stdout
         assert ended.returncode == 1 and (folder / "wave.vcd").stat().st_size > 100_000
     assert run(folder / "lock/Vlock", "+programs=0").returncode == 1
+
+
+@pytest.mark.needs("verilator", "c++")
+def test_valid(folder: Path) -> None:
+    """Lockstep compares only those bits of a record that are valid."""
+    headers = f"-I{succeeds('verilator', '--getenv', 'VERILATOR_ROOT').strip()}/include/vltstd"
+    files = TESTS / "hdl/valid.cpp", "examples/hdl/lock.cpp", "library/c/libbrsp.a"
+    program = compiled(folder / "valid", *STRICT, "-std=c++17", headers, *files, compiler="c++")
+    head = "instruction 1, 000 addi $1, $0, 5: "
+    wrong = (
+        f"{head}accumulator high lane 3: expected 0000, got 0007",
+        f"{head}$1: expected 00000005, got 00000006",
+    )
+    expected = ["agrees", wrong[0], "differs", "agrees", wrong[1], "differs"]
+    assert succeeds(program).splitlines() == expected
