@@ -66,12 +66,18 @@ def test_faults(cases: Path, folder: Path) -> None:
 
 @pytest.mark.needs("yosys")
 def test_equivalence(folder: Path) -> None:
-    """A lane of vu.sv is equal to the model. Without the carry it isn't, and the log shows a carry."""
+    """A lane of vu.sv is equal to the model, also from a copy of equal.sv. Without the carry it isn't, and
+    the log shows a carry.
+    """
     shutil.copytree(HDL, folder / "examples/hdl")
     (folder / "docs").symlink_to(TOP / "docs")
     command = block_with(PAGE, "yosys").replace("/tmp/hdl", str(folder))
     for name in "VADD", "VCH", "VMADH":
         succeeds("sh", "-ec", command.replace("VCH", name), cwd=folder)
+    shutil.copy(HDL / "equal.sv", folder)
+    script = (HDL / "equal.ys").read_text()
+    (folder / "equal.ys").write_text(script.replace("examples/hdl/equal.sv", "equal.sv"))
+    succeeds("yosys", "-q", "-D", "NAME=VADD", "-s", "equal.ys", cwd=folder)
     unit = folder / "examples/hdl/vu.sv"
     unit.write_text(unit.read_text().replace("{17'd0, flags[0]}", "18'd0"))
     assert run("sh", "-ec", command.replace("VCH", "VADD"), cwd=folder).returncode == 1
