@@ -173,13 +173,13 @@ def test_reciprocal(program: Path) -> None:
     """The reciprocal r of w in lane 0 has the bits that the page says, and so has its Newton-Raphson step."""
     block = block_with(COOKBOOK, "vrcph $v3[0]") + block_with(COOKBOOK, "vmudl $v7, $v2, $v4")
     random = Random("reciprocal")
-    for bits in [*range(17, 32)] * ROUNDS:
+    for bits in [*range(3, 32)] * ROUNDS:
         w = random.getrandbits(bits) | 1 << bits - 1
         before = {n: [it] * 8 for n, it in ((0, 0), (1, w >> 16), (2, w & 0xFFFF), (5, 1))}
         after = run_block(program, block, before)
         (r,), (step,) = (join_halves(after[n][:1], after[n + 1][:1]) for n in (3, 8))
         assert abs(2 * r * w - 2**32) <= max(2**32 // 480, 2 * w), f"r is {r}, w {w}"
-        assert 10 * abs(step * w - 2**32) <= 41 * w, f"{step} after the step, w {w}"
+        assert abs(step * w - 2**32) <= max(2**32 // 15000, 4.1 * w), f"{step} after the step, w {w}"
 
 
 def test_words() -> None:
