@@ -65,7 +65,11 @@ def main() -> int:
         except (OSError, ValueError) as error:
             sys.exit(f"programs.py: can't read the programs of {manifest}: {error}")
         for program in programs:
-            wrong = [*differences(mine.Rsp(), program, manifest.parent)]
+            try:
+                wrong = [*differences(mine.Rsp(), program, manifest.parent)]
+            except Exception:
+                print(f"programs.py: an exception in {program['name']}:", file=sys.stderr)
+                raise
             print("".join(f"{line}\n" for line in wrong), end="")
             passed, failed = passed + (not wrong), failed + bool(wrong)
     print(f"{passed} passed, {failed} failed")

@@ -106,7 +106,8 @@ static int run_file(brsp_machine *m, const char *path, uint32_t *cases, uint32_t
     int is_longer = file && fgetc(file) != EOF;
     char magic[12];
     uint32_t number;
-    if (file) fclose(file);
+    if (!file) return fprintf(stderr, "%s can't be read\n", shown(path, strlen(path))), 0;
+    fclose(file);
     if (is_longer) return fprintf(stderr, "%s has more than %d bytes\n", shown(path, strlen(path)), LONGEST_FILE), 0;
     if (!take(&r, magic, sizeof magic) || memcmp(magic, "RSPCASES\2\0\0", sizeof magic) != 0 || !take(&r, &number, sizeof number))
         return fprintf(stderr, "%s has no flat vectors\n", shown(path, strlen(path))), 0;

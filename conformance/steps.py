@@ -15,9 +15,9 @@ README.md lists the registers with their digits. mine.py may also have
     LACKS = {"interrupt", "rdram"}   registers and memories that are neither set nor compared
     divide(text), a method of Rsp    sets DIV_OUT by two instructions: README.md says which
 
-If step() raises NotImplementedError, the case is skipped. Each register or byte that differs is printed in
-a line, with the rule that we chose if the case depends on one. The status is 0 if no case failed and one
-passed, otherwise 1.
+If step() raises NotImplementedError, the case is skipped, and its instruction named at the end. Each register
+or byte that differs is printed in a line, with the rule that we chose if the case depends on one. The status
+is 0 if no case failed and one passed, otherwise 1.
 """
 
 import fileinput
@@ -75,14 +75,17 @@ def differences(rsp: Any, case: Dict[str, Any], lacks: Any) -> Iterator[Tuple[st
                     yield f"{bank} {at:03x}", f"{expected:02x}", f"{byte:02x}"
 
 
-def run(mine: Any, cases: List[Dict[str, Any]]) -> Dict[str, int]:
-    """Prints what differs in each case, and counts the cases by what became of them."""
-    counts = dict.fromkeys(("passed", "failed", "choices", "skipped"), 0)
+def run(mine: Any, lacks: Any, cases: List[Dict[str, Any]]) -> Tuple[Dict[str, int], Dict[str, int]]:
+    """Prints what differs in each case. The cases are counted by what became of them, and those that were
+    skipped by their instructions."""
+    counts = dict.fromkeys(("passed", "failed", "choices"), 0)
+    skipped: Dict[str, int] = {}
     for case in cases:
         try:
-            wrong = [*differences(mine.Rsp(), case, getattr(mine, "LACKS", ()))]
+            wrong = [*differences(mine.Rsp(), case, lacks)]
         except NotImplementedError:
-            counts["skipped"] += 1
+            name = case["name"].rsplit("-", 1)[0]
+            skipped[name] = skipped.get(name, 0) + 1
             continue
         except Exception:
             print(f"steps.py: an exception in {case['name']} ({case['text']}):", file=sys.stderr)
@@ -92,7 +95,7 @@ def run(mine: Any, cases: List[Dict[str, Any]]) -> Dict[str, int]:
             print(f"{case['name']} ({case['text']}{mark}), {what}: expected {expected}, got {got}")
         counts["failed" if wrong else "passed"] += 1
         counts["choices"] += bool(wrong and mark)
-    return counts
+    return counts, skipped
 
 
 def main() -> int:
@@ -112,12 +115,17 @@ def main() -> int:
     except (OSError, ValueError) as error:
         sys.exit(f"steps.py: can't read the cases of {fileinput.filename()}: {error}")
 
-    counts = run(mine, cases)
+    lacks = getattr(mine, "LACKS", ())
+    if unknown := sorted({*lacks} - {*DEFAULT, *SIZES}):
+        sys.exit(f"steps.py: LACKS names {unknown[0]!r}, which is no register and no memory")
+    counts, skipped = run(mine, lacks, cases)
     choices = f" ({counts['choices']} with a choice)" if counts["choices"] else ""
-    skipped = f", {counts['skipped']} skipped" if counts["skipped"] else ""
-    print(f"{counts['passed']} passed, {counts['failed']} failed{choices}{skipped}")
-    if lacks := ", ".join(sorted(getattr(mine, "LACKS", ()))):
-        print(f"not compared: {lacks}")
+    end = f", {sum(skipped.values())} skipped" if skipped else ""
+    print(f"{counts['passed']} passed, {counts['failed']} failed{choices}{end}")
+    if skipped:
+        print("skipped: " + ", ".join(f"{count} of {name}" for name, count in skipped.items()))
+    if lacks:
+        print("not compared: " + ", ".join(sorted(lacks)))
     return int(counts["failed"] > 0 or not counts["passed"])
 
 

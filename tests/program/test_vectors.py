@@ -298,19 +298,25 @@ def test_runner_for_an_emulator_that_lacks_an_instruction(library: Path, capsys:
                 raise self.refusal
             super().step()
 
+        def run(self) -> None:
+            raise self.refusal
+
     path, entries = VECTORS / "steps/BREAK.jsonl", entries_in(VECTORS, "BREAK")
     tried = [it for it in entries if "pc" not in it["before"]]
     wrong = [it for it in tried if "1" in (it["before"].get("interrupt"), it["after"].get("interrupt"))]
     lines = [f"{head_of(it)}interrupt: expected 1, got 0" for it in wrong]
     counts = f"{len(tried) - len(wrong)} passed, {len(wrong)} failed ({len(wrong)} with a choice), "
-    skipped = f"{len(entries) - len(tried)} skipped"
+    count = len(entries) - len(tried)
+    skipped = f"{count} skipped\nskipped: {count} of BREAK"
     assert wrong and "; choice: pc after BREAK), " in lines[0]
     assert output_of_runner("steps", path, Lacking) == "\n".join([*lines, counts + skipped, ""])
     Lacking.refusal = KeyError
-    with pytest.raises(KeyError):
-        output_of_runner("steps", path, Lacking)
     first = next(it for it in entries if it not in tried)
-    assert f"steps.py: an exception in {first['name']} (break):\n" == capsys.readouterr().err
+    for name, file in ("steps", path), ("programs", VECTORS / "programs/BREAK.json"):
+        with pytest.raises(KeyError):
+            output_of_runner(name, file, Lacking)
+    names = f"steps.py: an exception in {first['name']} (break):\n", "programs.py: an exception in BREAK-1:\n"
+    assert "".join(names) == capsys.readouterr().err
 
 
 @pytest.mark.parametrize("name, file", (("steps", "steps/SW.jsonl"), ("programs", "programs/SW.json")))
@@ -323,6 +329,13 @@ def test_runner_of_a_memory_that_is_too_long(name: str, file: str, library: Path
 
     output = output_of_runner(name, VECTORS / file, Long)
     assert "bytes of dmem: expected 4096, got 4097\n" in output and "\n0 passed, " in output
+
+
+def test_runner_of_an_unknown_register(folder: Path) -> None:
+    (folder / "mine.py").write_text('LACKS = {"interupt", "rdram"}')
+    ran = run(sys.executable, TOP / "conformance/steps.py", VECTORS / "steps/SW.jsonl", cwd=folder)
+    assert ran.stdout == "steps.py: LACKS names 'interupt', which is no register and no memory\n"
+    assert ran.returncode == 1
 
 
 @pytest.mark.parametrize("name, other", (("steps", "programs/SW.json"), ("programs", "steps/SW.jsonl")))

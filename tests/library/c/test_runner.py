@@ -180,8 +180,11 @@ def test_name_with_control_characters(runner: Path, vectors: bytes, folder: Path
     (folder / "right.bin").write_bytes(changed(vectors, b"a\x1b[2J\r\x9b\xc2\x9b"))
     ran = run(runner, folder / "right.bin", folder / "b\x1b[2J\n")
     assert ran.returncode == 2 and ran.stdout.count("\n") == 2, ran.stdout
-    assert ran.stdout.startswith(f"{folder}/b\\x1b[2J\\x0a has no flat vectors\n"), ran.stdout
+    assert ran.stdout.startswith(f"{folder}/b\\x1b[2J\\x0a can't be read\n"), ran.stdout
     assert "\na\\x1b[2J\\x0d\\x9b\\xc2\\x9b (sw " in ran.stdout
+    (folder / "other").write_bytes(bytes(100))
+    ran = run(runner, folder / "other")
+    assert (ran.returncode, ran.stdout) == (2, f"{folder}/other has no flat vectors\n")
 
 
 def test_longest(runner: Path, vectors: bytes, folder: Path) -> None:
