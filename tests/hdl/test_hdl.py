@@ -39,6 +39,8 @@ s/^  assign is_busy = /  logic is_kept;\
   always_ff @(posedge clk) is_kept <= !reset \&\& (is_kept || ex_op == VLT);\
 &is_kept || /
 """
+# Makes a core in which it isn't known whether it issues a VADD, as of a register without a reset.
+UNKNOWN = r"s/assign issues = go \&\&/& (op == VADD ? 1'bx : 1'b1) \&\&/"
 KNOWN = "VMULF VMUDN VMACF VMADH VADD VSUBC VCH VMRG VXOR VRCP VRCPL VRCPH"  # by the vector unit
 
 
@@ -90,6 +92,9 @@ def test_hang(folder: Path) -> None:
     output = printed(folder, block_with(PAGE, "conformance/campaign").replace("vlt", "vmrg"))
     assert re.search(r"(?m)^VADD +50 +0 +50 +0 +0 .*: status: expected 0, got 1\b", output), output
     assert re.search(r"(?m)^VMRG +50 +0 +0 ", output), output
+    typed(folder, "conformance/generate --hex", edit=UNKNOWN)
+    ended = run("vvp", "-n", folder / "tb.vvp", f"+hex={folder}/hex/VADD.hex")
+    assert f": 0 passed, {len(entries_in(VECTORS, 'VADD'))} failed, 0 skipped" in ended.stdout, ended.stdout
 
 
 @pytest.mark.needs("iverilog", "verilator", "make", "c++", "python:numpy")
@@ -177,7 +182,7 @@ def test_lock_step(folder: Path) -> None:
     output = typed(folder, "conformance/generate --hex", "library/c/build")
     assert re.search("30000 instructions, 21 of 21 forms, .* agrees", output), output
     for number in range(1, 5):
-        words = (f"+hazard={number}", "+steps=20000", "+programs=20", f"+wave={folder}/wave.vcd")
+        words = (f"+hazard={number}", "+programs=100", f"+wave={folder}/wave.vcd")
         ended = run(folder / "lock/Vlock", *words)
         form = r"hangs after it, at \w+, word c8\w+" if number == 4 else r"expected \w+, got \w+"
         assert re.match(rf"instruction \d+, \w+.*: .*{form}\n", ended.stdout), ended.stdout
