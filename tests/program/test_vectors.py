@@ -294,7 +294,7 @@ def test_runner_for_an_emulator_that_lacks_an_instruction(library: Path, capsys:
             return "0" if key == "interrupt" else str(super().get(key))
 
         def step(self) -> None:
-            if self.get("pc") != "000":
+            if self.get("pc") >= "800":
                 raise self.refusal
             super().step()
 
@@ -302,13 +302,13 @@ def test_runner_for_an_emulator_that_lacks_an_instruction(library: Path, capsys:
             raise self.refusal
 
     path, entries = VECTORS / "steps/BREAK.jsonl", entries_in(VECTORS, "BREAK")
-    tried = [it for it in entries if "pc" not in it["before"]]
+    tried = [it for it in entries if it["before"].get("pc", "000") < "800"]
     wrong = [it for it in tried if "1" in (it["before"].get("interrupt"), it["after"].get("interrupt"))]
     lines = [f"{head_of(it)}interrupt: expected 1, got 0" for it in wrong]
     counts = f"{len(tried) - len(wrong)} passed, {len(wrong)} failed ({len(wrong)} with a choice), "
     count = len(entries) - len(tried)
     skipped = f"{count} skipped\nskipped: {count} of BREAK"
-    assert wrong and "; choice: pc after BREAK), " in lines[0]
+    assert 0 < len(wrong) < len(tried) < len(entries) and "; choice: pc after BREAK), " in lines[0]
     assert output_of_runner("steps", path, Lacking) == "\n".join([*lines, counts + skipped, ""])
     Lacking.refusal = KeyError
     first = next(it for it in entries if it not in tried)
