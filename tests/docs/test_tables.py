@@ -205,6 +205,7 @@ def test_forms_planned_otherwise() -> None:
 def test_figures() -> None:
     """What pages count: vectors, cases, planted faults, routines, instructions, and lines of examples."""
     steps = [path.read_text().count("\n") for path in VECTORS.glob("steps/*.jsonl")]
+    programs = len([*VECTORS.glob("programs/*.imem")])
     (each,) = re.findall(r"(?m)^CASES = (\d+)$", page("tests/campaigns/test_planted.py"))
     agreed = f"in {len(ROWS) * int(each) // 100_000 / 10} million cases"
     bugs, routines = page("tests/campaigns/bugs.tsv").splitlines()[1:], len([*TOP.glob("microcode/*.s")])
@@ -217,7 +218,7 @@ def test_figures() -> None:
         GUARANTEES: f"{agreed}; [{len(bugs)} faults were planted in it]",
         OF_VECTORS: f"{sum(steps):,} test vectors; {min(steps)} to {max(steps)} of each of the {len(steps)}; "
         f"the {bench} lines of [tb.sv]; some {round(command, -1)} lines, such as [cases.mjs]; "
-        f"outcomes of {len(covered)} instructions",
+        f"outcomes of {len(covered)} instructions; {programs} whole programs",
     }
     assert not [it for name in figures for it in figures[name].split("; ") if it not in sentences(name)]
 
