@@ -63,7 +63,8 @@ def test_examples(page: Page) -> None:
         page.message_after(lambda: page.click("link"))
         assert len(page.address.partition("#")[2]) < 2000, name
         if script not in held:
-            words = len(script.splitlines()) - len(["a comment", "asm", "end", "dis"])
+            lines = [it for it in script.splitlines() if it.partition("#")[0].strip()]
+            words = len(lines) - len(["asm", "end", "dis"])
             first, *listed = page.run().splitlines()
             assert (first, len(listed)) == (f"ok {words} words", words), name
     files = [it.read_bytes() for at in ("examples", "microcode") for it in places.TOP.glob(f"{at}/*.rsp")]
@@ -130,7 +131,7 @@ def test_link_without_end(page: Page) -> None:
     """It runs for ten seconds by itself."""
     page.open_link(linked(ENDLESS.encode()))
     page.until("!the('stop').hidden")
-    said = r"Stopped after 10 seconds and [1-9]\d+ lines, because it came by a link\. Run has no limit\."
+    said = r"Stopped after 10 seconds and [1-9][\d,]+ lines, because it came by a link\. Run has no limit\."
     assert re.fullmatch(said, page.ended())
 
 

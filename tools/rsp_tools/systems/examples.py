@@ -55,7 +55,8 @@ def idioms(page: str) -> Iterator[Example]:
         r"(?ms)^### (.*?)$|(?<=\n\n)(?:<a id=\S+></a>)?\*\*(.*?)\*\*|^```asm\n(.*?)^```$", section
     ):
         if text:
-            script = f"# {title}\nasm 0\n{text}end\ndis 0 {len(text.splitlines())}\n"
+            count = sum(bool(line.partition("#")[0].strip()) for line in text.splitlines())
+            script = f"# {title}\nasm 0\n{text}end\ndis 0 {count}\n"
             yield example("Idioms of a few lines", title, script)
         else:
             title = " ".join((head or bold).split()).rstrip(".")
