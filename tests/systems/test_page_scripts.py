@@ -63,7 +63,7 @@ def test_examples(page: Page) -> None:
         page.message_after(lambda: page.click("link"))
         assert len(page.address.partition("#")[2]) < 2000, name
         if script not in held:
-            lines = [it for it in script.splitlines() if it.partition("#")[0].strip()]
+            lines = [it for it in script.splitlines() if it.partition(b"#")[0].strip()]
             words = len(lines) - len(["asm", "end", "dis"])
             first, *listed = page.run().splitlines()
             assert (first, len(listed)) == (f"ok {words} words", words), name
