@@ -12,7 +12,7 @@ VRSQ for each of the 1,024 entries of the divide tables:
   OUT/full/NAME.json                   with --full: the cases of steps/, whole states of numbers before and
                                        after
   OUT/flat/NAME.bin                    with --flat: the cases of steps/, as brsp_state of brsp.h and bytes
-  OUT/hex/NAME.hex, NAME-K.imem.hex .. with --hex: the cases of steps/ without memories, a line each, and the
+  OUT/hex/NAME.hex, NAME-K.imem.hex .. with --hex: those cases of steps/ that touch no memory, and the
                                        memories of programs/; with brsp_state.svh, brsp_state.vhd and
                                        rsp_forms.svh
 README.md beside this command says how they are read. The same words give the same files.

@@ -142,7 +142,8 @@ size_t brsp_word_text(uint32_t word, uint32_t address, char *text, size_t capaci
  * wrote. If they differ after a stretch, both go back to the last comparison and are stepped from there. (A
  * wrong value that is overwritten before the end of its stretch isn't seen: repeat with 1 for `every`. What
  * shows only if the emulator makes several steps without a pause needs longer stretches.) At the end all of
- * RDRAM is compared. Both are left after the step that differs, and the machine's history is empty. Breakpoints and watches are ignored.
+ * RDRAM is compared. Both are left after the step that differs, and the machine's history is empty.
+ * Breakpoints and watches are ignored.
  *
  * A search may be dropped at any time: nothing has to be freed but its bytes, which are yours. */
 

@@ -508,7 +508,8 @@ export interface FirstDifference extends Line {
  * DMEM and IMEM are compared, after a DMA also the bytes of RDRAM to which it wrote, and at the end all of RDRAM. If
  * they differ, both go back to the last comparison and are stepped from there. (A wrong value that is overwritten before
  * the end of its stretch isn't seen: repeat with 1 for `every`. What shows only if the emulator makes several steps
- * without a pause needs longer stretches.) Both are left after the step that differs, and the machine's history is empty. Throws a RangeError if the emulator gives too few or too many bytes. */
+ * without a pause needs longer stretches.) Both are left after the step that differs, and the machine's history is empty.
+ * Throws a RangeError if the emulator gives too few or too many bytes. */
 export function first_difference(
   machine: Machine, emulator: Emulator, every?: number, limit?: number,
 ): FirstDifference | null;

@@ -4,10 +4,10 @@
 
     python3 -m rsp.slow SCRIPT [--rdram FILE]
 
-The machine finishes each DMA at once, so a wait never turns. Here a DMA is also done at once, but reads of
+The machine finishes each DMA at once, so a wait never repeats. Here a DMA is also done at once, but reads of
 SP_STATUS, SP_DMA_FULL and SP_DMA_BUSY after it, a chosen or drawn number, are answered as if it were under
-way. Two that are under way are full, and end in their order. This is no model of time: it shows what a wait
-does that turns, while `rsp.waits` shows which waits are missing.
+way. Two that are under way are full, and end in their order. This is no model of time: it shows what a
+wait that repeats does, while `rsp.waits` shows which waits are missing.
 
 The command compares what follows each `run` of a script, up to the halt. Its status is 1 if one differs.
 """

@@ -1,4 +1,4 @@
-"""Finds missing waits for a DMA, and waits that leave something behind.
+"""Finds missing waits for a DMA, and waits that change something if they repeat.
 
 The machine finishes each DMA at once, so a program that forgets to wait runs well here, and fails on a
 console.
@@ -21,7 +21,7 @@ The rules are our own:
   is followed for AHEAD steps. A load between a read and the branch at which the two ways part doesn't count,
   because the program tests the answer there, and loads again.
 - A copy that waits then gets the answer that all is done, and must come to the instruction at which the
-  machine leaves the wait with the same registers and the same DMEM: a wait that turns leaves nothing behind.
+  machine leaves the wait with the same registers and the same DMEM: a wait that repeats changes nothing.
 - While a transfer is under way, no instruction may load a byte that it brings, store a byte that it brings or
   takes, or be fetched from what it brings.
 - One more transfer may be ordered while one is under way, because a console has a second set of DMA registers

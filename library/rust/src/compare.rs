@@ -108,7 +108,8 @@ fn answer(emulator: &mut impl Emulator, request: &raw::Request, bytes: &mut [u8]
 /// which end before a DMA. After each stretch all registers, DMEM and IMEM are compared, after a DMA also the bytes of RDRAM to which it wrote, and
 /// at the end all of RDRAM. If they differ, both go back to the last comparison and are stepped from there. (A wrong value that is
 /// overwritten before the end of its stretch isn't seen: repeat with 1 for `every`. What shows only if the emulator makes several steps without a
-/// pause needs longer stretches.) Both are left after the step that differs, and the machine's history is empty. Refused with [`OutOfRange`](crate::Status::OutOfRange) if `every` isn't in its range.
+/// pause needs longer stretches.) Both are left after the step that differs, and the machine's history is empty. Refused with
+/// [`OutOfRange`](crate::Status::OutOfRange) if `every` isn't in its range.
 pub fn first_difference(
     machine: &mut Machine,
     emulator: &mut impl Emulator,
