@@ -110,8 +110,8 @@ def first_difference(
     differ, both go back to the last comparison and are stepped from there. (A wrong value that is overwritten
     before the end of its stretch isn't seen: repeat with `every=1`. What shows only if the emulator makes
     several steps without a pause needs longer stretches.) Both are left after the step that differs, and the
-    machine's history is empty. Raises RspError with OUT_OF_RANGE if `every` or `limit`, 0 to 4294967295, isn't
-    in its range, and ValueError if the emulator gives too few or too many bytes.
+    machine's history is empty. Raises RspError with OUT_OF_RANGE if `every` or `limit`, 0 to 4294967295,
+    isn't in its range, and ValueError if the emulator gives too few or too many bytes.
     """
     from . import _lib, _numbers, _quick  # which are made after this module is loaded
 
