@@ -1,17 +1,15 @@
-"""The cases of each instruction: a word, and the state before it, on edge values and on random ones.
+"""Cases of each instruction: a word, and the state before it, on edge values and on random ones.
 
-The same row, seed and number give the same case, on every version of Python.
+The same row, seed and number give the same case, on every version of Python. The small set in vectors/ was
+chosen once, and is data: no module here makes it.
 """
 
 from typing import Any, Callable, Dict, Iterator, List, Optional, Sequence, Tuple
 
-from rsp_conformance.wanted_lanes import TRIES, near, set_wanted_lanes
-from rsp_conformance.seeded_random import LANES, Random
-from rsp_conformance.outcomes import lanes_of, possible, result_of, selected, signed
+from rsp_conformance.seeded_random import Random
 from rsp_conformance.states import Texts
-from rsp_conformance.table import FORMS, MPEG, SCALE, Row, destination, ignored_bits, reads_other_lanes
-from rsp_conformance.table import uses_memory, word_of
-from rsp_conformance.case_outcomes import DIVIDENDS, elements_of, zeros
+from rsp_conformance.table import FORMS, MPEG, SCALE, Row, destination, elements_of, ignored_bits, selected
+from rsp_conformance.table import signed, uses_memory, word_of
 
 Fields = Dict[str, int]
 Made = Tuple[Fields, Texts]
@@ -28,6 +26,7 @@ EXTREMES = ((0x8000, 0x8000), (0x8000, 0x7FFF), (0x7FFF, 0x7FFF), (0xFFFF, 0x800
 DIVISORS = (0, -32768, 1, -1, 3, -3, 0x7FFFFFFF, -0x80000000, -32769, 65536)
 DIVIDED = (0, 1, -1, -32768, -32769, 32767, 32768, 65535, 65536, -65536)
 SP_NUMBERS = (0, 1, 2, 3, 4, 4, 4, 7, 2, 3, 4, 5, 6, 8, 11, 15, 4, 2, 3, 4)
+BORDERS = (0, 1 << 31, -1 << 31, 1 << 47)  # where an accumulator is clamped, or wraps
 PLACES = (0x000, 0x004, 0x7FC, 0xFF4, 0xFF8, 0xFFC)
 WRAPPING = 0xFE0  # the window of the cases that pass the end of DMEM
 WINDOW_LENGTH = 48
@@ -48,6 +47,19 @@ def text_of_lanes(lanes: List[int]) -> str:
     return "".join(f"{lane:04x}" for lane in lanes)
 
 
+def near(random: Random, b: int) -> int:
+    """A lane that is close to a limit of the comparisons with b: equal, opposite, or next to one of these."""
+    return int(random.pick((b, b, -b, -b, ~b, b + 1, b - 1, -b + 1, -b - 2, b ^ 0x8000))) % 65536
+
+
+def accumulator(random: Random) -> int:
+    """Any accumulator, or one at any distance from where accumulators are clamped, or wrap."""
+    if random.one_in(2):
+        return random.accumulator()
+    distance = random.below(1 << random.below(34))
+    return (random.pick(BORDERS) + random.pick((distance, -distance))) % 2**48
+
+
 def relate(random: Random, vs: List[int], vt: List[int], element: int) -> None:
     """Makes half of the lanes of vs close to the limits of a comparison with the selected lane."""
     for lane in range(8):
@@ -63,7 +75,7 @@ def flags(random: Random) -> Texts:
 
 def vector_state(random: Random) -> Texts:
     """Accumulators and flags other than the default, which most instructions have to preserve."""
-    state = {f"a{lane}": f"{random.accumulator():012x}" for lane in range(8)}
+    state = {f"a{lane}": f"{accumulator(random):012x}" for lane in range(8)}
     return {**state, **flags(random)}
 
 
@@ -116,14 +128,6 @@ def element_of(row: Row, number: int) -> int:
     return number // 2 % 2 if number % 2 == 0 else 2 + number // 2 % 14
 
 
-# Cases that are fixed and not random, by instruction and number: a and b of each lane, and the flags before.
-# A new case's number is the number of lines of vectors/steps/NAME.jsonl, plus 1 if that is odd: in a case
-# with an even number each lane takes itself, and vs isn't vt. The odd ones between them are random.
-GIVEN = {
-    ("vch", 48): (0x7FFF, 0x8000, {"vco": "ffff", "vcc": "ffff", "vce": "ff"}),
-}
-
-
 def make_equal(row: Row, random: Random, element: int) -> Made:
     """A case of a computing instruction whose three registers are one."""
     register, lanes = random.below(32), random.lanes()
@@ -133,25 +137,7 @@ def make_equal(row: Row, random: Random, element: int) -> Made:
     return {"e": element, "vs": register, "vt": register, "vd": register}, before
 
 
-def make_changing(row: Row, random: Random, element: int) -> Made:
-    """A case with vt = vd, in which each lane of vt that another lane takes changes."""
-    vs, vt = random.some(2, 32)
-    fields = {"e": element, "vs": vs, "vt": vt, "vd": vt}
-    for _ in range(TRIES):
-        a, b, before = random.lanes(), random.lanes(), vector_state(random)
-        if not row.name.startswith("vm"):
-            relate(random, a, b, element)
-        before.update({f"v{vs}": text_of_lanes(a), f"v{vt}": text_of_lanes(b)})
-        lanes = [*lanes_of(fields, before)]
-        taken = [lanes[selected(element, at)] for at in range(8)]  # each takes itself
-        if all(result_of(row.name, lane) != lane.b for lane in taken):
-            break
-    return fields, before
-
-
 def make_vector(row: Row, random: Random, number: int, window: int) -> Made:
-    if number in (changing := changing_numbers(row)):
-        return make_changing(row, random, CHANGING[number - changing[0]])
     if (element := paired_element(row, number)) is not None:
         return make_equal(row, random, element)
     fields = {"e": element_of(row, number)}
@@ -160,16 +146,10 @@ def make_vector(row: Row, random: Random, number: int, window: int) -> Made:
         fields[random.pick(("vs", "vd")) if number % 2 else "vd"] = fields["vt"]
     vs, vt = random.lanes(), random.lanes()
     before = vector_state(random)
-    if number % 2 == 0 and row.name != "vsar" and possible(row.name):
-        set_wanted_lanes(row.name, random, number // 2, fields, vs, vt, before, LANES, EXTREMES)
-    else:
-        if not row.name.startswith("vm") and not random.one_in(3):
-            relate(random, vs, vt, fields["e"])
-        lane = random.below(8)
-        vs[lane], vt[selected(fields["e"], lane)] = EXTREMES[number // 2 % len(EXTREMES)]
-    if fixed := GIVEN.get((row.name, number)):
-        vs, vt = [fixed[0]] * 8, [fixed[1]] * 8
-        before.update(fixed[2])
+    if not row.name.startswith("vm") and not random.one_in(3):
+        relate(random, vs, vt, fields["e"])
+    lane = random.below(8)
+    vs[lane], vt[selected(fields["e"], lane)] = EXTREMES[number // 2 % len(EXTREMES)]
     if random.one_in(4):
         before.update(divider(random, number))
     before[f"v{fields['vs']}"] = text_of_lanes(vs)
@@ -177,19 +157,10 @@ def make_vector(row: Row, random: Random, number: int, window: int) -> Made:
     return fields, before
 
 
-def dividend(random: Random, number: int, is_long: bool) -> int:
-    """A number to divide: for every eight cases one of the next branch of the divider's rule, then any.
-
-    The number of its leading zeros is even and odd in turn.
-    """
-    branch = number // 8 % (len(DIVIDENDS) + 1)
-    for _ in range(TRIES):
-        x = random.pick(DIVISORS) if random.one_in(2) else (divisor(random) ^ 1 << 31) - (1 << 31)
-        x = x if is_long else signed(x, 16)
-        is_even = branch < 2 or zeros(x) % 2 == (number + branch) % 2
-        if branch == len(DIVIDENDS) or DIVIDENDS[branch].when(x) and is_even:
-            break
-    return int(x)
+def dividend(random: Random, is_long: bool) -> int:
+    """A number to divide: an edge of the divider's rules, or any."""
+    x = random.pick(DIVISORS) if random.one_in(2) else signed(divisor(random), 32)
+    return int(x if is_long else signed(x, 16))
 
 
 # The numbers of the cases of `--entries`, which read each entry of a divide table. The first reads entry 0.
@@ -212,7 +183,7 @@ def make_lane(row: Row, random: Random, number: int, window: int) -> Made:
         fields["vd"] = fields["vt"]
     before = {**vector_state(random), **divider(random, loaded)}
     is_long = row.name[-1] == "l" and before["loaded"] == "1"
-    number_divided = dividend(random, number, is_long)
+    number_divided = dividend(random, is_long)
     if number in ENTRIES:
         number_divided = dividend_of(row, ENTRIES.index(number))
     if is_long:
@@ -392,22 +363,6 @@ MAKERS: Dict[str, Callable[[Row, Random, int, int], Made]] = {
     "nothing": lambda row, random, number, window: ({}, {**vector_state(random), **divider(random, number)}),
     **dict.fromkeys(("vector load", "vector store"), make_vector_memory),
 }
-
-
-# The elements of the cases in which a lane takes another lane of vt that the instruction changes.
-CHANGING = range(2, 16)
-
-
-def changing_numbers(row: Row) -> range:
-    """The numbers of these cases, after those of the pairs. VEQ changes no lane that takes itself."""
-    fixed = (number + 1 for name, number in GIVEN if name == row.name)
-    first = max((unpaired(row) + len(paired_elements(row)), *fixed))
-    return range(first, first + len(CHANGING) * (reads_other_lanes(row) and row.name != "veq"))
-
-
-def small_count(row: Row) -> int:
-    """The number of cases of an instruction in the small set."""
-    return changing_numbers(row).stop
 
 
 def reached_windows(row: Row) -> List[int]:

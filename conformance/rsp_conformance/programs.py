@@ -10,8 +10,7 @@ from typing import Any, Callable, Dict, Iterator, List, Sequence, Tuple
 
 from rsp_conformance import bench
 from rsp_conformance.bench import ONES_DATA, accumulator_data, accumulator_program
-from rsp_conformance.cases import WINDOW_LENGTH, WRAPPING, Case, changing_numbers, make_case, paired_element
-from rsp_conformance.cases import reached_windows
+from rsp_conformance.cases import WINDOW_LENGTH, WRAPPING, Case, make_case, paired_element, reached_windows
 from rsp_conformance.seeded_random import Random
 from rsp_conformance.table import Row, uses_memory, word_of
 
@@ -339,11 +338,11 @@ def begun_program(row: Row) -> Program:
 
 
 def programs_of(row: Row, seed: str, numbers: range) -> Iterator[Program]:
-    """The programs with these cases. Each BREAK and changing_numbers begin a new one."""
+    """The programs with these cases. Each BREAK begins a new one."""
     program = begun_program(row)
     for number in numbers[:2] if row.form == "break" else numbers:
         try:
-            if row.form == "break" and program.cases or number in changing_numbers(row)[:1]:
+            if row.form == "break" and program.cases:
                 raise Full
             program = with_case(program, row, seed, number)
         except Full:

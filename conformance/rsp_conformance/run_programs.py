@@ -7,7 +7,7 @@ from typing import Any, Dict, Iterable, Iterator, List, Optional
 from rsp_conformance import bench
 from rsp_conformance.bench import RspError, Script, joined, run_script
 from rsp_conformance.command_line import first_complaints
-from rsp_conformance.programs import MEMORY, Program, programs_of
+from rsp_conformance.programs import MEMORY, Program
 from rsp_conformance.steps import FLAG_NAMES
 from rsp_conformance.table import Row
 from rsp_conformance.vectors import memory_in
@@ -57,9 +57,8 @@ def program_results(program: str, script: Script, count: int) -> Iterator[Dict[s
         yield {**result, "steps": int(stop.split()[3])}
 
 
-def row_files(program: str, row: Row, seed: str, numbers: range) -> Dict[str, bytes]:
-    """The files of an instruction, by their names."""
-    programs = list(programs_of(row, seed, numbers))
+def row_files(program: str, row: Row, programs: List[Program]) -> Dict[str, bytes]:
+    """The files of an instruction with these programs, by their names."""
     files: Dict[str, bytes] = {}
     entries = []
     for number, (made, result) in enumerate(zip(programs, assemble_and_run(program, programs)), 1):
@@ -72,6 +71,17 @@ def row_files(program: str, row: Row, seed: str, numbers: range) -> Dict[str, by
         entries.append(entry)
     files[f"{row.name.upper()}.json"] = manifest_text(row, entries).encode()
     return files
+
+
+def files_again(program: str, row: Row, manifest: Dict[str, Any], folder: Path) -> Dict[str, bytes]:
+    """The files of an instruction that say what its programs do, which are run again."""
+    entries, files = manifest["programs"], {}
+    for entry, result in zip(entries, results_in(program, entries, folder, True)):
+        for case, text in zip(entry["cases"], result["text"]):
+            case["text"] = text.split(" ", 2)[2]
+        entry["steps"] = result["steps"]
+        files[f"{entry['name']}.after"] = bytes.fromhex(result["dmem"])
+    return {**files, f"{row.name.upper()}.json": manifest_text(row, entries).encode()}
 
 
 def short(value: object) -> str:
@@ -123,8 +133,10 @@ def byte_complaints(
     return [f"{start}, {field}, DMEM {at:03x}: {pair}"]
 
 
-def run_manifest(program: str, manifest: Dict[str, Any], folder: Path) -> Iterator[List[str]]:
-    """Runs the programs of a manifest in a folder, and yields the complaints of each.
+def results_in(
+    program: str, entries: List[Entry], folder: Path, is_shown: bool = False
+) -> Iterator[Dict[str, Any]]:
+    """Runs programs of a folder, and yields what is seen of each, with the texts of its cases if asked for.
 
     The registers have other values than when the programs were made, so that a program that depends on such a
     value fails.
@@ -135,10 +147,17 @@ def run_manifest(program: str, manifest: Dict[str, Any], folder: Path) -> Iterat
         bench.set_state(script, bench.DEFAULT, 0)
         imem, dmem = (memory_in(folder / f"{entry['name']}.{kind}") for kind in ("imem", "dmem"))
         run_images(script, imem, dmem)
+        for case in entry["cases"] if is_shown else ():
+            script.add(f"dis {int(case['pc'], 16)} 1", 1, ("text",))
         return script
 
-    scripts = joined(map(script_of_files, manifest["programs"]), bench.prelude)
-    results = (result for script, count in scripts for result in program_results(program, script, count))
-    for entry, result in zip(manifest["programs"], results):
+    for script, count in joined(map(script_of_files, entries), bench.prelude):
+        yield from program_results(program, script, count)
+
+
+def run_manifest(program: str, manifest: Dict[str, Any], folder: Path) -> Iterator[List[str]]:
+    """Runs the programs of a manifest in a folder, and yields the complaints of each."""
+    entries = manifest["programs"]
+    for entry, result in zip(entries, results_in(program, entries, folder)):
         after = memory_in(folder / f"{entry['name']}.after")
         yield first_complaints(entry["name"], complaints(entry, after, bytes.fromhex(result["dmem"])))

@@ -5,10 +5,10 @@ from typing import Any, Dict, Iterable, Iterator, List
 
 from rsp_conformance import bench
 from rsp_conformance.bench import Observation
-from rsp_conformance.cases import Case, make_case
+from rsp_conformance.cases import Case
 from rsp_conformance.command_line import first_complaints
 from rsp_conformance.states import Texts
-from rsp_conformance.table import ROWS, Row
+from rsp_conformance.table import ROWS, Row, fields_of
 
 Entry = Dict[str, Any]  # a line of a file of `steps`
 
@@ -37,10 +37,15 @@ def entry_of(case: Case, found: Observation) -> Entry:
     return {**entry, "before": before, "after": after}
 
 
-def row_text(program: str, row: Row, seed: str, numbers: range) -> str:
-    """The file of an instruction: the cases of these numbers. An RspError if the machine doesn't know it."""
-    cases = [make_case(row, seed, number) for number in numbers]
-    found = bench.observe(program, [(row, case.word, {**bench.DEFAULT, **case.before}) for case in cases])
+def case_of(entry: Entry) -> Case:
+    """A case of a file, without the state after it."""
+    row, word = row_of(entry), int(entry["word"], 16)
+    return Case(entry["name"], row, fields_of(row, word), entry["before"], word)
+
+
+def text_of(program: str, cases: List[Case]) -> str:
+    """The file of an instruction with these cases. An RspError if the machine doesn't know it."""
+    found = bench.observe(program, [(it.row, it.word, {**bench.DEFAULT, **it.before}) for it in cases])
     lines = []
     for case, observation in zip(cases, found):
         if not observation["step"].startswith("step Done"):

@@ -3,7 +3,7 @@
 docs/INSTRUCTIONS.md lists them too.
 """
 
-from typing import Any, Dict, Iterator, NamedTuple, Optional, Tuple
+from typing import Any, Callable, Dict, Iterator, NamedTuple, Optional, Sequence, Tuple
 
 
 class Row(NamedTuple):
@@ -134,11 +134,6 @@ def row_of(word: int) -> Optional[Row]:
     return next((row for row in ROWS.values() if word & row.mask == row.value), None)
 
 
-def reads_other_lanes(row: Row) -> bool:
-    """Whether a lane of the result depends on a lane of vt that the element selects."""
-    return row.form == "vector" and row.name not in ("vsar", "vmacq")
-
-
 def destination(row: Row) -> Optional[str]:
     """The field that names the scalar register which an instruction writes, or None."""
     if row.form in ("shift", "three", "link register"):
@@ -154,3 +149,34 @@ def fields_of(row: Row, word: int) -> Dict[str, int]:
 def uses_memory(row: Row) -> bool:
     """Whether an instruction loads or stores."""
     return row.form in ("load", "store", "vector load", "vector store")
+
+
+def elements_of(row: Row) -> Sequence[int]:
+    """The elements of an instruction; none if it has no element."""
+    if "e" not in FORMS[row.form]:
+        return ()
+    return (0, 8) if row.name in ("lfv", "sfv") else range(16)
+
+
+def selected(element: int, lane: int) -> int:
+    """The lane of vt that an element of a computing instruction selects for a lane."""
+    if element < 2:
+        return lane
+    if element < 4:
+        return lane // 2 * 2 + element - 2
+    if element < 8:
+        return lane // 4 * 4 + element - 4
+    return element - 8
+
+
+def signed(number: Any, bits: int = 16) -> Any:
+    """The signed number with the same low bits. The number may be an array."""
+    half = 1 << bits - 1
+    return (number & 2 * half - 1 ^ half) - half
+
+
+def address_of(row: Row, fields: Dict[str, Any], register_of: Callable[[str], Any]) -> Any:
+    """The address of a load or a store. All numbers may be arrays."""
+    if "off" in fields:
+        return (register_of("base") + signed(fields["off"], 7) * SCALE[row.name[1]]) % 4096
+    return (register_of("s") + signed(fields["imm"])) % 4096

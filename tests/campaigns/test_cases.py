@@ -6,8 +6,7 @@ from typing import Any, Tuple
 import pytest
 
 from lib.packages import is_here
-from rsp_conformance.cases import signed
-from rsp_conformance.table import ROWS
+from rsp_conformance.table import ROWS, signed
 
 if is_here("python:numpy"):
     import numpy as np

@@ -24,8 +24,8 @@ from rsp_conformance import HERE as CONFORMANCE, bench, generate, library_states
 from rsp_conformance.campaign.supervise import check
 from rsp_conformance.cases import ENTRIES
 from rsp_conformance.steps import Entry
-from rsp_conformance.table import ROWS
-from rsp_conformance.vectors import VECTORS, entries_in
+from rsp_conformance.table import ROWS, Row
+from rsp_conformance.vectors import VECTORS, entries_in, manifest_in
 
 pytestmark = [pytest.mark.needs("cc", "python:numpy"), pytest.mark.usefixtures("library")]
 
@@ -129,10 +129,45 @@ def test_tables_have_the_bugs_of_the_core() -> None:
     assert {name for names in BUGS.values() for name in names} <= ROWS.keys()
 
 
+def generated(program: Path, folder: Path, numbers: range, *names: str) -> None:
+    """Makes new vectors of these instructions."""
+
+    def write(row: Row) -> None:
+        generate.write_row(str(program), row, "1", numbers, folder, ())
+
+    assert not [*generate.generate([ROWS[name.lower()] for name in names], write, folder)]
+
+
 def core_with(bug: int, folder: Path) -> Path:
     """The core with a bug."""
     words = ("-std=c11", *STRICT, "-march=x86-64-v2", "-shared", "-fPIC", f"-I{CONFORMANCE}/campaigns")
     return compiled(folder / "second.so", *words, f"-DPLANTED={bug}", CORE)
+
+
+@pytest.mark.parametrize("cases", (0, 20), ids=("small set", "new cases"))
+def test_core_agrees_in_vectors(cases: int, program: Path, folder: Path) -> None:
+    """A core that was written from the pages alone passes the vectors, and new ones, steps and programs."""
+    if cases:
+        generated(program, folder, range(cases), *ROWS)
+    lib, of = ctypes.CDLL(str(core_with(0, folder))), folder if cases else VECTORS
+    found = [vector for name in ROWS for vector in vectors_of(name.upper(), lib, of)]
+    assert len(found) > 2000 and [vector for vector, is_same in found if not is_same] == []
+
+
+@pytest.mark.parametrize("name", ("LTV", "LQV"))
+def test_programs_load_what_steps_load(name: str, program: Path, folder: Path) -> None:
+    """A case loads in a program what it loads in `steps`: no case spoils another one's bytes."""
+    generated(program, folder, range(60), name)
+    steps, count = {case["name"]: case for case in entries_in(folder, name)}, 0
+    for entry in manifest_in(folder, name)["programs"]:
+        left = (folder / f"programs/{entry['name']}.after").read_bytes()
+        for it in entry["cases"]:
+            case, at = steps[it["name"]], int(it["at"], 16)
+            for number, key in enumerate(key for key in case["before"] if key[0] == "v"):
+                loaded = left[at + 16 * number :][:16].hex()
+                assert loaded == {**case["before"], **case["after"]}[key], (it["name"], key)
+                count += 1
+    assert count >= 60
 
 
 @pytest.mark.parametrize("bug", (95, 96))
@@ -147,7 +182,7 @@ def test_lanes_written_one_after_the_other(bug: int, folder: Path) -> None:
 @pytest.mark.parametrize("bug, name, entry", [(97, "VRCP", 300), (98, "VRSQ", 301)])
 def test_wrong_entry(bug: int, name: str, entry: int, program: Path, folder: Path) -> None:
     """The vectors of `--entries` find a wrong entry of a divide table."""
-    assert not [*generate.generate(str(program), [ROWS[name.lower()]], "1", ENTRIES, folder)]
+    generated(program, folder, ENTRIES, name)
     lib = ctypes.CDLL(str(core_with(bug, folder)))
     case, program_name = [vector for vector, is_same in vectors_of(name, lib, folder) if not is_same]
     assert case == f"{name}-entry-{entry}" and program_name.startswith(f"{name}-")

@@ -2,7 +2,7 @@
 
 from typing import Any, Dict, Iterable, List, Sequence, Tuple
 
-from rsp_conformance import bench, coverage, outcomes
+from rsp_conformance import bench
 from rsp_conformance.table import ROWS, word_of
 
 Look = Dict[str, Any]
@@ -11,7 +11,8 @@ Lanes = Sequence[int]
 Case = Tuple[Any, int, Look]
 
 # The flags by their names on the pages, each with its register, and the bit of lane 0 there.
-FLAGS = {coverage.NAMES.get(flag, flag): at for flag, at in outcomes.FLAGS.items()}
+FLAGS = {"carry": ("vco", 0), "not-equal": ("vco", 8), "compare": ("vcc", 0), "clip": ("vcc", 8),
+         "extra": ("vce", 0)}  # fmt: skip
 CLEAR = {"vco": "0000", "vcc": "0000", "vce": "00"}
 ZEROS = [0] * 8
 

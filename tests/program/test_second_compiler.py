@@ -1,6 +1,6 @@
 """Scripts and vectors, on the program that Rattle's own compiler makes. All other tests run what LLVM makes.
 
-They fail as tests/program/test_scripts.py and conformance/check do. `rt ci` leaves that program as
+They fail as tests/program/test_scripts.py and conformance/run do. `rt ci` leaves that program as
 crates/rsp_main/out/rsp_main.by-rattle. If it isn't there, or is older than the program, it is built here over
 the libraries that the program was built over, which takes a minute or two; the program stays as it is.
 """
@@ -49,4 +49,5 @@ def test_scripts(other: Path) -> None:
 
 
 def test_vectors(other: Path) -> None:
-    assert re.search(r"(?m)^[1-9]\d* passed, 0 failed$", succeeds("conformance/check", other, timeout=600))
+    output = succeeds("conformance/run", "--program", other, timeout=600)
+    assert re.search(r"(?m)^[1-9]\d* passed, 0 failed$", output)

@@ -1,10 +1,11 @@
 """The test vectors of conformance/, on the program and on the library.
 
-They fail if a state differs, if a file isn't what conformance/generate makes, if forms of the vectors differ,
-or if a runner doesn't find a planted fault. Each instruction is a test.
+They fail if a vector says something else than what is done, if forms of the vectors differ, or if a runner
+doesn't find a planted fault. Each instruction is a test.
 """
 
 import contextlib
+import functools
 import io
 import itertools
 import json
@@ -23,7 +24,7 @@ import pytest
 from lib import TOP, devices
 from lib.pages import page
 from lib.processes import Ended, run, succeeds
-from rsp_conformance import bench, check, coverage, full, generate, run_programs, steps
+from rsp_conformance import bench, full, generate, run_programs, steps
 from rsp_conformance.command_line import Complaints
 from rsp_conformance.corrupt import spoilt_entries
 from rsp_conformance.library import IMAGE, run_row
@@ -32,7 +33,8 @@ from rsp_conformance.states import numbers_of, texts_of
 from rsp_conformance.table import ROWS
 from rsp_conformance.vectors import VECTORS, entries_in, manifest_in
 
-NAMES = pytest.mark.parametrize("name", check.NAMES)
+ALL = [name.upper() for name in ROWS]
+NAMES = pytest.mark.parametrize("name", ALL)
 
 
 def assert_passes(checks: Iterable[Complaints]) -> None:
@@ -43,31 +45,21 @@ def assert_passes(checks: Iterable[Complaints]) -> None:
 
 
 @NAMES
-def test_generated(name: str, program: Path, folder: Path) -> None:
-    """The files of an instruction, generated anew, are the same, byte by byte."""
-    rows = [ROWS[name.lower()]]
-    assert not [*generate.generate(str(program), rows, generate.SEED, None, folder)]
-    stored = [*VECTORS.glob(f"*/{name}.*"), *VECTORS.glob(f"*/{name}-*")]
-    names = {path.relative_to(VECTORS) for path in stored}
-    assert names == {path.relative_to(folder) for path in folder.glob("*/*")}
-    assert not [path for path in names if (VECTORS / path).read_bytes() != (folder / path).read_bytes()]
+def test_again(name: str, program: Path, folder: Path) -> None:
+    """The program does what the files of an instruction say: `--again` writes them as they are."""
+    write = functools.partial(generate.write_again, str(program), of=VECTORS, out=folder)
+    assert not [*generate.generate([ROWS[name.lower()]], write, folder)]
+    written = {path.relative_to(folder) for path in folder.glob("*/*")}
+    stored = [*VECTORS.glob(f"*/{name}.js*"), *VECTORS.glob(f"*/{name}-*.after")]
+    assert written == {path.relative_to(VECTORS) for path in stored}
+    assert not [path for path in written if (VECTORS / path).read_bytes() != (folder / path).read_bytes()]
 
 
-def test_files_and_table() -> None:
+def test_files() -> None:
     """There are no files of other instructions, and coverage.tsv has the table's order."""
-    assert {path.stem.split("-")[0] for path in VECTORS.glob("*/*")} == {*check.NAMES}
-    table = page("conformance/coverage.tsv")
-    names = [*dict.fromkeys(line.split("\t")[0] for line in table.splitlines()[1:])]
-    assert table.startswith(coverage.HEAD) and names == [name for name in check.NAMES if name in names]
-
-
-@NAMES
-def test_instruction(name: str, program: Path) -> None:
-    """Its programs end as their files say, and its outcomes occur, as often as coverage.tsv says."""
-    outcomes, table = check.outcomes_of(name), page("conformance/coverage.tsv").splitlines(True)
-    lines = [line for line in table if line.startswith(f"{name}\t")]
-    assert lines == [*coverage.table_lines(ROWS[name.lower()], outcomes)]
-    assert_passes(check.check_instruction(str(program), name, outcomes))
+    assert {path.stem.split("-")[0] for path in VECTORS.glob("*/*")} == {*ALL}
+    names = [line.split("\t")[0] for line in page("conformance/coverage.tsv").splitlines()[1:]]
+    assert [*dict.fromkeys(names)] == [name for name in ALL if name in names]
 
 
 SIZES = {"dmem": 4096, "imem": 4096, "rdram": 1 << 17}
@@ -221,7 +213,7 @@ def test_runners_of_programs(name: str, library: Path, folder: Path) -> None:
     """conformance/programs.py passes an instruction's programs, and names the case and the field of a wrong
     byte. A missing byte is a difference for conformance/run.
     """
-    for path in (check.PROGRAMS / f"{name}.json", *check.PROGRAMS.glob(f"{name}-*")):
+    for path in VECTORS.glob(f"programs/{name}[-.]*"):
         (folder / path.name).write_bytes(path.read_bytes())
     count = len(manifest_in(VECTORS, name)["programs"])
     assert output_of_runner("programs", folder / f"{name}.json") == f"{count} passed, 0 failed\n"

@@ -18,8 +18,7 @@ from typing import Any, Callable, Dict, Tuple
 import numpy as np
 import rsp
 from rsp_conformance import cases as vectors, seeded_random
-from rsp_conformance.outcomes import selected
-from rsp_conformance.table import FORMS, ROWS as INSTRUCTIONS, SCALE, Row, ignored_bits, word_of
+from rsp_conformance.table import FORMS, ROWS as INSTRUCTIONS, SCALE, Row, ignored_bits, selected, word_of
 
 from .protocol import VERSION
 

@@ -4,9 +4,7 @@ import re
 from typing import Dict, Iterator, List, Tuple
 
 import rsp
-from rsp_conformance.outcomes import selected
-from rsp_conformance.table import FORMS, ROWS, Row, fields_of, uses_memory
-from rsp_conformance.case_outcomes import address_of
+from rsp_conformance.table import FORMS, ROWS, Row, address_of, fields_of, selected, uses_memory
 
 Reads = Iterator[Tuple[str, str]]  # what it is, and its value
 

@@ -37,7 +37,7 @@ def runner(library: Path, tmp_path_factory: pytest.TempPathFactory) -> Path:
 def vectors(program: Path, tmp_path_factory: pytest.TempPathFactory) -> bytes:
     """The flat vectors of SW, which have pieces of DMEM and IMEM: the same of the program and of `steps`."""
     at = tmp_path_factory.mktemp("vectors")
-    succeeds("conformance/generate", "--program", program, "--flat", at, "SW")
+    succeeds("conformance/generate", "--program", program, "--cases", 20, "--flat", at, "SW")
     words = ("--program", "/none", "--flat", "--of", at, at / "again", "SW")
     assert succeeds("conformance/generate", *words) == "1 instructions\n"
     made = (at / "flat/SW.bin").read_bytes()

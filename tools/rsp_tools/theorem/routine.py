@@ -4,7 +4,7 @@ from __future__ import annotations
 
 from dataclasses import dataclass
 
-from rsp_conformance.outcomes import signed
+from rsp_conformance.table import signed
 
 from . import stop
 from .instructions import Instruction, instruction_of
