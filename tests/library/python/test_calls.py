@@ -23,7 +23,6 @@ from rsp import Reason, RspError, State, Status
 
 OUT = Status.OUT_OF_RANGE
 ANY: Any = rsp  # for calls that types forbid
-LOOP = "addiu $1, $0, 3\nloop: addiu $1, $1, -1\nsw $1, 64($0)\nbne $1, $0, loop\nnop\nbreak\n"
 TRACED = "ori $1, $0, 0x8001\nsw $1, 0x1044($0)\nmtc2 $1, $v1[2]\nvaddc $v2, $v1, $v1\nbreak\n"
 EVENTS = """start: ori $1, $0, 0x1f80
 mtc0 $1, $c0
@@ -179,21 +178,9 @@ def fail() -> Iterator[int]:
 # The status or the type of the error, a part of its message, and the call.
 Refusal = Tuple[Union[Status, type], str, Callable[[Any], object]]
 REFUSALS: Tuple[Refusal, ...] = (
-    (OUT, "set: pc is 4098, not a multiple of 4 below 4096", lambda it: it.set(State(pc=4098))),
-    (OUT, "set: sp[0] is 0x1, which SP_MEM_ADDR can't hold", lambda it: it.set(State(sp=[1] * 16))),
-    (OUT, "loaded is 2, not 0 or 1", lambda it: it.set(State(divider=rsp.Divider(loaded=2)))),
-    (OUT, "set: words[0] is 1, not 0", lambda it: it.set(State(words=[1] * 32))),
     (TypeError, "set: state is of type dict", lambda it: it.set({})),
     (TypeError, "state_fault: state is of type dict", lambda it: ANY.state_fault({})),
-    (OUT, "set_sp: a word", lambda it: it.set_sp(rsp.SpWords(interrupt=2))),
     (TypeError, "set_sp: given is of type State", lambda it: it.set_sp(State(pc=4098))),
-    (Status.OTHER_WORD, "pass_move: the word at pc is no MFC0 or MTC0", lambda it: it.pass_move(1)),
-    (Status.OTHER_WORD, "pass_dma: the word at pc starts no DMA", lambda it: it.pass_dma()),
-    (Status.TASK_PLACE, "start_task: 4 isn't a multiple of 8", lambda it: it.start_task(4)),
-    (Status.TASK_SIZE, "of the structure at 0, isn't 1 to 4096", lambda it: it.start_task(0)),
-    (OUT, "2 words from 4092 on pass the end of IMEM", lambda it: it.memory_words(rsp.IMEM, 4092, 2)),
-    (OUT, "8 bytes from 4090 on pass the end of DMEM", lambda it: it.memory(rsp.DMEM, 4090, 8)),
-    (OUT, "from 4095 on pass the end of IMEM", lambda it: it.load(rsp.IMEM, 4095, b"ab")),
     (TypeError, "load: data is of type list", lambda it: it.load(rsp.DMEM, 0, [1, 2])),
     (TypeError, "load: data is of type int", lambda it: it.load(rsp.DMEM, 0, 5)),
     (ValueError, "released memoryview", lambda it: it.load(rsp.DMEM, 0, released())),
@@ -205,16 +192,9 @@ REFUSALS: Tuple[Refusal, ...] = (
     (OUT, "words[1] is -1, not 0 to 4294967295", lambda it: it.load_words(rsp.DMEM, 0, [0, -1])),
     (OUT, "words[2] is 4294967296", lambda it: it.load_words(rsp.DMEM, 0, iter([1, 2, 1 << 32]))),
     (OUT, "from 0 on pass the end of DMEM", lambda it: it.load_words(rsp.DMEM, 0, [0] * 1025)),
-    (OUT, "2 bytes from 4095 on pass the end of DMEM", lambda it: it.add_watch(4095, 2)),
-    (OUT, "2 words from 4092 on pass the end of IMEM", lambda it: it.listing(4092, 2)),
-    (Status.NO_BREAK, "4 has no breakpoint", lambda it: it.drop_break(4)),
-    (Status.NO_WATCH, "no watch has the number 3", lambda it: it.drop_watch(3)),
-    (Status.SHORT_HISTORY, "fewer states than 1", lambda it: it.back(1)),
-    (OUT, "set_reg: register 0 holds 0, and not 3", lambda it: it.set_reg(0, 3)),
     (ValueError, "vectors[3] has 7 items, not 8", lambda it: it.set_vreg(3, [0] * 7)),
     (ValueError, "lane 2 is 65536", lambda it: it.set_vreg(3, [0, 0, 65536, 0, 0, 0, 0, 0])),
     (TypeError, "Machine: image is of type str", lambda it: ANY.Machine("image")),
-    (OUT, "image has 65 bytes, not a multiple of 8 from 64 to 8388608", lambda it: rsp.Machine(bytes(65))),
     (OUT, "image has 0 bytes", lambda it: rsp.Machine(b"")),
     (OUT, "image has 8388616 bytes", lambda it: rsp.Machine(bytes(8388616))),
     (TypeError, "text is of type bytes", lambda it: ANY.assemble(b"nop")),
@@ -298,95 +278,13 @@ def test_interrupt() -> None:
         signal.signal(signal.SIGVTALRM, before)
 
 
-def test_steps_and_stops() -> None:
-    machine = loaded(LOOP, 8)
-    machine.add_break(16)
-    assert_refused(Status.BREAK_TWICE, machine.add_break, 16)
-    assert machine.run(100) == (Reason.BREAK, 4, 16, None)
-    machine.drop_break(16)
-    assert (machine.add_watch(64, 4), machine.run(100)) == (0, (Reason.WATCH, 3, 12, 0))
-    machine.drop_watch(0)
-    assert machine.run(100).reason is Reason.HALT and machine.step() is Status.HALTED
-    assert machine.step_changes() is None
-
-
-def test_reserved_word() -> None:
-    machine = loaded("break\n.word 0xfffffffe\n", 8)
-    machine.run(5)
-    machine.write(4, 1)
-    assert machine.step() is Status.RESERVED and machine.step_changes() is None
-    stop = machine.run(5)
-    assert (stop, stop.word) == ((Reason.RESERVED, 0, 4, None), 0xFFFFFFFE)
-
-
-def test_passed_move() -> None:
-    machine = loaded("mfc0 $3, $c7\nmtc0 $3, $c2\nnop\n")
-    assert machine.pass_move(0xFEDCBA98) is Status.OK and machine.pass_move() is Status.OK
-    assert (machine.reg(3), machine.regs().pc) == (0xFEDCBA98, 8)
-    machine.write(4, 2)
-    assert machine.pass_move() is Status.HALTED
-
-
-def test_run_until_a_move() -> None:
-    machine = loaded("ori $4, $0, 0x1238\nmfc0 $3, $c7\nmtc0 $4, $c2\nbreak\n", 4)
-    stop = machine.run_until_move(100, 1 << 7, 1 << 2)
-    assert (stop, stop.word) == ((Reason.MOVE, 1, 4, None), None)
-    assert stop.move == (0x40033800, 7, False, 0)
-    assert machine.pass_move(5) is Status.OK
-    stop = machine.run_until_move(100, 0, 0xFFFF)
-    assert (stop[:2], stop.move) == ((Reason.MOVE, 0), rsp.Move(0x40841000, 2, True, 0x1238))
-    stop = machine.run_until_move(100, 0xFFFF, 0)
-    assert (stop[:2], stop.move, machine.reg(3)) == ((Reason.HALT, 2), None, 5)
-
-
-def test_events() -> None:
-    machine = loaded(EVENTS, 8)
-    machine.load(rsp.IMEM, 0xF80, b"16 bytes to move")
-    stop = machine.event(6)
-    assert (stop.reason, stop.steps, stop.move, stop.dma) == (rsp.Reason.LIMIT, 6, None, None)
-    assert (stop.status, stop.interrupt, machine.history()) == (0, False, 6)
-    stop = machine.event(5, reads=1 << 6)
-    assert (stop.reason, stop.steps, stop.move) == (rsp.Reason.MOVE, 0, rsp.Move(0x40043000, 6, False, 0))
-    machine.pass_move(5)
-    stop = machine.event(1)
-    assert (stop.reason, stop.move) == (rsp.Reason.DMA, rsp.Move(0x40831800, 3, True, 0x01801007))
-    assert stop.dma == rsp.Dma(rsp.IMEM, 0xF80, 0x200, 8, 2, 24, True)
-    assert machine.pass_dma() is Status.OK and machine.memory(rsp.RDRAM, 0, 4096) == bytes(4096)
-    assert (machine.run(9).steps, machine.pass_dma()) == (1, Status.HALTED)
-    assert (machine.write_dma(0, 0x1F80), machine.write_dma(1, 0x200)) == (None, None)
-    assert machine.write_dma(3, 0x01801007) == rsp.Dma(rsp.IMEM, 0xF80, 0x200, 8, 2, 24, True)
-    assert (machine.peek(1), machine.memory(rsp.RDRAM, 0, 4096)) == (0x228, bytes(4096))
-
-
-def test_an_interrupt() -> None:
-    """It ends a run before the next instruction; other writes of SP_STATUS have another reason; a breakpoint
-    goes before both, and the run's last step may be such a write."""
-    machine = loaded("ori $1, $0, 0x10\nloop: mtc0 $1, $c4\nmtc0 $0, $c4\nj loop\nnop\nbreak\n")
-    asked = 0, rsp.STATUS_WRITES | 1 << 4
-    found = [machine.event(steps, *asked) for steps in (100, 1, 2, 1)]
-    assert [(it.reason, it.steps, it.pc, it.move, it.interrupt) for it in found] == [
-        (rsp.Reason.INTERRUPT, 2, 8, None, True),
-        (rsp.Reason.STATUS, 1, 12, None, True),
-        (rsp.Reason.LIMIT, 2, 4, None, True),
-        (rsp.Reason.STATUS, 1, 8, None, True),
-    ]
-    machine.write(4, 8)
-    machine.add_break(8)
-    stop = machine.event(100, *asked)
-    assert (stop.reason, stop.steps, stop.interrupt) == (rsp.Reason.STATUS, 1, False)
-    assert machine.event(100, *asked)[:2] == (rsp.Reason.BREAK, 3)
-    assert machine.event(100, 0, 1 << 4).move == rsp.Move(0x40802000, 4, True, 0)
-    assert machine.event(100).reason is rsp.Reason.BREAK
+def test_bit_of_status_writes() -> None:
+    assert rsp.STATUS_WRITES == 1 << 16
 
 
 def test_trace() -> None:
-    machine = loaded(TRACED, 4)
-    stop, entries = machine.trace(8)
-    assert (stop, len(entries)) == ((Reason.HALT, 5, 20, None), 5)
-    first, store, moved, last, _ = entries
-    assert (first.pc, first.word, first.scalar, first.value) == (0, 0x34018001, 1, 0x8001)
-    assert (store.stored, store.address, store.scalar, store.vector) == (1, 0x44, 0, 32)
-    assert (last.vector, last.lanes[1], last.vco) == (2, 2, 2)
+    """What entries look like: values.txt has what they hold."""
+    _, (first, _, moved, last, _) = loaded(TRACED, 4).trace(8)
     lanes = "0000 0002 0000 0000 0000 0000 0000 0000"
     assert str(last) == f"00c 4a010894 $v2 {lanes} vco 0002 vcc 0000 vce 00"
     assert str(first) == "000 34018001 $1 00008001 vco 0000 vcc 0000 vce 00"
@@ -401,18 +299,6 @@ def test_trace_one_by_one() -> None:
     with loaded("nop\nbreak\n") as machine:
         assert [entry.pc for entry in machine.iter_trace()] == [0, 4]
         assert [*machine.iter_trace()] == []
-
-
-def test_single_registers() -> None:
-    machine = loaded("nop\nnop\n", 4)
-    machine.step()
-    expected = machine.get()
-    expected.words[31], expected.vectors[31] = 0xFFFFFFFF, [1, 2, 3, 4, 5, 6, 7, 65535]
-    machine.set_reg(31, 0xFFFFFFFF)
-    machine.set_vreg(31, iter([1, 2, 3, 4, 5, 6, 7, 65535]))
-    machine.set_reg(0, 0)
-    assert machine.get() == expected
-    assert_refused(Status.SHORT_HISTORY, machine.back, 1)
 
 
 def test_sp_registers() -> None:
@@ -441,19 +327,6 @@ def test_state() -> None:
     assert rsp.state_fault(state) == "npc"
     state.npc = 4
     assert rsp.state_fault(state) == "sp[3]"
-
-
-def test_memories() -> None:
-    machine = rsp.Machine(bytes(range(64)))
-    assert machine.memory(rsp.RDRAM, 3, 4) == bytes((3, 4, 5, 6))
-    machine.load(rsp.DMEM, 10, b"\1\0\2")
-    assert machine.memory(rsp.DMEM, 9, 5) == b"\0\1\0\2\0"
-    machine.load_words(rsp.DMEM, 4092, [0x01020304])
-    assert machine.memory(rsp.DMEM, 4092, 4) == b"\1\2\3\4"
-    assert machine.memory_words(rsp.DMEM, 4088, 2) == [0, 0x01020304]
-    assert machine.memory_words(rsp.DMEM, 4096, 0) == []
-    assert machine.memory(rsp.DMEM, 4096, 0) == b""
-    machine.load_words(rsp.DMEM, 4096, [])
 
 
 def test_labels() -> None:
