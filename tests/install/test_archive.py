@@ -157,7 +157,7 @@ def test_passes_the_tests_of_the_program(installed: Path, name: str) -> None:
 @pytest.mark.needs("cc", "objcopy")
 def test_start_asks_the_processor(folder: Path) -> None:
     """What start_x86_64.c says of the processor, beside what glibc says."""
-    start, where = TOP / "tools/rsp_tools/systems/start_x86_64.c", {"cwd": folder}
+    start, where = TOP / "runtime/start_x86_64.c", {"cwd": folder}
     shutil.copy(TESTS / "install/archive/features.c", folder)
     if run("cc", "-fsyntax-only", "features.c", **where).returncode:
         pytest.skip("there is no sys/platform/x86.h (Debian's package libc6-dev)")

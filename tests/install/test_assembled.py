@@ -122,7 +122,7 @@ def test_helpers(monkeypatch: pytest.MonkeyPatch) -> None:
     monkeypatch.setattr(assemble, "sources", lambda _: "names\nsum -\n")
     names = {crate.made: assemble.mark(crate, {}).split()[6::2] for crate in (PROGRAM, LIBRARY, WEB)}
     assert {name for name in names if "library/c/helpers/search.c" in names[name]} == {"rsp_wasm.made"}
-    assert "tools/rsp_tools/systems/allocator.c" in names["rsp_wasm.made"]
+    assert "runtime/allocator.c" in names["rsp_wasm.made"]
     assert [it for listed in names.values() for it in listed if not (TOP / it).is_file()] == []
 
 

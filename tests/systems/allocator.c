@@ -6,7 +6,7 @@
 #include <string.h>
 #include <sys/mman.h>
 
-/* tools/rsp_tools/systems/allocator.c, compiled with these names for its own. */
+/* runtime/allocator.c, compiled with these names for its own. */
 char *heap_more(size_t len, size_t *got);
 void *heap_malloc(size_t len);
 void *heap_realloc(void *at, size_t len);

@@ -2,7 +2,7 @@
 #include <stddef.h>
 #include <stdio.h>
 
-/* tools/rsp_tools/systems/heap.c, compiled with these names for malloc, realloc and free. */
+/* runtime/heap.c, compiled with these names for malloc, realloc and free. */
 void *heap_malloc(size_t len);
 void *heap_realloc(void *at, size_t len);
 void heap_free(void *at);

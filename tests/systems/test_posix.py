@@ -75,7 +75,7 @@ def check_calls(program: Path, system: str, folder: Path) -> None:
 def test_calls_of_linux(folder: Path) -> None:
     words = ["-std=gnu11", "-O2", "-fno-builtin", *(f"-Dposix_{it}={it}" for it in CALLS)]
     succeeds("cc", *words, "-c", "-o", folder / "calls.o", SOURCES / "posix_calls.c")
-    parts = (folder / "calls.o", places.PARTS / "start.c")
+    parts = (folder / "calls.o", places.RUNTIME / "start.c")
     succeeds("cc", "-O2", "-o", folder / "calls", *parts, "-Wl,--wrap=main")
     check_calls(folder / "calls", "linux", folder)
 

@@ -122,6 +122,6 @@ def test_allocator(name: str, folder: Path) -> None:
     """The allocator natively, beside a list, and the kit's functions over one that has nothing left."""
     names = ("-Dmalloc=heap_malloc", "-Drealloc=heap_realloc", "-Dfree=heap_free", "-ffreestanding")
     words = ("-std=c11", "-O2", "-g", "-Wall", "-Wextra", "-Werror")
-    part = compiled(folder / "part.o", *words, *names, "-c", places.PARTS / f"{name}.c")
+    part = compiled(folder / "part.o", *words, *names, "-c", places.RUNTIME / f"{name}.c")
     made = compiled(folder / name, *words, TESTS / f"systems/{name}.c", part)
     assert_all_passed(succeeds("valgrind", "-q", "--error-exitcode=9", made))

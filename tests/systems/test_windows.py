@@ -68,7 +68,7 @@ def test_needs(made: Path, name: str) -> None:
 def test_program_checks_its_stack(folder: Path) -> None:
     """By the words that rsp.exe is compiled with, its C checks its stack."""
     words = [*hardening.words(TARGET.name, "compile"), "-O2"]
-    succeeds(TARGET.compiler, *words, "-c", "-o", folder / "made.o", places.PARTS / TARGET.start)
+    succeeds(TARGET.compiler, *words, "-c", "-o", folder / "made.o", places.RUNTIME / TARGET.start)
     assert re.search(r"(?m) U __stack_chk_fail$", succeeds("x86_64-w64-mingw32-nm", folder / "made.o"))
 
 

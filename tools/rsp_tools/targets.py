@@ -36,7 +36,7 @@ class Target(NamedTuple):
     command: str = ""  # what a user runs in a clone
     ending: str = ""  # of the archive's file, if ./release makes one
     triples: Mapping[str, str] = {}  # what clang calls the system, for each processor
-    # The file of rsp_tools/systems by which the program begins, and the words that link it.
+    # The file of runtime/ by which the program begins, and the words that link it.
     start: str = ""
     linked: str = ""
     # Below the system's folder:

@@ -95,7 +95,8 @@ class ToyRepository:
 
     def __init__(self, folder: Path) -> None:
         self.root, self.results, self.go = folder / "repository", dict[str, Result](), folder / "go"
-        shutil.copytree(TOP / "tools", self.root / "tools")
+        for name in "tools", "runtime":
+            shutil.copytree(TOP / name, self.root / name)
         texts = {"crates.txt": CRATES, "library/c/brsp.h": HEADER, "library/c/brsp_helpers.h": ""}
         texts["library/c/helpers/words.c"] = "int brsp_none;\n"
         texts.update({f"compiled/Linux-{PROCESSOR}-{kind}.s": "" for kind in ("rsp", "lib")})

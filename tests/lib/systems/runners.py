@@ -176,7 +176,7 @@ class Windows(Runner):
     def linked(self, name: str, *parts: Path) -> Path:
         """A program of posix_windows.c and these parts."""
         made, words = self.at / f"{name}.exe", ["-O2", *self.target.linked.split()]
-        succeeds(self.compiler, *words, "-o", made, places.PARTS / self.target.start, *parts)
+        succeeds(self.compiler, *words, "-o", made, places.RUNTIME / self.target.start, *parts)
         return made
 
     def shared(self) -> List[str]:

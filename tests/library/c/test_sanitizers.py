@@ -53,5 +53,5 @@ def test_scripts(words: Tuple[str, ...], folder: Path) -> None:
 
 def test_allocator(words: Tuple[str, ...], folder: Path) -> None:
     names = ("-Dmalloc=heap_malloc", "-Drealloc=heap_realloc", "-Dfree=heap_free", "-ffreestanding")
-    part = compiled(folder / "part.o", *words, *names, "-c", places.PARTS / "allocator.c")
+    part = compiled(folder / "part.o", *words, *names, "-c", places.RUNTIME / "allocator.c")
     assert_passes(compiled(folder / "allocator", *words, TESTS / "systems/allocator.c", part))

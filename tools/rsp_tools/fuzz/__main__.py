@@ -49,7 +49,7 @@ def build_library(folder: Path) -> List[Path]:
         marked.unlink()
         keep(KEPT, made_of, [made])
     shutil.copy(KEPT / made.name, made)
-    call(compiler()[0], "-O1", "-fPIC", "-c", "-o", heap, places.PARTS / "heap.c")
+    call(compiler()[0], "-O1", "-fPIC", "-c", "-o", heap, places.RUNTIME / "heap.c")
     return [made, heap]
 
 

@@ -27,7 +27,7 @@ def linked_program(target: Optional[Target] = None, *more: Word) -> Optional[byt
         made = Path(folder, Path(target.program).name)
         words = ["-O2", *target.linked.split(), "-Wl,--gc-sections", *["-Wl,-z,defs"] * target.is_linux]
         words += hardening.words(target.name)
-        parts = places.PARTS / target.start, TOP / f"compiled/{target.cmake[0]}-{target.processor}-rsp.s"
+        parts = places.RUNTIME / target.start, TOP / f"compiled/{target.cmake[0]}-{target.processor}-rsp.s"
         call(*compiler, *words, "-o", made, *parts, *more)
         return made.read_bytes()
 

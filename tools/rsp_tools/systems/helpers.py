@@ -8,7 +8,7 @@ from .toolchain import llvm
 
 FOLDER = places.HELPERS.with_name("helpers")
 SOURCES = sorted(FOLDER.glob("*.c"))
-HEADERS = places.PARTS / "freestanding"  # which the kit's clang lacks
+HEADERS = places.RUNTIME / "freestanding"  # which the kit's clang lacks
 # All that an object is made of.
 FILES = [places.HEADER, places.HELPERS, *sorted(FOLDER.glob("*.[ch]")), *sorted(HEADERS.iterdir())]
 # No exception passes through a helper. The last word keeps the time out of an object for Windows.

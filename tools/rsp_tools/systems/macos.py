@@ -17,7 +17,7 @@ OLDEST, TARGET = "11.0", TARGETS["macos"]
 def link(to: Path, triple: str, *words: Word) -> None:
     """Links a file for one processor. lld signs that for ARM, without which macOS doesn't load it."""
     more: List[Word] = ["-platform_version", "macos", OLDEST, OLDEST, "-dead_strip", "-o", to]
-    llvm("ld64.lld", "-arch", triple.partition("-")[0], *words, places.PARTS / "libSystem.tbd", *more)
+    llvm("ld64.lld", "-arch", triple.partition("-")[0], *words, places.HERE / "libSystem.tbd", *more)
 
 
 def link_library(to: Path, triple: str, assembly: Path) -> None:
@@ -34,7 +34,7 @@ def link_library(to: Path, triple: str, assembly: Path) -> None:
 def link_program(to: Path, triple: str, *parts: Path) -> None:
     """A program of posix_macos.c and parts in C or assembly, for one processor."""
     objects, words = [], ["-std=c11", "-O2", "-ffreestanding", *hardening.words(TARGET.name, "compile")]
-    for part in (places.PARTS / TARGET.start, *parts):
+    for part in (places.RUNTIME / TARGET.start, *parts):
         objects.append(to.with_name(f"{to.name}-{part.stem}.o"))
         words_of_part = words if part.suffix == ".c" else []
         llvm("clang", f"--target={triple}", *words_of_part, "-c", "-o", objects[-1], part)

@@ -46,8 +46,8 @@ class Crate(NamedTuple):
 
 # git looks for the version before among files whose names have the same last letters, so no two files may
 # have those (tests/install/test_assembled.py).
-HEAP = places.PARTS / "heap.c"
-WITH_HEAP = [HEAP, places.PARTS / "allocator.c", places.PARTS / "memory_wasm.c"]
+HEAP = places.RUNTIME / "heap.c"
+WITH_HEAP = [HEAP, places.RUNTIME / "allocator.c", places.RUNTIME / "memory_wasm.c"]
 PROGRAM = Crate("rsp_main", "src/main.rt", "rsp", (HEAP,), "rsp_main.made")
 LIBRARY = Crate("rsp_c", "src/lib.rt --crate-type staticlib", "lib", (HEAP,), "rsp_c.made")
 # The library in WebAssembly has a mark of its own, because it has the helpers inside, which cc compiles on
@@ -67,7 +67,7 @@ def link_toolchain(folder: Path) -> None:
     for it in (kit() / "toolchain/bin").iterdir():
         (folder / "bin" / it.name).symlink_to(it.resolve())
     (folder / "bin/clang").rename(folder / "bin/kit/clang")
-    shutil.copy(places.PARTS / "clang", folder / "bin/clang")
+    shutil.copy(places.HERE / "clang", folder / "bin/clang")
 
 
 def take(crate: Crate, processor: str, folder: Path) -> None:

@@ -39,7 +39,7 @@ def heap(triple: str, at: Path) -> str:
     """The kit's functions of the heap over those of the C library. Only the text to which they are added sees
     them, because another library of the kit may be in the same program."""
     words = [f"--target={triple}", "-O2", "-fPIC", "-ffreestanding", "-fno-asynchronous-unwind-tables"]
-    llvm("clang", *words, "-fno-verbose-asm", "-S", "-o", at / "heap.s", places.PARTS / "heap.c")
+    llvm("clang", *words, "-fno-verbose-asm", "-S", "-o", at / "heap.s", places.RUNTIME / "heap.c")
     return re.sub(r"(?m)^\t\.(?:globl|file|ident)\b.*\n", "", common(at / "heap.s")).replace(".L", ".Lheap_")
 
 
@@ -60,7 +60,7 @@ def compiled(
     # The heap is for Linux, as the modules are: compiled for Windows, C would return its two numbers in
     # another way than they expect.
     words = [f"--target={PROCESSORS[processor].triple}", "-O2", "-fPIC", "-ffreestanding", "-c", "-emit-llvm"]
-    llvm("clang", *words, "-o", at / f"{triple}-heap.bc", places.PARTS / "heap.c")
+    llvm("clang", *words, "-o", at / f"{triple}-heap.bc", places.RUNTIME / "heap.c")
     # What clang takes in by the first word isn't to be seen from outside. By the second it writes no time
     # into an object for Windows.
     inside = ["-Xclang", "-mlink-builtin-bitcode", "-Xclang", str(at / f"{triple}-heap.bc")]

@@ -2,8 +2,9 @@
 
 from pathlib import Path
 
-PARTS = Path(__file__).resolve().parent
-TOP = PARTS.parents[2]
+HERE = Path(__file__).resolve().parent
+TOP = HERE.parents[2]
+RUNTIME = TOP / "runtime"  # the C by which systems run what is proved
 CRATE = TOP / "crates" / "rsp_c"
 CRATES = TOP / "crates"
 HEADER = TOP / "library" / "c" / "brsp.h"

@@ -32,12 +32,13 @@ def objects(at: Path) -> List[Path]:
     """Compiles the library with its heap and its memory, in a folder. The files to be linked."""
     made = module("x86_64")
     (at / "rsp.ll").write_text(rewritten(made.text.read_text(), {PSHUFB}, CHANGES))
-    as_ir(places.PARTS / "heap.c", at / "heap.ll")
+    as_ir(places.RUNTIME / "heap.c", at / "heap.ll")
     flags = [*CLANG, *made.flags, "-Wno-override-module", "-c", "-o"]
     for name in PARTS[:2]:
         llvm("clang", *flags, at / f"{name}.o", "-x", "ir", at / f"{name}.ll")
     for name in PARTS[2:]:
-        llvm("clang", *CLANG, "-O2", "-fno-builtin", "-c", "-o", at / f"{name}.o", places.PARTS / f"{name}.c")
+        source = places.RUNTIME / f"{name}.c"
+        llvm("clang", *CLANG, "-O2", "-fno-builtin", "-c", "-o", at / f"{name}.o", source)
     return [*(at / f"{name}.o" for name in PARTS), *helpers.objects(TRIPLE, at, *FEATURES)]
 
 

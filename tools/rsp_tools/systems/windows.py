@@ -30,10 +30,10 @@ def resources(at: Path, file: str, kind: str) -> Path:
     is for files on the way."""
     numbers, made = [*header.version().split("."), "0"], at / f"{file}.o"
     words = {"NUMBERS": ",".join(numbers), "KIND": kind, "FILE": file}
-    text = header.filled(places.PARTS / "resources.rc.in", **words)
+    text = header.filled(places.HERE / "resources.rc.in", **words)
     if kind == "VFT_APP":
         manifest = at / f"{file}.manifest"
-        manifest.write_text(header.filled(places.PARTS / "rsp.manifest.in", DOTTED=".".join(numbers)))
+        manifest.write_text(header.filled(places.HERE / "rsp.manifest.in", DOTTED=".".join(numbers)))
         text += f'\n1 24 "{manifest}"\n'
     (at / f"{file}.rc").write_text(text)
     call("x86_64-w64-mingw32-windres", at / f"{file}.rc", made)

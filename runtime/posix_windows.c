@@ -4,7 +4,7 @@
  * A file is its handle, of which Windows uses 32 bits; 0, 1 and 2 are the standard streams. In arguments `\` becomes `/`, which is what separates names for the
  * program. A file that is there is a link to its whole path, `//?/C:/..`, and only by that path it is the file. So the program replaces what a name leads to,
  * and needs to know neither drives nor Windows' links. What no new file may replace is a device here. */
-#include "../../packaging/cpuid.h"
+#include "cpuid.h"
 #include <errno.h>
 #include <windows.h>
 

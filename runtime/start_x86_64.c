@@ -2,7 +2,7 @@
  *
  * Today's start files call __libc_start_main of glibc 2.34, and the processor is asked by a call of glibc 2.33. The older __libc_start_main
  * is still in every glibc. It wants a function that runs before main. */
-#include "../../packaging/cpuid.h"
+#include "cpuid.h"
 #include "process.h"
 
 __asm__(".symver __libc_start_main, __libc_start_main@GLIBC_2.2.5");

@@ -1,7 +1,7 @@
 /* start.c: how the proved program begins on Linux, by the start file of the C library that is there. The linker's word --wrap=main has that call
  * __wrap_main in place of the object's main. */
 #ifdef __x86_64__
-#include "../../packaging/cpuid.h"
+#include "cpuid.h"
 #endif
 #include "process.h"
 
