@@ -20,12 +20,13 @@ if is_here("python:numpy"):
 pytestmark = [pytest.mark.needs("cc"), pytest.mark.usefixtures("library")]
 
 LIBRARY = TOP / "library/c/libbrsp.a"
-STRICT = (*processes.STRICT, "-Wconversion", f"-I{TOP}/conformance/campaigns")
+CAMPAIGN = "conformance/rsp_conformance/campaign"
+STRICT = (*processes.STRICT, "-Wconversion", f"-I{TOP / CAMPAIGN}")
 COMPILERS = {"cc": "-std=c11", "clang": "-std=c11", "c++": "-std=c++17", "clang++": "-std=c++17"}
 
 
 @pytest.mark.parametrize("compiler", COMPILERS)
-@pytest.mark.parametrize("source", ["conformance/campaigns/library.c", "tests/campaigns/compare.c"])
+@pytest.mark.parametrize("source", [f"{CAMPAIGN}/library.c", "tests/campaigns/compare.c"])
 def test_headers(compiler: str, source: str, folder: Path) -> None:
     """They compile as C11 and as C++17 without a warning."""
     need(compiler)

@@ -1,7 +1,8 @@
 """Which planted faults of a second core are found by cases, by programs and by vectors.
 
-second.c is a core that was written from the pages alone, and bugs.tsv lists the faults that can be planted in
-it. Each test builds the core with one of them (0 is the core without a fault), and searches for it in
+conformance/second/second.c is a core that was written from the pages alone, and bugs.tsv beside it lists the
+faults that can be planted in it. Each test builds the core with one of them (0 is the core without a fault),
+and searches for it in
 
   cases     65,536 cases of each instruction that the list names: those of the others can't differ
   programs  100 random programs of 1,000 steps, of all instructions
@@ -18,9 +19,9 @@ from typing import Any, Dict, Iterator, List, Tuple
 import pytest
 
 import rsp
-from lib import TESTS
 from lib.processes import STRICT, compiled
 from rsp_conformance import HERE as CONFORMANCE, bench, generate, library_states, states
+from rsp_conformance.campaign.hashes import SOURCES
 from rsp_conformance.campaign.supervise import check
 from rsp_conformance.cases import ENTRIES
 from rsp_conformance.steps import Entry
@@ -29,7 +30,7 @@ from rsp_conformance.vectors import VECTORS, entries_in, manifest_in
 
 pytestmark = [pytest.mark.needs("cc", "python:numpy"), pytest.mark.usefixtures("library")]
 
-CORE = TESTS / "campaigns/second.c"
+CORE = CONFORMANCE / "second/second.c"
 CASES = 65536
 PROGRAM_RANGES = ((0, 4), (5, 19), (20, 99))  # until one of them has a difference
 OPTIONS = {"instructions": [*ROWS], "steps": 1000, "limit": 20, "files": [], "whole": False}
@@ -37,7 +38,7 @@ DMEM, IMEM, RDRAM = 0, 4096, 8192
 
 
 def table(name: str) -> Dict[int, List[str]]:
-    """The rows of a table of this folder by their bugs."""
+    """The rows of a table beside the core by their bugs."""
     rows = [line.split("\t") for line in (CORE.parent / name).read_text().splitlines()[1:]]
     return {int(row[0]): row[1:] for row in rows}
 
@@ -140,7 +141,7 @@ def generated(program: Path, folder: Path, numbers: range, *names: str) -> None:
 
 def core_with(bug: int, folder: Path) -> Path:
     """The core with a bug."""
-    words = ("-std=c11", *STRICT, "-march=x86-64-v2", "-shared", "-fPIC", f"-I{CONFORMANCE}/campaigns")
+    words = ("-std=c11", *STRICT, "-march=x86-64-v2", "-shared", "-fPIC", f"-I{SOURCES}")
     return compiled(folder / "second.so", *words, f"-DPLANTED={bug}", CORE)
 
 

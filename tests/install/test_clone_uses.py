@@ -247,7 +247,8 @@ def test_page(stranger: User, home: Path) -> None:
 
 @pytest.mark.needs("/usr/lib/python3/dist-packages/numpy")
 def test_campaign(stranger: User, home: Path) -> None:
-    """Without a command before it; otherwise only: that a campaign wants the kit, or a library of before."""
+    """Without a command before it; otherwise only: that a campaign wants the kit, or a library of before.
+    Pages name the folder of the headers; conformance/campaigns has them, too."""
     (home / "mine.c").write_text(block_with("docs/CAMPAIGN.md", '#include "cases.h"'))
     made = "cc -O2 -shared -fPIC -Ilibrary/c -Iconformance/campaigns ~/mine.c -o ~/mine.so"
     words = "conformance/campaign ~/mine.so ~/out --instructions vnop,vadd --cases 100 --here"

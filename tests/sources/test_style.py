@@ -17,7 +17,7 @@ from lib.processes import run, succeeds
 
 HEADERS = "/usr/include/mupen64plus"
 STRICT = ("-std=gnu11", "-O2", "-Wall", "-Wextra", "-Wconversion", "-Werror", "-S")
-FOLDERS = ("-Ilibrary/c", "-Iplugin", "-Iconformance/campaigns", f"-I{HEADERS}")
+FOLDERS = ("-Ilibrary/c", "-Iplugin", "-Iconformance/rsp_conformance/campaign", f"-I{HEADERS}")
 # What the scripts that compile these files define: a planted fault, words of microcode.
 DEFINED = ("-DFAULT=1", "-DSETTING=0", "-DSAVING=0", "-DLOADING=0")
 # The compilers, and their options for the files that aren't for this system: a program over the headers of

@@ -1,5 +1,4 @@
-"""Compiles conformance/campaigns/ with `cc`, if there is no shared object with the hash of all sources in
-out/.
+"""Compiles the C of this folder with `cc`, if there is no shared object with the hash of all sources in out/.
 """
 
 import os

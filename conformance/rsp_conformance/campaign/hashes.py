@@ -17,7 +17,7 @@ from rsp_conformance import BUILD, HERE, TOP, WITHOUT_LIBRARY
 
 from . import CampaignFault, words_of
 
-SOURCES = HERE / "campaigns"
+SOURCES = Path(__file__).resolve().parent  # in C, beside these modules
 HEADER = TOP / "library/c/brsp.h"
 
 
@@ -59,8 +59,8 @@ def hash_of(paths: Iterable[object], more: str = "") -> str:
 
 def sources() -> List[Path]:
     """The sources of what a campaign compares with: our own files, and the library."""
-    own = [path for ending in ("py", "tsv") for path in (HERE / "rsp_conformance").rglob(f"*.{ending}")]
-    own += [*SOURCES.glob("*.[ch]"), *TOP.glob("plugin/*.[ch]")]
+    own = [path for ending in ("py", "tsv", "[ch]") for path in (HERE / "rsp_conformance").rglob(f"*.{ending}")]
+    own += TOP.glob("plugin/*.[ch]")
     return [*sorted(own), HEADER, library()]
 
 

@@ -1,4 +1,4 @@
-//! An emulator as a shared object of a campaign's cases: the functions of `conformance/campaigns/cases.h`.
+//! An emulator as a shared object of a campaign's cases: the functions of `conformance/rsp_conformance/campaign/cases.h`.
 
 use crate::{Bank, Emulator, State, StepEnd};
 use std::ops::Range;

@@ -20,13 +20,14 @@ from rsp_tools.shapes import header
 
 HEADER = page("library/c/brsp.h")
 NUMBERS = shapes.PROVED.numbers
-FOLDERS = [f"-I{TOP / it}" for it in ("examples/c", "conformance/campaigns")]
+CAMPAIGN = "conformance/rsp_conformance/campaign"
+FOLDERS = [f"-I{TOP / it}" for it in ("examples/c", CAMPAIGN)]
 # How files that use the headers are compiled: for one standard at each level, and for each standard at one
 # level, because all levels of all standards take minutes.
 LEVELS = ("-O0", "-O1", "-O2", "-O3", "-Os")
 OF_C = ("-std=c99 -O0", "-std=c17 -O0", "-std=c2x -O0", "-std=c11 -O1 -fsanitize=address,undefined")
 OF_CPP = ("-std=c++17 -O0", "-std=c++2b -O0", "-std=c++17 -O1 -fno-exceptions")
-C_FILES = ("tests/library/c/uses.c", "conformance/campaigns/library.c")
+C_FILES = ("tests/library/c/uses.c", f"{CAMPAIGN}/library.c")
 USES = [
     *product(C_FILES, ("gcc", "clang"), [f"-std=c11 {it}" for it in LEVELS]),
     *product(C_FILES, ("gcc", "clang"), OF_C),
