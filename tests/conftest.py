@@ -96,6 +96,14 @@ def library(request: pytest.FixtureRequest) -> Path:
     return LIBRARY
 
 
+@pytest.fixture(scope="session")
+def at() -> Iterator[Path]:
+    """A folder for what tests share, that other users may read."""
+    with tempfile.TemporaryDirectory() as name:
+        Path(name).chmod(0o755)
+        yield Path(name)
+
+
 @pytest.fixture
 def folder() -> Iterator[Path]:
     """A folder that other users may read, and that is gone afterwards (tmp_path is neither)."""

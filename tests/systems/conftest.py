@@ -1,19 +1,14 @@
 """What the tests of other systems share: what C compilers make of compiled/ for each of them."""
 
-import tempfile
-from contextlib import closing, suppress
 from pathlib import Path
 from typing import Any, Iterator
 
 import pytest
 
 from lib.packages import need
-
-from lib.systems.browser import PROGRAMS, start_chromium
-from lib.systems.target_params import RUNNERS
-from lib.systems.page_driver import Host, Page
 from lib.systems.runners import Runner, target_of
-from rsp_tools.systems import folders, manual, web_page
+from lib.systems.target_params import RUNNERS
+from rsp_tools.systems import folders
 from rsp_tools.targets import NATIVE, TARGETS, Target
 
 WHY = "it takes minutes, and wants cross compilers, emulators and a browser"
@@ -24,14 +19,6 @@ def pytest_collection_modifyitems(items: Any) -> None:
         item.add_marker(pytest.mark.outside(WHY))
         if not item.get_closest_marker("timeout"):
             item.add_marker(pytest.mark.timeout(1800))
-
-
-@pytest.fixture(scope="session")
-def at() -> Iterator[Path]:
-    """A folder for what tests share, that other users may read."""
-    with tempfile.TemporaryDirectory() as name:
-        Path(name).chmod(0o755)
-        yield Path(name)
 
 
 def folder_of(target: Target, at: Path) -> Path:
@@ -68,34 +55,3 @@ def native(library: Path, at: Path) -> Runner:
     folder.mkdir()
     (folder / "lib").symlink_to(library)
     return Runner(NATIVE.name, folder, folder)
-
-
-@pytest.fixture(scope="session")
-def host(at: Path) -> Iterator[Host]:
-    """The page that answers scripts, on a server."""
-    need("compiled", manual.CONVERTER)
-    web_page.make(at / "page")
-    with closing(Host(at / "page")) as host:
-        yield host
-
-
-@pytest.fixture(scope="session")
-def driver(at: Path) -> Iterator[Any]:
-    need(*PROGRAMS)
-    (at / "saved").mkdir()
-    driver = start_chromium(at / "saved")
-    driver.execute_cdp_cmd("Emulation.setFocusEmulationEnabled", {"enabled": True})
-    yield driver
-    driver.quit()
-
-
-@pytest.fixture
-def page(host: Host, driver: Any, at: Path) -> Iterator[Page]:
-    """The page, which has just been opened in a tab. No dialog is left open."""
-    from selenium.common.exceptions import NoAlertPresentException
-
-    page = Page(driver, at / "saved")
-    page.visit(host)
-    yield page
-    with suppress(NoAlertPresentException):
-        driver.switch_to.alert.accept()

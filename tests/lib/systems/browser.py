@@ -23,7 +23,7 @@ WORDS = """
 --window-size=1000,400 --js-flags=--expose-gc
 """.split()
 LONGEST = 1800  # seconds that a script in a page may take
-PROBES = places.TOP / "tests/systems/page/probes.js"  # what tests ask of a page
+PROBES = places.TOP / "tests/page/probes.js"  # what tests ask of a page
 HEADERS = ("stddef", "stdint", "stdio", "stdlib", "string", "time")
 
 

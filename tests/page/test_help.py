@@ -9,7 +9,7 @@ import pytest
 from lib.page_blocks import blocks_in
 from lib.pages import blocks_of
 from lib.pages import page as text_of
-from lib.systems.page_driver import Host, Page, replies_to
+from lib.page_driver import Host, Page, replies_to
 from rsp_tools.page_tables import ANCHOR, data
 from rsp_tools.systems import manual
 

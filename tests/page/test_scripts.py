@@ -14,7 +14,7 @@ import pytest
 
 import rsp
 from lib.script_cases import ScriptCase, all_cases
-from lib.systems.page_driver import ENDLESS, ENTER, FIRST, Host, Page, linked, replies_to, way_of
+from lib.page_driver import ENDLESS, ENTER, FIRST, Host, Page, linked, replies_to, way_of
 from rsp_tools.systems import places
 
 pytestmark = pytest.mark.xdist_group("page")

@@ -8,7 +8,7 @@ where the text area has it.
 import pytest
 
 from lib.pages import page as text_of
-from lib.systems.page_driver import CONTROL, F1, FIRST, SHIFT, Page, replies_to
+from lib.page_driver import CONTROL, F1, FIRST, SHIFT, Page, replies_to
 from rsp_tools.page_tables import data
 from rsp_tools.systems import header
 

@@ -11,7 +11,7 @@ from typing import List
 import pytest
 
 import rsp
-from lib.systems.page_driver import CONTROL, ENDLESS, SELECTED, Page, replies_to
+from lib.page_driver import CONTROL, ENDLESS, SELECTED, Page, replies_to
 
 pytestmark = pytest.mark.xdist_group("page")
 MARKED = "[...the('numbers').querySelectorAll('.fault')].map((it) => Number(it.textContent))"

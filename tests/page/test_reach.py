@@ -5,7 +5,7 @@ from typing import List
 
 import pytest
 
-from lib.systems.page_driver import CONTROL, DOWN, ENDLESS, ENTER, ESCAPE, TAB, Host, Page
+from lib.page_driver import CONTROL, DOWN, ENDLESS, ENTER, ESCAPE, TAB, Host, Page
 from rsp_tools.systems import manual
 
 pytestmark = pytest.mark.xdist_group("page")

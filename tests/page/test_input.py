@@ -13,7 +13,7 @@ from typing import Any, Dict, List, Tuple
 import pytest
 
 from lib.systems.browser import Server
-from lib.systems.page_driver import ESCAPE, Host, Page, linked
+from lib.page_driver import ESCAPE, Host, Page, linked
 from rsp_tools.systems import web_page
 
 pytestmark = pytest.mark.xdist_group("page")

@@ -1,0 +1,53 @@
+"""What the tests of the page that answers scripts share: the page on a server, and a tab of Chromium."""
+
+from contextlib import closing, suppress
+from pathlib import Path
+from typing import Any, Iterator
+
+import pytest
+
+from lib.packages import need
+from lib.page_driver import Host, Page
+from lib.systems.browser import PROGRAMS, start_chromium
+from rsp_tools.systems import manual, web_page
+
+WHY = "it takes minutes, and wants a browser"
+
+
+def pytest_collection_modifyitems(items: Any) -> None:
+    for item in (it for it in items if Path(__file__).parent in it.path.parents):
+        if "driver" in item.fixturenames:
+            item.add_marker(pytest.mark.outside(WHY))
+            if not item.get_closest_marker("timeout"):
+                item.add_marker(pytest.mark.timeout(1800))
+
+
+@pytest.fixture(scope="session")
+def host(at: Path) -> Iterator[Host]:
+    """The page that answers scripts, on a server."""
+    need("compiled", manual.CONVERTER)
+    web_page.make(at / "page")
+    with closing(Host(at / "page")) as host:
+        yield host
+
+
+@pytest.fixture(scope="session")
+def driver(at: Path) -> Iterator[Any]:
+    need(*PROGRAMS)
+    (at / "saved").mkdir()
+    driver = start_chromium(at / "saved")
+    driver.execute_cdp_cmd("Emulation.setFocusEmulationEnabled", {"enabled": True})
+    yield driver
+    driver.quit()
+
+
+@pytest.fixture
+def page(host: Host, driver: Any, at: Path) -> Iterator[Page]:
+    """The page, which has just been opened in a tab. No dialog is left open."""
+    from selenium.common.exceptions import NoAlertPresentException
+
+    page = Page(driver, at / "saved")
+    page.visit(host)
+    yield page
+    with suppress(NoAlertPresentException):
+        driver.switch_to.alert.accept()
