@@ -2,24 +2,26 @@
 
 from contextlib import closing, suppress
 from pathlib import Path
-from typing import Any, Iterator
+from typing import Any, Iterator, List
 
 import pytest
 
+from lib import outside
 from lib.packages import need
 from lib.page_driver import Host, Page
 from lib.systems.browser import PROGRAMS, start_chromium
 from rsp_tools.systems import manual, web_page
 
 WHY = "it takes minutes, and wants a browser"
+# What page.js joins: keys, runs, faults, files, the image of RDRAM, undo, and the script of the last visit.
+IN_GATE = """
+test_first_example test_undo test_run_by_keys test_image test_faults test_stop_at_the_first_fault
+test_bytes_are_kept test_draft
+""".split()
 
 
-def pytest_collection_modifyitems(items: Any) -> None:
-    for item in (it for it in items if Path(__file__).parent in it.path.parents):
-        if "driver" in item.fixturenames:
-            item.add_marker(pytest.mark.outside(WHY))
-            if not item.get_closest_marker("timeout"):
-                item.add_marker(pytest.mark.timeout(1800))
+def pytest_collection_modifyitems(items: List[pytest.Item]) -> None:
+    outside.mark(items, Path(__file__).parent, ("driver",), IN_GATE, WHY)
 
 
 @pytest.fixture(scope="session")

@@ -1,10 +1,11 @@
 """What the tests of other systems share: what C compilers make of compiled/ for each of them."""
 
 from pathlib import Path
-from typing import Any, Iterator
+from typing import Iterator, List
 
 import pytest
 
+from lib import outside
 from lib.packages import need
 from lib.systems.runners import Runner, target_of
 from lib.systems.target_params import RUNNERS
@@ -12,13 +13,12 @@ from rsp_tools.systems import folders
 from rsp_tools.targets import NATIVE, TARGETS, Target
 
 WHY = "it takes minutes, and wants cross compilers, emulators and a browser"
+# The calls that posix_windows.c makes, one by one, and rsp.exe.
+IN_GATE = ("test_calls[windows-x86_64]", "test_what_differs")
 
 
-def pytest_collection_modifyitems(items: Any) -> None:
-    for item in (it for it in items if Path(__file__).parent in it.path.parents):
-        item.add_marker(pytest.mark.outside(WHY))
-        if not item.get_closest_marker("timeout"):
-            item.add_marker(pytest.mark.timeout(1800))
+def pytest_collection_modifyitems(items: List[pytest.Item]) -> None:
+    outside.mark(items, Path(__file__).parent, ("runner", "made"), IN_GATE, WHY)
 
 
 def folder_of(target: Target, at: Path) -> Path:

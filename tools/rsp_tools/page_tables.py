@@ -7,7 +7,7 @@
   crates/rsp_advice/src/tables.rt  what `--explain` says, from the same tables
   crates/rsp_advice/specs/Tables.antt  the names and the numbers in them
   docs/ARCHITECTURE.md             the list of crates, from crates.txt
-  docs/SYSTEMS.md                  the table of systems, from the records in targets.py
+  docs/SYSTEMS.md                  the table of systems, from the records in targets.py, and that of last runs
 
 It fails, and writes nothing, if a page has no place for one of them. tests/docs/test_tables.py fails if a
 page differs from what this writes.
@@ -69,7 +69,7 @@ def cell_of(line: Dict[str, str], column: str) -> str:
     cell = line[column]
     if column == "Instruction":
         return f"[{cell}](#{cell.lower()})"
-    return f"`{cell}`" if column in ("Fault", "Command", "Example", "Text") and cell != "-" else cell
+    return f"`{cell}`" if column in ("Fault", "Command", "Example", "Text", "Tests") and cell != "-" else cell
 
 
 def with_table(text: str, name: str) -> str:
@@ -156,16 +156,21 @@ def made() -> Dict[str, str]:
     return {
         **{file: with_table(page(file), name) for name, file in TABLES.items()},
         LAYERS: with_group(page(LAYERS), r"(?ms)^## Layers\n.*?^```text\n(.*?)^```$", layers),
-        SYSTEMS: with_group(page(SYSTEMS), head_of_systems, systems()),
+        SYSTEMS: with_table(with_group(page(SYSTEMS), head_of_systems, systems()), "last_runs"),
         ADVICE: advice(),
         KNOWN: known(),
     }
+
+
+def write() -> None:
+    """Writes the files that differ from what this module writes."""
+    for name, text in made().items():
+        if text != page(name):  # a source of a crate that is written again would be proved again
+            (TOP / name).write_text(text)
 
 
 if __name__ == "__main__":
     parser = argparse.ArgumentParser("tools/python rsp_tools.page_tables", description=__doc__)
     parser.formatter_class = argparse.RawDescriptionHelpFormatter
     parser.parse_args()
-    for name, text in made().items():
-        if text != page(name):  # a source of a crate that is written again would be proved again
-            (TOP / name).write_text(text)
+    write()
