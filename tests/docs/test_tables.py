@@ -7,6 +7,7 @@ It fails if the program does something else than a line of a table says, or if a
   docs/data/commands.tsv       each command's sample, and how many lines it is answered with
   docs/data/faults.tsv         each fault is what its example ends with; `$ ` begins a command of the shell
   conformance/README.md        the instructions of whole programs
+  docs/ARCHITECTURE.md         the names of the top folder
 
 It also fails if a page counts something else than the repository has, or names other crates.
 """
@@ -54,6 +55,14 @@ def test_made_pages(name: str) -> None:
     texts = (page(name).splitlines(), page_tables.made()[name].splitlines())
     difference = "\n".join(unified_diff(*texts, name, "as it is made", n=0))
     assert not difference, "`tools/python rsp_tools.page_tables` makes it again"
+
+
+def test_top_folder() -> None:
+    """ARCHITECTURE says what each name of the top folder is, except of pages and of git's own files."""
+    files = run("git", "ls-files", "-co", "--exclude-standard").stdout.splitlines()
+    names = {name.partition("/")[0] for name in files if not re.match(r"\.git|[A-Z]+\.md", name)}
+    cells = " ".join(cell for cell, _ in tables("docs/ARCHITECTURE.md", "## The top folder"))
+    assert_same_items(re.findall(r"`([^`/]+)/?`", cells), names)
 
 
 def test_layout_of_states() -> None:
