@@ -25,11 +25,11 @@ COUNTS = {"Passed": r"(\d+) passed", "Failed": r"(\d+) (?:failed|error)", "Skipp
 Run = Dict[str, str]
 
 
-def mark(items: List[Any], below: Path, slow: Collection[str], in_gate: Collection[str], why: str) -> None:
-    """Marks the tests below a folder that use a slow fixture as `outside`, except those for the gate."""
+def mark(items: List[Any], below: Path, in_gate: Collection[str], why: str, fixture: str = "") -> None:
+    """Marks tests below a folder, all or those with a fixture, as `outside`, except those for the gate."""
     import pytest  # here, because the command works without it
 
-    for item in (it for it in items if below in it.path.parents and {*slow} & {*it.fixturenames}):
+    for item in (it for it in items if below in it.path.parents and fixture in ["", *it.fixturenames]):
         if not {item.name, item.originalname} & {*in_gate}:
             item.add_marker(pytest.mark.outside(why))
         if not item.get_closest_marker("timeout"):

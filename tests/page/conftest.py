@@ -13,7 +13,8 @@ from lib.systems.browser import PROGRAMS, start_chromium
 from rsp_tools.systems import manual, web_page
 
 WHY = "it takes minutes, and wants a browser"
-# What page.js joins: keys, runs, faults, files, the image of RDRAM, undo, and the script of the last visit.
+# What the gate runs, in some 25 seconds of processor: keys, runs, faults, files, the image of RDRAM, undo,
+# and the script of the last visit, all of which page.js joins.
 IN_GATE = """
 test_first_example test_undo test_run_by_keys test_image test_faults test_stop_at_the_first_fault
 test_bytes_are_kept test_draft
@@ -21,7 +22,7 @@ test_bytes_are_kept test_draft
 
 
 def pytest_collection_modifyitems(items: List[pytest.Item]) -> None:
-    outside.mark(items, Path(__file__).parent, ("driver",), IN_GATE, WHY)
+    outside.mark(items, Path(__file__).parent, IN_GATE, WHY, "driver")
 
 
 @pytest.fixture(scope="session")

@@ -13,12 +13,16 @@ from rsp_tools.systems import folders
 from rsp_tools.targets import NATIVE, TARGETS, Target
 
 WHY = "it takes minutes, and wants cross compilers, emulators and a browser"
-# The calls that posix_windows.c makes, one by one, and rsp.exe.
-IN_GATE = ("test_calls[windows-x86_64]", "test_what_differs")
+# What the gate runs, in some 20 seconds of processor: the calls of posix_windows.c one by one, rsp.exe, and
+# what needs no other system.
+IN_GATE = """
+test_calls[windows-x86_64] test_what_differs
+test_calls_of_linux test_another_clang test_targets test_all_instructions_are_traced
+""".split()
 
 
 def pytest_collection_modifyitems(items: List[pytest.Item]) -> None:
-    outside.mark(items, Path(__file__).parent, ("runner", "made"), IN_GATE, WHY)
+    outside.mark(items, Path(__file__).parent, IN_GATE, WHY)
 
 
 def folder_of(target: Target, at: Path) -> Path:

@@ -15,7 +15,7 @@ from lib.processes import succeeds
 from lib.systems.built_files import symbol_names
 from lib.systems.target_params import COMPILED, LINUX, of, on
 from rsp_tools.packaging import archives
-from rsp_tools.systems import header
+from rsp_tools.systems import header, places
 from rsp_tools.systems.toolchain import llvm
 from rsp_tools.targets import PROCESSORS, TARGETS
 
@@ -61,11 +61,12 @@ def test_macos_symbols(made: Path, folder: Path) -> None:
 @pytest.mark.needs("rt")
 @pytest.mark.parametrize("triple", TARGETS["macos"].triples.values())
 def test_macos_is_assembled(folder: Path, triple: str) -> None:
-    """The object, of which a static library is made, shows the calls alone."""
+    """The object, of which a static library is made, shows the proved calls alone: helpers have objects of
+    their own."""
     source = TOP / f"compiled/Darwin-{triple.partition('-')[0]}-lib.s"
     llvm("clang", f"--target={triple}", "-c", source, "-o", folder / "brsp.o")
     symbols = llvm("llvm-nm", "-g", "--defined-only", folder / "brsp.o")
-    assert {*re.findall(r" T _(\w+)$", symbols, re.M)} == {*header.calls()}
+    assert {*re.findall(r" T _(\w+)$", symbols, re.M)} == {*header.declared(places.HEADER)}
 
 
 @of("macos")
