@@ -19,13 +19,16 @@ from typing import Any, Collection, Dict, List
 
 from lib import TOP
 from rsp_tools import page_tables
+from rsp_tools.packaging.repository import output_of
 
 RUNS = "docs/data/last_runs.tsv"
 COUNTS = {"Passed": r"(\d+) passed", "Failed": r"(\d+) (?:failed|error)", "Skipped": r"(\d+) skipped"}
 Run = Dict[str, str]
 
 
-def mark(items: List[Any], below: Path, in_gate: Collection[str], why: str, fixture: str = "") -> None:
+def mark_outside(
+    items: List[Any], below: Path, in_gate: Collection[str], why: str, fixture: str = ""
+) -> None:
     """Marks tests below a folder, all or those with a fixture, as `outside`, except those for the gate."""
     import pytest  # here, because the command works without it
 
@@ -36,11 +39,6 @@ def mark(items: List[Any], below: Path, in_gate: Collection[str], why: str, fixt
             item.add_marker(pytest.mark.timeout(1800))
 
 
-def git(*words: str) -> str:
-    ended = subprocess.run(["git", *words], cwd=TOP, stdout=subprocess.PIPE, text=True, check=True)
-    return ended.stdout.strip()
-
-
 def counts_of(said: str) -> Run:
     """The numbers of tests in the last line of pytest."""
     return {name: str(sum(map(int, re.findall(form, said)))) for name, form in COUNTS.items()}
@@ -48,7 +46,7 @@ def counts_of(said: str) -> Run:
 
 def run(part: str) -> Run:
     """Runs the tests of a part, and returns its line. Ends the command if there is no count."""
-    day, commit = str(datetime.date.today()), git("rev-parse", "--short=8", "HEAD")
+    day, commit = str(datetime.date.today()), output_of("git", "rev-parse", "--short=8", "HEAD")
     words, said = ["tests/all", "-q", *shlex.split(part)], ""
     with subprocess.Popen(words, cwd=TOP, stdout=subprocess.PIPE, text=True) as tests:
         for said in tests.stdout or ():
@@ -75,7 +73,7 @@ def main() -> int:
     if not chosen:
         sys.exit(f"tests/outside: no line of {RUNS} contains {' or '.join(words)}")
     written = (f":!{it}" for it in (RUNS, page_tables.SYSTEMS))
-    if changed := git("status", "--porcelain", "--", ".", *written):
+    if changed := output_of("git", "status", "--porcelain", "--", ".", *written):
         sys.exit(f"tests/outside: the work tree differs from its commit:\n{changed}")
     for number in chosen:
         lines[number] = run(lines[number]["Tests"])

@@ -6,7 +6,7 @@ from typing import Any, Iterator, List
 
 import pytest
 
-from lib import outside
+from lib.outside import mark_outside
 from lib.packages import need
 from lib.page_driver import Host, Page
 from lib.systems.browser import PROGRAMS, start_chromium
@@ -22,7 +22,7 @@ test_bytes_are_kept test_draft
 
 
 def pytest_collection_modifyitems(items: List[pytest.Item]) -> None:
-    outside.mark(items, Path(__file__).parent, IN_GATE, WHY, "driver")
+    mark_outside(items, Path(__file__).parent, IN_GATE, WHY, "driver")
 
 
 @pytest.fixture(scope="session")

@@ -10,7 +10,7 @@ from lib import TESTS
 from lib.outside import counts_of
 from rsp_tools.page_tables import data
 
-MARKS = re.compile(r"\bmark\.outside\(|\boutside\.mark\(")
+MARKS = re.compile(r"\bmark\.outside\(|\bmark_outside\(")
 
 
 def test_folders() -> None:

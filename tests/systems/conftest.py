@@ -5,7 +5,7 @@ from typing import Iterator, List
 
 import pytest
 
-from lib import outside
+from lib.outside import mark_outside
 from lib.packages import need
 from lib.systems.runners import Runner, target_of
 from lib.systems.target_params import RUNNERS
@@ -22,7 +22,7 @@ test_calls_of_linux test_another_clang test_targets test_all_instructions_are_tr
 
 
 def pytest_collection_modifyitems(items: List[pytest.Item]) -> None:
-    outside.mark(items, Path(__file__).parent, IN_GATE, WHY)
+    mark_outside(items, Path(__file__).parent, IN_GATE, WHY)
 
 
 def folder_of(target: Target, at: Path) -> Path:
