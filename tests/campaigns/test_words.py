@@ -57,7 +57,7 @@ def test_no_program(tool: str, folder: Path) -> None:
         shutil.copy(TOP / name, folder / name)
     (folder / "conformance/vectors").symlink_to(TOP / "conformance/vectors")
     (folder / "compiled").mkdir()
-    words = [folder / "new"] if tool == "generate" else []
+    words = ["--cases", 2, folder / "new"] if tool == "generate" else []
     ended = run(folder / "conformance" / tool, *words, cwd=folder, env={"PATH": "/usr/bin:/bin"})
     assert (ended.returncode, ended.stdout.count("\n")) == (1, 1), ended.stdout
     assert "compiled/ has no assembly" in ended.stdout
