@@ -53,6 +53,7 @@ class Sides:
     """The library and the emulator, with the same memories."""
 
     def __init__(self, spec: str, memories: bytes) -> None:
+        self.spec = spec
         self.library, self.emulator = Object(built("library"), memories), emulator_of(spec, memories)
         self.machine, hidden = rsp.Machine(bytes(MEMORIES - RDRAM)), ~self.emulator.seen
         self.unseen = [part for part, (low, high) in PARTS.items() if hidden[low:high].any()]

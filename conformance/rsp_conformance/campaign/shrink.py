@@ -48,13 +48,15 @@ def cut_down(sides: Sides, program: Program, steps: int, is_hidden: bool) -> Res
     """The parts of a result about a program that first differs after some steps.
 
     If no single step differs, both sides make all steps at once. The result is empty if the program that was
-    cut down doesn't differ. Then the difference depends on what the emulator ran before, which setting a
-    state doesn't undo.
+    cut down doesn't differ, on this emulator or on a new one. Then the difference depends on what the
+    emulator ran before, which setting a state doesn't undo.
     """
 
-    def first_difference(candidate: Program, most: int) -> Optional[rsp.FirstDifference]:
+    def first_difference(
+        candidate: Program, most: int, compared: Sides = sides
+    ) -> Optional[rsp.FirstDifference]:
         every = most if is_hidden else max(1, most // 16)
-        return sides.first_difference(settable(candidate), most, every)
+        return compared.first_difference(settable(candidate), most, every)
 
     def later(back: int) -> Program:
         return sides.after(program, steps - back)
@@ -64,7 +66,7 @@ def cut_down(sides: Sides, program: Program, steps: int, is_hidden: bool) -> Res
     for parts in (WORDS, OTHERS):
         program = smallest(program, parts, lambda candidate: first_difference(candidate, most))
     found = first_difference(program, most)
-    if not found:
+    if not found or not first_difference(program, most, Sides(sides.spec, bytes(generator.MEMORIES))):
         return {}
     words = [pc for pc in range(0, 4096, 4) if program.word(pc)]
     return {
