@@ -16,7 +16,7 @@ import subprocess
 import sys
 from pathlib import Path
 from types import ModuleType
-from typing import Any, Dict, Iterable, Iterator, Sequence
+from typing import Any, Dict, Iterable, Iterator, Sequence, Tuple
 from unittest.mock import patch
 
 import pytest
@@ -168,17 +168,23 @@ def runner_class() -> Any:
     return Rsp
 
 
-def output_of_runner(name: str, path: Path, rsp_class: Any = None, lacks: Sequence[str] = ()) -> str:
-    """What a runner prints about a file on the library, or on another class `Rsp`."""
+def ended_runner(name: str, path: Path, rsp_class: Any = None, lacks: Sequence[str] = ()) -> Tuple[str, Any]:
+    """What a runner prints about a file on the library, or on another class `Rsp`, and its exit status."""
     output, mine = io.StringIO(), ModuleType("mine")  # type: io.StringIO, Any
     mine.Rsp, mine.LACKS = rsp_class or runner_class(), lacks
     words = patch.object(sys, "argv", [f"{name}.py", str(path)])
     with patch.dict(sys.modules, mine=mine), words, patch.object(sys, "path", [*sys.path]):
         with contextlib.redirect_stdout(output), pytest.raises(SystemExit) as ended:
             runpy.run_path(str(TOP / f"conformance/{name}.py"), run_name="__main__")
-    ((passed, failed),) = re.findall(r"(?m)^(\d+) passed, (\d+) failed", output.getvalue())
-    assert ended.value.code == (failed != "0" or passed == "0")
-    return output.getvalue()
+    return output.getvalue(), ended.value.code
+
+
+def output_of_runner(name: str, path: Path, rsp_class: Any = None, lacks: Sequence[str] = ()) -> str:
+    """What a runner prints that runs all cases of a file."""
+    output, status = ended_runner(name, path, rsp_class, lacks)
+    ((passed, failed),) = re.findall(r"(?m)^(\d+) passed, (\d+) failed", output)
+    assert status == (failed != "0" or passed == "0")
+    return output
 
 
 def head_of(entry: Dict[str, Any]) -> str:
@@ -234,6 +240,9 @@ def test_runners_of_programs(name: str, library: Path, folder: Path) -> None:
     ]
 
 
+LOST = "steps.py: mine.py doesn't keep what set() and load() gave it, before any step:"
+
+
 @pytest.mark.parametrize("name", ("VRCPH", "VRSQH", "VNOP"))
 def test_runner_for_an_emulator_that_lacks_registers(name: str, library: Path) -> None:
     """What LACKS names is neither set nor compared, and DIV_OUT is set by the two instructions of README."""
@@ -271,7 +280,9 @@ def test_runner_for_an_emulator_that_lacks_registers(name: str, library: Path) -
     end = "not compared: c15, interrupt, rdram\n"
     assert output_of_runner("steps", path, Lacking, lacks) == f"{count} passed, 0 failed\n{end}"
     del Lacking.divide
-    assert not output_of_runner("steps", path, Lacking, lacks).startswith(f"{count} passed")
+    output, status = ended_runner("steps", path, Lacking, lacks)
+    assert status == (1 if name == "VNOP" else f"{LOST} out: expected 8000, got 0000")
+    assert not output.startswith(f"{count} passed")
 
 
 def test_runner_for_an_emulator_that_lacks_an_instruction(library: Path, capsys: Any) -> None:
@@ -282,13 +293,11 @@ def test_runner_for_an_emulator_that_lacks_an_instruction(library: Path, capsys:
     class Lacking(whole):
         refusal: Any = NotImplementedError
 
-        def get(self, key: str) -> str:
-            return "0" if key == "interrupt" else str(super().get(key))
-
         def step(self) -> None:
             if self.get("pc") >= "800":
                 raise self.refusal
             super().step()
+            self.set("interrupt", "0")
 
         def run(self) -> None:
             raise self.refusal
@@ -311,16 +320,46 @@ def test_runner_for_an_emulator_that_lacks_an_instruction(library: Path, capsys:
     assert "".join(names) == capsys.readouterr().err
 
 
-@pytest.mark.parametrize("name, file", (("steps", "steps/SW.jsonl"), ("programs", "programs/SW.json")))
-def test_runner_of_a_memory_that_is_too_long(name: str, file: str, library: Path) -> None:
+def test_runners_of_a_memory_that_is_too_long(library: Path) -> None:
     whole: Any = runner_class()
 
     class Long(whole):
         def memory(self, bank: str) -> bytes:
             return bytes(super().memory(bank)) + bytes(bank == "dmem")
 
-    output = output_of_runner(name, VECTORS / file, Long)
-    assert "bytes of dmem: expected 4096, got 4097\n" in output and "\n0 passed, " in output
+    difference = "bytes of dmem: expected 4096, got 4097"
+    assert ended_runner("steps", VECTORS / "steps/SW.jsonl", Long) == ("", f"{LOST} {difference}")
+    output = output_of_runner("programs", VECTORS / "programs/SW.json", Long)
+    assert f"SW-1, {difference}\n" in output and "\n0 passed, " in output
+
+
+def test_runner_of_a_memory_that_is_not_kept(library: Path) -> None:
+    """The first byte that is lost is named, and no case is run."""
+    whole: Any = runner_class()
+
+    class Swapped(whole):
+        def load(self, bank: str, data: bytes) -> None:
+            super().load(bank, data[::-1])
+
+    entry = entries_in(VECTORS, "SW")[0]
+    address, text = min(entry["before"]["dmem"].items())
+    why = f"{LOST} dmem {address}: expected {text[:2]}, got 00"
+    assert ended_runner("steps", VECTORS / "steps/SW.jsonl", Swapped) == ("", why)
+
+
+def test_runner_of_many_differences(folder: Path, library: Path) -> None:
+    """The first eight of a case are printed, and the others counted."""
+    whole: Any = runner_class()
+
+    class Filling(whole):
+        def step(self) -> None:
+            super().step()
+            self.load("dmem", b"\x5a" * 4096)
+
+    (folder / "cases").write_text(json.dumps({**ADD, "before": {}}))
+    lines = [f"ADD-000 (add $3, $0, $11), dmem {at:03x}: expected 00, got 5a" for at in range(8)]
+    lines += ["ADD-000 (add $3, $0, $11): 4088 more differences", "0 passed, 1 failed", ""]
+    assert output_of_runner("steps", folder / "cases", Filling) == "\n".join(lines)
 
 
 def test_runner_of_an_unknown_register(folder: Path) -> None:
