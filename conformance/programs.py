@@ -16,34 +16,56 @@ import json
 import os
 import sys
 from pathlib import Path
-from typing import Any, Dict, Iterator
+from typing import Any, Dict, Iterator, NamedTuple, Tuple
+
+Program = Dict[str, Any]
+Difference = Tuple[str, str, str]  # what differs, what is expected, and what was found
 
 
-def fields_of(program: Dict[str, Any]) -> Dict[int, str]:
-    """What the bytes of DMEM are after a program, by their address: a case and a field of its results."""
-    fields = {}
+class ResultByte(NamedTuple):
+    """A byte of DMEM after a program: its case, the field there, and which byte of how many it is."""
+
+    case: Dict[str, Any]
+    field: str
+    byte: int
+    length: int
+
+
+def results_of(program: Program) -> Dict[str, ResultByte]:
+    """The bytes of DMEM that a program stores its results to, by their names in differences."""
+    results = {}
     for case in program["cases"]:
-        mark = f"; choice: {case['choice']}" if "choice" in case else ""
         for field, offset, length in program["layouts"][case["layout"]]:
-            for at in range(length):
-                address = (int(case["at"], 16) + offset + at) % 4096
-                fields[address] = f"{case['name']} ({case['text']}{mark}), {field}, "
-    return fields
+            for byte in range(length):
+                address = (int(case["at"], 16) + offset + byte) % 4096
+                results[f"DMEM {address:03x}"] = ResultByte(case, field, byte, length)
+    return results
 
 
-def differences(rsp: Any, program: Dict[str, Any], folder: Path) -> Iterator[str]:
-    """Runs a program: a line for each byte of DMEM that differs after it."""
-    name, fields = program["name"], fields_of(program)
-    imem, dmem, after = ((folder / f"{name}.{end}").read_bytes() for end in ("imem", "dmem", "after"))
+def differences(rsp: Any, imem: bytes, dmem: bytes, after: bytes) -> Iterator[Difference]:
+    """Runs a program, and yields what differs in DMEM after it."""
     rsp.load("imem", imem)
     rsp.load("dmem", dmem)
     rsp.run()
     found = bytes(rsp.memory("dmem"))
     if len(found) != len(after):
-        yield f"{name}, bytes of dmem: expected {len(after)}, got {len(found)}"
+        yield "bytes of dmem", str(len(after)), str(len(found))
     for at, (expected, got) in enumerate(zip(after, found)):
         if expected != got:
-            yield f"{fields.get(at, name + ', ')}DMEM {at:03x}: expected {expected:02x}, got {got:02x}"
+            yield f"DMEM {at:03x}", f"{expected:02x}", f"{got:02x}"
+
+
+def check(rsp: Any, program: Program, folder: Path) -> Iterator[str]:
+    """Runs a program, and yields a line for each difference, with its case and its field."""
+    name, results = program["name"], results_of(program)
+    images = [(folder / f"{name}.{end}").read_bytes() for end in ("imem", "dmem", "after")]
+    for what, expected, got in differences(rsp, *images):
+        where = name
+        if what in results:
+            case, field, _, _ = results[what]
+            mark = f"; choice: {case['choice']}" if "choice" in case else ""
+            where = f"{case['name']} ({case['text']}{mark}), {field}"
+        yield f"{where}, {what}: expected {expected}, got {got}"
 
 
 def main() -> int:
@@ -66,7 +88,7 @@ def main() -> int:
             sys.exit(f"programs.py: can't read the programs of {manifest}: {error}")
         for program in programs:
             try:
-                wrong = [*differences(mine.Rsp(), program, manifest.parent)]
+                wrong = [*check(mine.Rsp(), program, manifest.parent)]
             except Exception:
                 print(f"programs.py: an exception in {program['name']}:", file=sys.stderr)
                 raise

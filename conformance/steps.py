@@ -15,9 +15,10 @@ README.md lists the registers with their digits. mine.py may also have
     LACKS = {"interrupt", "rdram"}   registers and memories that are neither set nor compared
     divide(text), a method of Rsp    sets DIV_OUT by two instructions: README.md says which
 
-If step() raises NotImplementedError, the case is skipped, and its instruction named at the end. Each register
-or byte that differs is printed in a line, with the rule that we chose if the case depends on one. The status
-is 0 if no case failed and one passed, otherwise 1.
+If step() raises NotImplementedError, the case is skipped, and its instruction named at the end. Before the
+first step, get() and memory() have to return what set() and load() got. The first eight registers and bytes
+that differ in a case are printed, a line each, with the rule that we chose if the case depends on one. The
+status is 0 if no case failed and one passed, otherwise 1.
 """
 
 import fileinput
@@ -26,6 +27,12 @@ import os
 import sys
 from typing import Any, Dict, Iterator, List, Tuple
 
+Case = Dict[str, Any]
+Registers = Dict[str, str]
+Memories = Dict[str, bytearray]
+Difference = Tuple[str, str, str]  # what differs, what is expected, and what was found
+
+LINES = 8  # the most that are printed of a case
 SIZES = {"dmem": 4096, "imem": 4096, "rdram": 131072}
 # The registers before a case, unless the case says otherwise.
 DEFAULT = {"pc": "000", "npc": "004", "vco": "0000", "vcc": "0000", "vce": "00", "interrupt": "0"}
@@ -36,7 +43,7 @@ DEFAULT.update({f"a{i}": f"{(i + 1) * 0x000100010001:012x}" for i in range(8)})
 DEFAULT.update({f"c{n}": "00000ff8" if n in (2, 3) else "00000000" for n in range(16)})
 
 
-def put(memories: Dict[str, bytearray], pieces: Dict[str, Any]) -> None:
+def put(memories: Memories, pieces: Dict[str, Any]) -> None:
     """Writes the runs of bytes of `before` or `after` into the memories."""
     for bank, memory in memories.items():
         for address, text in pieces.get(bank, {}).items():
@@ -44,44 +51,76 @@ def put(memories: Dict[str, bytearray], pieces: Dict[str, Any]) -> None:
             memory[at : at + len(text) // 2] = bytes.fromhex(text)
 
 
-def differences(rsp: Any, case: Dict[str, Any], lacks: Any) -> Iterator[Tuple[str, str, str]]:
-    """Runs a case: what differs after it, with what is expected and what was found."""
+def begin(rsp: Any, case: Case, lacks: Any) -> Tuple[Registers, Memories]:
+    """Brings the emulator into the state before a case, and returns this state."""
     state = {**DEFAULT, **case["before"]}
-    keys = [key for key in DEFAULT if key not in lacks]
+    registers = {key: state[key] for key in DEFAULT if key not in lacks}
     memories = {bank: bytearray(size) for bank, size in SIZES.items() if bank not in lacks}
     put(memories, case["before"])
     put(memories, {"imem": {state["pc"]: case["word"]}})
 
     if "divided" in state and hasattr(rsp, "divide"):
         rsp.divide(state["divided"])  # first, because it changes other registers, which are set below
-    for key in keys:
-        rsp.set(key, state[key])
+    for key, text in registers.items():
+        rsp.set(key, text)
     for bank, memory in memories.items():
         rsp.load(bank, bytes(memory))
-    rsp.step()
+    return registers, memories
 
-    state.update(case["after"])
-    put(memories, case["after"])
-    for key in keys:
-        if (got := rsp.get(key)) != state[key]:
-            yield key, state[key], got
+
+def compare(rsp: Any, registers: Registers, memories: Memories) -> Iterator[Difference]:
+    """What differs between the emulator's state and the expected one."""
+    for key, text in registers.items():
+        if (got := rsp.get(key)) != text:
+            yield key, text, got
     for bank, memory in memories.items():
         found = bytes(rsp.memory(bank))
         if len(found) != len(memory):
             yield f"bytes of {bank}", str(len(memory)), str(len(found))
         elif found != memory:
+            digits = 6 if bank == "rdram" else 3
             for at, (expected, byte) in enumerate(zip(memory, found)):
                 if expected != byte:
-                    yield f"{bank} {at:03x}", f"{expected:02x}", f"{byte:02x}"
+                    yield f"{bank} {at:0{digits}x}", f"{expected:02x}", f"{byte:02x}"
 
 
-def run(mine: Any, lacks: Any, cases: List[Dict[str, Any]]) -> Tuple[Dict[str, int], Dict[str, int]]:
+def differences(rsp: Any, case: Case, lacks: Any) -> Iterator[Difference]:
+    """Runs a case, and yields what differs after it."""
+    registers, memories = begin(rsp, case, lacks)
+    rsp.step()
+    registers.update((key, text) for key, text in case["after"].items() if key in registers)
+    put(memories, case["after"])
+    yield from compare(rsp, registers, memories)
+
+
+def check_kept(rsp: Any, case: Case, lacks: Any) -> None:
+    """Ends with a sentence if the emulator doesn't return what it got before a case."""
+    for what, expected, got in compare(rsp, *begin(rsp, case, lacks)):
+        difference = f"{what}: expected {expected}, got {got}"
+        sys.exit(
+            f"steps.py: mine.py doesn't keep what set() and load() gave it, before any step: {difference}"
+        )
+
+
+def print_differences(case: Case, wrong: List[Difference]) -> None:
+    """Prints the first differences of a case, and the number of the others."""
+    mark = f"; choice: {case['choice']}" if "choice" in case else ""
+    head = f"{case['name']} ({case['text']}{mark})"
+    for what, expected, got in wrong[:LINES]:
+        print(f"{head}, {what}: expected {expected}, got {got}")
+    if len(wrong) > LINES:
+        print(f"{head}: {len(wrong) - LINES} more differences")
+
+
+def run(mine: Any, lacks: Any, cases: List[Case]) -> Tuple[Dict[str, int], Dict[str, int]]:
     """Prints what differs in each case. The cases are counted by what became of them, and those that were
     skipped by their instructions."""
     counts = dict.fromkeys(("passed", "failed", "choices"), 0)
     skipped: Dict[str, int] = {}
     for case in cases:
         try:
+            if case is cases[0]:
+                check_kept(mine.Rsp(), case, lacks)
             wrong = [*differences(mine.Rsp(), case, lacks)]
         except NotImplementedError:
             name = case["name"].rsplit("-", 1)[0]
@@ -90,11 +129,9 @@ def run(mine: Any, lacks: Any, cases: List[Dict[str, Any]]) -> Tuple[Dict[str, i
         except Exception:
             print(f"steps.py: an exception in {case['name']} ({case['text']}):", file=sys.stderr)
             raise
-        mark = f"; choice: {case['choice']}" if "choice" in case else ""
-        for what, expected, got in wrong:
-            print(f"{case['name']} ({case['text']}{mark}), {what}: expected {expected}, got {got}")
+        print_differences(case, wrong)
         counts["failed" if wrong else "passed"] += 1
-        counts["choices"] += bool(wrong and mark)
+        counts["choices"] += bool(wrong and "choice" in case)
     return counts, skipped
 
 

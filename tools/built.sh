@@ -128,8 +128,15 @@ tell_cache() { # TOP
     echo "${XDG_CACHE_HOME:-${HOME-}/.cache}/rsp/$(cd "$1" && pwd -P | tell_sums | cut -c 1-16)"
 }
 
+can_place() { # TOP CRATE: whether tools/link can put files into the tree: into the two folders, or into the crate, where it makes those that aren't there
+    for place in "$folder" "${mark%/*}"; do
+        [ -e "$place" ] || place=$1/crates/$2
+        [ -w "$place" ] || return
+    done
+}
+
 find_made() { # TOP CRATE: whether its files are there, made of the sources as they are. Sets `folder`, where they lie, and `proved_by`
     find_place "$1" "$2" "${RSP_OUT-}"
     is_current "$1" "$mark" && return
-    [ -z "${RSP_OUT-}" ] && ! [ -w "$1/crates/$2" ] && find_place "$1" "$2" "$(tell_cache "$1")" && is_current "$1" "$mark"
+    [ -z "${RSP_OUT-}" ] && ! can_place "$1" "$2" && find_place "$1" "$2" "$(tell_cache "$1")" && is_current "$1" "$mark"
 }

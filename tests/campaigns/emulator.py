@@ -121,6 +121,22 @@ class Remembers(Stepping):
         return status
 
 
+class Stale(Stepping):
+    """Keeps the first word that it executes at an address. `set` and `load` don't make it forget the word."""
+
+    def __init__(self, memories: bytes) -> None:
+        super().__init__(memories)
+        self.decoded: Dict[int, int] = {}
+
+    def single_step(self) -> rsp.Status:
+        pc = self.get().pc
+        (word,) = self.memory_words(rsp.IMEM, pc, 1)
+        self.load_words(rsp.IMEM, pc, [self.decoded.setdefault(pc, word)])
+        status = super().single_step()
+        self.load_words(rsp.IMEM, pc, [word])
+        return status
+
+
 class Few:
     """Returns an end too few."""
 

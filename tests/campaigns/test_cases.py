@@ -1,18 +1,21 @@
 """The cases of campaigns: their numbers, PCG64's random words, and operands at edges."""
 
 import hashlib
-from typing import Any, Tuple
+from typing import Any, Dict, Iterator, Tuple
 
 import pytest
 
 from lib.packages import is_here
+from rsp_conformance import flat, hexadecimal
+from rsp_conformance.campaign.protocol import END_BYTES, STATUS_AT
 from rsp_conformance.table import ROWS, signed
 
 if is_here("python:numpy"):
     import numpy as np
     from rsp_conformance.campaign.build import built
     from rsp_conformance.campaign.emulators import Object
-    from rsp_conformance.campaign.generator import END, SELECTED, Draw, cases_of, memories_of
+    from rsp_conformance.campaign.generator import END, MEMORIES, RDRAM, SELECTED, Draw
+    from rsp_conformance.campaign.generator import bytes_of, cases_of, memories_of
 
 pytestmark = pytest.mark.needs("cc", "python:numpy")
 
@@ -34,17 +37,39 @@ def test_numbered_cases(name: str, library: object) -> None:
 def test_stored_cases() -> None:
     """A case is the one that its name has always had. Another generator needs another VERSION.
 
-    The second hash is that of words which were also computed by the definition of PCG64 (XSL-RR 128/64).
+    The cases of MFC0 and MTC0, and the words of the second hash, were also computed without numpy, by the
+    definition of PCG64 (XSL-RR 128/64).
     """
     digest = hashlib.sha256()
     for name in ROWS:
         digest.update(cases_of(name, "7", 0, 200)[0].tobytes() + memories_of(name, "7").tobytes())
-    assert digest.hexdigest() == "1cf6fd51a97c725c945402a0f80d0da48da1c99e4bb40ab884c24e5946d9c5e9"
+    assert digest.hexdigest() == "f6bc9736220b76245e40fd76083e1e53a24679837de28af5af7e106b76c78264"
     far = Draw("vadd", "7", 10**12, 2).raw.tobytes()
     assert (
         hashlib.sha256(far).hexdigest() == "d9b5daebb0124cc920a051d28930b4b187f5d92b8920784b39d5b55b78d25619"
     )
     assert cases_of("vadd", "1", 0, 9)[0].tobytes() != cases_of("vadd", "2", 0, 9)[0].tobytes()
+
+
+def sizes_in(dtype: Any) -> Iterator[int]:
+    """The bytes of the fields of a structure in their order, also of those within a field."""
+    for field, _ in dtype.fields.values():
+        yield from sizes_in(field) if field.names else (field.itemsize,)
+
+
+@pytest.mark.parametrize("fields, name", [(flat.FIELDS, "State"), (hexadecimal.CHANGES, "Changes")])
+def test_fields_of_structures(fields: Dict[str, Tuple[int, int]], name: str, library: object) -> None:
+    """`flat` and `hex`, which don't need the library, have the fields of its structures."""
+    import rsp
+
+    dtype = np.dtype(getattr(rsp, name))
+    sizes = [count * bits // 8 for count, bits in fields.values()]
+    assert [*sizes_in(dtype)] == sizes and sum(sizes) == dtype.itemsize
+
+
+def test_bytes_of_an_end() -> None:
+    """A campaign reads statuses without numpy."""
+    assert (END.itemsize, bytes_of("status")[0]) == (END_BYTES, STATUS_AT)
 
 
 def operands_of(name: str) -> Tuple[Any, Any, Any]:
@@ -70,6 +95,17 @@ def test_addresses_of_choices() -> None:
     word, each = cases["word"].astype(np.int64), np.arange(4096)
     address = cases["state"]["words"][each, word >> 21 & 31].astype(np.int64) + 16 * (word & 127)
     assert (are_choices == ((address % 16 != 0) | (word & 128 != 0))).all()
+
+
+def test_transfers() -> None:
+    """Each bit of a skip, a count and a length is set in DMAs of MTC0, and none passes the end of RDRAM."""
+    cases, each = cases_of("mtc0", "t", 0, 1 << 16)[0], np.arange(1 << 16)
+    word, at = cases["word"].astype(np.int64), cases["state"]["sp"][:, 1].astype(np.int64)
+    starts = np.isin(word >> 11 & 15, (2, 3))
+    value, at = cases["state"]["words"][each, word >> 16 & 31].astype(np.int64)[starts], at[starts]
+    assert all((value >> bit & 1).sum() > 100 for bit in range(32))
+    skip, count, length = value >> 20 & ~7, value >> 12 & 255, (value & 4095 | 7) + 1
+    assert (at + count * (length + skip) + length).max() <= MEMORIES - RDRAM
 
 
 def test_limits_of_clamps() -> None:

@@ -73,11 +73,15 @@ def test_fault_that_a_case_does_not_show(is_late: bool, folder: Path) -> None:
     assert f"{what}; the shortest run that shows it begins with {CASE_17}" in output
 
 
-def test_difference_that_depends_on_what_ran_before(folder: Path) -> None:
-    """It is shown as a difference. The program isn't cut down, because it agrees the next time."""
-    words = ("python:emulator:Remembers", "--instructions", "xor", "--cases", 0, "--programs", 2)
+@pytest.mark.parametrize(
+    "name, number, step", [("Remembers", 0, "steps 1 to 100, from"), ("Stale", 1, "step 1,")]
+)
+def test_difference_that_depends_on_what_ran_before(name: str, number: int, step: str, folder: Path) -> None:
+    """It is shown as a difference. The program isn't cut down, because it agrees the next time, or on a new
+    emulator."""
+    words = (f"python:emulator:{name}", "--instructions", "xor", "--cases", 0, "--programs", 2)
     output, why = output_of(folder, *words), "because it depends on what the emulator ran before"
-    form = rf"PROGRAM-g3-1-000000: steps 1 to 100, from xor .* on: vce: expected .*; not cut down, {why}"
+    form = rf"PROGRAM-g3-1-00000{number}: {step} xor .*: expected .*; not cut down, {why}"
     assert re.search(form, output), output
     assert counts_of(folder) == {"program": (2, 1, 0)}
 

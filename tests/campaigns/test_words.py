@@ -53,11 +53,11 @@ def test_no_program(tool: str, folder: Path) -> None:
     """In a repository without its assembly they say in a line why there is no program."""
     for name in "conformance/rsp_conformance", "library/python", "tools":
         shutil.copytree(TOP / name, folder / name, ignore=shutil.ignore_patterns("out", "__pycache__"))
-    for name in "rsp", f"conformance/{tool}":
+    for name in "rsp", f"conformance/{tool}", "conformance/steps.py", "conformance/programs.py":
         shutil.copy(TOP / name, folder / name)
     (folder / "conformance/vectors").symlink_to(TOP / "conformance/vectors")
     (folder / "compiled").mkdir()
-    words = [folder / "new"] if tool == "generate" else []
+    words = ["--cases", 2, folder / "new"] if tool == "generate" else []
     ended = run(folder / "conformance" / tool, *words, cwd=folder, env={"PATH": "/usr/bin:/bin"})
     assert (ended.returncode, ended.stdout.count("\n")) == (1, 1), ended.stdout
     assert "compiled/ has no assembly" in ended.stdout

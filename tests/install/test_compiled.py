@@ -91,9 +91,11 @@ def test_first_builds_at_once(stranger: User) -> None:
     assert prints(stranger, left) == "rsp_c/out:\nlinked\n\nrsp_main/out:\nlinked\nrsp\n"
 
 
-def test_tree_that_cannot_be_written(stranger: User) -> None:
+@pytest.mark.parametrize("out", ("", "/out"), ids=("crates", "made by root"))
+def test_tree_that_cannot_be_written(out: str, stranger: User) -> None:
     """What is made lies in the user's cache, or where RSP_OUT says; a user who has neither is told of it."""
-    prints(stranger, f"rm -rf {OUT} && chmod a-w crates/rsp_main crates/rsp_c library/c")
+    folders = f"crates/rsp_main{out} crates/rsp_c{out}"
+    prints(stranger, f"rm -rf {OUT} && mkdir -p {folders} && chmod a-w {folders} library/c")
     try:
         assert prints(stranger, FIRST) == prints(stranger, f"CC=false {FIRST}") == REPLIES
         cache = prints(stranger, "library/c/build --folder && CC=false library/c/build")
@@ -101,7 +103,7 @@ def test_tree_that_cannot_be_written(stranger: User) -> None:
         prints(stranger, f"plugin/build && ls '{cache[:-1]}'/mupen64plus-rsp-proved.so")
         refuses(stranger, f"HOME=/none {FIRST}", "cannot write /none/.cache/rsp/")
     finally:
-        prints(stranger, "chmod u+w crates/rsp_main crates/rsp_c library/c")
+        prints(stranger, f"chmod u+w {folders} library/c")
 
 
 @pytest.mark.needs("aarch64-linux-gnu-gcc", "qemu-aarch64")

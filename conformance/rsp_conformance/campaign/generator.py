@@ -46,6 +46,10 @@ OFFSETS, HIGH = np.array([0, 1, 63, 64, 127]), np.array([0, 0, 1, 0xFFFFF])
 # For each element the lanes of vt that the lanes take, and how many lanes take the same one.
 SELECTED = np.array([[selected(e, lane) for lane in range(8)] for e in range(16)])
 REPEATED = 8 // np.array([len(set(lanes)) for lanes in SELECTED.tolist()])
+# How many skips (in eights), counts and lengths a DMA may have, by its kind: in one of 16 cases each one row
+# of any length, up to 256 rows, or two rows with any skip, and otherwise up to four short rows. None passes
+# the end of RDRAM, because each begins in its lower half.
+TRANSFERS = np.array([(512, 1, 4096), (3, 256, 8), (512, 2, 25), *13 * [(9, 4, 25)]])
 FIRST_EDGE = 116  # a byte from here on chooses an edge
 EDGE = LANES[np.arange(256) % len(LANES)].astype(np.uint16)
 # Lanes close to a limit of the comparisons, (b * TIMES + PLUS) ^ FLIP: b, -b, ~b, b + 1, b - 1, 1 - b, -b -
@@ -56,6 +60,15 @@ TRIPLES = itertools.product(seeded_random.PARTS, repeat=3)
 PARTED = np.array([high << 32 | middle << 16 | low for high, middle, low in TRIPLES], np.int64)
 BOUNDS = (0, 1 << 31, -1 << 31, 1 << 47, 1 << 15)
 LIMITS = np.array([limit + near for limit in BOUNDS for near in (-1, 0, 1)] + [-1 << 47], np.int64)
+
+
+def bytes_of(first: str, last: str = "") -> Tuple[int, int]:
+    """The bytes of an END from a field on, such as `state.flags.carry`, to the end of it or of another."""
+    dtype, start = END, 0  # type: Any, int
+    for name in first.split("."):
+        dtype, offset = dtype.fields[name][:2]
+        start += offset
+    return start, bytes_of(last)[1] if last else start + dtype.itemsize
 
 
 def generator(what: str, seed: str) -> Array:
@@ -236,14 +249,20 @@ def vector_memory(row: Row, d: Draw, state: Array, fields: Fields) -> None:
     fields.update(base=base, vt=d.below(32), e=e, off=off, at=at)
 
 
+def transfer(d: Draw) -> Array:
+    """The words that start a DMA. The low bits of their skips aren't 0, because a machine takes them as 0."""
+    kind = d.below(len(TRANSFERS))
+    gap, count, length = (limits[kind] for limits in TRANSFERS.T)
+    return d.below(gap) << 23 | d.below(8) << 20 | d.below(count) << 12 | d.below(length)
+
+
 def sp(row: Row, d: Draw, state: Array, fields: Fields) -> None:
-    """MFC0 and MTC0. A DMA has up to four short rows, or in one of 16 cases a row of any length."""
+    """MFC0 and MTC0, which starts a DMA if c is 2 or 3."""
     c = d.below(16)
     if row.form == "to sp":
         c = np.where(d.one_in(2), d.pick(SP_NUMBERS), c)
     t, starts = d.below(32), (c == 2) | (c == 3)
-    transfer = np.where(d.one_in(16), d.below(4096), d.below(9) << 23 | d.below(4) << 12 | d.below(25))
-    put(state, d, t, np.where(starts, transfer, d.mixed(EDGES, 32)))
+    put(state, d, t, np.where(starts, transfer(d), d.mixed(EDGES, 32)))
     state["sp"][:, 1] = np.where(starts, d.below(1024) * 8, state["sp"][:, 1])
     fields.update(t=t, c=c)
 
@@ -275,7 +294,7 @@ def registers(d: Draw) -> Array:
         state["sp"][:, number] &= mask
     state["sp"][:, 2] |= 0xFF8
     state["sp"][:, 3] = state["sp"][:, 2]
-    cases.view(np.uint8).reshape(-1, CASE.itemsize)[:, 693] = 0  # no register
+    state["zero"] = 0
     state["words"][:, 0] = 0
     return cases
 

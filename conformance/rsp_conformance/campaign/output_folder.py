@@ -39,7 +39,7 @@ class OutputFolder:
     def __init__(self, args: argparse.Namespace) -> None:
         self.out: Path = args.out
         self.files, self.earlier_results = files_of(args.emulator, args.files), 0
-        self.settings: Dict[str, Any] = {"generator": [VERSION, VERSIONS[PROGRAM]]}
+        self.settings: Dict[str, Any] = {"generator": [VERSION, *VERSIONS.values()]}
         self.settings.update({key: getattr(args, key) for key in SETTINGS})
         self.settings["hashes"] = hashes(args.emulator, args.files)
         kinds = ((args.cases, args.size, args.instructions), (args.programs, args.programs_size, [PROGRAM]))

@@ -8,7 +8,7 @@ Options = Dict[str, Any]  # of the campaign, for its tasks
 
 VERSION = 2  # of the generator: another version gives the cases of the same numbers other names
 PROGRAM = "program"  # in place of an instruction, in a task of programs
-VERSIONS = {PROGRAM: 3}  # of the generator of programs
+VERSIONS = {PROGRAM: 3, "mfc0": 3, "mtc0": 3}  # of the generators that have changed by themselves
 BATCH, SHOWN = 1024, 5  # the cases of a call, and the differences of a task that are shown
 # An end is a state, the status and a digest: the bytes of one, and where its status is.
 END_BYTES, STATUS_AT = 784, 772

@@ -12,7 +12,7 @@ from rsp_conformance.library_states import numbers_of
 from rsp_conformance.states import texts_of
 
 from . import generator
-from .generator import BANKS, STATE
+from .generator import BANKS, STATE, bytes_of
 from .search import fewest, minimal
 from .protocol import Result
 from .compare import Program, Sides, in_words
@@ -31,7 +31,16 @@ DMEM, IMEM, RDRAM, END = (
 # The parts that can become 0: words, then registers, lanes and flags (except pc, npc and the lengths of a
 # DMA), and 64 bytes of a memory.
 WORDS = parts_of((IMEM, RDRAM, 4))
-REGISTERS = parts_of((4, 128, 4), (128, 688, 2), (688, 693, 1), (694, 700, 2), (704, 712, 4), (720, 772, 4))
+SP, SP_END = bytes_of("state.sp")
+REGISTERS = parts_of(
+    (*bytes_of("state.words"), 4),
+    (*bytes_of("state.vectors", "state.accumulators"), 2),
+    (*bytes_of("state.flags"), 1),
+    (*bytes_of("state.divider"), 2),
+    (SP, SP + 8, 4),
+    (SP + 16, SP_END, 4),
+    (*bytes_of("state.interrupt"), 4),
+)
 OTHERS = [*REGISTERS, *parts_of((DMEM, IMEM, 64), (RDRAM, END, 64))]
 
 
@@ -48,13 +57,15 @@ def cut_down(sides: Sides, program: Program, steps: int, is_hidden: bool) -> Res
     """The parts of a result about a program that first differs after some steps.
 
     If no single step differs, both sides make all steps at once. The result is empty if the program that was
-    cut down doesn't differ. Then the difference depends on what the emulator ran before, which setting a
-    state doesn't undo.
+    cut down doesn't differ, on this emulator or on a new one. Then the difference depends on what the
+    emulator ran before, which setting a state doesn't undo.
     """
 
-    def first_difference(candidate: Program, most: int) -> Optional[rsp.FirstDifference]:
+    def first_difference(
+        candidate: Program, most: int, compared: Sides = sides
+    ) -> Optional[rsp.FirstDifference]:
         every = most if is_hidden else max(1, most // 16)
-        return sides.first_difference(settable(candidate), most, every)
+        return compared.first_difference(settable(candidate), most, every)
 
     def later(back: int) -> Program:
         return sides.after(program, steps - back)
@@ -64,7 +75,7 @@ def cut_down(sides: Sides, program: Program, steps: int, is_hidden: bool) -> Res
     for parts in (WORDS, OTHERS):
         program = smallest(program, parts, lambda candidate: first_difference(candidate, most))
     found = first_difference(program, most)
-    if not found:
+    if not found or not first_difference(program, most, Sides(sides.spec, bytes(generator.MEMORIES))):
         return {}
     words = [pc for pc in range(0, 4096, 4) if program.word(pc)]
     return {
