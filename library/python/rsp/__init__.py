@@ -513,9 +513,13 @@ class Machine(_Owner):
         self._check_done(status, call, numbers)
         return out
 
+    # Whole states, by tools/shapes
+
     def get(self) -> State:
-        """All registers."""
+        """Gives the state, and changes nothing."""
         return self._fill("get", unset(State))
+
+    # Whole states
 
     def set(self, state: State) -> None:
         """Sets all registers, and empties the history. The memories stay unchanged. OUT_OF_RANGE for a state
@@ -524,6 +528,8 @@ class Machine(_Owner):
             raise TypeError(f"set: state is of type {type(state).__name__}, not rsp.State")
         if self._call("set", byref(state), ends=(Status.OUT_OF_RANGE,)):
             raise RspError(Status.OUT_OF_RANGE, f"set: {_state_refusal(state)}")
+
+    # Memories
 
     @property
     def image_length(self) -> int:
@@ -568,6 +574,8 @@ class Machine(_Owner):
         self._call("memory_words", bank, address, out, count, numbers=numbers)
         return out[:]
 
+    # Savestates
+
     def save_state(self) -> bytes:
         """A savestate: all registers and memories as bytes, which are the same in every language."""
         length = c_size_t()
@@ -588,14 +596,20 @@ class Machine(_Owner):
             raise RspError(Status.OUT_OF_RANGE, f"load_state: {why}")
         self._check_done(status, "load_state")
 
+    # Where the machine continues, by tools/shapes
+
     def start_task(self, address: int) -> None:
-        """Starts the task whose structure of 64 bytes is at an address of RDRAM, a multiple of 8, and empties
-        the history."""
+        """Starts the task whose structure of 64 bytes is at an address of RDRAM, and clears halted. The
+        structure and the boot code are read from the machine's own RDRAM, so this isn't for hosts that keep
+        RDRAM outside. Empties the history. Refused with TASK_PLACE or TASK_SIZE."""
         self._call_with("start_task", address)
 
     def set_pc(self, pc: int) -> None:
-        """Sets pc to an address of IMEM, a multiple of 4 below 4096, and empties the history."""
+        """Lets the machine continue at an address of IMEM; a halted machine stays halted. Empties the
+        history. Refused with OUT_OF_RANGE unless the address is a multiple of 4 below 4096."""
         self._call_with("set_pc", pc)
+
+    # Steps
 
     def step(self) -> Status:
         """Executes one instruction. Returns OK, or HALTED or RESERVED if the machine can't."""
@@ -673,10 +687,6 @@ class Machine(_Owner):
             yield from entries
             limit = limit - len(entries) if stop.reason == Reason.LIMIT else 0
 
-    def back(self, states: int) -> None:
-        """Undoes 1 to 1000000 steps. SHORT_HISTORY if the history holds fewer."""
-        self._call_with("back", states)
-
     def pass_move(self, value: int = 0) -> Status:
         """Steps over the MFC0 or MTC0 at pc without executing it; register rt of an MFC0 becomes the value.
         Empties the history.
@@ -694,33 +704,63 @@ class Machine(_Owner):
         """
         return Status(self._call("pass_dma", ends=_HALTED))
 
+    # Steps, by tools/shapes
+
+    def back(self, states: int) -> None:
+        """Undoes `states` steps. Refused with OUT_OF_RANGE unless `states` is 1 to 1000000, and otherwise
+        with SHORT_HISTORY if the history holds fewer states."""
+        self._call_with("back", states)
+
     def history(self) -> int:
-        """The number of steps that can be undone."""
+        """Gives the number of steps that can be undone, which is the number of states in the history."""
         return self._fill("history", c_size_t()).value
 
+    # Breakpoints, by tools/shapes
+
     def add_break(self, address: int) -> None:
-        """Sets a breakpoint at an address of IMEM, a multiple of 4 below 4096; at most sixteen."""
+        """Adds a breakpoint. A run stops when a step comes to it, so not at once if the run begins there.
+        Refused with OUT_OF_RANGE unless the address is a multiple of 4 below 4096, otherwise with
+        BREAK_TWICE if the address has a breakpoint, and otherwise with BREAK_FULL if sixteen addresses have
+        one."""
         self._call_with("add_break", address)
 
     def drop_break(self, address: int) -> None:
-        """Removes the breakpoint at an address."""
+        """Removes a breakpoint. Refused with OUT_OF_RANGE as above, and otherwise with NO_BREAK if the
+        address has no breakpoint."""
         self._call_with("drop_break", address)
 
     def add_watch(self, address: int, length: int) -> int:
-        """Watches 1 to 64 bytes of DMEM, and returns the watch's number, 0 to 7."""
+        """Watches 1 to 64 bytes inside DMEM, and gives the watch the lowest free number. Refused with
+        OUT_OF_RANGE for other bytes, and otherwise with WATCH_FULL if there are eight watches."""
         return self._fill("add_watch", c_size_t(), address, length).value
 
     def drop_watch(self, number: int) -> None:
-        """Removes a watch."""
+        """Removes a watch. Refused with NO_WATCH."""
         self._call_with("drop_watch", number)
 
+    # Parts of the state, by tools/shapes
+
     def reg(self, number: int) -> int:
-        """Scalar register `number`, 0 to 31."""
+        """A scalar register. Refused with OUT_OF_RANGE unless `number` is below 32."""
         return self._word("reg", number)
 
     def regs(self) -> Scalars:
-        """pc, npc and the scalar registers."""
+        """All scalar registers, with pc and npc."""
         return self._fill("regs", unset(Scalars))
+
+    def acc(self) -> Accumulators:
+        """The accumulators."""
+        return self._fill("acc", unset(Accumulators))
+
+    def flags(self) -> Flags:
+        """VCO, VCC and VCE."""
+        return self._fill("flags", unset(Flags))
+
+    def divider(self) -> Divider:
+        """DIV_IN, DIV_OUT, and whether DIV_IN is loaded."""
+        return self._fill("divider", unset(Divider))
+
+    # Parts of the state
 
     def vreg(self, number: int) -> List[int]:
         """The eight lanes of vector register `number`, 0 to 31."""
@@ -755,45 +795,40 @@ class Machine(_Owner):
 
         self._check_done(self._call_alone(call, _get_and_set), call)
 
-    def acc(self) -> Accumulators:
-        """The accumulators."""
-        return self._fill("acc", unset(Accumulators))
-
-    def flags(self) -> Flags:
-        """The flags."""
-        return self._fill("flags", unset(Flags))
-
-    def divider(self) -> Divider:
-        """DIV_IN, DIV_OUT, and whether DIV_IN is loaded."""
-        return self._fill("divider", unset(Divider))
+    # SP registers, by tools/shapes
 
     def read(self, number: int) -> int:
-        """Reads SP register `number`, modulo 16, as the CPU does. A read of the semaphore, 7, takes it and
-        empties the history."""
+        """Reads an SP register as the CPU does. A read of the semaphore, 7, takes it and empties the
+        history."""
         return self._word("read", number)
 
     def peek(self, number: int) -> int:
-        """The word that a read of SP register `number`, modulo 16, would give."""
+        """Gives the word that a read would give, and changes nothing."""
         return self._word("peek", number)
 
     def write(self, number: int, value: int) -> None:
-        """Writes SP register `number`, modulo 16, as the CPU does, with its DMA, and empties the history."""
+        """Writes an SP register as the CPU does, with its DMA if it is a length register. Empties the
+        history."""
         self._call_with("write", number, value)
+
+    def sp(self) -> SpWords:
+        """Gives all SP registers and the interrupt flag, and changes nothing."""
+        return self._fill("sp", unset(SpWords))
+
+    # SP registers
 
     def write_dma(self, number: int, value: int) -> Optional[Dma]:
         """Writes SP register `number` as `write` does, but moves no byte. Returns the DMA that the write
         starts, whose bytes the caller then moves, or None."""
         return _dma_of(self._fill("write_dma", _shapes.Dma(), number, value))
 
-    def sp(self) -> SpWords:
-        """All SP registers, with the interrupt flag."""
-        return self._fill("sp", unset(SpWords))
-
     def set_sp(self, given: SpWords) -> None:
         """Sets all SP registers and the interrupt flag, without a DMA, and empties the history."""
         if not isinstance(given, SpWords):
             raise TypeError(f"set_sp: given is of type {type(given).__name__}, not rsp.SpWords")
         self._call("set_sp", byref(given))
+
+    # Words of IMEM with their disassembly
 
     def listing(self, address: int, count: int) -> List[Line]:
         """At most 1024 words of IMEM from an address on, a multiple of 4, with their disassembly.

@@ -16,6 +16,7 @@
 
 #![warn(missing_docs)]
 
+mod calls;
 #[doc(hidden)]
 pub mod cases;
 mod compare;
