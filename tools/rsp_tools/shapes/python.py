@@ -114,4 +114,4 @@ def files(it: Interface, methods: Sequence[Method]) -> Dict[str, str]:
     """Each file by its path in the repository."""
     made = by_parts([(it.part, method_text(it)) for it in methods_of(methods)])
     below = {part: f"{lines}\n" for part, lines in made.items()}
-    return {"library/python/rsp/shapes.py": text(it), **placed("library/python/rsp/__init__.py", below)}
+    return {"library/python/rsp/shapes.py": text(it), **placed("library/python/rsp/machine.py", below)}
