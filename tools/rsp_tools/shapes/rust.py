@@ -1,11 +1,12 @@
-"""The interface in Rust: raw.rs is for the crate alone, shapes.rs has the structs that everybody gets, and
-calls.rs the regular calls."""
+"""The interface in Rust: raw.rs is for the crate alone, shapes.rs has the structs that everybody gets,
+status.rs the statuses, and calls.rs the regular calls."""
 
 import textwrap
 from typing import Dict, Iterator, List, Sequence
 
+from rsp_tools.shapes import header
 from rsp_tools.shapes.interface import Call, Field, Interface, Struct, Type, in_one
-from rsp_tools.shapes.methods import Method, by_parts, told
+from rsp_tools.shapes.methods import HEADER, Method, by_parts, told
 
 WIDTH = 140  # of a line, as rustfmt.toml has it
 # The structs that everybody gets, and those of them whose default isn't all zeros.
@@ -15,6 +16,8 @@ SHOWN = (
 OWN_DEFAULT = ("State", "SpWords")
 # Calls whose methods are more: one is over another method, one never fails, and one gives an option.
 BY_HAND = ("get", "image_length", "write_dma")
+# Statuses that are no error: those of a step that was made or not, and that of a machine that is freed.
+NO_ERRORS = ("OK", "NO_MACHINE", "HALTED", "RESERVED")
 MOST = 32  # items of an array that has a default
 # A pointer to anything is one to its bytes.
 ELEMENTS = {"char": "u8", "void": "u8"}
@@ -26,6 +29,30 @@ use crate::shapes::{%s};
 use crate::{Machine, RspError};
 
 // SAFETY of all calls below: as in machine.rs.
+"""
+STATUS = """//! The statuses that refuse a call. `tools/shapes` writes this file.
+
+use crate::raw::status;
+
+/// Why a call was refused, as `brsp.h` numbers it.
+#[derive(Clone, Copy, Debug, PartialEq, Eq)]
+#[non_exhaustive]
+pub enum Status {
+%s    /// The library has this version of the interface, and the crate is for [`VERSION`](crate::VERSION).
+    Version(u32),
+    /// A status that this crate doesn't know.
+    Unknown(u32),
+}
+
+impl Status {
+    /// The status of a number of `brsp.h`; none if it is BRSP_OK.
+    pub(crate) fn of(number: u32) -> Option<Status> {
+        Some(match number {
+            status::OK => return None,
+%s            other => Status::Unknown(other),
+        })
+    }
+}
 """
 
 
@@ -117,6 +144,18 @@ def method_text(it: Method) -> str:
     return f"{comment(said, '    ')}{head}\n        {body}\n    }}\n"
 
 
+def statuses_text(it: Interface, comments: Dict[str, str]) -> str:
+    """The enum of the statuses that are errors."""
+    said = header.comments_of(HEADER, "status")
+    names = {name: in_one(name) for name in it.numbers["status"] if name not in NO_ERRORS}
+    items = (
+        f"{comment(comments.get(f'Status.{rust}', said[name]), '    ')}    {rust},\n"
+        for name, rust in names.items()
+    )
+    arms = (f"            status::{name} => Status::{rust},\n" for name, rust in names.items())
+    return STATUS % ("".join(items), "".join(arms))
+
+
 def status_link(name: str) -> str:
     return f"[`{name}`](crate::Status::{name})"
 
@@ -137,5 +176,6 @@ def files(it: Interface, comments: Dict[str, str], methods: Sequence[Method]) ->
     return {
         "library/rust/src/raw.rs": "\n".join(raw_parts(it)),
         "library/rust/src/shapes.rs": "\n".join([head, *shown]),
+        "library/rust/src/status.rs": statuses_text(it, comments),
         "library/rust/src/calls.rs": calls_text(methods),
     }
