@@ -13,9 +13,8 @@ BY_HAND = ("event", "write_dma")
 def method_text(it: Method) -> str:
     """A method, in a line if it fits. It makes the call by its name: a loader looks for what is called only
     when it is, but for an address at the start, so a library that lacks the call would end the program."""
-    taken = [f"uint32_t {name}" for name in it.numbers] + [f"const {c_name(it.given)} &given"] * bool(
-        it.given
-    )
+    taken = [f"uint32_t {name}" for name in it.numbers]
+    taken += [f"const {c_name(it.given)} &given"] * bool(it.given)
     passed = ["&it", *it.numbers, *["&given"] * bool(it.given), *["&out"] * bool(it.result)]
     numbers = f", {{ {', '.join(it.numbers)} }}" * bool(it.numbers)
     made = f'detail::done(brsp_{it.name}({", ".join(passed)}), {{ "{it.name}"{numbers} }});'
@@ -26,11 +25,11 @@ def method_text(it: Method) -> str:
     begin, end = "[[nodiscard]] " * it.is_query, " const" * it.is_query
     head = f"    {begin}{result} {it.name}({', '.join(taken)}){end}"
     if not it.result and len(f"{head} {{ {made} }}") <= WIDTH:
-        return f"{head} {{ {made} }}"
-    return "\n".join([head, "    {", *(f"        {line}" for line in body), "    }"])
+        return f"{head} {{ {made} }}\n"
+    return "\n".join([head, "    {", *(f"        {line}" for line in body), "    }\n"])
 
 
 def files(methods: Sequence[Method]) -> Dict[str, str]:
     """The file by its path in the repository."""
-    made = by_parts([(it.part, f"{method_text(it)}\n") for it in methods if it.name not in BY_HAND])
-    return placed("library/c/brsp.hpp", {part: f"{lines}\n" for part, lines in made.items()})
+    mine = [it for it in methods if it.name not in BY_HAND]
+    return placed("library/c/brsp.hpp", by_parts(mine, method_text))

@@ -81,12 +81,10 @@ def declaration(it: Method) -> str:
 def files(it: Interface, methods: Sequence[Method]) -> Dict[str, str]:
     """Each file by its path in the repository."""
     mine = methods_of(methods)
-    made = by_parts([(it.part, method_text(it)) for it in mine])
-    declared = by_parts([(it.part, declaration(it)) for it in mine])
-    declared = {part: f"{lines}\n" for part, lines in declared.items()}
     enums = "\n".join(enum_text(in_one(kind), it.numbers[kind]) for kind in DECLARED)
+    declared = {"Numbers": f"\n{enums}\n", **by_parts(mine, declaration)}
     return {
         "library/js/shapes.js": text(it),
-        **placed("library/js/rsp.js", {part: f"{lines}\n" for part, lines in made.items()}),
-        **placed("library/js/rsp.d.ts", {"Numbers": f"\n{enums}\n", **declared}),
+        **placed("library/js/rsp.js", by_parts(mine, method_text)),
+        **placed("library/js/rsp.d.ts", declared),
     }

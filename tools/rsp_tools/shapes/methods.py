@@ -6,7 +6,7 @@ changes the machine.
 """
 
 import re
-from typing import Callable, Dict, Iterator, List, NamedTuple, Tuple
+from typing import Callable, Dict, Iterator, List, NamedTuple, Sequence, Tuple
 
 from rsp_tools import TOP
 from rsp_tools.shapes import crate, header
@@ -91,9 +91,10 @@ def told(comment: str, call: Callable[[str], str], status: Callable[[str], str] 
     return re.sub(r"\bBRSP_(\w+)", lambda it: status(it[1]), text)
 
 
-def by_parts(made: List[Tuple[str, str]]) -> Dict[str, str]:
-    """Texts as one for each part."""
-    return {part: "".join(text for of, text in made if of == part) for part, _ in made}
+def by_parts(methods: Sequence[Method], text_of: Callable[[Method], str]) -> Dict[str, str]:
+    """The texts of methods, joined for each part of the header, with an empty line after them."""
+    parts = dict.fromkeys(it.part for it in methods)
+    return {part: "".join(text_of(it) for it in methods if it.part == part) + "\n" for part in parts}
 
 
 def placed(path: str, made: Dict[str, str]) -> Dict[str, str]:

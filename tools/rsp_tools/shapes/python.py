@@ -112,6 +112,5 @@ def method_text(it: Method) -> str:
 
 def files(it: Interface, methods: Sequence[Method]) -> Dict[str, str]:
     """Each file by its path in the repository."""
-    made = by_parts([(it.part, method_text(it)) for it in methods_of(methods)])
-    below = {part: f"{lines}\n" for part, lines in made.items()}
-    return {"library/python/rsp/shapes.py": text(it), **placed("library/python/rsp/machine.py", below)}
+    made = by_parts(methods_of(methods), method_text)
+    return {"library/python/rsp/shapes.py": text(it), **placed("library/python/rsp/machine.py", made)}

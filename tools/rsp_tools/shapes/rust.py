@@ -141,7 +141,7 @@ def method_text(it: Method) -> str:
         body = f"let mut out = {begin};\n        {body}?;\n        Ok(out)"
     parameters = ", ".join(["&self" if it.is_query else "&mut self", *given])
     head = f"    pub fn {it.name}({parameters}) -> Result<{it.result or '()'}, RspError> {{"
-    return f"{comment(said, '    ')}{head}\n        {body}\n    }}\n"
+    return f"\n{comment(said, '    ')}{head}\n        {body}\n    }}\n"
 
 
 def statuses_text(it: Interface, comments: Dict[str, str]) -> str:
@@ -164,8 +164,8 @@ def calls_text(methods: Sequence[Method]) -> str:
     """The methods, in a block for each part of brsp.h."""
     found = [it for it in methods if it.name not in BY_HAND and it.result in ("", "u32", "usize", *SHOWN)]
     used = ", ".join(sorted({name for it in found for name in (it.given, it.result) if name in SHOWN}))
-    parts = by_parts([(it.part, f"\n{method_text(it)}") for it in found])
-    blocks = (f"\n/// {part}\nimpl Machine {{{lines}}}\n" for part, lines in parts.items())
+    parts = by_parts(found, method_text)
+    blocks = (f"\n/// {part}\nimpl Machine {{{lines.rstrip()}\n}}\n" for part, lines in parts.items())
     return CALLS % used + "".join(blocks)
 
 
