@@ -373,7 +373,8 @@ export class Machine {
   // Where the machine continues, by tools/shapes
   /** Starts the task whose structure of 64 bytes is at an address of RDRAM, and clears halted. The structure and the
    * boot code are read from the machine's own RDRAM, so this isn't for hosts that keep RDRAM outside. Empties the
-   * history. Refused with TASK_PLACE or TASK_SIZE. */
+   * history. Refused with TASK_PLACE unless the address is a multiple of 8 and the 64 bytes are in the image, and
+   * otherwise with TASK_SIZE unless the boot code has 1 to 4096 bytes. */
   start_task(address: number): void;
   /** Lets the machine continue at an address of IMEM; a halted machine stays halted. Empties the history. Refused with
    * OUT_OF_RANGE unless the address is a multiple of 4 below 4096. */
@@ -422,17 +423,17 @@ export class Machine {
    * OUT_OF_RANGE unless the address is a multiple of 4 below 4096, otherwise with BREAK_TWICE if the address has a
    * breakpoint, and otherwise with BREAK_FULL if sixteen addresses have one. */
   add_break(address: number): void;
-  /** Removes a breakpoint. Refused with OUT_OF_RANGE as above, and otherwise with NO_BREAK if the address has no
-   * breakpoint. */
+  /** Removes a breakpoint. Refused with OUT_OF_RANGE unless the address is a multiple of 4 below 4096, and otherwise
+   * with NO_BREAK if it has no breakpoint. */
   drop_break(address: number): void;
-  /** Watches 1 to 64 bytes inside DMEM, and gives the watch the lowest free number. Refused with OUT_OF_RANGE for other
-   * bytes, and otherwise with WATCH_FULL if there are eight watches. */
+  /** Watches 1 to 64 bytes inside DMEM, and gives the watch the lowest free number, 0 to 7. Refused with OUT_OF_RANGE
+   * for other bytes, and otherwise with WATCH_FULL if there are eight watches. */
   add_watch(address: number, length: number): number;
-  /** Removes a watch. Refused with NO_WATCH. */
+  /** Removes a watch. Refused with NO_WATCH if no watch has this number. */
   drop_watch(number: number): void;
 
   // Parts of the state, by tools/shapes
-  /** A scalar register. Refused with OUT_OF_RANGE unless `number` is below 32. */
+  /** The scalar register `number`. Refused with OUT_OF_RANGE unless `number` is below 32. */
   reg(number: number): number;
   /** All scalar registers, with pc and npc. */
   regs(): Scalars;
@@ -453,11 +454,13 @@ export class Machine {
   set_vreg(number: number, lanes: ArrayLike<number> & Iterable<number>): void;
 
   // SP registers, by tools/shapes
-  /** Reads an SP register as the CPU does. A read of the semaphore, 7, takes it and empties the history. */
+  /** Reads the SP register `number`, modulo 16, as the CPU does. A read of the semaphore, 7, takes it and empties the
+   * history. */
   read(number: number): number;
-  /** Gives the word that a read would give, and changes nothing. */
+  /** Gives the word that `read` of the SP register `number`, modulo 16, would give, and changes nothing. */
   peek(number: number): number;
-  /** Writes an SP register as the CPU does, with its DMA if it is a length register. Empties the history. */
+  /** Writes the SP register `number`, modulo 16, as the CPU does, with its DMA if it is a length register. Empties the
+   * history. */
   write(number: number, value: number): void;
   /** Gives all SP registers and the interrupt flag, and changes nothing. */
   sp(): SpWords;

@@ -206,7 +206,9 @@ class Machine(Owner):
     def start_task(self, address: int) -> None:
         """Starts the task whose structure of 64 bytes is at an address of RDRAM, and clears halted. The
         structure and the boot code are read from the machine's own RDRAM, so this isn't for hosts that keep
-        RDRAM outside. Empties the history. Refused with TASK_PLACE or TASK_SIZE."""
+        RDRAM outside. Empties the history. Refused with TASK_PLACE unless the address is a multiple of 8 and
+        the 64 bytes are in the image, and otherwise with TASK_SIZE unless the boot code has 1 to 4096
+        bytes."""
         self._call_with("start_task", address)
 
     def set_pc(self, pc: int) -> None:
@@ -330,23 +332,23 @@ class Machine(Owner):
         self._call_with("add_break", address)
 
     def drop_break(self, address: int) -> None:
-        """Removes a breakpoint. Refused with OUT_OF_RANGE as above, and otherwise with NO_BREAK if the
-        address has no breakpoint."""
+        """Removes a breakpoint. Refused with OUT_OF_RANGE unless the address is a multiple of 4 below 4096,
+        and otherwise with NO_BREAK if it has no breakpoint."""
         self._call_with("drop_break", address)
 
     def add_watch(self, address: int, length: int) -> int:
-        """Watches 1 to 64 bytes inside DMEM, and gives the watch the lowest free number. Refused with
-        OUT_OF_RANGE for other bytes, and otherwise with WATCH_FULL if there are eight watches."""
+        """Watches 1 to 64 bytes inside DMEM, and gives the watch the lowest free number, 0 to 7. Refused
+        with OUT_OF_RANGE for other bytes, and otherwise with WATCH_FULL if there are eight watches."""
         return self._fill("add_watch", c_size_t(), address, length).value
 
     def drop_watch(self, number: int) -> None:
-        """Removes a watch. Refused with NO_WATCH."""
+        """Removes a watch. Refused with NO_WATCH if no watch has this number."""
         self._call_with("drop_watch", number)
 
     # Parts of the state, by tools/shapes
 
     def reg(self, number: int) -> int:
-        """A scalar register. Refused with OUT_OF_RANGE unless `number` is below 32."""
+        """The scalar register `number`. Refused with OUT_OF_RANGE unless `number` is below 32."""
         return self._word("reg", number)
 
     def regs(self) -> Scalars:
@@ -403,17 +405,18 @@ class Machine(Owner):
     # SP registers, by tools/shapes
 
     def read(self, number: int) -> int:
-        """Reads an SP register as the CPU does. A read of the semaphore, 7, takes it and empties the
-        history."""
+        """Reads the SP register `number`, modulo 16, as the CPU does. A read of the semaphore, 7, takes it
+        and empties the history."""
         return self._word("read", number)
 
     def peek(self, number: int) -> int:
-        """Gives the word that a read would give, and changes nothing."""
+        """Gives the word that `read` of the SP register `number`, modulo 16, would give, and changes
+        nothing."""
         return self._word("peek", number)
 
     def write(self, number: int, value: int) -> None:
-        """Writes an SP register as the CPU does, with its DMA if it is a length register. Empties the
-        history."""
+        """Writes the SP register `number`, modulo 16, as the CPU does, with its DMA if it is a length
+        register. Empties the history."""
         self._call_with("write", number, value)
 
     def sp(self) -> SpWords:

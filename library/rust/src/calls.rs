@@ -11,7 +11,8 @@ use crate::{Machine, RspError};
 impl Machine {
     /// Starts the task whose structure of 64 bytes is at an address of RDRAM, and clears halted. The structure and the boot code are read
     /// from the machine's own RDRAM, so this isn't for hosts that keep RDRAM outside. Empties the history. Refused with
-    /// [`TaskPlace`](crate::Status::TaskPlace) or [`TaskSize`](crate::Status::TaskSize).
+    /// [`TaskPlace`](crate::Status::TaskPlace) unless the address is a multiple of 8 and the 64 bytes are in the image, and otherwise with
+    /// [`TaskSize`](crate::Status::TaskSize) unless the boot code has 1 to 4096 bytes.
     pub fn start_task(&mut self, address: u32) -> Result<(), RspError> {
         done(unsafe { raw::brsp_start_task(self.at(), address) }, "start_task", &[address.into()])
     }
@@ -49,13 +50,13 @@ impl Machine {
         done(unsafe { raw::brsp_add_break(self.at(), address) }, "add_break", &[address.into()])
     }
 
-    /// Removes a breakpoint. Refused with [`OutOfRange`](crate::Status::OutOfRange) as above, and otherwise with
-    /// [`NoBreak`](crate::Status::NoBreak) if the address has no breakpoint.
+    /// Removes a breakpoint. Refused with [`OutOfRange`](crate::Status::OutOfRange) unless the address is a multiple of 4 below 4096, and
+    /// otherwise with [`NoBreak`](crate::Status::NoBreak) if it has no breakpoint.
     pub fn drop_break(&mut self, address: u32) -> Result<(), RspError> {
         done(unsafe { raw::brsp_drop_break(self.at(), address) }, "drop_break", &[address.into()])
     }
 
-    /// Watches 1 to 64 bytes inside DMEM, and gives the watch the lowest free number. Refused with
+    /// Watches 1 to 64 bytes inside DMEM, and gives the watch the lowest free number, 0 to 7. Refused with
     /// [`OutOfRange`](crate::Status::OutOfRange) for other bytes, and otherwise with [`WatchFull`](crate::Status::WatchFull) if there are
     /// eight watches.
     pub fn add_watch(&mut self, address: u32, length: u32) -> Result<usize, RspError> {
@@ -64,7 +65,7 @@ impl Machine {
         Ok(out)
     }
 
-    /// Removes a watch. Refused with [`NoWatch`](crate::Status::NoWatch).
+    /// Removes a watch. Refused with [`NoWatch`](crate::Status::NoWatch) if no watch has this number.
     pub fn drop_watch(&mut self, number: u32) -> Result<(), RspError> {
         done(unsafe { raw::brsp_drop_watch(self.at(), number) }, "drop_watch", &[number.into()])
     }
@@ -72,7 +73,7 @@ impl Machine {
 
 /// Parts of the state
 impl Machine {
-    /// A scalar register. Refused with [`OutOfRange`](crate::Status::OutOfRange) unless `number` is below 32.
+    /// The scalar register `number`. Refused with [`OutOfRange`](crate::Status::OutOfRange) unless `number` is below 32.
     pub fn reg(&self, number: u32) -> Result<u32, RspError> {
         let mut out = 0;
         done(unsafe { raw::brsp_reg(self.at(), number, &mut out) }, "reg", &[number.into()])?;
@@ -110,21 +111,21 @@ impl Machine {
 
 /// SP registers
 impl Machine {
-    /// Reads an SP register as the CPU does. A read of the semaphore, 7, takes it and empties the history.
+    /// Reads the SP register `number`, modulo 16, as the CPU does. A read of the semaphore, 7, takes it and empties the history.
     pub fn read(&mut self, number: u32) -> Result<u32, RspError> {
         let mut out = 0;
         done(unsafe { raw::brsp_read(self.at(), number, &mut out) }, "read", &[number.into()])?;
         Ok(out)
     }
 
-    /// Gives the word that a read would give, and changes nothing.
+    /// Gives the word that [`read`](Machine::read) of the SP register `number`, modulo 16, would give, and changes nothing.
     pub fn peek(&self, number: u32) -> Result<u32, RspError> {
         let mut out = 0;
         done(unsafe { raw::brsp_peek(self.at(), number, &mut out) }, "peek", &[number.into()])?;
         Ok(out)
     }
 
-    /// Writes an SP register as the CPU does, with its DMA if it is a length register. Empties the history.
+    /// Writes the SP register `number`, modulo 16, as the CPU does, with its DMA if it is a length register. Empties the history.
     pub fn write(&mut self, number: u32, value: u32) -> Result<(), RspError> {
         done(unsafe { raw::brsp_write(self.at(), number, value) }, "write", &[number.into(), value.into()])
     }
