@@ -329,7 +329,8 @@ uint32_t brsp_memory_words(brsp_machine *m, uint32_t bank, uint32_t address, uin
 
 /* Starts the task whose structure of 64 bytes is at an address of RDRAM, and clears halted. The structure
  * and the boot code are read from the machine's own RDRAM, so this isn't for hosts that keep RDRAM outside.
- * Empties the history. Returns BRSP_TASK_PLACE or BRSP_TASK_SIZE. */
+ * Empties the history. Returns BRSP_TASK_PLACE unless the address is a multiple of 8 and the 64 bytes are in
+ * the image, and otherwise BRSP_TASK_SIZE unless the boot code has 1 to 4096 bytes. */
 uint32_t brsp_start_task(brsp_machine *m, uint32_t address);
 
 /* Lets the machine continue at an address of IMEM; a halted machine stays halted. Empties the history.
@@ -404,26 +405,26 @@ uint32_t brsp_pass_dma(brsp_machine *m);
  * address has a breakpoint, and otherwise BRSP_BREAK_FULL if sixteen addresses have one. */
 uint32_t brsp_add_break(brsp_machine *m, uint32_t address);
 
-/* Removes a breakpoint. Returns BRSP_OUT_OF_RANGE as above, and otherwise BRSP_NO_BREAK if the address has
- * no breakpoint. */
+/* Removes a breakpoint. Returns BRSP_OUT_OF_RANGE unless the address is a multiple of 4 below 4096, and
+ * otherwise BRSP_NO_BREAK if it has no breakpoint. */
 uint32_t brsp_drop_break(brsp_machine *m, uint32_t address);
 
-/* Watches 1 to 64 bytes inside DMEM, and gives the watch the lowest free number. Returns BRSP_OUT_OF_RANGE
- * for other bytes, and otherwise BRSP_WATCH_FULL if there are eight watches. */
+/* Watches 1 to 64 bytes inside DMEM, and gives the watch the lowest free number, 0 to 7. Returns
+ * BRSP_OUT_OF_RANGE for other bytes, and otherwise BRSP_WATCH_FULL if there are eight watches. */
 uint32_t brsp_add_watch(brsp_machine *m, uint32_t address, uint32_t len, size_t *number);
 
-/* Removes a watch. Returns BRSP_NO_WATCH. */
+/* Removes a watch. Returns BRSP_NO_WATCH if no watch has this number. */
 uint32_t brsp_drop_watch(brsp_machine *m, uint32_t number);
 
 /* ---- Parts of the state. These calls change nothing. ---- */
 
-/* A scalar register. Returns BRSP_OUT_OF_RANGE unless n is below 32. */
+/* The scalar register n. Returns BRSP_OUT_OF_RANGE unless n is below 32. */
 uint32_t brsp_reg(brsp_machine *m, uint32_t n, uint32_t *out);
 
 /* All scalar registers, with pc and npc. */
 uint32_t brsp_regs(brsp_machine *m, brsp_scalars *out);
 
-/* A vector register. Returns BRSP_OUT_OF_RANGE unless n is below 32. */
+/* The lanes of the vector register n. Returns BRSP_OUT_OF_RANGE unless n is below 32. */
 uint32_t brsp_vreg(brsp_machine *m, uint32_t n, brsp_lanes *out);
 
 /* The accumulators. */
@@ -435,15 +436,17 @@ uint32_t brsp_flags(brsp_machine *m, brsp_flag_bits *out);
 /* DIV_IN, DIV_OUT, and whether DIV_IN is loaded. */
 uint32_t brsp_divider(brsp_machine *m, brsp_divide_state *out);
 
-/* ---- SP registers: 0 to 7, and the DPC's from 8 on. Numbers are taken modulo 16. ---- */
+/* ---- SP registers: 0 to 7, and the DPC's from 8 on ---- */
 
-/* Reads an SP register as the CPU does. A read of the semaphore, 7, takes it and empties the history. */
+/* Reads the SP register n, modulo 16, as the CPU does. A read of the semaphore, 7, takes it and empties the
+ * history. */
 uint32_t brsp_read(brsp_machine *m, uint32_t n, uint32_t *out);
 
-/* Gives the word that a read would give, and changes nothing. */
+/* Gives the word that brsp_read of the SP register n, modulo 16, would give, and changes nothing. */
 uint32_t brsp_peek(brsp_machine *m, uint32_t n, uint32_t *out);
 
-/* Writes an SP register as the CPU does, with its DMA if it is a length register. Empties the history. */
+/* Writes the SP register n, modulo 16, as the CPU does, with its DMA if it is a length register. Empties the
+ * history. */
 uint32_t brsp_write(brsp_machine *m, uint32_t n, uint32_t value);
 
 /* The same for a caller that owns RDRAM, and moves the bytes of the DMA itself: the memories stay unchanged.

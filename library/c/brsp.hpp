@@ -385,8 +385,15 @@ public:
         return made;
     }
 
-    /* Whole states, and memories */
-    [[nodiscard]] brsp_state get() const { return filled<brsp_state>("get", brsp_get); }
+    /* Whole states, by tools/shapes */
+    [[nodiscard]] brsp_state get() const
+    {
+        brsp_state out{};
+        detail::done(brsp_get(&it, &out), { "get" });
+        return out;
+    }
+
+    /* A refusal of set() names the field. */
     void set(const brsp_state &state)
     {
         const uint32_t status = brsp_set(&it, &state);
@@ -394,7 +401,16 @@ public:
             detail::refuse(rsp_error(status, "set: " + refusal(state)));
         detail::done(status, { "set" });
     }
-    [[nodiscard]] size_t image_length() const { return filled<size_t>("image_length", brsp_image_length); }
+
+    /* Memories, by tools/shapes */
+    [[nodiscard]] size_t image_length() const
+    {
+        size_t out{};
+        detail::done(brsp_image_length(&it, &out), { "image_length" });
+        return out;
+    }
+
+    /* Memories */
     void load(uint32_t bank, uint32_t address, const uint8_t *data, size_t length)
     {
         detail::done(brsp_load(&it, bank, address, data, length), { "load", { bank, address } });
@@ -466,34 +482,18 @@ public:
     }
     void load_state(const bytes &data) { load_state(detail::at(data), data.size()); }
 
-    /* Where the machine continues */
+    /* Where the machine continues, by tools/shapes */
     void start_task(uint32_t address)
     {
         detail::done(brsp_start_task(&it, address), { "start_task", { address } });
     }
-    void set_pc(uint32_t pc)
-    {
-        detail::done(brsp_set_pc(&it, pc), { "set_pc", { pc } });
-    }
+    void set_pc(uint32_t pc) { detail::done(brsp_set_pc(&it, pc), { "set_pc", { pc } }); }
 
     /* Steps. step() returns BRSP_OK, BRSP_HALTED or BRSP_RESERVED. */
     uint32_t step() { return detail::ended(brsp_step(&it), "step"); }
     uint32_t step_changes(brsp_changes &out)
     {
         return detail::ended(brsp_step_changes(&it, &out), "step_changes");
-    }
-    brsp_stop run(uint32_t steps)
-    {
-        brsp_stop out;
-        detail::done(brsp_run(&it, steps, &out), { "run", { steps } });
-        return out;
-    }
-    brsp_move run_until_move(uint32_t steps, uint32_t reads, uint32_t writes)
-    {
-        brsp_move out;
-        detail::done(brsp_run_until_move(&it, steps, reads, writes, &out),
-                     { "run_until_move", { steps, reads, writes } });
-        return out;
     }
     brsp_reached event(uint32_t steps, uint32_t reads = 0, uint32_t writes = 0)
     {
@@ -511,11 +511,6 @@ public:
         out.entries.resize(out.stop.steps);
         return out;
     }
-    void back(uint32_t states)
-    {
-        detail::done(brsp_back(&it, states), { "back", { states } });
-    }
-    [[nodiscard]] size_t history() const { return filled<size_t>("history", brsp_history); }
     /* Both return BRSP_OK, or BRSP_HALTED if the machine is halted. */
     uint32_t pass_move(uint32_t value = 0)
     {
@@ -526,7 +521,29 @@ public:
         return detail::ended(brsp_pass_dma(&it), "pass_dma");
     }
 
-    /* Breakpoints and watches */
+    /* Steps, by tools/shapes */
+    brsp_stop run(uint32_t steps)
+    {
+        brsp_stop out{};
+        detail::done(brsp_run(&it, steps, &out), { "run", { steps } });
+        return out;
+    }
+    brsp_move run_until_move(uint32_t steps, uint32_t reads, uint32_t writes)
+    {
+        brsp_move out{};
+        detail::done(brsp_run_until_move(&it, steps, reads, writes, &out),
+                     { "run_until_move", { steps, reads, writes } });
+        return out;
+    }
+    void back(uint32_t states) { detail::done(brsp_back(&it, states), { "back", { states } }); }
+    [[nodiscard]] size_t history() const
+    {
+        size_t out{};
+        detail::done(brsp_history(&it, &out), { "history" });
+        return out;
+    }
+
+    /* Breakpoints, by tools/shapes */
     void add_break(uint32_t address)
     {
         detail::done(brsp_add_break(&it, address), { "add_break", { address } });
@@ -535,10 +552,9 @@ public:
     {
         detail::done(brsp_drop_break(&it, address), { "drop_break", { address } });
     }
-    /* Returns the watch's number. */
     size_t add_watch(uint32_t address, uint32_t length)
     {
-        size_t out = 0;
+        size_t out{};
         detail::done(brsp_add_watch(&it, address, length, &out), { "add_watch", { address, length } });
         return out;
     }
@@ -547,22 +563,45 @@ public:
         detail::done(brsp_drop_watch(&it, number), { "drop_watch", { number } });
     }
 
-    /* Parts of the state */
+    /* Parts of the state, by tools/shapes */
     [[nodiscard]] uint32_t reg(uint32_t number) const
     {
-        return filled<uint32_t>("reg", brsp_reg, number);
+        uint32_t out{};
+        detail::done(brsp_reg(&it, number, &out), { "reg", { number } });
+        return out;
     }
-    [[nodiscard]] brsp_scalars regs() const { return filled<brsp_scalars>("regs", brsp_regs); }
+    [[nodiscard]] brsp_scalars regs() const
+    {
+        brsp_scalars out{};
+        detail::done(brsp_regs(&it, &out), { "regs" });
+        return out;
+    }
     [[nodiscard]] brsp_lanes vreg(uint32_t number) const
     {
-        return filled<brsp_lanes>("vreg", brsp_vreg, number);
+        brsp_lanes out{};
+        detail::done(brsp_vreg(&it, number, &out), { "vreg", { number } });
+        return out;
     }
-    [[nodiscard]] brsp_accumulators acc() const { return filled<brsp_accumulators>("acc", brsp_acc); }
-    [[nodiscard]] brsp_flag_bits flags() const { return filled<brsp_flag_bits>("flags", brsp_flags); }
+    [[nodiscard]] brsp_accumulators acc() const
+    {
+        brsp_accumulators out{};
+        detail::done(brsp_acc(&it, &out), { "acc" });
+        return out;
+    }
+    [[nodiscard]] brsp_flag_bits flags() const
+    {
+        brsp_flag_bits out{};
+        detail::done(brsp_flags(&it, &out), { "flags" });
+        return out;
+    }
     [[nodiscard]] brsp_divide_state divider() const
     {
-        return filled<brsp_divide_state>("divider", brsp_divider);
+        brsp_divide_state out{};
+        detail::done(brsp_divider(&it, &out), { "divider" });
+        return out;
     }
+
+    /* One register of the whole state */
     void set_reg(uint32_t number, uint32_t value)
     {
         if (number > 31 || (!number && value))
@@ -579,27 +618,37 @@ public:
         set(state);
     }
 
-    /* SP registers */
-    uint32_t read(uint32_t number) { return filled<uint32_t>("read", brsp_read, number); }
+    /* SP registers, by tools/shapes */
+    uint32_t read(uint32_t number)
+    {
+        uint32_t out{};
+        detail::done(brsp_read(&it, number, &out), { "read", { number } });
+        return out;
+    }
     [[nodiscard]] uint32_t peek(uint32_t number) const
     {
-        return filled<uint32_t>("peek", brsp_peek, number);
+        uint32_t out{};
+        detail::done(brsp_peek(&it, number, &out), { "peek", { number } });
+        return out;
     }
     void write(uint32_t number, uint32_t value)
     {
         detail::done(brsp_write(&it, number, value), { "write", { number, value } });
     }
+    [[nodiscard]] brsp_sp_words sp() const
+    {
+        brsp_sp_words out{};
+        detail::done(brsp_sp(&it, &out), { "sp" });
+        return out;
+    }
+    void set_sp(const brsp_sp_words &given) { detail::done(brsp_set_sp(&it, &given), { "set_sp" }); }
+
     /* The DMA whose bytes the caller moves. It has no rows if the write starts none. */
     [[nodiscard]] brsp_dma write_dma(uint32_t number, uint32_t value)
     {
         brsp_dma out;
         detail::done(brsp_write_dma(&it, number, value, &out), { "write_dma", { number, value } });
         return out;
-    }
-    [[nodiscard]] brsp_sp_words sp() const { return filled<brsp_sp_words>("sp", brsp_sp); }
-    void set_sp(const brsp_sp_words &given)
-    {
-        detail::done(brsp_set_sp(&it, &given), { "set_sp" });
     }
 
     /* Words of IMEM with their disassembly */
@@ -616,20 +665,6 @@ private:
     struct nothing {};
     explicit machine(nothing) {}
 
-    /* What a call fills. */
-    template <class Out> Out filled(const char *name, uint32_t (*call)(brsp_machine *, Out *)) const
-    {
-        Out out{};
-        detail::done(call(&it, &out), { name });
-        return out;
-    }
-    template <class Out> Out filled(const char *name, uint32_t (*call)(brsp_machine *, uint32_t, Out *),
-                                    uint32_t number) const
-    {
-        Out out{};
-        detail::done(call(&it, number, &out), { name, { number } });
-        return out;
-    }
     /* Why set() refuses a state. */
     static std::string refusal(const brsp_state &s)
     {

@@ -18,6 +18,8 @@ declare global {
   }
 }
 
+// Numbers, by tools/shapes
+
 /** What a call returns. No fault has one of these numbers: docs/FAULTS.md lists both. */
 export enum Status {
   OK = 0,
@@ -41,7 +43,7 @@ export enum Status {
   OTHER_WORD = 118,
 }
 
-/** Why a text has no meaning. `FAULTS` has the names in scripts. */
+/** Why a text has no meaning. FAULTS has the names in scripts. */
 export enum Fault {
   BAD_LINE = 10,
   UNKNOWN_NAME = 11,
@@ -73,6 +75,8 @@ export enum Reason {
   INTERRUPT = 7,
   STATUS = 8,
 }
+
+// Constants
 
 /** A bit of the mask `writes` of `Machine.event`. */
 export const STATUS_WRITES: 65536;
@@ -341,11 +345,16 @@ export class Machine {
   /** Frees the machine. Any later call is refused with NO_MACHINE. */
   free(): void;
   [Symbol.dispose](): void;
-  /** All registers, a copy. */
+  // Whole states, by tools/shapes
+  /** Gives the state, and changes nothing. */
   get(): State;
+
+  // Whole states
   /** Sets all registers, and empties the history. The memories stay unchanged. OUT_OF_RANGE for a state that no machine
    * can have. */
   set(state: State): void;
+
+  // Memories
   /** Writes bytes to a memory, and empties the history. The bytes of words are written in this computer's order. */
   load(bank: Bank, address: number, data: ArrayBuffer | ArrayBufferView): void;
   /** Writes at most 1024 words, the high byte of each first, and empties the history. */
@@ -354,15 +363,24 @@ export class Machine {
   memory(bank: Bank, address: number, length: number): Uint8Array;
   /** A copy of words of a memory, the high byte of each first. */
   memory_words(bank: Bank, address: number, count: number): Uint32Array;
+
+  // Savestates
   /** A savestate: all registers and memories as bytes, which are the same in every language. */
   save_state(): Uint8Array;
   /** Sets all registers and memories from a savestate, and empties the history. Breakpoints and watches stay. */
   load_state(data: ArrayBuffer | ArrayBufferView): void;
-  /** Starts the task whose structure of 64 bytes is at an address of RDRAM, a multiple of 8, and empties the
-   * history. */
+
+  // Where the machine continues, by tools/shapes
+  /** Starts the task whose structure of 64 bytes is at an address of RDRAM, and clears halted. The structure and the
+   * boot code are read from the machine's own RDRAM, so this isn't for hosts that keep RDRAM outside. Empties the
+   * history. Refused with TASK_PLACE unless the address is a multiple of 8 and the 64 bytes are in the image, and
+   * otherwise with TASK_SIZE unless the boot code has 1 to 4096 bytes. */
   start_task(address: number): void;
-  /** Sets pc to an address of IMEM, a multiple of 4 below 4096, and empties the history. */
+  /** Lets the machine continue at an address of IMEM; a halted machine stays halted. Empties the history. Refused with
+   * OUT_OF_RANGE unless the address is a multiple of 4 below 4096. */
   set_pc(pc: number): void;
+
+  // Steps
   /** Executes one instruction. Returns OK, or HALTED or RESERVED if the machine can't. */
   step(): Status.OK | Status.HALTED | Status.RESERVED;
   /** As `step`, but returns what the step changed, or null if the machine can't make the step. */
@@ -385,10 +403,6 @@ export class Machine {
   /** The entries of a trace one by one, up to a stop or `limit` steps. The machine may be up to 1024 steps ahead of the
    * entry. */
   iter_trace(limit?: number): Generator<Traced, void, undefined>;
-  /** Undoes 1 to 1000000 steps. SHORT_HISTORY if the history holds fewer. */
-  back(states: number): void;
-  /** The number of steps that can be undone. */
-  history(): number;
   /** Steps over the MFC0 or MTC0 at pc without executing it; register rt of an MFC0 becomes the value. Empties the
    * history. Returns OK, or HALTED if the machine is halted. Refused if another word is at pc. */
   pass_move(value?: number): Status.OK | Status.HALTED;
@@ -396,18 +410,41 @@ export class Machine {
    * except that the memories stay unchanged. Empties the history. Returns OK, or HALTED if the machine is halted.
    * Refused if the word at pc starts no DMA. */
   pass_dma(): Status.OK | Status.HALTED;
-  /** Sets a breakpoint at an address of IMEM, a multiple of 4 below 4096; at most sixteen. */
+
+  // Steps, by tools/shapes
+  /** Undoes `states` steps. Refused with OUT_OF_RANGE unless `states` is 1 to 1000000, and otherwise with SHORT_HISTORY
+   * if the history holds fewer states. */
+  back(states: number): void;
+  /** Gives the number of steps that can be undone, which is the number of states in the history. */
+  history(): number;
+
+  // Breakpoints, by tools/shapes
+  /** Adds a breakpoint. A run stops when a step comes to it, so not at once if the run begins there. Refused with
+   * OUT_OF_RANGE unless the address is a multiple of 4 below 4096, otherwise with BREAK_TWICE if the address has a
+   * breakpoint, and otherwise with BREAK_FULL if sixteen addresses have one. */
   add_break(address: number): void;
-  /** Removes the breakpoint at an address. */
+  /** Removes a breakpoint. Refused with OUT_OF_RANGE unless the address is a multiple of 4 below 4096, and otherwise
+   * with NO_BREAK if it has no breakpoint. */
   drop_break(address: number): void;
-  /** Watches 1 to 64 bytes of DMEM, and returns the watch's number, 0 to 7. */
+  /** Watches 1 to 64 bytes inside DMEM, and gives the watch the lowest free number, 0 to 7. Refused with OUT_OF_RANGE
+   * for other bytes, and otherwise with WATCH_FULL if there are eight watches. */
   add_watch(address: number, length: number): number;
-  /** Removes a watch. */
+  /** Removes a watch. Refused with NO_WATCH if no watch has this number. */
   drop_watch(number: number): void;
-  /** Scalar register `number`, 0 to 31. */
+
+  // Parts of the state, by tools/shapes
+  /** The scalar register `number`. Refused with OUT_OF_RANGE unless `number` is below 32. */
   reg(number: number): number;
-  /** pc, npc and the scalar registers. */
+  /** All scalar registers, with pc and npc. */
   regs(): Scalars;
+  /** The accumulators. */
+  acc(): Accumulators;
+  /** VCO, VCC and VCE. */
+  flags(): Flags;
+  /** DIV_IN, DIV_OUT, and whether DIV_IN is loaded. */
+  divider(): Divider;
+
+  // Parts of the state
   /** The eight lanes of vector register `number`, 0 to 31. */
   vreg(number: number): Uint16Array;
   /** Sets scalar register `number`, 0 to 31, to a value below 2**32, and empties the history. Register 0 takes only 0. */
@@ -415,26 +452,27 @@ export class Machine {
   /** Sets the eight lanes of vector register `number`, 0 to 31, to numbers below 65536, and empties the history. Throws
    * a RangeError for other lanes. */
   set_vreg(number: number, lanes: ArrayLike<number> & Iterable<number>): void;
-  /** The accumulators. */
-  acc(): Accumulators;
-  /** The flags. */
-  flags(): Flags;
-  /** DIV_IN, DIV_OUT, and whether DIV_IN is loaded. */
-  divider(): Divider;
-  /** Reads SP register `number`, modulo 16, as the CPU does. A read of the semaphore, 7, takes it and empties the
+
+  // SP registers, by tools/shapes
+  /** Reads the SP register `number`, modulo 16, as the CPU does. A read of the semaphore, 7, takes it and empties the
    * history. */
   read(number: number): number;
-  /** The word that a read of SP register `number`, modulo 16, would give. */
+  /** Gives the word that `read` of the SP register `number`, modulo 16, would give, and changes nothing. */
   peek(number: number): number;
-  /** Writes SP register `number`, modulo 16, as the CPU does, with its DMA, and empties the history. */
+  /** Writes the SP register `number`, modulo 16, as the CPU does, with its DMA if it is a length register. Empties the
+   * history. */
   write(number: number, value: number): void;
+  /** Gives all SP registers and the interrupt flag, and changes nothing. */
+  sp(): SpWords;
+
+  // SP registers
   /** Writes SP register `number` as `write` does, but moves no byte. Returns the DMA that the write starts, whose bytes
    * the caller then moves, or null. */
   write_dma(number: number, value: number): Dma | null;
-  /** All SP registers, with the interrupt flag. */
-  sp(): SpWords;
   /** Sets all SP registers and the interrupt flag, without a DMA, and empties the history. */
   set_sp(given: SpWords): void;
+
+  // Words of IMEM with their disassembly
   /** At most 1024 words of IMEM from an address on, a multiple of 4, with their disassembly. */
   listing(address: number, count: number): Line[];
 }

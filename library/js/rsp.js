@@ -174,10 +174,7 @@ export class Machine {
 
   get [HANDLE]() { return this.#at; }
 
-  get image_length() {
-    this.#fill("image_length", []);
-    return length_at(HERE);
-  }
+  get image_length() { return this.#length("image_length", []); }
 
   copy() {
     this.#fill("copy", [], "image_length");
@@ -208,12 +205,21 @@ export class Machine {
     return new DataView(wasm.memory.buffer).getUint32(Number(HERE), true);
   }
 
+  #length(call, given) {
+    this.#fill(call, given);
+    return length_at(HERE);
+  }
+
   #registers(kind, call) {
     this.#fill(call, []);
     return kind.over(copied(HERE, kind.size));
   }
 
+  // Whole states, by tools/shapes
+
   get() { return this.#registers(State, "get"); }
+
+  // Whole states
 
   set(state) {
     put_here("set", "state", State, state);
@@ -221,6 +227,8 @@ export class Machine {
     if (status === Status.OUT_OF_RANGE) throw new RspError(status, `set: ${state_refusal()}`);
     ok(status, "set");
   }
+
+  // Memories
 
   load(bank, address, data) {
     const given = numbers("load", [bank, address]), bytes = bytes_of("load", "data", data);
@@ -248,6 +256,8 @@ export class Machine {
     return new Uint32Array(this.#memory("memory_words", [bank, address, count], 4, 1 << 21).buffer);
   }
 
+  // Savestates
+
   save_state() {
     this.#fill("save_state", [], "image_length");
     const length = SAVESTATE_BYTES + length_at(HERE);
@@ -268,9 +278,13 @@ export class Machine {
     });
   }
 
+  // Where the machine continues, by tools/shapes
+
   start_task(address) { this.#call("start_task", [address]); }
 
   set_pc(pc) { this.#call("set_pc", [pc]); }
+
+  // Steps
 
   step() {
     const status = wasm.brsp_step(this.#at);
@@ -320,8 +334,6 @@ export class Machine {
     }
   }
 
-  back(states) { this.#call("back", [states]); }
-
   pass_move(value = 0) {
     const status = wasm.brsp_pass_move(this.#at, ...numbers("pass_move", [value]));
     if (status !== Status.HALTED) ok(status, "pass_move", [value]);
@@ -334,25 +346,35 @@ export class Machine {
     return status;
   }
 
-  history() {
-    this.#fill("history", []);
-    return length_at(HERE);
-  }
+  // Steps, by tools/shapes
+
+  back(states) { this.#call("back", [states]); }
+
+  history() { return this.#length("history", []); }
+
+  // Breakpoints, by tools/shapes
 
   add_break(address) { this.#call("add_break", [address]); }
 
   drop_break(address) { this.#call("drop_break", [address]); }
 
-  add_watch(address, length) {
-    this.#fill("add_watch", [address, length]);
-    return length_at(HERE);
-  }
+  add_watch(address, length) { return this.#length("add_watch", [address, length]); }
 
   drop_watch(number) { this.#call("drop_watch", [number]); }
+
+  // Parts of the state, by tools/shapes
 
   reg(number) { return this.#word("reg", [number]); }
 
   regs() { return this.#registers(Scalars, "regs"); }
+
+  acc() { return this.#registers(Accumulators, "acc"); }
+
+  flags() { return this.#registers(Flags, "flags"); }
+
+  divider() { return this.#registers(Divider, "divider"); }
+
+  // Parts of the state
 
   vreg(number) {
     this.#fill("vreg", [number]);
@@ -380,11 +402,7 @@ export class Machine {
     this.#change("set_vreg", (state) => { state.vectors = state.vectors.map((it, n) => n === number ? lanes : it); });
   }
 
-  acc() { return this.#registers(Accumulators, "acc"); }
-
-  flags() { return this.#registers(Flags, "flags"); }
-
-  divider() { return this.#registers(Divider, "divider"); }
+  // SP registers, by tools/shapes
 
   read(number) { return this.#word("read", [number]); }
 
@@ -392,17 +410,21 @@ export class Machine {
 
   write(number, value) { this.#call("write", [number, value]); }
 
+  sp() { return this.#registers(SpWords, "sp"); }
+
+  // SP registers
+
   write_dma(number, value) {
     this.#fill("write_dma", [number, value]);
     return dma_of(struct("brsp_dma"));
   }
 
-  sp() { return this.#registers(SpWords, "sp"); }
-
   set_sp(given) {
     put_here("set_sp", "given", SpWords, given);
     ok(wasm.brsp_set_sp(this.#at, HERE), "set_sp", []);
   }
+
+  // Words of IMEM with their disassembly
 
   listing(address, count) {
     const { size } = layout("brsp_line"), given = numbers("listing", [address, count], 1024);

@@ -8,6 +8,7 @@ import re
 
 import pytest
 
+from lib import TOP
 from lib.pages import page
 from lib.user import User, prints
 
@@ -22,6 +23,7 @@ TOOLS = "sh cat cp cut dirname find grep head mkdir mktemp mv readlink rm sed so
 OUT = "crates/rsp_main/out crates/rsp_c/out library/c/libbrsp* plugin/*.so"
 SOURCE = "crates/rsp_numbers/src/lib.rt"
 REPLIES = page("examples/first.out")
+IMPORT = "PYTHONPATH=library/python python3 -B -c 'import rsp'"
 
 
 def refuses(user: User, script: str, reason: str) -> None:
@@ -91,6 +93,13 @@ def test_first_builds_at_once(stranger: User) -> None:
     assert prints(stranger, left) == "rsp_c/out:\nlinked\n\nrsp_main/out:\nlinked\nrsp\n"
 
 
+def test_import(stranger: User) -> None:
+    """`import rsp` says in a line that it builds the library, and nothing if the library is there."""
+    prints(stranger, f"rm -rf {OUT}")
+    building = "rsp: building the library, because it isn't there or a source has changed\n"
+    assert [stranger.types(IMPORT).stderr for _ in range(2)] == [building, ""]
+
+
 @pytest.mark.parametrize("out", ("", "/out"), ids=("crates", "made by root"))
 def test_tree_that_cannot_be_written(out: str, stranger: User) -> None:
     """What is made lies in the user's cache, or where RSP_OUT says; a user who has neither is told of it."""
@@ -100,6 +109,7 @@ def test_tree_that_cannot_be_written(out: str, stranger: User) -> None:
         assert prints(stranger, FIRST) == prints(stranger, f"CC=false {FIRST}") == REPLIES
         cache = prints(stranger, "library/c/build --folder && CC=false library/c/build")
         assert cache.startswith(f"{stranger.env['HOME']}/.cache/rsp/")
+        assert stranger.types(IMPORT).stderr == ""
         prints(stranger, f"plugin/build && ls '{cache[:-1]}'/mupen64plus-rsp-proved.so")
         refuses(stranger, f"HOME=/none {FIRST}", "cannot write /none/.cache/rsp/")
     finally:
@@ -118,7 +128,7 @@ def test_other_processor(stranger: User) -> None:
     prints(stranger, f"{FIRST}; sleep 2.1; {FIRST}")  # which need not read the sources then
     asked = "[ $1 = -dumpmachine ] && echo $MACHINE"
     prints(stranger, f"printf '#!/bin/sh\\n{asked}\\n' >~/cc && chmod +x ~/cc")
-    known = "Darwin-arm64 Darwin-x86_64 Linux-aarch64 Linux-x86_64 Windows-x86_64"
+    known = " ".join(sorted(path.name[: -len("-rsp.s")] for path in TOP.glob("compiled/*-rsp.s")))
     why = f"compiled/ has no assembly for Linux-riscv64, only for {known}\n"
     refuses(stranger, f"MACHINE=riscv64-linux-gnu CC=~/cc {FIRST}", why)
     why = f"{stranger.env['HOME']}/cc doesn't make the program"

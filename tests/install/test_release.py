@@ -70,7 +70,7 @@ def packages_of(*names: str) -> str:
     return " ".join(target.packages[target.compiler] for target in found)
 
 
-LINUX = packages_of("linux-aarch64", "linux-x86_64-musl")
+LINUX = packages_of(*(target.name for target in CROSS if target.is_linux))
 WINDOWS = packages_of("windows-x86_64")
 
 

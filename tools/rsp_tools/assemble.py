@@ -40,22 +40,23 @@ from rsp_tools.systems.modules import LIBRARY, PROGRAM, WEB, Crate, Module, modu
 from rsp_tools.systems.objects import common, compiled, for_linux
 from rsp_tools.systems.rewriting import with_own_calls, with_unwind_tables, without_stack_probes
 from rsp_tools.systems.toolchain import Refused
-from rsp_tools.targets import PROCESSORS, TARGETS
+from rsp_tools.targets import CROSS, NATIVE, PROCESSORS, TARGETS
 
 COMPILED = TOP / "compiled"
 CRATES = (PROGRAM, LIBRARY)
-ASSEMBLED = ("linux-x86_64", "linux-aarch64", "windows-x86_64", "macos")
 TOPS = [crate.name for crate in CRATES]
 Files = Dict[str, bytes]  # by their names in compiled/
 
 
 def triples(crate: Crate) -> Dict[str, Tuple[str, str]]:
-    """The processor and clang's triple of each file of a crate, by the file's name."""
-    return {
-        f"{target.cmake[0]}-{triple.partition('-')[0]}-{crate.end}.s": (processor, triple)
-        for target in map(TARGETS.__getitem__, ASSEMBLED)
-        for processor, triple in target.triples.items()
-    }
+    """The processor and clang's triple of each file of a crate, by the file's name. A Linux with another C
+    library takes the file of the first Linux on its processor."""
+    found: Dict[str, Tuple[str, str]] = {}
+    for target in (NATIVE, *CROSS):
+        for processor, triple in target.triples.items():
+            name = f"{target.cmake[0]}-{triple.partition('-')[0]}-{crate.end}.s"
+            found.setdefault(name, (processor, triple))
+    return found
 
 
 def for_other(made: Module, crate: Crate, processor: str, triple: str, at: Path) -> str:

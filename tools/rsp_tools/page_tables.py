@@ -1,4 +1,4 @@
-"""Writes the tables of pages and of the program that are made of other files.
+"""Writes what pages, the program and its completions have of other files.
 
 `tools/python rsp_tools.page_tables` writes
 
@@ -8,6 +8,7 @@
   crates/rsp_advice/specs/Tables.antt  the names and the numbers in them
   docs/ARCHITECTURE.md             the list of crates, from crates.txt
   docs/SYSTEMS.md                  the table of systems, from the records in targets.py, and that of last runs
+  tools/packaging/share            what shells complete, and the options in the man page, from docs/help
 
 It fails, and writes nothing, if a page has no place for one of them. tests/docs/test_tables.py fails if a
 page differs from what this writes.
@@ -18,7 +19,7 @@ import json
 import re
 from typing import Any, Dict, List, Sequence, Tuple
 
-from rsp_tools import TOP
+from rsp_tools import TOP, completions
 from rsp_tools.targets import CROSS, NATIVE
 
 DATA = TOP / "docs/data"
@@ -159,6 +160,7 @@ def made() -> Dict[str, str]:
         SYSTEMS: with_table(with_group(page(SYSTEMS), head_of_systems, systems()), "last_runs"),
         ADVICE: advice(),
         KNOWN: known(),
+        **completions.files(),
     }
 
 

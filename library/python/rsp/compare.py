@@ -2,15 +2,14 @@
 
 from ctypes import byref, c_uint8
 from html import escape
-from typing import TYPE_CHECKING, Any, NamedTuple, Optional, Protocol
+from typing import Any, NamedTuple, Optional, Protocol
 
-from . import helpers as _helpers
+from . import helpers
 from .helpers import Difference
+from .machine import Machine
+from .native import lib, numbers_of, quick
 from .shapes import Request, RequestKind
 from .state import State
-
-if TYPE_CHECKING:
-    from . import Machine
 
 
 class Emulator(Protocol):
@@ -61,7 +60,7 @@ class FirstDifference(NamedTuple):
 
     def __str__(self) -> str:
         numbers = self.step, self.steps, self.word, self.address
-        return _helpers.difference_text(numbers, self.text, self.parts)
+        return helpers.difference_text(numbers, self.text, self.parts)
 
     def __repr__(self) -> str:
         return f"<rsp.FirstDifference: {self._head()}>"
@@ -96,7 +95,7 @@ def _answer(emulator: Emulator, request: Request, data: memoryview) -> None:
 
 
 def first_difference(
-    machine: "Machine", emulator: Emulator, every: int = 64, limit: int = 1000000
+    machine: Machine, emulator: Emulator, every: int = 64, limit: int = 1000000
 ) -> Optional[FirstDifference]:
     """The first step after which an emulator differs from the machine; None if there is no such step within
     `limit` steps, or before a halt or a reserved word.
@@ -113,28 +112,26 @@ def first_difference(
     machine's history is empty. Raises RspError with OUT_OF_RANGE if `every` or `limit`, 0 to 4294967295,
     isn't in its range, and ValueError if the emulator gives too few or too many bytes.
     """
-    from . import _lib, _numbers, _quick  # which are made after this module is loaded
-
     call, request = "first_difference", Request()
     to = byref(request)
-    every, limit = _numbers(call, every, limit)
-    search = (c_uint8 * _lib.brsp_search_bytes(machine.image_length))()
+    every, limit = numbers_of(call, every, limit)
+    search = (c_uint8 * lib.brsp_search_bytes(machine.image_length))()
     data = memoryview(search).cast("B")
-    status = machine._call_alone(call, _lib.brsp_search_begin, every, limit, search, len(search))
+    status = machine._call_alone(call, lib.brsp_search_begin, every, limit, search, len(search))
     machine._check_done(status, call, (every, limit))
     while True:
         if request.kind == RequestKind.MEMORY and request.bank:  # the last of some: the machine may run
-            status = machine._call_alone(call, _lib.brsp_search_next, search, to)
+            status = machine._call_alone(call, lib.brsp_search_next, search, to)
         else:
-            status = _quick.brsp_search_next(machine._at, search, to)
+            status = quick.brsp_search_next(machine._at, search, to)
         if status:
             machine._check_done(status, call)
         if request.kind == RequestKind.OVER:
             break
         _answer(emulator, request, data[request.at : request.at + request.len])
-    it = _helpers.found_of(search)
+    it = helpers.found_of(search)
     if not it.count:
         return None
     line, before = it.line, State.from_buffer_copy(it.before)
-    parts = Difference(_helpers.parts_of(it.parts[: it.count]))
+    parts = Difference(helpers.parts_of(it.parts[: it.count]))
     return FirstDifference(it.step, line.address, line.word, line.text.decode(), before, parts, it.steps)

@@ -1,4 +1,4 @@
-"""What a call may be given: integers, bytes and texts, and messages for all else."""
+"""The errors of calls, and what a call may be given: integers, bytes and texts."""
 
 import operator
 import re
@@ -6,7 +6,7 @@ import sys
 from typing import Any, Sequence, Tuple
 
 from .helpers import argument_name
-from .shapes import Bank, Fault
+from .shapes import Bank, Fault, Status
 
 BANKS = [bank.name for bank in Bank]
 FAULTS = {fault.value: fault.name.title().replace("_", "") for fault in Fault}
@@ -15,6 +15,38 @@ FAULTS = {fault.value: fault.name.title().replace("_", "") for fault in Fault}
 def printable(text: str) -> str:
     """A line with each character that would control a terminal as its escape: \\x1b."""
     return "".join(char if char.isprintable() or char == "\t" else ascii(char)[1:-1] for char in text)
+
+
+class RspError(Exception):
+    """A call was refused, and has changed nothing. `status` is the reason, and the message explains it."""
+
+    __module__ = "rsp"  # the name in a traceback
+
+    def __init__(self, status: Status, what: str = "") -> None:
+        super().__init__(what or status.name)
+        self.status = status
+
+    def __reduce__(self) -> Tuple[Any, ...]:
+        return RspError, (self.status, str(self))
+
+
+class AssemblyError(RspError):
+    """A text has a fault. `line` counts from 1, `source` is that line, and `fault` is a number from 10 to 16,
+    whose name FAULTS has.
+
+    If an operand is at fault, `allowed` says which one and what it may be; the message ends with that. In the
+    message each character of `source` that would control a terminal is shown as its escape: \\x1b.
+    """
+
+    __module__ = "rsp"  # the name in a traceback
+
+    def __init__(self, line: int, fault: int, source: str = "", allowed: str = "") -> None:
+        words = f"fault {fault} {FAULTS.get(fault, 'unknown')} line {line}: {printable(source)}"
+        super().__init__(Status.NO_MEANING, f"assemble: {words}{f'; {allowed}' if allowed else ''}")
+        self.line, self.fault, self.source, self.allowed = line, fault, source, allowed
+
+    def __reduce__(self) -> Tuple[Any, ...]:
+        return AssemblyError, (self.line, self.fault, self.source, self.allowed)
 
 
 def integers(call: str, numbers: Sequence[Any], item: str = "") -> Tuple[int, ...]:

@@ -2,12 +2,12 @@
 
 import re
 import struct
-from typing import TYPE_CHECKING, Any, Iterator, List, Tuple, Union
+from typing import Any, Iterator, List, Optional, Tuple, Union
 
-from . import errors as _errors
-
-if TYPE_CHECKING:
-    from . import Machine, Session
+from . import errors
+from .machine import DMEM, IMEM, Machine
+from .session import Session
+from .state import State
 
 # The lines of a script whose replies are the whole machine, except RDRAM.
 _BANKS = "".join(f"mem {bank} {at} 256\n" for bank in ("dmem", "imem") for at in range(0, 4096, 256))
@@ -27,7 +27,7 @@ class ScriptError(Exception):
     """
 
     def __init__(self, line: int, text: str, reply: str, replies: bytes = b"") -> None:
-        excerpt = _errors.printable(text[:_EXCERPT])
+        excerpt = errors.printable(text[:_EXCERPT])
         super().__init__(f"line {line}: {reply}: {excerpt}".rstrip(": "))
         self.line, self.text, self.reply = line, text, reply
         self.fault, self.replies = int(reply.split()[1]), replies or f"{reply}\n".encode()
@@ -42,7 +42,7 @@ class Ran:
     It unpacks and compares like the pair of both.
     """
 
-    def __init__(self, replies: bytes, image: Union[bytes, "Session"]) -> None:
+    def __init__(self, replies: bytes, image: Union[bytes, Session]) -> None:
         self.replies, self._image = replies, image
 
     @property
@@ -74,12 +74,23 @@ class Ran:
         return f"<rsp.Ran: {len(self.replies)} bytes of replies>"
 
 
-def strict_replies(session: "Session", script: Union[str, bytes]) -> bytes:
+def run_script(script: Union[str, bytes], image: Optional[bytes] = None, strict: bool = False) -> Ran:
+    """The replies of `rsp run` to a script, and the image as the script leaves it. The result is a pair,
+    whose second item is copied only when it is asked for.
+
+    With `strict` the first reply that is a fault raises ScriptError, and the lines after it aren't run.
+    """
+    session = Session(image)
+    replies = strict_replies(session, script) if strict else session.feed(script) + session.end()
+    return Ran(replies, session)
+
+
+def strict_replies(session: Session, script: Union[str, bytes]) -> bytes:
     """The replies to a whole script. Raises ScriptError at the first one that is a fault.
 
     It ends there because the lines after it rest on a line that wasn't carried out.
     """
-    raw = _errors.script_of("run_script", script)
+    raw = errors.script_of("run_script", script)
     lines, replies = raw.split(b"\n"), []
     block = 0  # the number of the line `asm` of the block that is open
     for number, reply in enumerate(session.iter_feed(raw), 1):
@@ -93,10 +104,8 @@ def strict_replies(session: "Session", script: Union[str, bytes]) -> bytes:
     return b"".join(replies)
 
 
-def machine_of(replies: bytes, rdram: bytes) -> "Machine":
+def machine_of(replies: bytes, rdram: bytes) -> Machine:
     """The machine of a script whose last lines are ASKED, by its replies and the image that it left."""
-    from . import DMEM, IMEM, Machine, State  # here, because the package is made of this module
-
     lines = replies.decode().splitlines()
     banks = bytes.fromhex("".join(line.partition(": ")[2] for line in lines[-579:-67]))
     registers = " ".join(line.partition(" ")[2] for line in lines[-67:])
@@ -112,10 +121,8 @@ def machine_of(replies: bytes, rdram: bytes) -> "Machine":
     return machine
 
 
-def runs(script: str, image: bytes) -> "Iterator[Tuple[int, Machine]]":
+def runs(script: str, image: bytes) -> Iterator[Tuple[int, Machine]]:
     """Carries out a script. The number of each line `run`, and the machine before it, without breakpoints."""
-    from . import Session
-
     session = Session(image)
     for number, line in enumerate(script.splitlines(), 1):
         if line.split()[:1] == ["run"]:

@@ -2,7 +2,7 @@
 the session shows."""
 
 from ctypes import Structure, byref
-from typing import TYPE_CHECKING, Any, ClassVar, Dict, Iterator, List, Type, TypeVar
+from typing import TYPE_CHECKING, Any, ClassVar, Dict, Iterator, List, Optional, Type, TypeVar
 
 from . import helpers
 from .fields import taken
@@ -210,7 +210,7 @@ class Traced(Plain):
     @property
     def text(self) -> str:
         """The disassembly of the word."""
-        from . import text  # here, because the package is made of this module
+        from .texts import text  # here, because that module needs this one
 
         return text(self.word, self.pc)
 
@@ -271,3 +271,15 @@ class State(_Counters):
 def unset(kind: Type[_P]) -> _P:
     """A structure for a call to fill."""
     return kind.__new__(kind)
+
+
+def state_fault(state: State) -> Optional[str]:
+    """The first field for which `Machine.set` refuses a state, or None if it takes the state."""
+    if not isinstance(state, State):
+        raise TypeError(f"state_fault: state is of type {type(state).__name__}, not rsp.State")
+    return state_refusal(state).partition(" ")[0] or None
+
+
+def state_refusal(state: State) -> str:
+    """Why `Machine.set` refuses a state, which begins with the field; empty if it takes the state."""
+    return helpers.text("brsp_state_refusal_text", byref(state))

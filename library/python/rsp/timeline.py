@@ -7,7 +7,10 @@ from contextlib import contextmanager, suppress
 from functools import partial
 from typing import Callable, Counter, Iterator, List, NamedTuple, Optional, Set, Tuple
 
-from . import DMEM, IMEM, RDRAM, Reason, Machine, RspError, State
+from .errors import RspError
+from .machine import DMEM, IMEM, RDRAM, Machine
+from .shapes import Reason
+from .state import State
 from .writes import Register
 
 _PIECE = 1 << 16  # RDRAM is kept in pieces, which marks share as long as they are equal

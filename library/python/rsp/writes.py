@@ -4,7 +4,9 @@ import ctypes
 import re
 from typing import Callable, Iterable, List, Optional, Sequence, Tuple
 
-from . import Machine, Traced, _lib
+from .machine import Machine
+from .native import lib
+from .state import Traced
 from .shapes import Stop
 
 # Where the bytes of a register are in a State, how many they are, and where an entry of a trace has them: it
@@ -51,7 +53,7 @@ class Register:
         """Makes steps. The number of the last state, from 0 on, in which it has another value, or None.
         `again` gives another machine that is before these steps."""
         out, stop, first = (Traced * steps)(), Stop(), self._bytes(machine)
-        machine._call_alone("trace", _lib.brsp_trace, out, steps, ctypes.byref(stop))
+        machine._call_alone("trace", lib.brsp_trace, out, steps, ctypes.byref(stop))
         places, columns = self._columns(bytes(out), again)
         pairs = enumerate(zip(columns, self._equal))
         last = max(len((first[n : n + 1] + column).rstrip(equal)) for n, (column, equal) in pairs)

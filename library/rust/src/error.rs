@@ -2,52 +2,12 @@
 
 use crate::helpers::refusal;
 use crate::raw::{self, status};
-use crate::{Fault, Operand};
+use crate::{Fault, Operand, Status};
 use std::error::Error;
 use std::fmt;
 
 /// The version of the interface for which this crate is.
 pub const VERSION: u32 = 1;
-
-/// Why a call was refused, as `brsp.h` numbers it.
-#[derive(Clone, Copy, Debug, PartialEq, Eq)]
-#[non_exhaustive]
-pub enum Status {
-    /// An allocation failed, or the processor is an x86-64 that lacks x86-64-v2.
-    NoMemory,
-    /// A number, a length or a count is out of its range.
-    OutOfRange,
-    /// A text has a fault, which [`RspError::assembly`] gives.
-    NoMeaning,
-    /// The address of a task isn't a multiple of 8, or its structure passes the image's end.
-    TaskPlace,
-    /// The size of a task's boot code isn't 1 to 4096.
-    TaskSize,
-    /// Sixteen addresses have a breakpoint.
-    BreakFull,
-    /// The address has a breakpoint.
-    BreakTwice,
-    /// The address has no breakpoint.
-    NoBreak,
-    /// There are eight watches.
-    WatchFull,
-    /// The number has no watch.
-    NoWatch,
-    /// The history holds fewer states.
-    ShortHistory,
-    /// A text has more than 1024 words.
-    NoRoom,
-    /// The script has ended.
-    Ended,
-    /// The script has more than 1048576 bytes.
-    TooLong,
-    /// Another word is at pc than the call passes over.
-    OtherWord,
-    /// The library has this version of the interface, and the crate is for [`VERSION`].
-    Version(u32),
-    /// A status that this crate doesn't know.
-    Unknown(u32),
-}
 
 /// Why a text has no meaning.
 #[derive(Clone, Copy, Debug, PartialEq, Eq)]
@@ -128,32 +88,9 @@ fn wrong_version(found: u32) -> RspError {
     RspError::with_message(Status::Version(found), format!("the interface of the library has version {found}, not {VERSION}"))
 }
 
-/// The status of a number of `brsp.h`; none if it is BRSP_OK.
-fn refused(number: u32) -> Option<Status> {
-    Some(match number {
-        status::OK => return None,
-        status::NO_MEMORY => Status::NoMemory,
-        status::OUT_OF_RANGE => Status::OutOfRange,
-        status::NO_MEANING => Status::NoMeaning,
-        status::TASK_PLACE => Status::TaskPlace,
-        status::TASK_SIZE => Status::TaskSize,
-        status::BREAK_FULL => Status::BreakFull,
-        status::BREAK_TWICE => Status::BreakTwice,
-        status::NO_BREAK => Status::NoBreak,
-        status::WATCH_FULL => Status::WatchFull,
-        status::NO_WATCH => Status::NoWatch,
-        status::SHORT_HISTORY => Status::ShortHistory,
-        status::NO_ROOM => Status::NoRoom,
-        status::ENDED => Status::Ended,
-        status::TOO_LONG => Status::TooLong,
-        status::OTHER_WORD => Status::OtherWord,
-        other => Status::Unknown(other),
-    })
-}
-
 /// The result that a status means, of a call with these numbers.
 pub(crate) fn done(status: u32, call: &str, given: &[u64]) -> Result<(), RspError> {
-    refused(status).map_or(Ok(()), |it| Err(RspError::with_message(it, refusal(status, call, given))))
+    Status::of(status).map_or(Ok(()), |it| Err(RspError::with_message(it, refusal(status, call, given))))
 }
 
 #[cfg(test)]

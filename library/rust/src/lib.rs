@@ -16,6 +16,7 @@
 
 #![warn(missing_docs)]
 
+mod calls;
 #[doc(hidden)]
 pub mod cases;
 mod compare;
@@ -33,12 +34,13 @@ mod script;
 mod session;
 mod shapes;
 mod state;
+mod status;
 mod stops;
 mod texts;
 
 pub use compare::{first_difference, Emulator, FirstDifference, Quadword};
 pub use difference::{Part, Place};
-pub use error::{AssemblyFault, RspError, Status, VERSION};
+pub use error::{AssemblyFault, RspError, VERSION};
 pub use faults::Fault;
 pub use machine::{Machine, STATUS_WRITES};
 pub use numbers::NoSuchNumber;
@@ -47,5 +49,6 @@ pub use script::{run_script_strict, ScriptError};
 pub use session::{run_script, Session};
 pub use shapes::{Accumulators, Changes, DivideState, Dma, FlagBits, Scalars, SpWords, State, Traced};
 pub use state::Field;
+pub use status::Status;
 pub use stops::{Bank, Event, Line, MoveEnd, Reason, StepEnd, Stop};
 pub use texts::{assemble, explain_reply, explain_text, labels, text, version};

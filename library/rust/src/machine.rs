@@ -3,7 +3,7 @@
 use crate::error::{done, right_version};
 use crate::helpers::state_refusal;
 use crate::raw::{self, reason, status};
-use crate::shapes::{Accumulators, Changes, DivideState, Dma, FlagBits, Scalars, SpWords, State, Traced};
+use crate::shapes::{Changes, Dma, State, Traced};
 use crate::stops::{Bank, Event, Line, MoveEnd, Reason, StepEnd, Stop};
 use crate::texts::{line_of, NO_LINE};
 use crate::{RspError, Status};
@@ -116,16 +116,6 @@ impl Machine {
         )
     }
 
-    /// Starts the task whose structure of 64 bytes is at an address of RDRAM, and empties the history.
-    pub fn start_task(&mut self, address: u32) -> Result<(), RspError> {
-        done(unsafe { raw::brsp_start_task(self.at(), address) }, "start_task", &[address.into()])
-    }
-
-    /// Sets pc to an address of IMEM, a multiple of 4 below 4096, and empties the history.
-    pub fn set_pc(&mut self, pc: u32) -> Result<(), RspError> {
-        done(unsafe { raw::brsp_set_pc(self.at(), pc) }, "set_pc", &[pc.into()])
-    }
-
     /// Executes one instruction.
     pub fn step(&mut self) -> Result<StepEnd, RspError> {
         step_end(unsafe { raw::brsp_step(self.at()) }, "step")
@@ -194,11 +184,6 @@ impl Machine {
         some.flatten()
     }
 
-    /// Undoes 1 to 1000000 steps.
-    pub fn back(&mut self, states: u32) -> Result<(), RspError> {
-        done(unsafe { raw::brsp_back(self.at(), states) }, "back", &[states.into()])
-    }
-
     /// Steps over the MFC0 or MTC0 at pc without executing it; register rt of an MFC0 becomes the value. Empties the history. RspError if another
     /// word is at pc, so the end is never Reserved.
     pub fn pass_move(&mut self, value: u32) -> Result<StepEnd, RspError> {
@@ -209,49 +194,6 @@ impl Machine {
     /// stay unchanged. Empties the history. RspError if the word at pc starts no DMA.
     pub fn pass_dma(&mut self) -> Result<StepEnd, RspError> {
         step_end(unsafe { raw::brsp_pass_dma(self.at()) }, "pass_dma")
-    }
-
-    /// The number of steps that can be undone.
-    pub fn history(&self) -> Result<usize, RspError> {
-        let mut out = 0;
-        done(unsafe { raw::brsp_history(self.at(), &mut out) }, "history", &[])?;
-        Ok(out)
-    }
-
-    /// Sets a breakpoint at an address of IMEM; at most sixteen.
-    pub fn add_break(&mut self, address: u32) -> Result<(), RspError> {
-        done(unsafe { raw::brsp_add_break(self.at(), address) }, "add_break", &[address.into()])
-    }
-
-    /// Removes the breakpoint at an address.
-    pub fn drop_break(&mut self, address: u32) -> Result<(), RspError> {
-        done(unsafe { raw::brsp_drop_break(self.at(), address) }, "drop_break", &[address.into()])
-    }
-
-    /// Watches 1 to 64 bytes of DMEM, and returns the watch's number. At most eight watches.
-    pub fn add_watch(&mut self, address: u32, len: u32) -> Result<usize, RspError> {
-        let mut number = 0;
-        done(unsafe { raw::brsp_add_watch(self.at(), address, len, &mut number) }, "add_watch", &[address.into(), len.into()])?;
-        Ok(number)
-    }
-
-    /// Removes a watch.
-    pub fn drop_watch(&mut self, number: u32) -> Result<(), RspError> {
-        done(unsafe { raw::brsp_drop_watch(self.at(), number) }, "drop_watch", &[number.into()])
-    }
-
-    /// Scalar register `n`, below 32.
-    pub fn reg(&self, n: u32) -> Result<u32, RspError> {
-        let mut out = 0;
-        done(unsafe { raw::brsp_reg(self.at(), n, &mut out) }, "reg", &[n.into()])?;
-        Ok(out)
-    }
-
-    /// The scalar registers, pc and npc.
-    pub fn regs(&self) -> Result<Scalars, RspError> {
-        let mut out = Scalars::default();
-        done(unsafe { raw::brsp_regs(self.at(), &mut out) }, "regs", &[])?;
-        Ok(out)
     }
 
     /// The lanes of vector register `n`, below 32.
@@ -278,64 +220,12 @@ impl Machine {
         self.set(&state)
     }
 
-    /// The accumulators.
-    pub fn acc(&self) -> Result<Accumulators, RspError> {
-        let mut out = Accumulators::default();
-        done(unsafe { raw::brsp_acc(self.at(), &mut out) }, "acc", &[])?;
-        Ok(out)
-    }
-
-    /// The flags.
-    pub fn flags(&self) -> Result<FlagBits, RspError> {
-        let mut out = FlagBits::default();
-        done(unsafe { raw::brsp_flags(self.at(), &mut out) }, "flags", &[])?;
-        Ok(out)
-    }
-
-    /// What divide instructions leave for the next one.
-    pub fn divider(&self) -> Result<DivideState, RspError> {
-        let mut out = DivideState::default();
-        done(unsafe { raw::brsp_divider(self.at(), &mut out) }, "divider", &[])?;
-        Ok(out)
-    }
-
-    /// Reads SP register `n`, modulo 16, as the CPU does. A read of the semaphore, 7, takes it and empties the history.
-    pub fn read(&mut self, n: u32) -> Result<u32, RspError> {
-        let mut out = 0;
-        done(unsafe { raw::brsp_read(self.at(), n, &mut out) }, "read", &[n.into()])?;
-        Ok(out)
-    }
-
-    /// The word that a read of SP register `n`, modulo 16, would give.
-    pub fn peek(&self, n: u32) -> Result<u32, RspError> {
-        let mut out = 0;
-        done(unsafe { raw::brsp_peek(self.at(), n, &mut out) }, "peek", &[n.into()])?;
-        Ok(out)
-    }
-
-    /// Writes SP register `n`, modulo 16, as the CPU does, with its DMA, and empties the history.
-    pub fn write(&mut self, n: u32, value: u32) -> Result<(), RspError> {
-        done(unsafe { raw::brsp_write(self.at(), n, value) }, "write", &[n.into(), value.into()])
-    }
-
     /// Writes SP register `n` as [`write`](Machine::write) does, but moves no byte: returns the DMA that the write starts, if it starts one, whose
     /// bytes the caller then moves.
     pub fn write_dma(&mut self, n: u32, value: u32) -> Result<Option<Dma>, RspError> {
         let mut out = Dma::default();
         done(unsafe { raw::brsp_write_dma(self.at(), n, value, &mut out) }, "write_dma", &[n.into(), value.into()])?;
         Ok((out.rows > 0).then_some(out))
-    }
-
-    /// All SP registers, with the interrupt flag.
-    pub fn sp(&self) -> Result<SpWords, RspError> {
-        let mut out = SpWords::default();
-        done(unsafe { raw::brsp_sp(self.at(), &mut out) }, "sp", &[])?;
-        Ok(out)
-    }
-
-    /// Sets all SP registers and the interrupt flag, without a DMA, and empties the history.
-    pub fn set_sp(&mut self, given: &SpWords) -> Result<(), RspError> {
-        done(unsafe { raw::brsp_set_sp(self.at(), given) }, "set_sp", &[])
     }
 
     /// The words of IMEM from an address on, each with its disassembly.

@@ -27,6 +27,7 @@ static void load(brsp_machine *m, const char *text)
     SEE(brsp_load_words(m, BRSP_IMEM, 0, words, out.count) == BRSP_OK);
 }
 
+#define ONE(n) 1
 #define ROOM(n) room[n]
 #define SEE_NONE(call, given) SEE(call given == BRSP_NO_MACHINE);
 
@@ -51,7 +52,7 @@ static void without_machine(void)
     handles[1] = &freed;
     for (i = 0; i < 2; i++) {
         brsp_machine *m = handles[i];
-        EACH_CALL(SEE_NONE, m, &session, ROOM)
+        EACH_CALL(SEE_NONE, m, &session, ONE, ROOM)
         SEE(brsp_load(m, 9, ANY, &byte, 1) == BRSP_NO_MACHINE);
         SEE(brsp_run(m, 0, &stop) == BRSP_NO_MACHINE);
         SEE(brsp_run_until_move(m, 0, ANY, ANY, &move) == BRSP_NO_MACHINE);

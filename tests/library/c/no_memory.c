@@ -302,6 +302,7 @@ static void refused_calls(brsp_machine *m)
     REFUSED(brsp_listing(m, 0, lines, 1025));
 }
 
+#define ONE(n) 1
 #define ROOM(n) room[n]
 #define MAKE(call, given) NONE(call given);
 
@@ -324,7 +325,7 @@ static void other_calls(brsp_machine *m)
     NONE(brsp_get(m, &state));
     NONE(brsp_set(m, &state));
     NONE(brsp_state_fault(&state, &word));
-    EACH_CALL(MAKE, m, &none, ROOM)
+    EACH_CALL(MAKE, m, &none, ONE, ROOM)
     for (k = 0; k < 4; k++) {
         NONE(brsp_load(m, k, 0, bytes, 64));
         NONE(brsp_load_words(m, k, 0, words, 16));

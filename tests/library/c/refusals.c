@@ -2,6 +2,7 @@
  * says what a call does. A line that this language can't express is left out. */
 #include "brsp_compare.h"
 #include "brsp_savestate.h"
+#include "each_call.h"
 
 enum { IMAGE = 64, DEPTH = 4 };
 static const uint8_t zeros[9216] = { 0 }, nop[] = "nop", step[] = "step\n";
@@ -61,18 +62,10 @@ static uint32_t filling(sides *it, const char *name, const uint32_t *n)
 {
     static uint8_t bytes[BRSP_REPLIES];
     static uint32_t words[1024];
-    static brsp_traced traced[1000];
-    static brsp_line lines[1025];
     brsp_assembled assembled;
-    brsp_stop stop;
+    brsp_line line;
     size_t used, written;
-    if (!strcmp(name, "trace")) return brsp_trace(&it->m, traced, n[0], &stop);
-    if (!strcmp(name, "memory")) return brsp_memory(&it->m, n[0], n[1], bytes, n[2]);
-    if (!strcmp(name, "memory_words")) return brsp_memory_words(&it->m, n[0], n[1], words, n[2]);
-    if (!strcmp(name, "load")) return brsp_load(&it->m, n[0], n[1], zeros, n[2]);
-    if (!strcmp(name, "load_words")) return brsp_load_words(&it->m, n[0], n[1], words, n[2]);
-    if (!strcmp(name, "listing")) return brsp_listing(&it->m, n[0], lines, n[1]);
-    if (!strcmp(name, "text")) return brsp_text(n[0], n[1], lines);
+    if (!strcmp(name, "text")) return brsp_text(n[0], n[1], &line);
     if (!strcmp(name, "assemble")) return brsp_assemble(n[0], nop, 3, words, 1024, &assembled);
     if (!strcmp(name, "explain_text")) return brsp_explain_text(n[0], nop, 3, bytes, sizeof bytes, &written);
     if (!strcmp(name, "feed")) return brsp_session_take(&it->s, step, 5, &used, bytes, sizeof bytes, &written);
@@ -81,14 +74,13 @@ static uint32_t filling(sides *it, const char *name, const uint32_t *n)
     return ~0u;
 }
 
+#define NUMBER(k) n[k]
+#define ROOM(k) room[k]
+#define MAKE(call, given) if (!strcmp(name, &#call[5])) return call given;
+
 static uint32_t made(sides *it, const char *name, const uint32_t *n)
 {
-    brsp_stop stop;
-    brsp_move move;
-    brsp_reached reached;
-    brsp_lanes lanes;
-    size_t number;
-    uint32_t word;
+    static uint64_t room[4][16384];
     if (!strcmp(name, "Machine")) return brsp_new(&it->m, zeros, n[0], n[1]);
     if (!strcmp(name, "Session")) return brsp_session_new(&it->s, zeros, n[0]);
     if (!strcmp(name, "free")) return brsp_free(&it->m), BRSP_OK;
@@ -96,20 +88,7 @@ static uint32_t made(sides *it, const char *name, const uint32_t *n)
     if (!strcmp(name, "set_sp")) return set_sp(it, n[0]);
     if (!strcmp(name, "load_state")) return load_state(it, n[0], n[1], n[2]);
     if (!strcmp(name, "first_difference")) return first_difference(it, n[0], n[1]);
-    if (!strcmp(name, "set_pc")) return brsp_set_pc(&it->m, n[0]);
-    if (!strcmp(name, "start_task")) return brsp_start_task(&it->m, n[0]);
-    if (!strcmp(name, "run")) return brsp_run(&it->m, n[0], &stop);
-    if (!strcmp(name, "run_until_move")) return brsp_run_until_move(&it->m, n[0], n[1], n[2], &move);
-    if (!strcmp(name, "event")) return brsp_event(&it->m, n[0], n[1], n[2], &reached);
-    if (!strcmp(name, "back")) return brsp_back(&it->m, n[0]);
-    if (!strcmp(name, "pass_move")) return brsp_pass_move(&it->m, n[0]);
-    if (!strcmp(name, "pass_dma")) return brsp_pass_dma(&it->m);
-    if (!strcmp(name, "add_break")) return brsp_add_break(&it->m, n[0]);
-    if (!strcmp(name, "drop_break")) return brsp_drop_break(&it->m, n[0]);
-    if (!strcmp(name, "add_watch")) return brsp_add_watch(&it->m, n[0], n[1], &number);
-    if (!strcmp(name, "drop_watch")) return brsp_drop_watch(&it->m, n[0]);
-    if (!strcmp(name, "reg")) return brsp_reg(&it->m, n[0], &word);
-    if (!strcmp(name, "vreg")) return brsp_vreg(&it->m, n[0], &lanes);
+    EACH_CALL(MAKE, &it->m, &it->s, NUMBER, ROOM)
     return filling(it, name, n);
 }
 

@@ -88,10 +88,11 @@ static void session_free(void) { brsp_session_free(&b); }
 
 /* Those above are given what costs them most; here is each call on a handle, given little. */
 static uint64_t room[4][128];
+#define ONE(n) 1
 #define ROOM(n) room[n]
 #define MAKE(call, given) static void each_##call(void) { word = call given; }
 #define ENTRY(call, given) { #call " of 1", each_##call },
-EACH_CALL(MAKE, &m, &b, ROOM)
+EACH_CALL(MAKE, &m, &b, ONE, ROOM)
 
 /* In an order in which they follow one another: `assemble` fills `words`, and the steps run what it made. */
 static const struct {
@@ -109,7 +110,7 @@ static const struct {
     { "brsp_write", transfer }, { "brsp_write_dma", described }, { "brsp_set_sp", set_sp }, { "brsp_text", disassemble }, { "brsp_listing", listing },
     { "brsp_start_task", task }, { "brsp_session_new", session }, { "brsp_session_take of lines", open_block }, { "brsp_session_take of end", close_block },
     { "brsp_session_take of run", session_run }, { "brsp_session_take of looks", session_looks }, { "brsp_session_memory", session_memory },
-    { "brsp_session_end", session_end }, { "brsp_session_free", session_free }, EACH_CALL(ENTRY, &m, &b, ROOM)
+    { "brsp_session_end", session_end }, { "brsp_session_free", session_free }, EACH_CALL(ENTRY, &m, &b, ONE, ROOM)
 };
 
 #ifdef _WIN32

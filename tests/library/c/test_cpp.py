@@ -10,7 +10,7 @@ from typing import Tuple
 import pytest
 
 from lib import TOP
-from lib.library.programs import HERE, assert_passes
+from lib.library.programs import HERE, assert_passes, other_version
 from lib.pages import block_with, page
 from lib.packages import need
 from lib.processes import STRICT, compiled, run, succeeds
@@ -54,6 +54,19 @@ def test_header(standard: str, compiler: str, folder: Path) -> None:
         '#include "brsp.h"\nbrsp_machine m = BRSP_NONE, n = BRSP_NONE;\nbrsp_session b = BRSP_NONE;\n'
     )
     compiled(folder / "handles.o", f"-std={standard}", *STRICT, *strict, "-c", source, compiler=compiler)
+
+
+@pytest.mark.needs("cc", "ar")
+def test_library_without_a_call(folder: Path) -> None:
+    """A program over it ends only when it makes the call. By its address the loader would look for the call
+    before the program begins, and so before a version is compared."""
+    source = folder / "lacks.cpp"
+    body = "brsp::machine m;\n    return argc > 1 ? int(m.peek(4)) : 0;"
+    source.write_text(f'#include "brsp.hpp"\nint main(int argc, char **)\n{{\n    {body}\n}}\n')
+    words = ("-std=c++17", *STRICT, "-O0", "-Wl,-z,lazy", source, other_version(folder) / "libbrsp.so")
+    made = compiled(folder / "lacks", *words, compiler="c++")
+    other_version(folder, "brsp_peek")
+    assert succeeds(made) == "" and "undefined symbol: brsp_peek" in run(made, "peek").stdout
 
 
 def test_page(folder: Path) -> None:

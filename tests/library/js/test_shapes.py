@@ -35,7 +35,7 @@ console.log(JSON.stringify(Object.fromEntries(Object.keys(STRUCTS).map((it) => [
 
 def python_names(name: str) -> Set[str]:
     """The public methods of a class of the module rsp."""
-    tree = ast.parse(page("library/python/rsp/__init__.py"))
+    tree = ast.parse(page(f"library/python/rsp/{name.lower()}.py"))
     (found,) = [it for it in tree.body if isinstance(it, ast.ClassDef) and it.name == name]
     names = {it.name for it in found.body if isinstance(it, ast.FunctionDef)}
     return {it for it in names if not it.startswith("_")}

@@ -7,7 +7,7 @@ import operator
 import pickle
 import signal
 import sys
-from contextlib import suppress
+from contextlib import ExitStack, suppress
 from inspect import signature
 from pathlib import Path
 from typing import Any, Callable, Dict, Iterator, Set, Tuple, Union
@@ -84,7 +84,10 @@ def test_calls_at_work() -> None:
     assert methods_of(rsp.Session) == {*OF_A_SESSION, "iter_feed"}
     machine, session = loaded("nop\nbreak\n", 4), rsp.Session(bytes(64))
     before, dmem = machine.get(), machine.memory(rsp.DMEM, 0, 4096)
-    with machine._lock, session._lock, mock.patch.multiple(rsp, _lib=mock.DEFAULT, _quick=mock.DEFAULT):
+    with machine._lock, session._lock, ExitStack() as without_library:
+        for module in ANY.compare, ANY.machine, ANY.owner, ANY.session:
+            without = mock.patch.multiple(module, lib=mock.DEFAULT, quick=mock.DEFAULT)
+            without_library.enter_context(without)
         for owner, calls in (machine, CALLS), (session, OF_A_SESSION):
             busy = f"another call is using the {owner._owner}"
             for name, given in calls.items():
@@ -217,8 +220,8 @@ def test_refusal(case: Refusal) -> None:
 def test_handle_is_empty_meanwhile() -> None:
     """A short call that has passed the test just before a long one began finds no machine."""
     machine = loaded("nop\nbreak\n")
-    assert machine._call_alone("run", lambda at: rsp._quick.brsp_step(machine._at)) == Status.NO_MACHINE
-    assert machine._call_alone("run", lambda at: rsp._lib.brsp_step(at)) == Status.OK
+    assert machine._call_alone("run", lambda at: rsp.native.quick.brsp_step(machine._at)) == Status.NO_MACHINE
+    assert machine._call_alone("run", lambda at: rsp.native.lib.brsp_step(at)) == Status.OK
     assert_raises(ZeroDivisionError, "", machine._call_alone, "run", lambda at: 1 // 0)
     assert machine.regs().pc == 4, "the machine is back"
 

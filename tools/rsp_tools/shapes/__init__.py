@@ -1,4 +1,5 @@
-"""Writes the calls, structs and numbers of the library for Rust, JavaScript and Python.
+"""Writes the calls, structs and numbers of the library for Rust, JavaScript and Python, and the regular calls
+as methods for C++ as well.
 
 It reads those that are proved in crates/rsp_c/src, and the others in library/c/brsp_helpers.h. Comments of
 Rust's structs are those of the crates, unless comments.tsv has another one for who writes a program. Nobody
@@ -9,8 +10,9 @@ from pathlib import Path
 from typing import Dict
 
 from rsp_tools import TOP
-from rsp_tools.shapes import c, crate, header, javascript, python, rust
+from rsp_tools.shapes import c, cpp, crate, header, javascript, python, rust
 from rsp_tools.shapes.interface import Interface, joined
+from rsp_tools.shapes.methods import regular
 
 
 def comments() -> Dict[str, str]:
@@ -26,8 +28,14 @@ def library() -> Interface:
 
 def files() -> Dict[str, str]:
     """Each file as it is written, by its path in the repository."""
-    proved, found = crate.interface(), library()
-    made = [rust.files(found, comments()), javascript.files(found), python.files(found), c.files(proved)]
+    proved, found, methods = crate.interface(), library(), [*regular()]
+    made = [
+        rust.files(found, comments(), methods),
+        javascript.files(found, methods),
+        python.files(found, methods),
+        c.files(proved),
+        cpp.files(methods),
+    ]
     return {name: text for some in made for name, text in some.items()}
 
 

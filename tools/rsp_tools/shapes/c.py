@@ -7,19 +7,20 @@ from rsp_tools.shapes.interface import Call, Interface, c_name
 # Calls that make what a handle holds, or free it.
 MAKING = ("brsp_new", "brsp_copy", "brsp_free", "brsp_session_new", "brsp_session_free")
 HANDLES = {"Machine": "MACHINE", "Session": "SESSION"}
-HEAD = """/* Each call of brsp.h on a handle, except those that make what it holds or free it. Numbers and
- * lengths are 1, and ROOM(n) is the address of room for an element. `tools/shapes` writes this file. */
-#define EACH_CALL(CALL, MACHINE, SESSION, ROOM) \\
+HEAD = """/* Each call of brsp.h on a handle, except those that make what it holds or free it. NUMBER(n) is
+ * its n-th number or length, and ROOM(n) the address of room for elements. tools/shapes writes this file. */
+#define EACH_CALL(CALL, MACHINE, SESSION, NUMBER, ROOM) \\
 """
 
 
 def arguments(call: Call) -> Iterator[str]:
-    pointers = 0
+    numbers = pointers = 0
     for it in (parameter.type for parameter in call.parameters):
         if it.element in HANDLES:
             yield HANDLES[it.element]
         elif not it.pointer:
-            yield "1"
+            yield f"NUMBER({numbers})"
+            numbers += 1
         else:
             yield f"({'const ' * (it.pointer == 'const')}{c_name(it.element)} *)ROOM({pointers})"
             pointers += 1

@@ -1,7 +1,7 @@
 """Reads the interface of the library from the sources of rsp_c, and of crates below with a struct of it."""
 
 import re
-from typing import Dict, Iterator, List, Tuple
+from typing import Dict, Iterator, List, Set, Tuple
 
 from rsp_tools import TOP
 from rsp_tools.shapes.interface import (
@@ -53,6 +53,12 @@ def calls() -> Iterator[Call]:
             pairs = (pair.split(":", 1) for pair in given.split(",") if pair.strip())
             parameters = [it for of, kind in pairs for it in parameters_of(of.strip(), kind.strip())]
             yield Call(name, parameters, Type(result or "void"))
+
+
+def queries() -> Set[str]:
+    """The calls whose contract says that the machine stays as it was."""
+    form = r'extern "C" fn (\w+)\((?:(?!\n\{).)*same \{ handle.new.debugger ≡ handle.old.debugger \}'
+    return {it for path in SOURCE.glob("*.rt") for it in re.findall(form, path.read_text(), re.S)}
 
 
 def comment_of(lines: str) -> str:

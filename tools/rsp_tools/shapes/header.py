@@ -59,6 +59,14 @@ def enums(path: str) -> Iterator[Tuple[str, Dict[str, int]]]:
         yield name, {it[len(begin) :]: int(number) for it, number in pairs}
 
 
+def comments_of(path: str, enum: str) -> Dict[str, str]:
+    """The comment of each number of an enum as a sentence, without the names of calls before a colon."""
+    (body,) = re.findall(rf"(?s)enum brsp_{enum} \{{(.*?)\}};", (TOP / path).read_text())
+    found = re.findall(r"(?s)BRSP_(\w+) = \d+,?\s*/\* (.*?) \*/", body)
+    texts = {name: re.sub(r"(brsp_\w+(, )?)+: ", "", " ".join(text.split())) for name, text in found}
+    return {name: f"{text[0].upper()}{text[1:]}." for name, text in texts.items()}
+
+
 def interface(path: str) -> Interface:
     macros = re.findall(rf"(?m)^#define {PREFIX}(\w+) (\d+)$", text_of(path))
     found = {it.name: it for it in structs(path)}

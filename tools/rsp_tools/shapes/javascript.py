@@ -1,13 +1,19 @@
-"""The interface in JavaScript: tables, of which library/js makes its classes and reads what a call fills."""
+"""The interface in JavaScript: tables, of which library/js makes its classes and reads what a call fills, and
+the regular calls as methods, with what of both is declared for TypeScript."""
 
 import json
-from typing import Any, Dict, Iterable
+import textwrap
+from typing import Any, Dict, Iterable, Sequence
 
 from rsp_tools.shapes.interface import PLAIN, Interface, Struct, Type, c_name, in_one
+from rsp_tools.shapes.methods import Method, by_parts, placed, told
+from rsp_tools.shapes.python import COMMENTS, GIVEN, methods_of
 
 WIDTH = 120  # of a line
 # The library for WebAssembly has addresses, and so lengths, of 64 bits.
 ADDRESS = "u64"
+DECLARED = ("status", "fault", "bank", "reason")  # for everybody
+TYPES = {"None": "void", "int": "number"}  # of Python, as TypeScript calls them
 ELEMENTS = {**{it: it for it in PLAIN}, "usize": ADDRESS, "char": "u8"}
 HEAD = """/** The calls, structs and numbers of the headers in library/c. `tools/shapes` writes this file. */
 
@@ -53,6 +59,32 @@ def text(it: Interface) -> str:
     return "\n".join([*parts, f"export const CALLS = [\n{calls}\n];\n"])
 
 
-def files(it: Interface) -> Dict[str, str]:
-    """The file by its path in the repository."""
-    return {"library/js/shapes.js": text(it)}
+def method_text(it: Method) -> str:
+    given = ", ".join(it.numbers)
+    name = {"": "call", "u32": "word", "usize": "length"}.get(it.result)
+    call = f'#{name}("{it.name}", [{given}])' if name else f'#registers({GIVEN[it.result]}, "{it.name}")'
+    return f"\n  {it.name}({given}) {{ {'return ' * bool(it.result)}this.{call}; }}\n"
+
+
+def enum_text(name: str, numbers: Dict[str, int]) -> str:
+    items = "".join(f"  {it} = {number},\n" for it, number in numbers.items())
+    return f"/** {COMMENTS[name]} */\nexport enum {name} {{\n{items}}}\n"
+
+
+def declaration(it: Method) -> str:
+    said = f"{told(it.comment, '`{}`'.format)} */"
+    said = textwrap.fill(said, WIDTH, initial_indent="  /** ", subsequent_indent="   * ")
+    given = ", ".join(f"{name}: number" for name in it.numbers)
+    return f"{said}\n  {it.name}({given}): {TYPES.get(GIVEN[it.result], GIVEN[it.result])};\n"
+
+
+def files(it: Interface, methods: Sequence[Method]) -> Dict[str, str]:
+    """Each file by its path in the repository."""
+    mine = methods_of(methods)
+    enums = "\n".join(enum_text(in_one(kind), it.numbers[kind]) for kind in DECLARED)
+    declared = {"Numbers": f"\n{enums}\n", **by_parts(mine, declaration)}
+    return {
+        "library/js/shapes.js": text(it),
+        **placed("library/js/rsp.js", by_parts(mine, method_text)),
+        **placed("library/js/rsp.d.ts", declared),
+    }

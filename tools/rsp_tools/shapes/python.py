@@ -1,8 +1,11 @@
-"""The interface in Python: numbers, the structures that only the package uses, and the types of calls."""
+"""The interface in Python: numbers, the structures that only the package uses, the types of calls, and the
+regular calls as methods."""
 
-from typing import Dict, Sequence
+import textwrap
+from typing import Dict, Iterable, List, Sequence
 
 from rsp_tools.shapes.interface import Call, Field, Interface, Struct, Type, c_name, in_one
+from rsp_tools.shapes.methods import Method, by_parts, placed, told
 
 # The structs that are classes of library/python/rsp/state.py, by their names there.
 SHOWN = {
@@ -22,6 +25,9 @@ TYPES = {
     **{"i64": "c_int64", "usize": "c_size_t", "char": "c_char", "void": "None"},
     **SHOWN,
 }
+# The types of what methods give, and a regular call that is no method but a property.
+GIVEN = {"": "None", "u32": "int", "usize": "int", **SHOWN}
+BY_HAND = ("image_length",)
 WIDTH = 110  # of a line
 HEAD = f'''"""The calls, structures and numbers of the library. `tools/shapes` writes this file."""
 
@@ -85,6 +91,26 @@ def text(it: Interface) -> str:
     return "\n\n".join([HEAD, *enums, *structs, f"{constants}{TITLE}{table}"])
 
 
-def files(it: Interface) -> Dict[str, str]:
-    """The file by its path in the repository."""
-    return {"library/python/rsp/shapes.py": text(it)}
+def methods_of(methods: Iterable[Method]) -> List[Method]:
+    """Those whose methods here take numbers, and give what the call fills."""
+    return [it for it in methods if it.name not in BY_HAND and not it.given and it.result in GIVEN]
+
+
+def method_text(it: Method) -> str:
+    """A method, whose docstring has room for its quotes at its end."""
+    said = told(it.comment, "`{}`".format)
+    said = textwrap.fill(f'{said}"""', WIDTH - 1, initial_indent='        """', subsequent_indent=" " * 8)
+    numbers = "".join(f", {name}: int" for name in it.numbers)
+    begin, given = f'"{it.name}"', "".join(f", {name}" for name in it.numbers)
+    body = {
+        "": f"self._call_with({begin}{given})",
+        "u32": f"return self._word({begin}{given})",
+        "usize": f"return self._fill({begin}, c_size_t(){given}).value",
+    }.get(it.result, f"return self._fill({begin}, unset({GIVEN[it.result]}){given})")
+    return f"\n    def {it.name}(self{numbers}) -> {GIVEN[it.result]}:\n{said}\n        {body}\n"
+
+
+def files(it: Interface, methods: Sequence[Method]) -> Dict[str, str]:
+    """Each file by its path in the repository."""
+    made = by_parts(methods_of(methods), method_text)
+    return {"library/python/rsp/shapes.py": text(it), **placed("library/python/rsp/machine.py", made)}

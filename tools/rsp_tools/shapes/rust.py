@@ -1,9 +1,12 @@
-"""The interface in Rust: raw.rs is for the crate alone, and shapes.rs has the structs that everybody gets."""
+"""The interface in Rust: raw.rs is for the crate alone, shapes.rs has the structs that everybody gets,
+status.rs the statuses, and calls.rs the regular calls."""
 
 import textwrap
-from typing import Dict, Iterator, List
+from typing import Dict, Iterator, List, Sequence
 
-from rsp_tools.shapes.interface import Call, Field, Interface, Struct, Type
+from rsp_tools.shapes import header
+from rsp_tools.shapes.interface import Call, Field, Interface, Struct, Type, in_one
+from rsp_tools.shapes.methods import HEADER, Method, by_parts, told
 
 WIDTH = 140  # of a line, as rustfmt.toml has it
 # The structs that everybody gets, and those of them whose default isn't all zeros.
@@ -11,9 +14,46 @@ SHOWN = (
     "Scalars", "Accumulators", "FlagBits", "DivideState", "State", "SpWords", "Traced", "Changes", "Dma",
 )  # fmt: skip
 OWN_DEFAULT = ("State", "SpWords")
+# Calls whose methods are more: one is over another method, one never fails, and one gives an option.
+BY_HAND = ("get", "image_length", "write_dma")
+# Statuses that are no error: those of a step that was made or not, and that of a machine that is freed.
+NO_ERRORS = ("OK", "NO_MACHINE", "HALTED", "RESERVED")
 MOST = 32  # items of an array that has a default
 # A pointer to anything is one to its bytes.
 ELEMENTS = {"char": "u8", "void": "u8"}
+CALLS = """//! The regular calls on a machine. `tools/shapes` writes this file.
+
+use crate::error::done;
+use crate::raw;
+use crate::shapes::{%s};
+use crate::{Machine, RspError};
+
+// SAFETY of all calls below: as in machine.rs.
+"""
+STATUS = """//! The statuses that refuse a call. `tools/shapes` writes this file.
+
+use crate::raw::status;
+
+/// Why a call was refused, as `brsp.h` numbers it.
+#[derive(Clone, Copy, Debug, PartialEq, Eq)]
+#[non_exhaustive]
+pub enum Status {
+%s    /// The library has this version of the interface, and the crate is for [`VERSION`](crate::VERSION).
+    Version(u32),
+    /// A status that this crate doesn't know.
+    Unknown(u32),
+}
+
+impl Status {
+    /// The status of a number of `brsp.h`; none if it is BRSP_OK.
+    pub(crate) fn of(number: u32) -> Option<Status> {
+        Some(match number {
+            status::OK => return None,
+%s            other => Status::Unknown(other),
+        })
+    }
+}
+"""
 
 
 def type_text(it: Type) -> str:
@@ -89,11 +129,53 @@ def raw_parts(it: Interface) -> Iterator[str]:
     yield 'extern "C" {\n' + "".join(map(call_text, it.calls)) + "}\n"
 
 
-def files(it: Interface, comments: Dict[str, str]) -> Dict[str, str]:
+def method_text(it: Method) -> str:
+    """A method as rustfmt lays it out."""
+    said = told(it.comment, "[`{0}`](Machine::{0})".format, lambda name: status_link(in_one(name)))
+    given = [f"{name}: u32" for name in it.numbers] + [f"given: &{it.given}"] * bool(it.given)
+    passed = ["self.at()", *it.numbers, *["given"] * bool(it.given), *["&mut out"] * bool(it.result)]
+    numbers = ", ".join(f"{name}.into()" for name in it.numbers)
+    body = f'done(unsafe {{ raw::brsp_{it.name}({", ".join(passed)}) }}, "{it.name}", &[{numbers}])'
+    if it.result:
+        begin = f"{it.result}::default()" if it.result in SHOWN else "0"
+        body = f"let mut out = {begin};\n        {body}?;\n        Ok(out)"
+    parameters = ", ".join(["&self" if it.is_query else "&mut self", *given])
+    head = f"    pub fn {it.name}({parameters}) -> Result<{it.result or '()'}, RspError> {{"
+    return f"\n{comment(said, '    ')}{head}\n        {body}\n    }}\n"
+
+
+def statuses_text(it: Interface, comments: Dict[str, str]) -> str:
+    """The enum of the statuses that are errors."""
+    said = header.comments_of(HEADER, "status")
+    names = {name: in_one(name) for name in it.numbers["status"] if name not in NO_ERRORS}
+    items = (
+        f"{comment(comments.get(f'Status.{rust}', said[name]), '    ')}    {rust},\n"
+        for name, rust in names.items()
+    )
+    arms = (f"            status::{name} => Status::{rust},\n" for name, rust in names.items())
+    return STATUS % ("".join(items), "".join(arms))
+
+
+def status_link(name: str) -> str:
+    return f"[`{name}`](crate::Status::{name})"
+
+
+def calls_text(methods: Sequence[Method]) -> str:
+    """The methods, in a block for each part of brsp.h."""
+    found = [it for it in methods if it.name not in BY_HAND and it.result in ("", "u32", "usize", *SHOWN)]
+    used = ", ".join(sorted({name for it in found for name in (it.given, it.result) if name in SHOWN}))
+    parts = by_parts(found, method_text)
+    blocks = (f"\n/// {part}\nimpl Machine {{{lines.rstrip()}\n}}\n" for part, lines in parts.items())
+    return CALLS % used + "".join(blocks)
+
+
+def files(it: Interface, comments: Dict[str, str], methods: Sequence[Method]) -> Dict[str, str]:
     """Each file by its path in the repository."""
     head = "//! Parts of a machine as plain numbers. `tools/shapes` writes this file.\n"
     shown: List[str] = [struct_text(it.structs[name], comments, True) for name in SHOWN]
     return {
         "library/rust/src/raw.rs": "\n".join(raw_parts(it)),
         "library/rust/src/shapes.rs": "\n".join([head, *shown]),
+        "library/rust/src/status.rs": statuses_text(it, comments),
+        "library/rust/src/calls.rs": calls_text(methods),
     }

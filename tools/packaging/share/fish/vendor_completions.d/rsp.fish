@@ -1,4 +1,4 @@
-# The completion of rsp for fish, with the options that --help names.
+# The completion of rsp for fish. tools/python rsp_tools.page_tables writes its words, from docs/help.
 # The command is the first word, so a script may be called help.
 function __rsp_has
     set -l words (commandline -opc)
