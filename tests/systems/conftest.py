@@ -36,7 +36,7 @@ def at() -> Iterator[Path]:
 
 def folder_of(target: Target, at: Path) -> Path:
     """The folder of a system, which is made once."""
-    need("compiled", *filter(None, [target.compiler]), *["rt"] * (target.python in ("win32", "darwin")))
+    need("compiled", *target.programs)
     folder = at / "systems" / target.name
     if not folder.exists():
         folders.make(target.name, folder)
@@ -46,7 +46,6 @@ def folder_of(target: Target, at: Path) -> Path:
 @pytest.fixture
 def made(request: pytest.FixtureRequest, at: Path) -> Path:
     """The folder of a system."""
-    need("rt")
     return folder_of(TARGETS[request.param], at)
 
 

@@ -4,11 +4,7 @@ from pathlib import Path
 
 PARTS = Path(__file__).resolve().parent
 TOP = PARTS.parents[2]
-CRATE = TOP / "crates" / "rsp_c"
-CRATES = TOP / "crates"
 HEADER = TOP / "library" / "c" / "brsp.h"
 HELPERS = TOP / "library" / "c" / "brsp_helpers.h"
 PYTHON = TOP / "library" / "python"
 RUST = TOP / "library" / "rust"
-# What is kept to make compiled/ again sooner: the modules, and what their checks found.
-KEPT = CRATE / "out" / "systems"
