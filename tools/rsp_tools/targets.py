@@ -1,7 +1,7 @@
 """The systems on which rsp runs, a record each, and the processors for which the kit makes modules.
 
 tools/rsp_tools/systems makes their folders, ./release packs some of these, and tests/lib/systems runs
-programs for them. A further Linux on one of these processors is a record here and its start file.
+programs for them. A further Linux on one of these processors is a record here.
 """
 
 import platform
