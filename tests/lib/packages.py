@@ -29,7 +29,6 @@ PACKAGES = {
     "tsc": "node-typescript",
     "/usr/include/stdio.h": "libc6-dev",
     "/usr/lib/llvm-*/lib/clang/*/lib/linux/libclang_rt.fuzzer-x86_64.a": "libclang-rt-14-dev",
-    "/usr/lib/llvm-*/bin/llvm-lipo": "llvm",
     "/usr/lib/python3*/ensurepip": "python3-venv",
     "/usr/lib/python3/dist-packages/numpy": "python3-numpy",
     "python:ensurepip": "python3-venv",

@@ -58,14 +58,14 @@ def test_macos_symbols(made: Path, folder: Path) -> None:
         assert needed and needed <= {*MACOS, ZEROS[processor]}, processor
 
 
-@pytest.mark.needs("rt")
+@pytest.mark.needs("clang", "llvm-nm")
 @pytest.mark.parametrize("triple", TARGETS["macos"].triples.values())
 def test_macos_is_assembled(folder: Path, triple: str) -> None:
-    """The object, of which a static library is made, shows the calls alone."""
+    """The object, of which a static library is made with the helpers, shows the other calls alone."""
     source = TOP / f"compiled/Darwin-{triple.partition('-')[0]}-lib.s"
     call("clang", f"--target={triple}", "-c", source, "-o", folder / "brsp.o")
     symbols = call("llvm-nm", "-g", "--defined-only", folder / "brsp.o")
-    assert {*re.findall(r" T _(\w+)$", symbols, re.M)} == {*header.calls()}
+    assert {*re.findall(r" T _(\w+)$", symbols, re.M)} == {*header.calls()} - {*header.helpers()}
 
 
 @of("macos")
