@@ -97,7 +97,7 @@ def clone() -> Any:
 
 def command(link: Any) -> Dict[str, bytes]:
     """The program `rsp` as a command; nothing if the kit has to build it, of sources that are changed."""
-    program = link.linked_program()
+    program = link.link_program()
     return with_command("rsp", program) if program else {}
 
 
@@ -106,14 +106,14 @@ def build_wheel(wheel_directory: str, config_settings: Any = None, metadata_dire
     link = clone()
     tags = link.targets.here().wheel
     with tempfile.TemporaryDirectory() as out:
-        files = with_library(link.library(RSP_OUT=out) / LIBRARY, LIBRARY)
+        files = with_library(link.build_library(RSP_OUT=out) / LIBRARY, LIBRARY)
     return write(wheel_directory, {**files, **command(link)}, tags)
 
 
 def build_editable(wheel_directory: str, config_settings: Any = None, metadata_directory: Any = None) -> str:
     """The wheel of an editable install."""
     link = clone()
-    link.library()
+    link.build_library()
     files = {f"{PROJECT['name']}.pth": f"{HERE}\n".encode(), **command(link)}
     return write(wheel_directory, files, link.targets.here().wheel)
 

@@ -154,17 +154,13 @@ def test_passes_the_tests_of_the_program(installed: Path, name: str) -> None:
     assert re.search(r"(?m)^[1-9]\d* passed", output), output[-600:]
 
 
-@pytest.mark.needs("cc", "objcopy")
+@pytest.mark.needs("cc")
 def test_start_asks_the_processor(folder: Path) -> None:
-    """What start_x86_64.c says of the processor, beside what glibc says."""
-    start, where = TOP / "runtime/start_x86_64.c", {"cwd": folder}
+    """What start.c says of the processor, beside what glibc says."""
+    start, where = TOP / "runtime/start.c", {"cwd": folder}
     shutil.copy(TESTS / "install/archive/features.c", folder)
     if run("cc", "-fsyntax-only", "features.c", **where).returncode:
         pytest.skip("there is no sys/platform/x86.h (Debian's package libc6-dev)")
     succeeds("cc", "-O2", "-D__x86_get_cpuid_feature_leaf=own", "-c", "-o", "start.o", start, **where)
-    for command in (
-        "objcopy --localize-symbol=_start start.o",
-        "cc -o features features.c start.o",
-        "./features",
-    ):
+    for command in ("cc -Wl,--wrap=main -o features features.c start.o", "./features"):
         succeeds(*command.split(), **where)

@@ -12,10 +12,9 @@ import pytest
 
 from lib import TOP
 from lib.processes import succeeds
-from rsp_tools import assemble, record
 from rsp_tools.crates import LINES, uses, with_below
-from rsp_tools.systems import modules, objects
-from rsp_tools.systems.modules import LIBRARY, PROGRAM, WEB, Crate
+from rsp_tools.kit import assemble, modules, objects, record
+from rsp_tools.kit.modules import LIBRARY, PROGRAM, WEB, Crate
 from rsp_tools.systems.toolchain import Refused
 from rsp_tools.targets import PROCESSORS
 
@@ -40,7 +39,7 @@ def test_git_finds_the_version_before() -> None:
             found = ((found >> 2) + (letter << 24)) % 2**32
         return found
 
-    names = [name for crate in assemble.CRATES for name in assemble.triples(crate)]
+    names = [name for crate in assemble.ON_TOP for name in assemble.triples(crate)]
     assert len({*map(name_hash, names)}) == len(names) == len([*assemble.COMPILED.glob("*.s")])
 
 
@@ -78,7 +77,7 @@ def test_what_prove_says(
     made = {PROGRAM: {"a.s": b"1\n"}, LIBRARY: {"b.s": b"1\n"}}
 
     def run(kit: str, of: str, data: bytes, crate: Crate = PROGRAM) -> Tuple[int, str]:
-        monkeypatch.setattr(assemble, "kit", lambda: kit)
+        monkeypatch.setattr(assemble, "version", lambda: kit)
         monkeypatch.setattr(assemble, "sources", lambda _: f"names\n{of}\n")
         status = assemble.check({**made, crate: {name: data for name in made[crate]}})
         return status, capsys.readouterr().out.splitlines()[-1]
@@ -118,7 +117,7 @@ def test_other_tools(monkeypatch: pytest.MonkeyPatch, folder: Path) -> None:
 
 def test_helpers(monkeypatch: pytest.MonkeyPatch) -> None:
     """A change of the helpers makes rsp.wasm stale, and not the assembly, with which cc compiles them."""
-    monkeypatch.setattr(assemble, "kit", lambda: "kit 1")
+    monkeypatch.setattr(assemble, "version", lambda: "kit 1")
     monkeypatch.setattr(assemble, "sources", lambda _: "names\nsum -\n")
     names = {crate.made: assemble.mark(crate, {}).split()[6::2] for crate in (PROGRAM, LIBRARY, WEB)}
     assert {name for name in names if "library/c/helpers/search.c" in names[name]} == {"rsp_wasm.made"}
@@ -134,7 +133,7 @@ def test_mutations(folder: Path) -> None:
 
 def test_notice() -> None:
     """It names the crates of the kit that ours use, and those whose names are in the files."""
-    below = {used for crate in assemble.CRATES for name in with_below(crate.name) for used in uses(name)}
+    below = {used for crate in assemble.ON_TOP for name in with_below(crate.name) for used in uses(name)}
     texts = "".join(path.read_text() for path in assemble.COMPILED.glob("Linux-*.s"))
     inside = {*re.findall(r'"\.text\.(?:unlikely\.)?<*(\w+)::', texts)}
     listed = {*re.findall(r"(?m)^  (\w+)(?:$| +after )", (TOP / "compiled/NOTICE").read_text())}

@@ -43,8 +43,8 @@ TERM, CTRL_C = signal.SIGTERM, signal.SIGINT
 # Each goes on where the one before it has ended.
 PHASES = {
     "fails at first": Phase("rsp_decode", set()),
-    "stopped beside others": Phase("rsp_above", {"rsp_decode"}, CTRL_C),
-    "stopped alone": Phase("rsp_middle", {"rsp_above"}, TERM),
+    "stopped by Ctrl-C": Phase("rsp_above", {"rsp_decode"}, CTRL_C),
+    "stopped": Phase("rsp_middle", {"rsp_above"}, TERM),
     "fails in the program": Phase("rsp_main", {"rsp_middle"}),
     "stopped in the program": Phase("rsp_main", set(), TERM),
 }
@@ -112,10 +112,7 @@ def test_in_a_read_only_checkout(folder: Path, command: str) -> None:
 @of_program
 @pytest.mark.parametrize("name", PHASES)
 def test_ended_in_a_phase(program_repository: ToyRepository, name: str) -> None:
-    """What is left is proved up to the crate, and nothing that an earlier run has proved.
-
-    Others may be proved beside it.
-    """
+    """What is left is proved up to the crate, and nothing that an earlier run has proved."""
     phase, result = PHASES[name], program_repository.results[name]
     assert phase.crate in result.begun - result.proved and phase.before <= result.proved and not result.left
     if phase.sent:
@@ -165,7 +162,7 @@ def test_edits_while_it_proves(program_repository: ToyRepository, folder: Path) 
 
 @of_library
 def test_another_kit(library_repository: ToyRepository, folder: Path) -> None:
-    """One of another logic is refused. Without functions that tools/build calls, `rt` alone proves all."""
+    """One of another logic is refused, and one of another version proves all."""
     repository = library_repository.copied(folder)
     with repository.changed(DECODE, faulty):
         assert "rsp_decode isn't proved, for the reason above" in repository.run(C, "other version").last
@@ -173,7 +170,7 @@ def test_another_kit(library_repository: ToyRepository, folder: Path) -> None:
     result = repository.run(C, "other logic")
     assert result.status == 1 and "the kit here is `rattle-kit-0 logic 0`" in result.last
     result = repository.run(C, "other version")
-    assert result.status == 0 and result.proved == {"rsp_c"}
+    assert result.status == 0 and result.proved == {"rsp_decode", "rsp_c"}
     assert repository.run(C, "broken") == NOTHING
 
 

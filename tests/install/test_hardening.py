@@ -1,7 +1,7 @@
 """What the files that are built here were hardened with: the program, the library and the plugin, by gcc and
 by clang, and the program of a release.
 
-It fails if a word of tools/hardening doesn't reach a file.
+It fails if a word of tools/recipe that hardens doesn't reach a file.
 """
 
 import os
@@ -16,11 +16,10 @@ from lib.hardening import PLUGIN_CALLS, check_elf, checks, first_instructions
 from lib.packages import need
 from lib.pages import page
 from lib.processes import succeeds
-from rsp_tools.packaging.link import linked_program
+from rsp_tools.packaging.link import link_program
 
 pytestmark = pytest.mark.needs("ar", "readelf", "objdump", "compiled")
-OURS = {"__x86_get_cpuid_feature_leaf", "statx"}  # the functions of our C
-BEGINS = {"__wrap_main", "rsp_before_main"}  # that of start.c, and that of start_x86_64.c
+OURS = {"__x86_get_cpuid_feature_leaf", "statx", "__wrap_main"}  # the functions of our C
 
 
 @pytest.fixture(scope="module", params=["gcc", "clang"])
@@ -52,8 +51,7 @@ def test_plugin(compiler: Dict[str, str], folder: Path) -> None:
 def check_program(program: Path) -> None:
     check_elf(program, is_program=True)
     first = first_instructions(program)
-    assert {first[it] for it in [*OURS, *BEGINS] if it in first} == {"endbr64"}
-    assert OURS < {*first} and BEGINS & {*first}
+    assert OURS < {*first} and {first[it] for it in OURS} == {"endbr64"}
 
 
 def test_program(compiler: Dict[str, str]) -> None:
@@ -62,7 +60,7 @@ def test_program(compiler: Dict[str, str]) -> None:
 
 
 def test_released_program(folder: Path) -> None:
-    (folder / "rsp").write_bytes(linked_program() or b"")
+    (folder / "rsp").write_bytes(link_program() or b"")
     check_program(folder / "rsp")
     assert not re.search(r"GLIBC_2\.[23]\d", succeeds("objdump", "-T", folder / "rsp"))
     (folder / "rsp").chmod(0o755)

@@ -44,11 +44,9 @@ def refused(*words: str, path: str) -> str:
 
 
 def path_with(folder: Path, *names: str) -> str:
-    """A folder for PATH with only these programs, and a kit that fails."""
+    """A folder for PATH with only these programs."""
     for name in names:
         (folder / name).symlink_to(str(shutil.which(name, path="/usr/bin:/bin")))
-    (folder / "rt").write_text("#!/bin/sh\nexit 9\n")
-    (folder / "rt").chmod(0o755)
     return str(folder)
 
 
@@ -58,12 +56,6 @@ def test_unknown_name() -> None:
     assert ended.returncode == 2 and f"error: there is no macos: the names are {names}\n" in ended.stdout
 
 
-@pytest.mark.parametrize("words", [["--untested"], ["windows-x86_64"], ["wheels"]], ids=str)
-def test_no_kit(words: list[str]) -> None:
-    output = refused(*words, path="/usr/bin:/bin")
-    assert output.startswith("release: there is no `rt`, the command of the Rattle kit")
-
-
 def packages_of(*names: str) -> str:
     """The packages of Debian with the compilers of these systems."""
     found: list[Target] = [target for target in CROSS if target.name in names]
@@ -71,16 +63,16 @@ def packages_of(*names: str) -> str:
 
 
 LINUX = packages_of(*(target.name for target in CROSS if target.is_linux))
-WINDOWS = packages_of("windows-x86_64")
+WINDOWS = f"{packages_of('windows-x86_64')} clang llvm"
 
 
 @pytest.mark.parametrize(
     "words, needed",
     [
-        (["--untested"], f"{WINDOWS} cmark-gfm binutils gcc {LINUX}"),
+        (["--untested"], f"{WINDOWS} cmark-gfm binutils gcc {LINUX} lld"),
         (["windows-x86_64"], WINDOWS),
         (["page", "wasm"], "cmark-gfm"),
-        (["wheels"], f"binutils gcc {LINUX} {WINDOWS}"),
+        (["wheels"], f"binutils gcc {LINUX} {WINDOWS} lld"),
     ],
     ids=str,
 )

@@ -18,6 +18,7 @@ from lib.cmake import system
 from lib.library import shapes
 from lib.processes import Ended, compiled, run, succeeds
 from rsp_tools.systems import header
+from rsp_tools.systems.toolchain import call, found
 
 pytestmark = pytest.mark.needs("cc", "cmake", "make", "nm")
 PROJECT = TESTS / "install/vendoring"
@@ -131,18 +132,18 @@ MACOS = {
 }
 
 
-@pytest.mark.needs("clang", "/usr/lib/llvm-*/bin/llvm-lipo")
+@pytest.mark.needs("clang", "llvm-lipo", "llvm-nm")
 def test_universal(folder: Path) -> None:
     """For macOS; otherwise only: that a file with the code for both processors lacks one, or exports it."""
-    lipo, out = max(Path("/usr/lib").glob("llvm-*/bin/llvm-lipo")), folder / "out"
-    (folder / "lipo").symlink_to(lipo)  # the name by which clang calls it
+    out = folder / "out"
+    (folder / "lipo").symlink_to(str(found("llvm-lipo")))  # the name by which clang calls it
     env = {**os.environ, "PATH": f"{folder}:{os.environ['PATH']}"}
     words = [f"-D{name}={value}" for name, value in MACOS.items()]
     succeeds("cmake", "-S", TOP, "-B", out, *words, f"-DCMAKE_OSX_SYSROOT={folder}", env=env)
     succeeds("cmake", "--build", out, "--target", "brsp_static.o", env=env)
     made = out / "CMakeFiles/brsp_static.dir/brsp_static.S.o"
-    expected = {f"_{call.name}" for call in shapes.PROVED.calls}
+    expected = {f"_{it.name}" for it in shapes.PROVED.calls}
     for processor in "arm64", "x86_64":
-        names = succeeds(lipo.with_name("llvm-nm"), "-m", f"--arch={processor}", made)
+        names = call("llvm-nm", "-m", f"--arch={processor}", made)
         hidden = {it.split()[-1] for it in names.splitlines() if ") private external _brsp_" in it}
         assert hidden == expected

@@ -29,7 +29,6 @@ PACKAGES = {
     "tsc": "node-typescript",
     "/usr/include/stdio.h": "libc6-dev",
     "/usr/lib/llvm-*/lib/clang/*/lib/linux/libclang_rt.fuzzer-x86_64.a": "libclang-rt-14-dev",
-    "/usr/lib/llvm-*/bin/llvm-lipo": "llvm",
     "/usr/lib/python3*/ensurepip": "python3-venv",
     "/usr/lib/python3/dist-packages/numpy": "python3-numpy",
     "python:ensurepip": "python3-venv",
@@ -47,7 +46,7 @@ OTHERS = {
     "compiled": "compiled/ isn't made of the crates as they are: tools/assemble makes it",
 }
 # Programs that don't take --version.
-SILENT = {"rt", "sh", "Xvfb", "iverilog", "clean-tree"}
+SILENT = {"rt", "sh", "Xvfb", "iverilog", "llvm-dlltool", "llvm-lib", "clean-tree"}
 
 
 def is_here(tool: str) -> bool:
@@ -60,7 +59,7 @@ def is_here(tool: str) -> bool:
         return all(build.is_made(f"compiled/{crate}.made") for crate in build.BUILT)
     if tool.startswith("python:"):
         return importlib.util.find_spec(tool[7:]) is not None
-    return bool(glob.glob(tool)) if "/" in tool else shutil.which(tool) is not None
+    return bool(glob.glob(tool)) if "/" in tool else toolchain.found(tool) is not None
 
 
 @functools.lru_cache(None)

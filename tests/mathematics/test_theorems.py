@@ -22,7 +22,8 @@ from lib import TOP
 from lib.pages import blocks_of, matches, page
 from lib.processes import Ended, run
 from rsp_conformance.table import FORMS, ROWS, word_of
-from rsp_tools import build, crates
+from rsp_tools import crates
+from rsp_tools.kit import toolchain
 from rsp_tools.theorem.instructions import instruction_of
 from rsp_tools.theorem.routine import module_of
 
@@ -93,14 +94,16 @@ class Copy:
 
     def check(self, only: Iterable[str]) -> str:
         """Checks these modules, and returns the output. `rt ci` leaves all libraries, but without stamps."""
-        command, libraries = ["rt", "check"], [*map(crates.library, crates.with_below("rsp_routines")[:-1])]
+        command, libraries = ["rt", "check"], [
+            *map(crates.rlib_folder, crates.with_below("rsp_routines")[:-1])
+        ]
         is_built = all((path / f"{path.parent.parent.name}.rlib").exists() for path in libraries)
         if not is_built and "CI" not in os.environ:
             pytest.skip(
                 "the crates below rsp_routines aren't proved here: `rt all check` takes some half an hour"
             )
         if is_built and not any((path / "stamp").exists() for path in libraries):
-            command = [*build.over_libraries("check", "rsp_routines"), "src/lib.rt", "--jobs", "1"]
+            command = [*toolchain.over_libraries("check", "rsp_routines"), "src/lib.rt", "--jobs", "1"]
         words = [word for name in only for word in ("--only", name)]
         return run(*command, *words, cwd=self.crate, timeout=LONGEST).stdout
 

@@ -15,7 +15,8 @@ import pytest
 
 from lib.packages import need
 from lib.processes import succeeds
-from rsp_tools import build, crates
+from rsp_tools import crates
+from rsp_tools.kit import toolchain
 
 pytestmark = [pytest.mark.xdist_group("rt-rsp_main"), pytest.mark.timeout(1500)]
 
@@ -31,11 +32,11 @@ def other(tmp_path_factory: pytest.TempPathFactory) -> Path:
     if ours.exists() and file.exists() and file.stat().st_mtime > ours.stat().st_mtime - BETWEEN:
         return file
     need("rt")
-    if missing := [crate for crate in below if not (crates.library(crate) / f"{crate}.rlib").exists()]:
+    if missing := [crate for crate in below if not (crates.rlib_folder(crate) / f"{crate}.rlib").exists()]:
         pytest.skip(f"{file.name} isn't built here, and no library of {missing[0]}: `rt ci` builds both")
-    kit, crate = build.kit_folder(), crates.CRATES / "rsp_main"
+    kit, crate = toolchain.folder(), crates.CRATES / "rsp_main"
     how = ["--toolchain", kit / "toolchain", "-o"]
-    words = [*build.over_libraries("build", crate.name), "src/main.rt", "--backend", "rattle"]
+    words = [*toolchain.over_libraries("build", crate.name), "src/main.rt", "--backend", "rattle"]
     succeeds(*words, *how, f"{made}.o", cwd=crate, timeout=1200)
     link = [kit / "bin/rattle-link", "--target", "x86_64-unknown-linux-gnu"]
     succeeds(*link, *how, made, f"{made}.o", kit / "c/libos_c.a", kit / "c/liblibc_c.a")

@@ -30,7 +30,8 @@ from lib.pages import data, page
 from lib.processes import run
 from lib.same_items import assert_same_items
 from rsp_tools.page_tables import crates
-from rsp_tools.systems import helpers, wasm
+from rsp_tools import recipe
+from rsp_tools.systems import helpers
 
 GUARANTEES = "docs/GUARANTEES.md"
 # What a source is read by: the beginning and the end of a block of methods, a function, a precondition, and a
@@ -161,12 +162,18 @@ def test_assumed() -> None:
 
 def linked() -> Set[str]:
     """The files of C that the modules of tools name."""
-    folders = ("tools/rsp_tools", "tools/rsp_tools/systems", "tools/rsp_tools/packaging")
+    folders = (
+        "tools/rsp_tools",
+        "tools/rsp_tools/systems",
+        "tools/rsp_tools/kit",
+        "tools/rsp_tools/packaging",
+    )
     trees = [ast.parse(path.read_text()) for folder in folders for path in TOP.glob(f"{folder}/*.py")]
     texts = [it.value for tree in trees for it in ast.walk(tree) if isinstance(it, ast.Constant)]
     named = {str(text).rpartition("/")[2] for text in texts if re.fullmatch(r"[\w/]+\.c", str(text))}
     named.update(path.name for path in helpers.SOURCES)
-    return named | {f"{part}.c" for part in wasm.PARTS if part != "rsp"}
+    starts = {name for kernel in ("linux", "windows", "darwin") for name in recipe.words(kernel, "start")}
+    return named | starts
 
 
 def headers() -> Set[str]:
@@ -181,7 +188,7 @@ def test_unproved_files() -> None:
     files = {name for name in rows if name.endswith(".c")}
     assert {name.rpartition("/")[2] for name in files} == linked()
     # What changes the kit's module before or after clang compiles it.
-    changing = {f"tools/rsp_tools/systems/{it}.py" for it in ("rewriting", "objects", "lowering")}
+    changing = {f"tools/rsp_tools/kit/{it}.py" for it in ("rewriting", "objects", "lowering")}
     assert {*rows} == files | headers() | changing
     tests = {name: re.findall(r"tests/[\w/.]*\w", cell) for name, cell in rows.items()}
     assert [name for name, paths in tests.items() if not paths] == []

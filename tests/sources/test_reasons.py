@@ -1,4 +1,4 @@
-"""rsp_tools.reasons counts the mutations that are refused for their contract.
+"""rsp_tools.kit.reasons counts the mutations that are refused for their contract.
 
 It fails if it counts another mutation, or doesn't count one that a proof's citation alone refuses. A
 repository of one tiny crate has a mutation of each kind, which `rt must-fail` tries.
@@ -45,7 +45,7 @@ FAILED = {"takes_away": r"refused, as it must be \(only because a proof file nam
 
 def count_reasons(output: str, folder: Path) -> "Ended[str]":
     (folder / "output").write_text(output)
-    return run("tools/python", "rsp_tools.reasons", folder / "output")
+    return run("tools/python", "rsp_tools.kit.reasons", folder / "output")
 
 
 @pytest.mark.needs("rt")

@@ -27,7 +27,7 @@ def pytest_collection_modifyitems(items: List[pytest.Item]) -> None:
 
 def folder_of(target: Target, at: Path) -> Path:
     """The folder of a system, which is made once."""
-    need("compiled", *filter(None, [target.compiler]), *["rt"] * (target.python in ("win32", "darwin")))
+    need("compiled", *target.programs)
     folder = at / "systems" / target.name
     if not folder.exists():
         folders.make(target.name, folder)
@@ -37,7 +37,6 @@ def folder_of(target: Target, at: Path) -> Path:
 @pytest.fixture
 def made(request: pytest.FixtureRequest, at: Path) -> Path:
     """The folder of a system."""
-    need("rt")
     return folder_of(TARGETS[request.param], at)
 
 

@@ -15,8 +15,8 @@ from lib.processes import succeeds
 from lib.systems.built_files import symbol_names
 from lib.systems.target_params import COMPILED, LINUX, of, on
 from rsp_tools.packaging import archives
-from rsp_tools.systems import header, places
-from rsp_tools.systems.toolchain import llvm
+from rsp_tools.systems import header
+from rsp_tools.systems.toolchain import call
 from rsp_tools.targets import PROCESSORS, TARGETS
 
 OLDEST = (2, 17)  # the glibc of manylinux2014
@@ -49,31 +49,30 @@ def test_wheel_installed(runner: Any) -> None:
 def test_macos_symbols(made: Path, folder: Path) -> None:
     """Both processors are in the library, and nothing else."""
     processors, library = {it.apple for it in PROCESSORS.values()}, made / "lib/libbrsp.dylib"
-    assert {*llvm("llvm-lipo", "-archs", library).split()} == processors
+    assert {*call("llvm-lipo", "-archs", library).split()} == processors
     for processor in processors:
         part = folder / processor
-        llvm("llvm-lipo", library, "-thin", processor, "-output", part)
+        call("llvm-lipo", library, "-thin", processor, "-output", part)
         assert symbol_names("-g", "--defined-only", part) == {f"_{it}" for it in header.calls()}
         needed = symbol_names("-u", part) - {"dyld_stub_binder"}
         assert needed and needed <= {*MACOS, ZEROS[processor]}, processor
 
 
-@pytest.mark.needs("rt")
+@pytest.mark.needs("clang", "llvm-nm")
 @pytest.mark.parametrize("triple", TARGETS["macos"].triples.values())
 def test_macos_is_assembled(folder: Path, triple: str) -> None:
-    """The object, of which a static library is made, shows the proved calls alone: helpers have objects of
-    their own."""
+    """The object, of which a static library is made with the helpers, shows the other calls alone."""
     source = TOP / f"compiled/Darwin-{triple.partition('-')[0]}-lib.s"
-    llvm("clang", f"--target={triple}", "-c", source, "-o", folder / "brsp.o")
-    symbols = llvm("llvm-nm", "-g", "--defined-only", folder / "brsp.o")
-    assert {*re.findall(r" T _(\w+)$", symbols, re.M)} == {*header.declared(places.HEADER)}
+    call("clang", f"--target={triple}", "-c", source, "-o", folder / "brsp.o")
+    symbols = call("llvm-nm", "-g", "--defined-only", folder / "brsp.o")
+    assert {*re.findall(r" T _(\w+)$", symbols, re.M)} == {*header.calls()} - {*header.helpers()}
 
 
 @of("macos")
 @pytest.mark.parametrize("processor", ZEROS)
 def test_macos_load_commands(made: Path, processor: str) -> None:
     dylib = made / "lib/libbrsp.dylib"
-    commands = llvm("llvm-objdump", "--macho", "--private-headers", f"--arch={processor}", dylib)
+    commands = call("llvm-objdump", "--macho", "--private-headers", f"--arch={processor}", dylib)
     names = re.findall(r"cmd LC_(?:ID|LOAD)_DYLIB\n.*\n +name (\S+) ", commands)
     assert names == ["@rpath/libbrsp.dylib", "/usr/lib/libSystem.B.dylib"]
     versions = re.findall(r"\n +current version (\S+)\ncompatibility version (\S+)", commands)[:1]
@@ -92,12 +91,12 @@ def test_linux(made: Path) -> None:
     names = {it for it in symbol_names("-D", "--defined-only", library) if not it.startswith(node)}
     assert names == {f"{it}@@{node}" for it in calls}
     assert symbol_names("-g", "--defined-only", made / "lib/libbrsp.a") == calls
-    assert f"[{library.name}]" in llvm("llvm-readobj", "--dynamic-table", library)
+    assert f"[{library.name}]" in call("llvm-readobj", "--dynamic-table", library)
 
 
 def libraries_of(file: Path) -> List[str]:
     """The shared libraries that a file needs."""
-    table = llvm("llvm-readobj", "--dynamic-table", file)
+    table = call("llvm-readobj", "--dynamic-table", file)
     return re.findall(r"NEEDED\s+Shared library: \[(.*)\]", table)
 
 
@@ -106,7 +105,7 @@ def test_musl_needs(made: Path) -> None:
     """The library needs musl alone, by the name that its loader knows, and the program is static."""
     library, program = made / f"lib/libbrsp.so.{header.interface()}", made / "bin/rsp"
     assert libraries_of(library) == ["libc.so"] and libraries_of(program) == []
-    assert "INTERP" not in llvm("llvm-readobj", "--program-headers", program)
+    assert "INTERP" not in call("llvm-readobj", "--program-headers", program)
     check_elf(library)
     check_elf(program, is_program=True)
 

@@ -14,10 +14,12 @@ from lib.processes import compiled, succeeds
 from lib.systems import node
 from lib.systems.target_params import of
 from lib.systems.runners import assert_all_passed
+from rsp_tools.kit import lowering, web
+from rsp_tools.kit.rewriting import PSHUFB, rewritten, with_unwind_tables, without_stack_probes
+from rsp_tools.kit.toolchain import llvm
 from rsp_tools.packaging import archives
-from rsp_tools.systems import lowering, places, wasm
-from rsp_tools.systems.rewriting import PSHUFB, rewritten, with_unwind_tables, without_stack_probes
-from rsp_tools.systems.toolchain import Refused, llvm
+from rsp_tools.systems import places
+from rsp_tools.systems.toolchain import Refused
 
 # A function as the kit's modules have them, with PSHUFB.
 SMALL = f"""
@@ -48,15 +50,15 @@ def test_changes(folder: Path) -> None:
     text.write_text(with_unwind_tables(without_stack_probes(framed)))
     llvm("clang", *windows)
     assert ".seh_proc shuffled" in made.read_text()
-    text.write_text(rewritten(SMALL, {PSHUFB}, wasm.CHANGES))
-    llvm("clang", *wasm.CLANG, "-O3", "-Wno-override-module", "-S", "-o", made, "-x", "ir", text)
+    text.write_text(rewritten(SMALL, {PSHUFB}, web.CHANGES))
+    llvm("clang", *web.CLANG, "-O3", "-Wno-override-module", "-S", "-o", made, "-x", "ir", text)
     instructions = made.read_text()
     assert instructions.count("i8x16.swizzle") == 1 and "v128.and" in instructions
 
 
 def test_another_intrinsic() -> None:
     with pytest.raises(Refused, match="has the intrinsic llvm.x86.rsp.add, which no rule names"):
-        rewritten(SMALL.replace("  %c = call", f"  {FOREIGN}\n  %c = call"), {PSHUFB}, wasm.CHANGES)
+        rewritten(SMALL.replace("  %c = call", f"  {FOREIGN}\n  %c = call"), {PSHUFB}, web.CHANGES)
 
 
 # Each kind of access that with_short_addresses finds, at 8, after the bytes 0 to 15 were stored at 0.

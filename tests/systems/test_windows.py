@@ -17,9 +17,9 @@ from lib.pages import page
 from lib.processes import run, succeeds
 from lib.systems.built_files import symbol_names
 from lib.systems.target_params import of, on
-from rsp_tools import hardening
+from rsp_tools import recipe
 from rsp_tools.systems import header, places
-from rsp_tools.systems.toolchain import llvm
+from rsp_tools.systems.toolchain import call
 from rsp_tools.systems.windows import MSVC
 from rsp_tools.targets import TARGETS
 
@@ -42,14 +42,14 @@ START = "int main(void);\n__declspec(noreturn) void exit(int);\nvoid start(void)
 
 def using_stack(library: Path) -> Set[str]:
     """The functions that call others, or take room on the stack."""
-    listed = llvm("llvm-objdump", "-d", "--no-show-raw-insn", library)
+    listed = call("llvm-objdump", "-d", "--no-show-raw-insn", library)
     bodies = re.findall(r"(?m)^\w+ <(\w+)>:\n((?:.+\n)+)", listed)
     return {name for name, body in bodies if re.search(r"\t(?:call|push)|%rsp", body)}
 
 
 def framed(library: Path) -> Set[str]:
     """The functions whose frame a table describes."""
-    return {*re.findall(r"StartAddress: (\w+) ", llvm("llvm-readobj", "--unwind", library))}
+    return {*re.findall(r"StartAddress: (\w+) ", call("llvm-readobj", "--unwind", library))}
 
 
 @of("windows-x86_64")
@@ -57,7 +57,7 @@ def framed(library: Path) -> Set[str]:
 def test_needs(made: Path, name: str) -> None:
     """A library or a program needs what each Windows has, and may be loaded anywhere. The program checks its
     stack."""
-    read = llvm("llvm-readobj", "--needed-libs", made / "bin" / name)
+    read = call("llvm-readobj", "--needed-libs", made / "bin" / name)
     assert re.findall(r"(?m)^  (\S+\.dll)$", read) == NEEDED[name]
     check_pe(made / "bin" / name)
     is_checked = SMASHED in (made / "bin" / name).read_bytes()
@@ -67,8 +67,9 @@ def test_needs(made: Path, name: str) -> None:
 @pytest.mark.needs(TARGET.compiler)
 def test_program_checks_its_stack(folder: Path) -> None:
     """By the words that rsp.exe is compiled with, its C checks its stack."""
-    words = [*hardening.words(TARGET.name, "compile"), "-O2"]
-    succeeds(TARGET.compiler, *words, "-c", "-o", folder / "made.o", places.RUNTIME / TARGET.start)
+    words = recipe.words(TARGET.name, "compile", "compile-program")
+    (start,) = recipe.words(TARGET.name, "start")
+    succeeds(TARGET.compiler, *words, "-c", "-o", folder / "made.o", places.RUNTIME / start)
     assert re.search(r"(?m) U __stack_chk_fail$", succeeds("x86_64-w64-mingw32-nm", folder / "made.o"))
 
 
@@ -128,10 +129,10 @@ def test_first_line(runner: Any, folder: Path) -> None:
 
 @of("windows-x86_64")
 def test_shared(made: Path) -> None:
-    read = llvm("llvm-readobj", "--coff-exports", made / "bin/brsp.dll")
+    read = call("llvm-readobj", "--coff-exports", made / "bin/brsp.dll")
     assert sorted(re.findall(r"(?m)^ *Name:? (.*)$", read[read.index("Export {") :])) == sorted(CALLS)
     for name in ("libbrsp.dll.a", "brsp.lib"):
-        found = llvm("llvm-nm", "--defined-only", made / "lib" / name)
+        found = call("llvm-nm", "--defined-only", made / "lib" / name)
         assert {*re.findall(r"(?m)^brsp\.dll:\n\d+ T __imp_(\w+)\n\d+ T \1$", found)} == CALLS, name
 
 
@@ -149,19 +150,19 @@ def test_static(made: Path, name: str) -> None:
 
 
 def link_for_msvc(to: Path, source: Path, folder: Path, library: str, compiler: str) -> None:
-    """Compiles a program in C by the kit's clang and the headers of mingw, and links it by lld-link with a
+    """Compiles a program in C by clang and the headers of mingw, and links it by lld-link with a
     library of a folder, and with msvcrt.dll in place of MSVC's C library."""
     start = to.with_suffix(".start.c")
     start.write_text(START)
     options = [f"--target={MSVC}", "-std=gnu99", "-O2", "-nostdinc", "-isystem", HEADERS]
     options += ["-D__USE_MINGW_ANSI_STDIO=0", f"-I{folder}/include"]
     for part in start, source:
-        llvm("clang", *options, "-c", "-o", to.with_name(f"{part.stem}.obj"), part)
+        call("clang", *options, "-c", "-o", to.with_name(f"{part.stem}.obj"), part)
     objects = [to.with_name(f"{part.stem}.obj") for part in (start, source)]
     libraries = [folder / "lib" / library, MINGW / "libmsvcrt.a", MINGW / "libkernel32.a"]
     libgcc = succeeds(compiler, "-print-libgcc-file-name").strip()
     words = ["/nologo", "/entry:start", "/subsystem:console", "/alternatename:__chkstk=___chkstk_ms"]
-    llvm("lld-link", *words, f"/out:{to}", *objects, *libraries, libgcc)
+    call("lld-link", *words, f"/out:{to}", *objects, *libraries, libgcc)
 
 
 @on("windows-x86_64")
@@ -169,6 +170,6 @@ def link_for_msvc(to: Path, source: Path, folder: Path, library: str, compiler: 
 def test_msvc(runner: Any, library: str) -> None:
     program = runner.at / f"{Path(library).stem}.exe"
     link_for_msvc(program, TESTS / "library/c/calls.c", runner.folder, library, runner.compiler)
-    assert ("brsp.dll" in llvm("llvm-readobj", "--needed-libs", program)) == (library == "brsp.lib")
+    assert ("brsp.dll" in call("llvm-readobj", "--needed-libs", program)) == (library == "brsp.lib")
     shutil.copy(runner.folder / "bin/brsp.dll", runner.at)
     runner.passes(program)

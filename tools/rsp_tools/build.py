@@ -1,16 +1,13 @@
-"""What is made of the sources as they are, by the marks that tools/built.sh reads; and the kit."""
+"""What is made of the sources as they are, by the marks that tools/built.sh reads."""
 
-import functools
 import hashlib
-import shutil
 import subprocess
 from pathlib import Path
-from typing import List, Optional
+from typing import Optional
 
-from rsp_tools import TOOLS, TOP
-from rsp_tools.crates import CRATES, library, uses, with_below
+from rsp_tools import TOP
+from rsp_tools.crates import CRATES, with_below
 
-LOGIC = (TOOLS / "logic").read_text().strip()
 BUILT = ("rsp_main", "rsp_c")  # the program, and the library for C
 LINKED = CRATES / "rsp_main/out/rsp"  # the program that cc makes
 
@@ -54,29 +51,3 @@ def listed_sources() -> str:
     """compiled/sources: each source of what is in compiled/, and the first digits of its sum."""
     crates = {name for crate in BUILT for name in with_below(crate)}
     return said('tell_list "$@"', *sorted(crates)).stdout
-
-
-@functools.lru_cache(None)
-def kit() -> str:
-    """The version of the kit on this machine; empty if there is none."""
-    if not shutil.which("rt"):
-        return ""
-    return subprocess.run(["rt", "version"], stdout=subprocess.PIPE, text=True).stdout.strip()
-
-
-@functools.lru_cache(None)
-def kit_folder() -> Path:
-    return Path(subprocess.run(["rt", "doc"], stdout=subprocess.PIPE, text=True).stdout.strip()).parent
-
-
-def over_libraries(verb: str, crate: str) -> List[str]:
-    """The kit's words to check or build a crate over the libraries below as they are, without stamps too."""
-    rt, ours = kit_folder(), with_below(crate)[:-1]
-    words = [f"{rt}/bin/rattle", verb, "--crate-name", crate]
-    for name in ["std", *uses(crate)]:
-        folder = library(name) if name in ours else rt / "rlibs"
-        words += ["--extern", f"{name}={folder}/{name}.rlib"]
-    for folder in [rt / "rlibs", *map(library, ours)]:
-        words += ["-L", f"dependency={folder}"]
-    words += ["--antt-project", f"{rt}/rattle/logic/antt-project.json", "--logic-built", f"{rt}/logic_built"]
-    return words

@@ -26,6 +26,6 @@ def with_below(name: str) -> List[str]:
     return [*dict.fromkeys(below for used in uses(name) for below in with_below(used)), name]
 
 
-def library(name: str) -> Path:
+def rlib_folder(name: str) -> Path:
     """The folder of a proved crate's library, with the file `stamp` by which `rt` knows it."""
     return CRATES / name / "out/rlib"

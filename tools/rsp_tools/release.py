@@ -5,18 +5,17 @@
   page            the page that answers scripts, for a web server
   wheels          for Python on Linux (x86-64 and ARM, and with musl), Windows and macOS
 
-With names it makes these of the tree as it is, each as a folder dist/NAME: in seconds, and for wasm and
-page without the kit. Without names it makes all of them of HEAD, packed: archives with README.md,
-CHANGELOG.md, SHA256SUMS of their files, and COMMIT; the wheels; and dist/SHA256SUMS. Two runs from one commit
-give the same bytes. All is made of compiled/. Before it makes anything it names the packages of Debian that
-are missing, in one line of apt-get. It fails if the work tree isn't clean, a copy of the version differs,
-VERSION has a day and the commit no tag or the other way round, or the newcomer's tests fail. Then it leaves
-what was in dist. The last lines say what was left out, and why.
+With names it makes these of the tree as it is, each as a folder dist/NAME, in seconds. Without names it makes
+all of them of HEAD, packed: archives with README.md, CHANGELOG.md, SHA256SUMS of their files, and COMMIT; the
+wheels; and dist/SHA256SUMS. Two runs from one commit give the same bytes. All is made of compiled/, without
+the kit. Before it makes anything it names the packages of Debian that are missing, in one line of apt-get. It
+fails if the work tree isn't clean, a copy of the version differs, VERSION has a day and the commit no tag or
+the other way round, or the newcomer's tests fail. Then it leaves what was in dist. The last lines say what
+was left out, and why.
 """
 
 import argparse
 import re
-import shutil
 import signal
 import subprocess
 import sys
@@ -37,11 +36,11 @@ ARCHIVES = [name for name, target in TARGETS.items() if target.ending]
 WHEELS = {it.name: it for it in (NATIVE, *CROSS) if it.wheel}
 NAMES = [*ARCHIVES, "wheels"]
 NEWCOMER = "tests/install/test_newcomer.py"
-# What each of them needs beside Python, of Debian's packages or the kit.
+# What each of them needs beside Python, of Debian's packages.
 PROGRAMS: Dict[str, Tuple[str, ...]] = {
-    "windows-x86_64": (TARGETS["windows-x86_64"].compiler, "rt"),
+    "windows-x86_64": TARGETS["windows-x86_64"].programs,
     "page": ("cmark-gfm",),
-    "wheels": ("ar", *(it.compiler for it in WHEELS.values() if it.compiler), "rt"),
+    "wheels": ("ar", *(program for it in WHEELS.values() for program in it.programs)),
 }
 HOW = b"# sha256sum --ignore-missing -c SHA256SUMS checks those of these files that are here\n"
 # The copies of what is in VERSION: with its day, and without.
@@ -80,11 +79,8 @@ def check_day(day: str, tags: List[str]) -> None:
 
 
 def check_packages(names: List[str], is_tested: bool) -> None:
-    """Ends if the kit or a package is missing that makes these, or that the newcomer's commands need."""
-    programs = [it for name in names for it in PROGRAMS.get(name, ())]
-    if "rt" in programs and not shutil.which("rt"):
-        fail("there is no `rt`, the command of the Rattle kit (compiled/record names its version)")
-    packages = missing(*programs)
+    """Ends if a package is missing that makes these, or that the newcomer's commands need."""
+    packages = missing(*(it for name in names for it in PROGRAMS.get(name, ())))
     more = output_of("tools/python", "lib.install.needed_packages") if is_tested else ""
     if packages:
         both = " ".join(dict.fromkeys([*packages.split(), *more.split()]))

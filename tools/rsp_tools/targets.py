@@ -1,7 +1,7 @@
 """The systems on which rsp runs, a record each, and the processors for which the kit makes modules.
 
 tools/rsp_tools/systems makes their folders, ./release packs some of these, and tests/lib/systems runs
-programs for them. A further Linux on one of these processors is a record here and its start file.
+programs for them. A further Linux on one of these processors is a record here.
 """
 
 import platform
@@ -36,9 +36,6 @@ class Target(NamedTuple):
     command: str = ""  # what a user runs in a clone
     ending: str = ""  # of the archive's file, if ./release makes one
     triples: Mapping[str, str] = {}  # what clang calls the system, for each processor
-    # The file of runtime/ by which the program begins, and the words that link it.
-    start: str = ""
-    linked: str = ""
     # Below the system's folder:
     shared: str = ""  # the shared library
     program: str = ""
@@ -47,14 +44,21 @@ class Target(NamedTuple):
     cmake: Tuple[str, str] = ("", "")  # CMAKE_SYSTEM_NAME, and a pattern of CMAKE_SYSTEM_PROCESSOR
     python: str = ""  # sys.platform
     wheel: Tuple[str, ...] = ()  # the tags of the wheel
-    # Debian's programs that compile C for the system, and that run it here, and the packages of these.
+    # Debian's programs that compile C for the system, that also make its folder, and that run it here, and
+    # the packages of these.
     compiler: str = ""
+    makers: Tuple[str, ...] = ()
     emulator: Tuple[str, ...] = ()
     packages: Mapping[str, str] = {}
 
     @property
     def is_linux(self) -> bool:
         return self.name.startswith("linux-")
+
+    @property
+    def programs(self) -> Tuple[str, ...]:
+        """Debian's programs that make its folder of compiled/."""
+        return (*filter(None, [self.compiler]), *self.makers)
 
     @property
     def processor(self) -> str:
@@ -69,8 +73,6 @@ NATIVE = Target(
     tested="natively: all tests of the repository",
     command="`./rsp`",
     triples={"x86_64": "x86_64-unknown-linux-gnu"},
-    start="start_x86_64.c",
-    linked="-fPIE -pie -nostartfiles",
     shared="lib/libbrsp.so",
     program="bin/rsp",
     cmake=("Linux", "x86_64|AMD64|amd64"),
@@ -87,8 +89,6 @@ CROSS: Tuple[Target, ...] = (
         tested="in the emulator qemu-aarch64, not on an ARM processor",
         command="`./rsp`",
         triples={"aarch64": "aarch64-unknown-linux-gnu"},
-        start="start_aarch64.c",
-        linked="-fPIE -pie -nostartfiles",
         shared="lib/libbrsp.so",
         program="bin/rsp",
         cmake=("Linux", "aarch64|arm64"),
@@ -109,9 +109,6 @@ CROSS: Tuple[Target, ...] = (
         tested="natively, with musl 1.2.3",
         command="`CC=musl-gcc ./rsp`",
         triples={"x86_64": "x86_64-unknown-linux-musl"},
-        start="start.c",
-        # A program that is static and can be at any address. musl's words for gcc have no such kind.
-        linked="-fPIE -pie -nostartfiles -l:rcrt1.o -Wl,-static,--no-dynamic-linker,-z,text,--wrap=main",
         shared="lib/libbrsp.so",
         program="bin/rsp",
         cmake=("Linux", "x86_64|AMD64|amd64"),
@@ -128,9 +125,6 @@ CROSS: Tuple[Target, ...] = (
         command="`./release windows-x86_64`, or CMake with mingw",
         ending="zip",
         triples={"x86_64": "x86_64-w64-windows-gnu"},
-        start="posix_windows.c",
-        # With as much stack as on Linux, and without the time of the link.
-        linked="-municode -static -Wl,--stack,8388608,--no-insert-timestamp",
         shared="bin/brsp.dll",
         program="bin/rsp.exe",
         rust={"x86_64-pc-windows-gnu": "libbrsp.a", "x86_64-pc-windows-msvc": "brsp_static.lib"},
@@ -138,6 +132,7 @@ CROSS: Tuple[Target, ...] = (
         python="win32",
         wheel=("win_amd64",),
         compiler="x86_64-w64-mingw32-gcc",
+        makers=("clang", "llvm-ar", "llvm-dlltool", "llvm-lib"),
         emulator=("wine",),
         packages={
             "x86_64-w64-mingw32-gcc": "gcc-mingw-w64-x86-64",
@@ -152,12 +147,12 @@ CROSS: Tuple[Target, ...] = (
         tested="nothing ran on a Mac, but the code was taken out and ran on Linux",
         command="CMake with clang",
         triples={"x86_64": "x86_64-apple-macosx11.0.0", "aarch64": "arm64-apple-macosx11.0.0"},
-        start="posix_macos.c",
         shared="lib/libbrsp.dylib",
         program="bin/rsp",
         cmake=("Darwin", "x86_64|arm64"),
         python="darwin",
         wheel=("macosx_11_0_universal2",),
+        makers=("clang", "ld64.lld", "llvm-lipo"),
     ),
     Target(
         name="wasm",

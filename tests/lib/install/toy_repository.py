@@ -13,7 +13,9 @@ from pathlib import Path
 from typing import Callable, Iterator, NamedTuple, Optional, Union
 
 from lib import TOP
-from rsp_tools.build import LOGIC
+from rsp_tools import recipe
+
+LOGIC = (TOP / "tools/logic").read_text().strip()
 
 CRATES = """# small crates
 rsp_decode:
@@ -98,7 +100,8 @@ class ToyRepository:
         for name in "tools", "runtime":
             shutil.copytree(TOP / name, self.root / name)
         texts = {"crates.txt": CRATES, "library/c/brsp.h": HEADER, "library/c/brsp_helpers.h": ""}
-        texts["library/c/helpers/words.c"] = "int brsp_none;\n"
+        for name in recipe.words("all", "helpers"):
+            texts[f"library/c/helpers/{name}.c"] = f"int brsp_no_{name};\n"
         texts.update({f"compiled/Linux-{PROCESSOR}-{kind}.s": "" for kind in ("rsp", "lib")})
         texts.update({f"crates/{name}": text for name, text in SOURCES.items()})
         texts.update({name: (TOP / name).read_text() for name in COPIED.split()})

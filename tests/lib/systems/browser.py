@@ -11,8 +11,9 @@ from typing import Any, Dict, List, Optional, Tuple
 from lib.packages import need
 from lib.processes import Ended
 from lib.systems.runners import Runner
-from rsp_tools.systems import places, wasm
-from rsp_tools.systems.toolchain import llvm
+from rsp_tools.kit import web
+from rsp_tools.kit.toolchain import llvm
+from rsp_tools.systems import places
 
 PAGES = places.TOP / "tests/systems/wasm"
 PROGRAMS = ("chromium", "chromedriver", "python:selenium")
@@ -116,13 +117,13 @@ class Chromium(Runner):
         """What the library was linked of."""
         need("rt")
         (self.at / "way").mkdir()
-        return wasm.objects(self.at / "way")
+        return web.objects(self.at / "way")
 
     @cached_property
     def libc(self) -> Path:
         """What programs need of the C library."""
         made = self.at / "libc.o"
-        llvm("clang", *wasm.CLANG, "-O2", "-fno-builtin", "-c", "-o", made, PAGES / "libc.c")
+        llvm("clang", *web.CLANG, "-O2", "-fno-builtin", "-c", "-o", made, PAGES / "libc.c")
         return made
 
     def static(self) -> List[str]:
@@ -136,14 +137,14 @@ class Chromium(Runner):
         part = self.at / f"{name or source.stem}.o"
         defined = [it for it in words if it.startswith("-D")] or ["-Dmain=test_main"]
         places_of = [f"-I{PAGES}", f"-I{self.at}", f"-I{places.HEADER.parent}"]
-        llvm("clang", *wasm.CLANG, "-O2", *places_of, *defined, "-c", "-o", part, source)
+        llvm("clang", *web.CLANG, "-O2", *places_of, *defined, "-c", "-o", part, source)
         if "-c" in words:
             return part
         linked = [word for it in words if it.startswith("-Wl,") for word in it.split(",")[1:]]
         libraries = self.static() if library is None else library
         more = [Path(it) for it in [*words, *libraries] if it.endswith(".o")]
         made = self.at / f"{name or source.stem}{self.ending}"
-        wasm.link(made, [part, *more], "--export=test_main", "--import-undefined", *linked)
+        web.link(made, [part, *more], "--export=test_main", "--import-undefined", *linked)
         return made
 
     def does(self, url: str, library: str, *words: object) -> Tuple[bytes, int]:

@@ -11,7 +11,7 @@ from typing import Dict, Set
 
 from lib.processes import run
 from rsp_tools.systems import header, places
-from rsp_tools.systems.toolchain import llvm
+from rsp_tools.systems.toolchain import call
 from rsp_tools.targets import Target
 
 # A program that imports the module on a system, up to what it would load.
@@ -28,7 +28,7 @@ TAGS = {"linux": "{}linux.*_{}", "win32": "win_amd64", "darwin": "macosx_11_0_un
 
 def symbol_names(*words: object) -> Set[str]:
     """The names that llvm-nm lists."""
-    lines = llvm("llvm-nm", *map(str, words)).splitlines()
+    lines = call("llvm-nm", *map(str, words)).splitlines()
     return {it.split()[-1] for it in lines if it and not it.endswith(":")}
 
 

@@ -7,7 +7,7 @@ import struct
 from pathlib import Path
 from typing import Dict, Iterator, List
 
-from rsp_tools.systems.toolchain import llvm
+from rsp_tools.systems.toolchain import call
 
 SEGMENT = 0x19  # the load command LC_SEGMENT_64
 PROGRAM, BASE = 2, 0x100000000  # MH_EXECUTE, and where its bytes begin
@@ -39,7 +39,7 @@ def fixups(library: Path, mapped: bytearray) -> Dict[int, str]:
     found: Dict[int, str] = {}
     base = first(library.read_bytes())
     for kind in ("--rebase", "--bind", "--lazy-bind"):
-        for line in llvm("llvm-objdump", "--macho", kind, library).splitlines():
+        for line in call("llvm-objdump", "--macho", kind, library).splitlines():
             fixup = FIXUP.fullmatch(line)
             if fixup and kind == "--rebase":
                 at = int(fixup[1], 16) - base
@@ -62,7 +62,7 @@ def lines(library: Path) -> Iterator[str]:
         yield f".quad {name}"
         at = address + 8
     yield f".byte {','.join(map(str, mapped[at:]))}"
-    defined = llvm("llvm-nm", "-g", "--defined-only", library)
+    defined = call("llvm-nm", "-g", "--defined-only", library)
     for place, name in re.findall(r"(?m)^(\w+) T _(\w+)$", defined):
         yield f".globl {name}\n.set {name}, base + {int(place, 16) - base}\n.type {name}, %function"
     yield '.section .note.GNU-stack,"",%progbits'
@@ -71,7 +71,7 @@ def lines(library: Path) -> Iterator[str]:
 def taken_out(library: Path, processor: str, at: Path) -> List[str]:
     """The words that link the code of one processor into a program. `at` is a folder for its files."""
     thin, text, erase = at / "thin.dylib", at / "dylib.s", at / "erase.c"
-    llvm("llvm-lipo", library, "-thin", processor, "-output", thin)
+    call("llvm-lipo", library, "-thin", processor, "-output", thin)
     text.write_text("".join(f"{it}\n" for it in lines(thin)))
     # For Intel macOS has a call of its own.
     erase.write_text("#include <string.h>\nvoid __bzero(void *at, size_t n) { memset(at, 0, n); }\n")

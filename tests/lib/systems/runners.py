@@ -13,8 +13,9 @@ from lib.library import LOCKSTEP
 from lib.packages import need
 from lib.processes import Ended, run, succeeds
 from lib.systems import macho
+from rsp_tools import recipe
 from rsp_tools.systems import macos, places
-from rsp_tools.systems.toolchain import llvm
+from rsp_tools.systems.toolchain import call
 from rsp_tools.targets import CROSS, NATIVE, PROCESSORS, TARGETS, Target
 
 STRICT = ("-std=c99", "-O2", "-Wall", "-Wextra", "-Werror")
@@ -175,8 +176,10 @@ class Windows(Runner):
 
     def linked(self, name: str, *parts: Path) -> Path:
         """A program of posix_windows.c and these parts."""
-        made, words = self.at / f"{name}.exe", ["-O2", *self.target.linked.split()]
-        succeeds(self.compiler, *words, "-o", made, places.RUNTIME / self.target.start, *parts)
+        made, system = self.at / f"{name}.exe", self.target.name
+        (start,) = recipe.words(system, "start")
+        words = recipe.words(system, "compile-program", "link-program")
+        succeeds(self.compiler, *words, "-o", made, places.RUNTIME / start, *parts)
         return made
 
     def shared(self) -> List[str]:
@@ -217,7 +220,7 @@ class MacOS(Runner):
         at = self.at / "library"
         at.mkdir()
         macos.link_library(at / "thin", self.triple, assembly)
-        llvm("llvm-lipo", "-create", at / "thin", "-output", at / "fat")
+        call("llvm-lipo", "-create", at / "thin", "-output", at / "fat")
         return macho.taken_out(at / "fat", self.architecture, at)
 
     @property
@@ -229,7 +232,7 @@ class MacOS(Runner):
         """A program of posix_macos.c and these parts."""
         made = self.at / f"{name}.macho"
         macos.link_program(made, self.triple, *parts)
-        llvm("llvm-lipo", "-create", made, "-output", made.with_suffix(".fat"))
+        call("llvm-lipo", "-create", made, "-output", made.with_suffix(".fat"))
         return self.for_linux(made.with_suffix(".fat"), self.at / name)
 
     @property
@@ -239,7 +242,7 @@ class MacOS(Runner):
 
     @property
     def programs(self) -> Tuple[str, ...]:
-        return ("rt", *super().programs)
+        return ("ld64.lld", "llvm-lipo", *super().programs)
 
     def static(self) -> List[str]:
         return self.code

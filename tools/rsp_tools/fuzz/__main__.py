@@ -21,14 +21,16 @@ from pathlib import Path
 from typing import List
 
 from rsp_tools import TOP
+from rsp_tools.kit import modules
+from rsp_tools.kit.modules import is_kept, keep, module
+from rsp_tools.kit.toolchain import llvm
 from rsp_tools.systems import places
-from rsp_tools.systems.modules import is_kept, keep, module
-from rsp_tools.systems.toolchain import Refused, call, llvm
+from rsp_tools.systems.toolchain import Refused, call
 
 from .seeds import SEEDS, WITH_DICTIONARY, dictionary
 from .targets import TARGETS, compiler, link
 
-KEPT = places.KEPT / "fuzz"
+KEPT = modules.KEPT / "fuzz"
 OPTIONS = "-x ir -c -O1 -fPIC -fsanitize=address,fuzzer-no-link -Wno-override-module".split()
 
 

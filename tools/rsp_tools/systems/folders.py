@@ -8,7 +8,6 @@ from rsp_tools.packaging import link
 from rsp_tools.targets import TARGETS
 
 from . import macos, wasm, web_page, windows
-from .modules import LIBRARY, PROGRAM, WEB
 from .toolchain import Refused
 
 MAKERS = {"windows-x86_64": windows.make, "macos": macos.make, "wasm": wasm.make, "page": web_page.make}
@@ -19,12 +18,12 @@ IN_WASM = ("wasm", "page")
 def make(name: str, out: Path) -> None:
     """Makes a folder. Refused if compiled/ isn't made of the sources as they are."""
     target = TARGETS[name]
-    crates = (PROGRAM, LIBRARY, *[WEB] * (name in IN_WASM))
-    if not all(build.is_made(f"compiled/{crate.made}") for crate in crates):
+    marks = (*build.BUILT, *["rsp_wasm"] * (name in IN_WASM))
+    if not all(build.is_made(f"compiled/{it}.made") for it in marks):
         raise Refused(link.STALE)
     if not target.is_linux:
         MAKERS[name](out)
         return
     (out / "lib").mkdir(parents=True)
-    link.library(CC=target.compiler, RSP_OUT=str(out / "lib"))
+    link.build_library(CC=target.compiler, RSP_OUT=str(out / "lib"))
     link.put_program(out, target)

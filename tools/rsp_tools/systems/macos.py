@@ -5,39 +5,40 @@ import tempfile
 from pathlib import Path
 from typing import Callable, Dict, List, Tuple
 
-from rsp_tools import hardening
+from rsp_tools import recipe
 from rsp_tools.targets import TARGETS
 
 from . import header, helpers, places
-from .toolchain import Word, llvm
+from .toolchain import Word, call
 
 OLDEST, TARGET = "11.0", TARGETS["macos"]
+KERNEL = "darwin"  # as tools/recipe names it
 
 
 def link(to: Path, triple: str, *words: Word) -> None:
     """Links a file for one processor. lld signs that for ARM, without which macOS doesn't load it."""
     more: List[Word] = ["-platform_version", "macos", OLDEST, OLDEST, "-dead_strip", "-o", to]
-    llvm("ld64.lld", "-arch", triple.partition("-")[0], *words, places.HERE / "libSystem.tbd", *more)
+    call("ld64.lld", "-arch", triple.partition("-")[0], *words, places.HERE / "libSystem.tbd", *more)
 
 
 def link_library(to: Path, triple: str, assembly: Path) -> None:
     """A shared library for one processor."""
     made, exports = to.with_suffix(".o"), to.with_suffix(".exports")
-    llvm("clang", f"--target={triple}", "-c", "-o", made, assembly)
+    call("clang", f"--target={triple}", "-c", "-o", made, assembly)
     exports.write_text("".join(f"_{it}\n" for it in header.calls()))
     words: List[Word] = ["-install_name", "@rpath/libbrsp.dylib", "-current_version", header.version()]
     words += ["-compatibility_version", header.interface(), "-exported_symbols_list", exports]
     with tempfile.TemporaryDirectory() as at:
-        link(to, triple, "-dylib", *words, made, *helpers.objects(triple, Path(at)))
+        link(to, triple, "-dylib", *words, made, *helpers.objects(call, triple, Path(at)))
 
 
 def link_program(to: Path, triple: str, *parts: Path) -> None:
     """A program of posix_macos.c and parts in C or assembly, for one processor."""
-    objects, words = [], ["-std=c11", "-O2", "-ffreestanding", *hardening.words(TARGET.name, "compile")]
-    for part in (places.RUNTIME / TARGET.start, *parts):
+    objects, words = [], ["-std=c11", "-ffreestanding", *recipe.words(KERNEL, "compile", "compile-program")]
+    for part in (*map(places.RUNTIME.joinpath, recipe.words(KERNEL, "start")), *parts):
         objects.append(to.with_name(f"{to.name}-{part.stem}.o"))
         words_of_part = words if part.suffix == ".c" else []
-        llvm("clang", f"--target={triple}", *words_of_part, "-c", "-o", objects[-1], part)
+        call("clang", f"--target={triple}", *words_of_part, "-c", "-o", objects[-1], part)
     link(to, triple, *objects)
 
 
@@ -55,4 +56,4 @@ def make(out: Path) -> None:
             thin = {triple: Path(at, triple.partition("-")[0]) for triple in TARGET.triples.values()}
             for triple, to in thin.items():
                 link_kind(to, triple, places.TOP / f"compiled/Darwin-{to.name}-{kind}.s")
-            llvm("llvm-lipo", "-create", *thin.values(), "-output", out / name)
+            call("llvm-lipo", "-create", *thin.values(), "-output", out / name)

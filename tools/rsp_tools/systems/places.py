@@ -5,11 +5,7 @@ from pathlib import Path
 HERE = Path(__file__).resolve().parent
 TOP = HERE.parents[2]
 RUNTIME = TOP / "runtime"  # the C by which systems run what is proved
-CRATE = TOP / "crates" / "rsp_c"
-CRATES = TOP / "crates"
 HEADER = TOP / "library" / "c" / "brsp.h"
 HELPERS = TOP / "library" / "c" / "brsp_helpers.h"
 PYTHON = TOP / "library" / "python"
 RUST = TOP / "library" / "rust"
-# What is kept to make compiled/ again sooner: the modules, and what their checks found.
-KEPT = CRATE / "out" / "systems"

@@ -6,19 +6,18 @@ import shutil
 import tempfile
 from pathlib import Path
 
-from rsp_tools import hardening
+from rsp_tools import recipe
 from rsp_tools.packaging import link
 from rsp_tools.targets import TARGETS
 
 from . import header, helpers, places
-from .toolchain import call, llvm
+from .toolchain import call
 
 TARGET = TARGETS["windows-x86_64"]
 GNU, MSVC = TARGET.triples["x86_64"], "x86_64-pc-windows-msvc"
 # Two links give the same bytes without their time, and with an address that isn't made of the file's name.
 SAME = "-Wl,--no-insert-timestamp"
 BASE = "-Wl,--image-base,0x180000000"
-SMALL = "-Wl,--gc-sections"
 TEMPLATES = {
     "lib/pkgconfig": "brsp.pc",
     "lib/cmake/brsp": "brspConfig.cmake brspConfigVersion.cmake",
@@ -49,16 +48,16 @@ def make_library(out: Path, at: Path) -> None:
         call(TARGET.compiler, "-c", "-o", at / f"{name}.o", at / f"{name}.s")
     exports = at / "rsp.def"
     exports.write_text("".join(f"{it}\n" for it in ("LIBRARY brsp.dll", "EXPORTS", *header.calls())))
-    words = ["-shared", "-static-libgcc", "-s", SAME, BASE, SMALL, *hardening.words(TARGET.name, "link")]
-    gnu = [at / "gnu.o", *helpers.objects(GNU, at)]
+    words = ["-shared", "-s", SAME, BASE, *recipe.words(TARGET.name, "link", "link-library")]
+    gnu = [at / "gnu.o", *helpers.objects(call, GNU, at)]
     parts = *gnu, resources(at, "brsp.dll", "VFT_DLL"), exports
     call(TARGET.compiler, *words, "-o", out / TARGET.shared, *parts)
-    words = ["-m", "i386:x86-64", "-D", "brsp.dll"]
-    llvm("llvm-dlltool", *words, "-d", exports, "-l", out / "lib/libbrsp.dll.a")
-    llvm("llvm-lib", "/machine:x64", f"/def:{exports}", f"/out:{out}/lib/brsp.lib")
-    llvm("llvm-ar", "rcsD", out / "lib/libbrsp.a", *gnu)
-    msvc = [at / "msvc.o", *helpers.objects(MSVC, at)]
-    llvm("llvm-ar", "rcsD", "--format=coff", out / "lib/brsp_static.lib", *msvc)
+    for name in "libbrsp.dll.a", "brsp.lib":
+        words = ["-m", "i386:x86-64", "-D", "brsp.dll", "-l", str(out / "lib" / name)]
+        call("llvm-dlltool", *words, "-d", exports)
+    call("llvm-ar", "rcsD", out / "lib/libbrsp.a", *gnu)
+    msvc = [at / "msvc.o", *helpers.objects(call, MSVC, at)]
+    call("llvm-lib", f"/out:{out}/lib/brsp_static.lib", *msvc)
 
 
 def describe(out: Path) -> None:

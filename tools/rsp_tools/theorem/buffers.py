@@ -3,7 +3,7 @@
 The lines begin with `--| `: they are comments until the author has written what a round stores.
 """
 
-from .kit import OPENED
+from .imports import OPENED
 from .routine import Routine
 
 MARK = "--| "

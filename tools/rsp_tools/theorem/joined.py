@@ -2,7 +2,7 @@
 
 from .buffers import marked, result_use
 from .instructions import uses
-from .kit import KIT, OPENED
+from .imports import IMPORTS, OPENED
 from .loops import lemmas, needs_bound
 from .pieces import aligned, bases_of
 from .routine import Joined, Routine
@@ -29,9 +29,9 @@ def joined_proof(joined: Joined) -> str:
         blocks += record_text(joined.back, "Routine", "back", "back_decoded")
     elif joined.back:
         blocks += code_text(joined.back, "back_words", "back", "back_decoded")
-    kit = f"{KIT}{uses(joined.code)}{JOINS}{WAITS if joined.wait else ''}"
+    imports = f"{IMPORTS}{uses(joined.code)}{JOINS}{WAITS if joined.wait else ''}"
     return f"""-- {joined.name}.
-{kit}use Rattle.rsp_routines.specs.{joined.module}.{{{names}}}
+{imports}use Rattle.rsp_routines.specs.{joined.module}.{{{names}}}
 {result_use(joined.loop)}
 {turns}
 {blocks}abbrev words : List ℕ

@@ -4,7 +4,7 @@ import re
 
 from .buffers import MARK, filled, marked, memory, result_use, stored
 from .instructions import uses
-from .kit import KIT, OPENED
+from .imports import IMPORTS, OPENED
 from .pieces import aligned
 from .routine import Routine
 from .straight import record_text
@@ -24,7 +24,7 @@ def after_rounds(base: int, amount: int, count: str) -> str:
 def loop_proof(routine: Routine) -> str:
     names = f"{routine.module}Entered, Does{routine.module}"
     return f"""-- {routine.name}.
-{KIT}{uses(routine.code)}use Rattle.rsp_routines.specs.{routine.module}.{{{names}}}
+{IMPORTS}{uses(routine.code)}use Rattle.rsp_routines.specs.{routine.module}.{{{names}}}
 {result_use(routine)}
 {lemmas(routine)}
 {does(routine)}"""

@@ -6,7 +6,7 @@ from .buffers import marked
 from .loops import after_rounds, needs_bound
 from .routine import Joined, Routine
 
-KIT = """\
+IMPORTS = """\
 use Rattle.std.specs.Prelude.{ℕ, ℤ, pos, ◌≡◌, ◌≢◌, ◌<◌, ◌+◌, ◌-◌, ◌*◌, ◌/◌, ◌%◌, ◌^◌, ◌+ℤ◌, ◌-ℤ◌, ◌*ℤ◌, ◌++◌}
 use Rattle.std.specs.Prelude.{true, false, List, [], ◌∷◌, codes, slice_index}
 use Rattle.std.specs.Int.Bits.{bit_and, bit_or, bit_xor}
@@ -41,7 +41,7 @@ def statement(routine: Routine | Joined) -> str:
         target = f"(register {start}.registers {loop.target})"
         filled = f"  pub filled : IsFilled (result {start}) {start}.dmem t.dmem {target} n\n"
     return f"""-- {routine.name}.
-{KIT}
+{IMPORTS}
 abbrev pub text : List ℕ
 text =
     {text}

@@ -1,6 +1,6 @@
 """The proofs of straight code, and of a routine that returns."""
 
-from .kit import KIT, OPENED
+from .imports import IMPORTS, OPENED
 from .instructions import uses
 from .pieces import aligned, definitions, pieces_text
 from .routine import Routine
@@ -8,7 +8,7 @@ from .routine import Routine
 
 def straight_proof(routine: Routine) -> str:
     return f"""-- {routine.name}.
-{KIT}{uses(routine.code)}use Rattle.rsp_routines.specs.{routine.module}.{{Does{routine.module}}}
+{IMPORTS}{uses(routine.code)}use Rattle.rsp_routines.specs.{routine.module}.{{Does{routine.module}}}
 
 {code_text(routine, "words", "pieces", "decoded")}\
 {does(routine, "words", "pieces", "pieces_run law words pieces")}"""
@@ -16,7 +16,7 @@ def straight_proof(routine: Routine) -> str:
 
 def routine_proof(routine: Routine) -> str:
     return f"""-- {routine.name}.
-{KIT}{uses(routine.code)}use Rattle.rsp_microcode.specs.Calls.{{Routine, routine_code}}
+{IMPORTS}{uses(routine.code)}use Rattle.rsp_microcode.specs.Calls.{{Routine, routine_code}}
 use Rattle.rsp_routines.specs.{routine.module}.{{Does{routine.module}}}
 use Rattle.rsp_microcode.proofs.Calls.{{routine_run}}
 

@@ -1,7 +1,7 @@
 """The proof of a wait for an SP register: a block whose branch isn't taken."""
 
 from .instructions import uses
-from .kit import KIT, OPENED
+from .imports import IMPORTS, OPENED
 from .routine import Routine, Wait
 from .straight import record_text
 
@@ -14,7 +14,7 @@ use Rattle.rsp_microcode.proofs.Branches.{block_runs}
 def wait_proof(routine: Routine, wait: Wait) -> str:
     sets = f"{routine.numbers} {routine.vectors}"
     return f"""-- {routine.name}.
-{KIT}{USES}use Rattle.rsp_microcode.proofs.Joins.{{ran_others}}
+{IMPORTS}{USES}use Rattle.rsp_microcode.proofs.Joins.{{ran_others}}
 {uses(routine.code)}use Rattle.rsp_routines.specs.{routine.module}.{{Does{routine.module}}}
 
 {wait_lemmas(routine, wait)}

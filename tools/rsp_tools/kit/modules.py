@@ -6,17 +6,18 @@ source of the crate or the kit changes."""
 
 import fcntl
 import shutil
-import subprocess
 import tempfile
 from pathlib import Path
 from typing import List, NamedTuple, Tuple
 
 from rsp_tools import build
-from rsp_tools.proof import guarded
+from rsp_tools.crates import CRATES
+from rsp_tools.systems import helpers, places
+from rsp_tools.systems.toolchain import Refused
 from rsp_tools.targets import PROCESSORS
 
-from . import helpers, places
-from .toolchain import Refused, kit, llvm
+from . import toolchain
+from .toolchain import llvm
 
 
 class Module(NamedTuple):
@@ -41,7 +42,7 @@ class Crate(NamedTuple):
 
     @property
     def out(self) -> Path:
-        return places.CRATES / self.name / "out"
+        return CRATES / self.name / "out"
 
 
 # git looks for the version before among files whose names have the same last letters, so no two files may
@@ -53,21 +54,24 @@ LIBRARY = Crate("rsp_c", "src/lib.rt --crate-type staticlib", "lib", (HEAP,), "r
 # The library in WebAssembly has a mark of its own, because it has the helpers inside, which cc compiles on
 # other systems: a change of a helper makes only this file stale.
 WEB = LIBRARY._replace(end="wasm", parts=(*WITH_HEAP, *helpers.FILES), made="rsp_wasm.made")
+# What is kept to make compiled/ again sooner: the modules, and what their checks found.
+KEPT = LIBRARY.out / "systems"
 
 
 def mark(crate: Crate) -> str:
     """The kit's version and the sum of all sources."""
-    return f"{build.kit()}\n{build.sources(crate.name)}"
+    return f"{toolchain.version()}\n{build.sources(crate.name)}"
 
 
 def link_toolchain(folder: Path) -> None:
     """A folder of links to the kit's toolchain, with our program as its clang."""
+    bin_of_kit = toolchain.clang().parent
     (folder / "bin/kit").mkdir(parents=True)
-    (folder / "lib").symlink_to(kit() / "toolchain/lib")
-    for it in (kit() / "toolchain/bin").iterdir():
+    (folder / "lib").symlink_to(bin_of_kit.parent / "lib")
+    for it in bin_of_kit.iterdir():
         (folder / "bin" / it.name).symlink_to(it.resolve())
     (folder / "bin/clang").rename(folder / "bin/kit/clang")
-    shutil.copy(places.HERE / "clang", folder / "bin/clang")
+    shutil.copy(Path(__file__).with_name("clang"), folder / "bin/clang")
 
 
 def take(crate: Crate, processor: str, folder: Path) -> None:
@@ -76,21 +80,14 @@ def take(crate: Crate, processor: str, folder: Path) -> None:
     link_toolchain(folder / "toolchain")
     # The words are those of `rt`, with a processor and a toolchain. The check loads what the crate's own
     # check, or that for another processor, has left.
-    words = build.over_libraries("build", crate.name) + f"{crate.words} --backend llvm --jobs 2".split()
+    words = toolchain.over_libraries("build", crate.name) + f"{crate.words} --backend llvm --jobs 2".split()
     words += ["--incremental", str(crate.out / "incremental"), "--target", PROCESSORS[processor].triple]
-    ended = subprocess.run(
-        [*guarded(), *words, "--toolchain", str(folder / "toolchain"), "-o", str(folder / "made")],
-        cwd=crate.out.parent,
-        stdin=subprocess.DEVNULL,
-        stdout=subprocess.PIPE,
-        stderr=subprocess.STDOUT,
-        text=True,
-        errors="replace",
-    )
-    if ended.returncode or not (folder / "module").is_file():
-        last = "\n".join(ended.stdout.strip().splitlines()[-20:])
+    words += ["--toolchain", str(folder / "toolchain"), "-o", str(folder / "made")]
+    lines: List[str] = []
+    if toolchain.run(words, crate.out.parent, lines.append) or not (folder / "module").is_file():
+        last = "".join(lines[-20:])
         raise Refused(f"{crate.name} isn't proved and built for {processor}:\n{last}")
-    (folder / "said").write_text(ended.stdout)
+    (folder / "said").write_text("".join(lines))
 
 
 def print_text(given: Path, processor: str, to: Path) -> None:
@@ -134,9 +131,9 @@ def module(processor: str, crate: Crate = LIBRARY) -> Module:
     """The module of a crate for a processor, made again if a source has changed; the crates below have to be
     proved. Of a crate only one is made
     at a time, because the check for the second one loads what that for the first has found."""
-    kept = places.KEPT / f"{crate.name}-{processor}"
+    kept = KEPT / f"{crate.name}-{processor}"
     kept.parent.mkdir(parents=True, exist_ok=True)
-    with open(places.KEPT / f"{crate.name}.lock", "w") as lock:
+    with open(KEPT / f"{crate.name}.lock", "w") as lock:
         fcntl.flock(lock, fcntl.LOCK_EX)
         if not is_kept(kept, made_of := mark(crate)):
             with tempfile.TemporaryDirectory() as at:

@@ -4,10 +4,10 @@ only this system's file of the program (rsp_main) or of the library (rsp_c), in 
 becomes the command that follows; ./rsp and library/c/build call it if a source isn't as it was when compiled/
 was made.
 
-All need the kit. They first prove what isn't proved here, and print when each crate begins and ends; a run
-that was stopped continues there. Then the kit compiles, several files at a time: to assembly for each system,
-and the library to WebAssembly. Beside the proofs that takes some seven minutes of processor time. The same
-kit makes the same bytes of the same sources in any folder.
+All need the kit. They first prove what isn't proved here, one crate after the other, and print when each
+begins and ends; a run that was stopped continues there. Then the kit compiles, several files at a time: to
+assembly for each system, and the library to WebAssembly. Beside the proofs that takes some seven minutes of
+processor time. The same kit makes the same bytes of the same sources in any folder.
 
 tools/assemble also writes compiled/record: which kit proved what, and on which day. ./prove names each file
 that differs, and counts in its last line.
@@ -29,22 +29,24 @@ from pathlib import Path
 from typing import Dict, List, Mapping, NoReturn, Sequence, Tuple
 
 from rsp_tools import TOP
-from rsp_tools.build import LOGIC, is_made, kit, line_of, listed_sources, sources
-from rsp_tools.crates import with_below
+from rsp_tools.build import is_made, line_of, listed_sources, sources
+from rsp_tools.crates import CRATES, with_below
 from rsp_tools.packaging.install_tree import File, put_all
-from rsp_tools.proof import guarded, prove_below
-from rsp_tools.record import made_of, record
-from rsp_tools.systems import places, wasm
-from rsp_tools.systems.lowering import lowered, versions
-from rsp_tools.systems.modules import LIBRARY, PROGRAM, WEB, Crate, Module, module
-from rsp_tools.systems.objects import common, compiled, for_linux
-from rsp_tools.systems.rewriting import with_own_calls, with_unwind_tables, without_stack_probes
 from rsp_tools.systems.toolchain import Refused
 from rsp_tools.targets import CROSS, NATIVE, PROCESSORS, TARGETS
 
+from . import toolchain, web
+from .lowering import lowered, versions
+from .modules import LIBRARY, PROGRAM, WEB, Crate, Module, module
+from .objects import common, compiled, for_linux
+from .proof import prove_below
+from .record import made_of, record
+from .rewriting import with_own_calls, with_unwind_tables, without_stack_probes
+from .toolchain import LOGIC, version
+
 COMPILED = TOP / "compiled"
-CRATES = (PROGRAM, LIBRARY)
-TOPS = [crate.name for crate in CRATES]
+ON_TOP = (PROGRAM, LIBRARY)
+TOPS = [crate.name for crate in ON_TOP]
 Files = Dict[str, bytes]  # by their names in compiled/
 
 
@@ -79,10 +81,10 @@ def assembly(crate: Crate, processor: str, triple: str) -> bytes:
         return for_other(made, crate, processor, triple, Path(at)).encode()
 
 
-def web() -> Files:
+def for_web() -> Files:
     """The library as WebAssembly."""
     with tempfile.TemporaryDirectory() as at:
-        wasm.link(Path(at, "rsp.wasm"), wasm.objects(Path(at)))
+        web.link(Path(at, "rsp.wasm"), web.objects(Path(at)))
         return with_short_memory(Path(at, "rsp.wasm").read_bytes())
 
 
@@ -104,9 +106,9 @@ def make() -> Dict[Crate, Files]:
     with ThreadPoolExecutor(20) as pool:
         going = {
             crate: {name: pool.submit(assembly, crate, *it) for name, it in triples(crate).items()}
-            for crate in CRATES
+            for crate in ON_TOP
         }
-        with_web = pool.submit(web)
+        with_web = pool.submit(for_web)
         made = {crate: {name: it.result() for name, it in files.items()} for crate, files in going.items()}
         return {**made, WEB: with_web.result()}
 
@@ -116,7 +118,7 @@ def mark(crate: Crate, files: Files, folder: str = "compiled") -> str:
     sums = [line_of(f"{folder}/{name}", data) for name, data in files.items()]
     for path in crate.parts:
         sums.append(line_of(str(path.relative_to(TOP)), path.read_bytes()))
-    return f"{kit()}\n{sources(crate.name)}{''.join(sums)}"
+    return f"{version()}\n{sources(crate.name)}{''.join(sums)}"
 
 
 def differing(files: Files) -> List[str]:
@@ -133,24 +135,24 @@ def listed() -> Files:
 def marked(crate: Crate) -> Tuple[str, str]:
     """The kit that the mark names, and all else that the mark says; empty if there is none."""
     path = COMPILED / crate.made
-    version, _, of_what = (path.read_text() if path.is_file() else "").partition("\n")
-    return version, of_what
+    by, _, of_what = (path.read_text() if path.is_file() else "").partition("\n")
+    return by, of_what
 
 
 def stale() -> str:
     """A sentence if compiled/ isn't made of the sources as they are, otherwise empty."""
-    is_right = all(is_made(f"compiled/{crate.made}") for crate in (*CRATES, WEB))
+    is_right = all(is_made(f"compiled/{crate.made}") for crate in (*ON_TOP, WEB))
     return "" if is_right else "compiled/ isn't made of the sources as they are: tools/assemble makes it"
 
 
 def compare(crate: Crate, files: Files) -> Tuple[List[str], List[str]]:
     """The names of what is wrong; and of files that differ, but whose mark is right and names another kit
     than the one that is here."""
-    (version, of_what), others = marked(crate), differing(files)
+    (by, of_what), others = marked(crate), differing(files)
     there = {name: (COMPILED / name).read_bytes() for name in files if (COMPILED / name).is_file()}
     if of_what != mark(crate, there).partition("\n")[2]:
         return [*others, crate.made], []
-    return (others, []) if version == kit() else ([], others)
+    return (others, []) if by == version() else ([], others)
 
 
 def check(made: Mapping[Crate, Files]) -> int:
@@ -159,9 +161,11 @@ def check(made: Mapping[Crate, Files]) -> int:
     wrong, others = ([name for it in compared for name in it[number]] for number in (0, 1))
     wrong += differing(listed())
     for name in wrong:
-        print(f"compiled/{name} isn't what `{kit()}` makes of these sources: tools/assemble makes it")
+        print(f"compiled/{name} isn't what `{version()}` makes of these sources: tools/assemble makes it")
     for name in others:
-        print(f"compiled/{name} is made by another kit, and `{kit()}` makes other bytes of the same sources")
+        print(
+            f"compiled/{name} is made by another kit, and `{version()}` makes other bytes of the same sources"
+        )
     if others:
         print("This alone is no fault, but only the kit that the mark names can check these files")
     count = sum(len(files) + 1 for files in made.values()) + 1 - len(wrong) - len(others)
@@ -206,6 +210,7 @@ def say(text: str) -> None:
 
 def fail(text: str, status: int = 1) -> NoReturn:
     """Ends at once, and all that the kit is about with it."""
+    toolchain.end_all()
     say(text)
     os._exit(status)
 
@@ -215,17 +220,17 @@ def stop(number: int, _: object) -> NoReturn:
 
 
 def check_kit() -> None:
-    if not kit():
+    if not version():
         fail("`rt`, the command of the Rattle kit, isn't on this machine (compiled/record names its version)")
-    if not kit().endswith(LOGIC):
-        fail(f"the kit here is `{kit()}`, and the proofs are for one of `{LOGIC}` (tools/logic)")
+    if not version().endswith(LOGIC):
+        fail(f"the kit here is `{version()}`, and the proofs are for one of `{LOGIC}` (tools/logic)")
 
 
 def check_edits(since: float) -> None:
     """Ends if a source was edited in the meantime: an edit that was taken back leaves the same sums, and may
     yet be part of what is made."""
     for name in dict.fromkeys(below for top in TOPS for below in with_below(top)):
-        folders = [it for part in ("src", "specs", "proofs") for it in os.walk(places.CRATES / name / part)]
+        folders = [it for part in ("src", "specs", "proofs") for it in os.walk(CRATES / name / part)]
         if any(os.lstat(f"{at}/{it}").st_ctime >= since for at, _, files in folders for it in ["", *files]):
             fail(f"{name} was edited in the meantime, so nothing is written: type the command again")
 
@@ -268,12 +273,11 @@ def main() -> int:
     for number in (signal.SIGINT, signal.SIGTERM):
         signal.signal(number, stop)
     check_kit()
-    guarded()
     try:
         if options.here:
-            return build(CRATES[TOPS.index(options.here)], options.command, since)
+            return build(ON_TOP[TOPS.index(options.here)], options.command, since)
         if not options.proved:
-            prove(CRATES)
+            prove(ON_TOP)
         made = make()
         check_edits(since)
         return check(made) if options.check else write(made, options.mutations)

@@ -6,12 +6,13 @@ import re
 from pathlib import Path
 from typing import Iterable
 
+from rsp_tools.systems import places
+from rsp_tools.systems.toolchain import Refused
 from rsp_tools.targets import PROCESSORS
 
-from . import places
 from .modules import Module
 from .rewriting import Change, rewritten
-from .toolchain import Refused, llvm
+from .toolchain import llvm
 
 # What GNU's assembler lacks: the first lets lld merge functions, the others say where an epilogue is, which
 # no table of frames of this version holds.

@@ -5,7 +5,7 @@ OPENED = (
     " multiplies_mpeg reads_accumulator ruled divides loads_vector stores_vector moves_vector moves_control"
     " control_value"
 )
-KIT = """\
+IMPORTS = """\
 use Rattle.std.proofs.Common.{◌≡◌, ◌≢◌, ℕ, ◌+◌, ◌-◌, ◌*◌, ◌/◌, ◌%◌, ◌^◌, ◌<◌, ℤ, pos, negsuc, ◌+ℤ◌, ◌*ℤ◌}
 use Rattle.std.proofs.Common.{List, [], ◌∷◌, length, get_or, bit_and, bit_or, bit_xor, map, take, Some, true}
 use Rattle.std.proofs.Common.{false, not, nat_lt, refl, ap, sym, subst, ◌∙◌, arith, inl, inr}

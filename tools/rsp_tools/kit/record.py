@@ -3,15 +3,15 @@
 import datetime
 import re
 import subprocess
-from concurrent.futures import ThreadPoolExecutor
 from pathlib import Path
 from typing import Sequence, Tuple
 
-from rsp_tools.build import kit, over_libraries, sources
-from rsp_tools.crates import CRATES, library, with_below
-from rsp_tools.proof import at_once
-from rsp_tools.systems import places
+from rsp_tools.build import sources
+from rsp_tools.crates import CRATES, rlib_folder, with_below
 from rsp_tools.systems.toolchain import Refused
+
+from . import toolchain
+from .modules import KEPT
 
 FORM = """What the kit said of the sources of the files in this folder. tools/assemble wrote it for readers
 who don't have the kit; ./prove proves the same again, and `rt ci` tries the mutations.
@@ -37,10 +37,10 @@ def time_of(path: Path) -> float:
 
 def said(name: str) -> str:
     """What the kit said when it proved a crate. If that isn't kept, it checks what the proof has left."""
-    module, log = places.KEPT / f"{name}-x86_64/said", CRATES / name / "out/proof.log"
-    if module.exists() or time_of(log) >= time_of(library(name) / "stamp") > 0:
+    module, log = KEPT / f"{name}-x86_64/said", CRATES / name / "out/proof.log"
+    if module.exists() or time_of(log) >= time_of(rlib_folder(name) / "stamp") > 0:
         return (module if module.exists() else log).read_text(errors="replace")
-    words = [*over_libraries("check", name), "src/lib.rt", "--incremental", "out/incremental"]
+    words = [*toolchain.over_libraries("check", name), "src/lib.rt", "--incremental", "out/incremental"]
     return subprocess.run(words, cwd=CRATES / name, capture_output=True, text=True, errors="replace").stderr
 
 
@@ -69,11 +69,9 @@ def made_of(tops: Sequence[str]) -> str:
 def record(tops: Sequence[str], output: str) -> str:
     """The text, of the crates on top with all below, and of the mutations of a file."""
     names = [*dict.fromkeys(name for top in tops for name in with_below(top))]
-    with ThreadPoolExecutor(at_once()) as pool:
-        found = dict(zip(names, pool.map(counts, names)))
+    found = {name: counts(name) for name in names}
     axioms = ", ".join(f"{found[top][1]} ({top})" for top in tops)
     lines = "\n".join(f"{name:<15} {functions:>4}" for name, (functions, _) in found.items())
     total = sum(functions for functions, _ in found.values())
-    return FORM.format(
-        datetime.date.today(), kit(), made_of(tops), axioms, mutations(output), total, len(found), lines
-    )
+    day, version = datetime.date.today(), toolchain.version()
+    return FORM.format(day, version, made_of(tops), axioms, mutations(output), total, len(found), lines)

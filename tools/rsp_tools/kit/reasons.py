@@ -14,7 +14,7 @@ IDLE = ("refused, as it must be (only because a proof file names", "BAD EDIT")
 
 
 def main() -> int:
-    parser = argparse.ArgumentParser("tools/python rsp_tools.reasons", description=__doc__)
+    parser = argparse.ArgumentParser("tools/python rsp_tools.kit.reasons", description=__doc__)
     parser.add_argument("output", metavar="OUTPUT", type=Path, help="a file with that output")
     tried = TRIED.findall(parser.parse_args().output.read_text(errors="replace"))
     failed = [f"FAIL {name}: {result}" for name, result in tried if result.startswith(IDLE)]

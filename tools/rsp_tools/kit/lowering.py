@@ -6,7 +6,7 @@ import re
 import tempfile
 from pathlib import Path
 
-from .toolchain import call, missing
+from rsp_tools.systems.toolchain import call, missing
 
 FEATURES = "memory64 simd bulk-memory mutable-globals sign-ext nontrapping-float-to-int"
 # Instructions whose address binaryen 108 leaves: it is their last operand, or that before a vector.

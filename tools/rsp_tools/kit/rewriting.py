@@ -6,7 +6,7 @@ something else is refused, since nobody has looked at it."""
 import re
 from typing import AbstractSet, Callable, Iterable
 
-from .toolchain import Refused
+from rsp_tools.systems.toolchain import Refused
 
 Change = Callable[[str], str]  # of a module's text
 
