@@ -36,7 +36,9 @@ def objects(at: Path) -> List[Path]:
     for name in LINKED[:2]:
         llvm("clang", *flags, at / f"{name}.o", "-x", "ir", at / f"{name}.ll")
     for name in LINKED[2:]:
-        llvm("clang", *CLANG, "-O2", "-fno-builtin", "-c", "-o", at / f"{name}.o", places.RUNTIME / f"{name}.c")
+        llvm(
+            "clang", *CLANG, "-O2", "-fno-builtin", "-c", "-o", at / f"{name}.o", places.RUNTIME / f"{name}.c"
+        )
     return [*(at / f"{name}.o" for name in LINKED), *helpers.objects(llvm, TRIPLE, at, *FEATURES)]
 
 
