@@ -16,7 +16,9 @@ import json
 import os
 import sys
 from pathlib import Path
-from typing import Any, Dict, Iterator
+from typing import Any, Dict, Iterator, Tuple
+
+Difference = Tuple[str, str, str]  # what differs, what is expected, and what was found
 
 
 def fields_of(program: Dict[str, Any]) -> Dict[int, str]:
@@ -31,19 +33,25 @@ def fields_of(program: Dict[str, Any]) -> Dict[int, str]:
     return fields
 
 
-def differences(rsp: Any, program: Dict[str, Any], folder: Path) -> Iterator[str]:
-    """Runs a program: a line for each byte of DMEM that differs after it."""
-    name, fields = program["name"], fields_of(program)
-    imem, dmem, after = ((folder / f"{name}.{end}").read_bytes() for end in ("imem", "dmem", "after"))
+def differences(rsp: Any, imem: bytes, dmem: bytes, after: bytes) -> Iterator[Difference]:
+    """Runs a program, and yields what differs in DMEM after it."""
     rsp.load("imem", imem)
     rsp.load("dmem", dmem)
     rsp.run()
     found = bytes(rsp.memory("dmem"))
     if len(found) != len(after):
-        yield f"{name}, bytes of dmem: expected {len(after)}, got {len(found)}"
+        yield "bytes of dmem", str(len(after)), str(len(found))
     for at, (expected, got) in enumerate(zip(after, found)):
         if expected != got:
-            yield f"{fields.get(at, name + ', ')}DMEM {at:03x}: expected {expected:02x}, got {got:02x}"
+            yield f"DMEM {at:03x}", f"{expected:02x}", f"{got:02x}"
+
+
+def check(rsp: Any, program: Dict[str, Any], folder: Path) -> Iterator[str]:
+    """Runs a program, and yields a line for each difference, with its case and its field."""
+    name, fields = program["name"], {f"DMEM {at:03x}": field for at, field in fields_of(program).items()}
+    images = [(folder / f"{name}.{end}").read_bytes() for end in ("imem", "dmem", "after")]
+    for what, expected, got in differences(rsp, *images):
+        yield f"{fields.get(what, name + ', ')}{what}: expected {expected}, got {got}"
 
 
 def main() -> int:
@@ -66,7 +74,7 @@ def main() -> int:
             sys.exit(f"programs.py: can't read the programs of {manifest}: {error}")
         for program in programs:
             try:
-                wrong = [*differences(mine.Rsp(), program, manifest.parent)]
+                wrong = [*check(mine.Rsp(), program, manifest.parent)]
             except Exception:
                 print(f"programs.py: an exception in {program['name']}:", file=sys.stderr)
                 raise

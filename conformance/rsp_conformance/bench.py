@@ -16,6 +16,8 @@ import itertools
 import subprocess
 from typing import Any, Callable, Dict, Iterable, Iterator, List, Optional, Sequence, Tuple
 
+from steps import DEFAULT  # the values that the vectors leave out
+
 from rsp_conformance.states import Texts
 from rsp_conformance.table import Row, uses_memory
 
@@ -83,24 +85,6 @@ def accumulator_data(accumulators: Iterable[str]) -> Tuple[str, str, str]:
     middle = "".join(f"{value >> 16 & 0xFFFF:04x}" for value in values)
     low = "".join(f"{value & 0xFFFF:04x}" for value in values)
     return high, middle, low
-
-
-def default_state() -> Texts:
-    """The values that the vectors leave out.
-
-    Each register has another value, so that a wrong register is noticed.
-    """
-    state: Texts = {"pc": "000", "npc": "004"}
-    state.update({f"r{n}": f"{n * 0x01010101:08x}" for n in range(32)})
-    state.update({f"v{n}": "".join(f"{n * 0x100 + i * 0x11:04x}" for i in range(8)) for n in range(32)})
-    state.update({f"a{i}": f"{(i + 1) * 0x000100010001:012x}" for i in range(8)})
-    state.update({"vco": "0000", "vcc": "0000", "vce": "00", "in": "0000", "out": "0000", "loaded": "0"})
-    state.update({f"c{n}": "00000ff8" if n in (2, 3) else "00000000" for n in range(16)})
-    state["interrupt"] = "0"
-    return state
-
-
-DEFAULT = default_state()
 
 
 def data_of(state: Texts) -> str:

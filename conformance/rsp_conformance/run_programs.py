@@ -1,4 +1,4 @@
-"""Runs whole programs, to make their images and manifests, and to compare DMEM at their ends."""
+"""Runs whole programs, to make their images and manifests, and to see DMEM at their ends."""
 
 import json
 from pathlib import Path
@@ -6,9 +6,7 @@ from typing import Any, Dict, Iterable, Iterator, List, Optional
 
 from rsp_conformance import bench
 from rsp_conformance.bench import RspError, Script, joined, run_script
-from rsp_conformance.command_line import first_complaints
 from rsp_conformance.programs import MEMORY, Program
-from rsp_conformance.steps import FLAG_NAMES
 from rsp_conformance.table import Row
 from rsp_conformance.vectors import memory_in
 
@@ -99,40 +97,6 @@ def manifest_text(row: Row, entries: List[Entry]) -> str:
     return f'{{"row":"{row.name.upper()}","programs":[\n' + ",\n".join(parts) + "]}\n"
 
 
-def complaints(entry: Entry, expected: bytes, got: bytes) -> List[str]:
-    """How DMEM after a program differs from the expected DMEM: a text for each difference."""
-    if len(got) != len(expected):
-        return [f"{entry['name']}: {len(got)} bytes, and {len(expected)} are expected"]
-    fields = {}
-    for case in entry["cases"]:
-        for field, offset, length in entry["layouts"][case["layout"]]:
-            for byte in range(length):
-                fields[(int(case["at"], 16) + offset + byte) % MEMORY] = (case, field, byte, length)
-    found: List[str] = []
-    for at, (right, wrong) in enumerate(zip(expected, got)):
-        if right != wrong and at in fields:
-            found += byte_complaints(*fields[at], right, wrong, at)
-        elif right != wrong:
-            where = f"DMEM {at:03x}, which no case stores to"
-            found.append(f"{entry['name']}: {where}: expected {right:02x}, got {wrong:02x}")
-    return list(dict.fromkeys(found))
-
-
-def byte_complaints(
-    case: Entry, field: str, byte: int, length: int, expected: int, got: int, at: int
-) -> List[str]:
-    """The lanes, flags or address of a wrong byte of a field."""
-    start, pair = f"{case['name']} ({case['text']})", f"expected {expected:02x}, got {got:02x}"
-    if field in FLAG_NAMES:
-        names, high = FLAG_NAMES[field], byte == 0  # the first byte of a half has the bits 15 to 8
-        name = names[high] if high < len(names) else "above the flags"
-        wrong = [bit for bit in range(8) if (expected ^ got) >> bit & 1]
-        return [f"{start}, lane {bit}: {name}: expected {expected >> bit & 1}" for bit in wrong]
-    if length == 16:
-        return [f"{start}, {field}, lane {byte // 2}: {('high', 'low')[byte % 2]} byte: {pair}"]
-    return [f"{start}, {field}, DMEM {at:03x}: {pair}"]
-
-
 def results_in(
     program: str, entries: List[Entry], folder: Path, is_shown: bool = False
 ) -> Iterator[Dict[str, Any]]:
@@ -153,11 +117,3 @@ def results_in(
 
     for script, count in joined(map(script_of_files, entries), bench.prelude):
         yield from program_results(program, script, count)
-
-
-def run_manifest(program: str, manifest: Dict[str, Any], folder: Path) -> Iterator[List[str]]:
-    """Runs the programs of a manifest in a folder, and yields the complaints of each."""
-    entries = manifest["programs"]
-    for entry, result in zip(entries, results_in(program, entries, folder)):
-        after = memory_in(folder / f"{entry['name']}.after")
-        yield first_complaints(entry["name"], complaints(entry, after, bytes.fromhex(result["dmem"])))

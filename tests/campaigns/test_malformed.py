@@ -13,9 +13,10 @@ from typing import Any, Callable, Dict, List
 
 import pytest
 
-from rsp_conformance import bench, flat, generate, run_programs, steps
+from rsp_conformance import bench, complaints, flat, generate
 from rsp_conformance.campaign.report import html_table, text_table
 from rsp_conformance.campaign.supervise import nothing
+from rsp_conformance.run import Shown
 from rsp_conformance.safe_files import FileFault, read_file, write_file
 from rsp_conformance.vectors import VECTORS, VectorsFault, entries_in, manifest_in, memory_in
 
@@ -179,20 +180,20 @@ def test_file_without_cases(folder: Path) -> None:
         entries_in(folder, "ADD")
 
 
-def test_memory_that_is_not_compared() -> None:
-    """A memory that a runner didn't query is a difference, and bytes outside of it are refused."""
-    entry = {**CASE, "after": {"dmem": {"1000": "ff"}}}
-    complaint = "ADD-000 (add $3, $0, $11), dmem: it wasn't compared"
-    assert steps.complaints(entry, dict(bench.DEFAULT)) == [complaint]
-    with pytest.raises(ValueError, match="dmem 1000 isn't compared"):
-        steps.memory_complaints(entry, "dmem", ["00" * 16])
+@pytest.mark.parametrize(
+    "address, why",
+    [("fff", "dmem fff: expected ff, got 00"), ("1000", "bytes of dmem: expected 4097, got 4096")],
+)
+def test_memory_that_is_not_shown(address: str, why: str) -> None:
+    """A memory that a program didn't show is as it was before the case. What is past its end is missed."""
+    entry = {**CASE, "after": {"dmem": {address: "ff"}}}
+    assert complaints.of_case(entry, Shown(bench.DEFAULT)) == [f"ADD-000 (add $3, $0, $11), {why}"]
 
 
 def test_many_differences() -> None:
     """Of 4096 wrong bytes the first are named, and the others counted."""
     entry = {**CASE, "after": {"dmem": {"000": "5a" * 4096}}}
-    observation = {"step": "step Done", "after": {**bench.DEFAULT, "dmem": ["00" * 16] * 256}}
-    (found,) = steps.complaints_of([entry], [observation])
+    found = complaints.of_case(entry, Shown({**bench.DEFAULT, "dmem": ["00" * 16] * 256}))
     named = [f"ADD-000 (add $3, $0, $11), dmem {at:03x}: expected 5a, got 00" for at in range(64)]
     assert found == [*named, "ADD-000 (add $3, $0, $11): 4032 more differences"]
 
@@ -208,16 +209,17 @@ ADD = "ADD-000 (add $3, $0, $11)"
 
 def test_each_difference() -> None:
     """Both flags of a lane, a word that isn't at 0, and bytes of a program, also one that no case stores."""
-    found = steps.complaints({**CASE, "after": {"vco": "8001", "r3": "03030304"}}, dict(bench.DEFAULT))
+    found = complaints.of_case({**CASE, "after": {"vco": "8001", "r3": "03030304"}}, Shown(bench.DEFAULT))
     flags = [f"{ADD}, lane 0: carry: expected 1", f"{ADD}, lane 7: not-equal: expected 1"]
     assert sorted(found) == [f"{ADD}, $3: expected 03030304, got 03030303", *flags]
     assert flat.CASE.unpack_from(flat.case_bytes({**CASE, "choice": "ours"}))[2] == 1
-    lines = ["00" * 16, CASE["word"] + "00" * 12, *["00" * 16] * 254]
-    assert steps.memory_complaints({**CASE, "before": {"pc": "010"}}, "imem", lines) == []
+    imem = ["00" * 16, CASE["word"] + "00" * 12, *["00" * 16] * 254]
+    shown = Shown({**bench.DEFAULT, "pc": "010", "imem": imem})
+    assert complaints.of_case({**CASE, "before": {"pc": "010"}}, shown) == []
     got = b"\1" + bytes(0x1FF) + b"\1\1" + bytes(0xDFE)
     where = ("ADD-1: DMEM 000, which no case stores to", *(f"{ADD}, register rd, DMEM 20{n}" for n in (0, 1)))
     expected = [f"{it}: expected 00, got 01" for it in where]
-    assert run_programs.complaints(PROGRAM, bytes(4096), got) == expected
+    assert complaints.of_program(PROGRAM, Shown({"dmem": [got.hex()]}), *3 * [bytes(4096)]) == expected
 
 
 NO_FIELDS: List[Any] = [

@@ -53,7 +53,7 @@ def test_no_program(tool: str, folder: Path) -> None:
     """In a repository without its assembly they say in a line why there is no program."""
     for name in "conformance/rsp_conformance", "library/python", "tools":
         shutil.copytree(TOP / name, folder / name, ignore=shutil.ignore_patterns("out", "__pycache__"))
-    for name in "rsp", f"conformance/{tool}":
+    for name in "rsp", f"conformance/{tool}", "conformance/steps.py", "conformance/programs.py":
         shutil.copy(TOP / name, folder / name)
     (folder / "conformance/vectors").symlink_to(TOP / "conformance/vectors")
     (folder / "compiled").mkdir()

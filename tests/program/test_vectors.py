@@ -16,7 +16,7 @@ import subprocess
 import sys
 from pathlib import Path
 from types import ModuleType
-from typing import Any, Dict, Iterable, Iterator, Sequence, Tuple
+from typing import Any, Dict, Iterable, Sequence, Tuple
 from unittest.mock import patch
 
 import pytest
@@ -24,12 +24,13 @@ import pytest
 from lib import TOP, devices
 from lib.pages import page
 from lib.processes import Ended, run, succeeds
-from rsp_conformance import bench, full, generate, run_programs, steps
+from rsp_conformance import bench, complaints, full, generate
 from rsp_conformance.command_line import Complaints
 from rsp_conformance.corrupt import spoilt_entries
-from rsp_conformance.library import IMAGE, run_row
+from rsp_conformance.library import Library, run_rows
+from rsp_conformance.run import Shown, run_entries, run_manifest
 from rsp_conformance.seeded_random import Random
-from rsp_conformance.states import numbers_of, texts_of
+from rsp_conformance.states import texts_of
 from rsp_conformance.table import ROWS
 from rsp_conformance.vectors import VECTORS, entries_in, manifest_in
 
@@ -114,7 +115,7 @@ def test_name_of_a_bit(key: str, bit: int) -> None:
     entry = entries_in(VECTORS, "VADD")[0]
     right = {**bench.DEFAULT, **entry["before"], **entry["after"]}
     wrong = f"{int(right[key], 16) ^ 1 << bit:0{len(right[key])}x}"
-    (complaint,) = steps.complaints(entry, {**right, key: wrong})
+    (complaint,) = complaints.of_case(entry, Shown({**right, key: wrong}))
     assert complaint.startswith(f"{entry['name']} ({entry['text']}), {BITS[key, bit]}: expected ")
 
 
@@ -131,47 +132,18 @@ def test_name_of_a_byte() -> None:
     right = (VECTORS / f"programs/{entry['name']}.after").read_bytes()
     for address, name in names.items():
         wrong = bytes(byte ^ (at == address) for at, byte in enumerate(right))
-        (complaint,) = run_programs.complaints(entry, right, wrong)
+        (complaint,) = complaints.of_program(entry, Shown({"dmem": [wrong.hex()]}), right, right, right)
         assert complaint.startswith(f"{case['name']} ({case['text']}), {name}: expected ")
 
 
-def runner_class() -> Any:
-    """The library as the class `Rsp` of conformance/steps.py and conformance/programs.py."""
-    import rsp
-    from rsp_conformance import library_states
-
-    class Rsp:
-        def __init__(self) -> None:
-            self.machine, self.texts = rsp.Machine(bytes(SIZES["rdram"])), {**bench.DEFAULT}
-
-        def set(self, key: str, text: str) -> None:
-            self.texts[key] = text
-
-        def get(self, key: str) -> str:
-            return str(self.texts[key])
-
-        def load(self, bank: str, data: bytes) -> None:
-            self.machine.load(bench.BANKS.index(bank), 0, data)
-
-        def memory(self, bank: str) -> bytes:
-            return bytes(self.machine.memory(bench.BANKS.index(bank), 0, SIZES[bank]))
-
-        def step(self) -> None:
-            self.machine.set(library_states.state_of(numbers_of(self.texts)))
-            self.machine.step()
-            self.texts = texts_of(library_states.numbers_of(self.machine.get()))
-
-        def run(self) -> None:
-            self.machine.set(library_states.state_of(numbers_of(self.texts)))
-            self.machine.run(100000)
-
-    return Rsp
-
-
-def ended_runner(name: str, path: Path, rsp_class: Any = None, lacks: Sequence[str] = ()) -> Tuple[str, Any]:
+def ended_runner(
+    name: str, path: Path, rsp_class: Any = Library, lacks: Sequence[str] = ()
+) -> Tuple[str, Any]:
     """What a runner prints about a file on the library, or on another class `Rsp`, and its exit status."""
+    import rsp_conformance.library_states  # noqa: F401  because patch.dict forgets what is imported later
+
     output, mine = io.StringIO(), ModuleType("mine")  # type: io.StringIO, Any
-    mine.Rsp, mine.LACKS = rsp_class or runner_class(), lacks
+    mine.Rsp, mine.LACKS = rsp_class, lacks
     words = patch.object(sys, "argv", [f"{name}.py", str(path)])
     with patch.dict(sys.modules, mine=mine), words, patch.object(sys, "path", [*sys.path]):
         with contextlib.redirect_stdout(output), pytest.raises(SystemExit) as ended:
@@ -179,7 +151,7 @@ def ended_runner(name: str, path: Path, rsp_class: Any = None, lacks: Sequence[s
     return output.getvalue(), ended.value.code
 
 
-def output_of_runner(name: str, path: Path, rsp_class: Any = None, lacks: Sequence[str] = ()) -> str:
+def output_of_runner(name: str, path: Path, rsp_class: Any = Library, lacks: Sequence[str] = ()) -> str:
     """What a runner prints that runs all cases of a file."""
     output, status = ended_runner(name, path, rsp_class, lacks)
     ((passed, failed),) = re.findall(r"(?m)^(\d+) passed, (\d+) failed", output)
@@ -203,10 +175,10 @@ def test_runners_of_steps(name: str, program: Path, library: Path, folder: Path)
     entries = [*all_entries[:2], *[entry for entry in all_entries if "choice" in entry][:1]]
     path.write_text("".join(f"{json.dumps(entry)}\n" for entry in entries))
     assert output_of_runner("steps", path) == f"{len(entries)} passed, 0 failed\n"
-    assert not any(steps.run_entries(str(program), entries))
+    assert not any(run_entries(str(program), entries))
     for entry in entries:
         spoilt = [*spoilt_entries(entry, random)]
-        for false, found in zip(spoilt, steps.run_entries(str(program), spoilt)):
+        for false, found in zip(spoilt, run_entries(str(program), spoilt)):
             path.write_text(json.dumps(false))
             output = output_of_runner("steps", path)
             end = f"\n0 passed, 1 failed{' (1 with a choice)' * ('choice' in entry)}\n"
@@ -235,9 +207,9 @@ def test_runners_of_programs(name: str, library: Path, folder: Path) -> None:
         f"{head_of(case)}{field}, DMEM {at:03x}: {difference}",
         f"{count - 1} passed, 1 failed",
     ]
-    assert run_programs.complaints(entry, right, right[:at]) == [
-        f"{entry['name']}: {at} bytes, and 4096 are expected"
-    ]
+    shown = Shown({"dmem": [right[:at].hex()]})
+    complaint = f"{entry['name']}: {at} bytes, and 4096 are expected"
+    assert complaints.of_program(entry, shown, right, right, right) == [complaint]
 
 
 LOST = "steps.py: mine.py doesn't keep what set() and load() gave it, before any step:"
@@ -249,10 +221,9 @@ def test_runner_for_an_emulator_that_lacks_registers(name: str, library: Path) -
     import rsp
 
     lacks = ("interrupt", "c15", "rdram")
-    whole: Any = runner_class()
     words = rsp.assemble("vrcph $v1[0], $v2[0]\nvrcpl $v1[0], $v2[1]\n")
 
-    class Lacking(whole):
+    class Lacking(Library):
         def set(self, key: str, text: str) -> None:
             assert key not in lacks
             if key != "out":
@@ -260,7 +231,7 @@ def test_runner_for_an_emulator_that_lacks_registers(name: str, library: Path) -
 
         def get(self, key: str) -> str:
             assert key not in lacks
-            return str(super().get(key))
+            return super().get(key)
 
         def load(self, bank: str, data: bytes) -> None:
             assert bank not in lacks
@@ -268,7 +239,7 @@ def test_runner_for_an_emulator_that_lacks_registers(name: str, library: Path) -
 
         def memory(self, bank: str) -> bytes:
             assert bank not in lacks
-            return bytes(super().memory(bank))
+            return super().memory(bank)
 
         def divide(self, text: str) -> None:
             self.load("imem", b"".join(word.to_bytes(4, "big") for word in words))
@@ -288,9 +259,8 @@ def test_runner_for_an_emulator_that_lacks_registers(name: str, library: Path) -
 def test_runner_for_an_emulator_that_lacks_an_instruction(library: Path, capsys: Any) -> None:
     """What `step` refuses by NotImplementedError is skipped; the case of another exception is named. The
     failed cases with a choice are counted apart."""
-    whole: Any = runner_class()
 
-    class Lacking(whole):
+    class Lacking(Library):
         refusal: Any = NotImplementedError
 
         def step(self) -> None:
@@ -321,11 +291,9 @@ def test_runner_for_an_emulator_that_lacks_an_instruction(library: Path, capsys:
 
 
 def test_runners_of_a_memory_that_is_too_long(library: Path) -> None:
-    whole: Any = runner_class()
-
-    class Long(whole):
+    class Long(Library):
         def memory(self, bank: str) -> bytes:
-            return bytes(super().memory(bank)) + bytes(bank == "dmem")
+            return super().memory(bank) + bytes(bank == "dmem")
 
     difference = "bytes of dmem: expected 4096, got 4097"
     assert ended_runner("steps", VECTORS / "steps/SW.jsonl", Long) == ("", f"{LOST} {difference}")
@@ -335,9 +303,8 @@ def test_runners_of_a_memory_that_is_too_long(library: Path) -> None:
 
 def test_runner_of_a_memory_that_is_not_kept(library: Path) -> None:
     """The first byte that is lost is named, and no case is run."""
-    whole: Any = runner_class()
 
-    class Swapped(whole):
+    class Swapped(Library):
         def load(self, bank: str, data: bytes) -> None:
             super().load(bank, data[::-1])
 
@@ -349,9 +316,8 @@ def test_runner_of_a_memory_that_is_not_kept(library: Path) -> None:
 
 def test_runner_of_many_differences(folder: Path, library: Path) -> None:
     """The first eight of a case are printed, and the others counted."""
-    whole: Any = runner_class()
 
-    class Filling(whole):
+    class Filling(Library):
         def step(self) -> None:
             super().step()
             self.load("dmem", b"\x5a" * 4096)
@@ -404,7 +370,7 @@ def test_named_memory(bank: str, address: str, raw: str, program: Path) -> None:
     texts = (raw, wrong + raw[2:])
     cases = [{**ADD, "after": {**ADD["after"], bank: {address: text}}} for text in texts]
     complaint = f"ADD-000 (add $3, $0, $11), {bank} {address}: expected {wrong}, got {raw[:2]}"
-    assert [*steps.run_entries(str(program), cases)] == [[], [complaint]]
+    assert [*run_entries(str(program), cases)] == [[], [complaint]]
 
 
 def run_add(program: Path, folder: Path, **how: Any) -> "Ended[str]":
@@ -429,7 +395,7 @@ def test_many_programs(program: Path, folder: Path) -> None:
     right = (VECTORS / "programs/ADD-1.after").read_bytes()
     (folder / "ADD-119.after").unlink()
     (folder / "ADD-119.after").write_bytes(bytes(byte ^ 0xFF for byte in right))
-    *passed, failed = run_programs.run_manifest(str(program), {"programs": entries}, folder)
+    *passed, failed = run_manifest(str(program), {"programs": entries}, folder)
     assert passed == [[]] * 119
     difference = f"expected {right[0] ^ 255:02x}, got {right[0]:02x}"
     assert failed[0] == f"ADD-119: DMEM 000, which no case stores to: {difference}"
@@ -456,19 +422,9 @@ def test_output_that_cannot_be_written(is_full: bool, program: Path, folder: Pat
     assert (ended.returncode, ended.stderr) == (1, f"standard output can't be written: {why}\n")
 
 
-@pytest.fixture(scope="module")
-def machine(library: Path) -> Iterator[Any]:
-    """The library, by its module for Python."""
-    # Here, because the import fails without a library, and `library` names the reason.
-    from rsp import Machine
-
-    with Machine(IMAGE) as made:
-        yield made
-
-
 @NAMES
-def test_library(name: str, machine: Any) -> None:
-    assert_passes(run_row(machine, VECTORS, name))
+def test_library(name: str, library: Path) -> None:
+    assert_passes(run_rows(VECTORS, [name]))
 
 
 def test_command(library: Path) -> None:

@@ -27,6 +27,12 @@ def imported(path: Path) -> Iterator[str]:
             yield str(node.module).partition(".")[0]
 
 
+@pytest.mark.parametrize("name", ("steps", "programs"))
+def test_runners(name: str) -> None:
+    """A runner for authors of emulators is one file, which imports no package of ours."""
+    assert not {*imported(TOP / f"conformance/{name}.py")} & {*LAYERS, "rsp", "steps", "programs"}
+
+
 @pytest.mark.parametrize("name", LAYERS)
 def test_imports(name: str) -> None:
     higher = [*LAYERS][: [*LAYERS].index(name)]

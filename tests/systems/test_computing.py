@@ -20,9 +20,10 @@ from lib.systems.browser import Chromium
 from lib.systems.target_params import COMPILED, MACOS, RUNNERS, on
 from lib.systems.node import Node
 from lib.systems.runners import Runner
-from rsp_conformance import bench, library_states, steps
+from rsp_conformance import bench, complaints, library_states, steps
 from rsp_conformance.seeded_random import Random
 from rsp_conformance.corrupt import spoilt_entries
+from rsp_conformance.run import Shown
 from rsp_conformance.states import numbers_of, texts_of
 from rsp_conformance.vectors import VECTORS, entries_in, names_in
 
@@ -58,7 +59,7 @@ def encoded(entry: Entry) -> bytes:
     return head + b"".join(struct.pack("<3I", bank, at, len(data)) + data for bank, at, data in pieces)
 
 
-def complaints(entry: Entry, result: bytes) -> List[str]:
+def complaints_of(entry: Entry, result: bytes) -> List[str]:
     """How the result that vectors.c wrote differs from a case's."""
     was_set, status = struct.unpack_from("<2I", result)
     if not was_set:
@@ -70,7 +71,7 @@ def complaints(entry: Entry, result: bytes) -> List[str]:
     for bank, length in (("dmem", 4096), ("imem", 4096), ("rdram", bench.WINDOW_LENGTH)):
         found[bank] = [result[at : at + length].hex()]
         at += length
-    return list(steps.complaints(entry, found))
+    return complaints.of_case(entry, Shown(found))
 
 
 def results(runner: Runner, library: Any = None) -> List[Tuple[Entry, bytes]]:
@@ -91,14 +92,14 @@ def results(runner: Runner, library: Any = None) -> List[Tuple[Entry, bytes]]:
 def test_vectors(runner: Runner) -> None:
     """Spoilt copies of one case of each instruction have to be noticed."""
     found = results(runner)
-    assert [text for entry, result in found for text in complaints(entry, result)] == []
+    assert [text for entry, result in found for text in complaints_of(entry, result)] == []
     by_name = {entry["name"]: result for entry, result in found}
     unnoticed = []
     for name in names_in(VECTORS, []):
         random = Random("spoilt", name)
         entry = random.pick(entries_in(VECTORS, name))
         for spoilt in spoilt_entries(entry, random):
-            differences = complaints(spoilt, by_name[entry["name"]])
+            differences = complaints_of(spoilt, by_name[entry["name"]])
             if not differences or not all(it.startswith(f"{entry['name']} (") for it in differences):
                 unnoticed.append((entry["name"], differences))
     assert unnoticed == []
@@ -143,7 +144,7 @@ def test_all_instructions_are_traced(expected: Lines) -> None:
 
 def is_found(runner: Runner, library: object) -> bool:
     """Whether the vectors find a library."""
-    return any(complaints(*it) for it in results(runner, library))
+    return any(complaints_of(*it) for it in results(runner, library))
 
 
 @on(*COMPILED, *MACOS)
