@@ -1,18 +1,21 @@
 """The cases of campaigns: their numbers, PCG64's random words, and operands at edges."""
 
 import hashlib
-from typing import Any, Tuple
+from typing import Any, Dict, Iterator, Tuple
 
 import pytest
 
 from lib.packages import is_here
+from rsp_conformance import flat, hexadecimal
+from rsp_conformance.campaign.protocol import END_BYTES, STATUS_AT
 from rsp_conformance.table import ROWS, signed
 
 if is_here("python:numpy"):
     import numpy as np
     from rsp_conformance.campaign.build import built
     from rsp_conformance.campaign.emulators import Object
-    from rsp_conformance.campaign.generator import END, MEMORIES, RDRAM, SELECTED, Draw, cases_of, memories_of
+    from rsp_conformance.campaign.generator import END, MEMORIES, RDRAM, SELECTED, Draw
+    from rsp_conformance.campaign.generator import bytes_of, cases_of, memories_of
 
 pytestmark = pytest.mark.needs("cc", "python:numpy")
 
@@ -46,6 +49,27 @@ def test_stored_cases() -> None:
         hashlib.sha256(far).hexdigest() == "d9b5daebb0124cc920a051d28930b4b187f5d92b8920784b39d5b55b78d25619"
     )
     assert cases_of("vadd", "1", 0, 9)[0].tobytes() != cases_of("vadd", "2", 0, 9)[0].tobytes()
+
+
+def sizes_in(dtype: Any) -> Iterator[int]:
+    """The bytes of the fields of a structure in their order, also of those within a field."""
+    for field, _ in dtype.fields.values():
+        yield from sizes_in(field) if field.names else (field.itemsize,)
+
+
+@pytest.mark.parametrize("fields, name", [(flat.FIELDS, "State"), (hexadecimal.CHANGES, "Changes")])
+def test_fields_of_structures(fields: Dict[str, Tuple[int, int]], name: str, library: object) -> None:
+    """`flat` and `hex`, which don't need the library, have the fields of its structures."""
+    import rsp
+
+    dtype = np.dtype(getattr(rsp, name))
+    sizes = [count * bits // 8 for count, bits in fields.values()]
+    assert [*sizes_in(dtype)] == sizes and sum(sizes) == dtype.itemsize
+
+
+def test_bytes_of_an_end() -> None:
+    """A campaign reads statuses without numpy."""
+    assert (END.itemsize, bytes_of("status")[0]) == (END_BYTES, STATUS_AT)
 
 
 def operands_of(name: str) -> Tuple[Any, Any, Any]:

@@ -8,15 +8,25 @@ from rsp_conformance.table import ignored_bits, row_of
 
 from .build import built
 from .emulators import Object, emulator_of, memories_in, patched, word_of
-from .generator import BANKS, END, IMEM, MEMORIES, RDRAM, STATE, Array
+from .generator import BANKS, END, IMEM, MEMORIES, RDRAM, STATE, Array, bytes_of
 
-PADDING = 693  # a byte of a state that is no register
 QUADWORD = 16  # bytes
 # The parts of an end that can differ, by their bytes.
-PARTS = {"scalar registers": (0, 128), "vector registers": (128, 640), "accumulators": (640, 688),
-         "VCO": (688, 690), "VCC": (690, 692), "VCE": (692, 693), "divider": (694, 700), "pc": (700, 702),
-         "npc": (702, 704), "SP registers": (704, 768), "interrupt": (768, 772), "status": (772, 776),
-         "memories": (776, 784)}  # fmt: skip
+PARTS = {
+    "scalar registers": bytes_of("state.words"),
+    "vector registers": bytes_of("state.vectors"),
+    "accumulators": bytes_of("state.accumulators"),
+    "VCO": bytes_of("state.flags.carry", "state.flags.differ"),
+    "VCC": bytes_of("state.flags.compare", "state.flags.clip"),
+    "VCE": bytes_of("state.flags.extra"),
+    "divider": bytes_of("state.divider"),
+    "pc": bytes_of("state.pc"),
+    "npc": bytes_of("state.npc"),
+    "SP registers": bytes_of("state.sp"),
+    "interrupt": bytes_of("state.interrupt"),
+    "status": bytes_of("status"),
+    "memories": bytes_of("changed"),
+}
 
 
 def named(word: int, pc: int) -> str:
@@ -57,7 +67,7 @@ class Sides:
         self.library, self.emulator = Object(built("library"), memories), emulator_of(spec, memories)
         self.machine, hidden = rsp.Machine(bytes(MEMORIES - RDRAM)), ~self.emulator.seen
         self.unseen = [part for part, (low, high) in PARTS.items() if hidden[low:high].any()]
-        hidden[PADDING] = 255
+        hidden[slice(*bytes_of("state.zero"))] = 255  # no register
         self.hidden = [(word, mask) for word, mask in enumerate(hidden.view("<u8")) if mask]
 
     def run(self, cases: Array, expected: Array, ends: Array) -> Array:

@@ -62,6 +62,15 @@ BOUNDS = (0, 1 << 31, -1 << 31, 1 << 47, 1 << 15)
 LIMITS = np.array([limit + near for limit in BOUNDS for near in (-1, 0, 1)] + [-1 << 47], np.int64)
 
 
+def bytes_of(first: str, last: str = "") -> Tuple[int, int]:
+    """The bytes of an END from a field on, such as `state.flags.carry`, to the end of it or of another."""
+    dtype, start = END, 0  # type: Any, int
+    for name in first.split("."):
+        dtype, offset = dtype.fields[name][:2]
+        start += offset
+    return start, bytes_of(last)[1] if last else start + dtype.itemsize
+
+
 def generator(what: str, seed: str) -> Array:
     """PCG64 with the hash of a text and a seed as its state."""
     key = int.from_bytes(hashlib.sha256(f"{VERSION}/{what}/{seed}".encode()).digest(), "little")
@@ -285,7 +294,7 @@ def registers(d: Draw) -> Array:
         state["sp"][:, number] &= mask
     state["sp"][:, 2] |= 0xFF8
     state["sp"][:, 3] = state["sp"][:, 2]
-    cases.view(np.uint8).reshape(-1, CASE.itemsize)[:, 693] = 0  # no register
+    state["zero"] = 0
     state["words"][:, 0] = 0
     return cases
 

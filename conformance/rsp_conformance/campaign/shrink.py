@@ -12,7 +12,7 @@ from rsp_conformance.library_states import numbers_of
 from rsp_conformance.states import texts_of
 
 from . import generator
-from .generator import BANKS, STATE
+from .generator import BANKS, STATE, bytes_of
 from .search import fewest, minimal
 from .protocol import Result
 from .compare import Program, Sides, in_words
@@ -31,7 +31,16 @@ DMEM, IMEM, RDRAM, END = (
 # The parts that can become 0: words, then registers, lanes and flags (except pc, npc and the lengths of a
 # DMA), and 64 bytes of a memory.
 WORDS = parts_of((IMEM, RDRAM, 4))
-REGISTERS = parts_of((4, 128, 4), (128, 688, 2), (688, 693, 1), (694, 700, 2), (704, 712, 4), (720, 772, 4))
+SP, SP_END = bytes_of("state.sp")
+REGISTERS = parts_of(
+    (*bytes_of("state.words"), 4),
+    (*bytes_of("state.vectors", "state.accumulators"), 2),
+    (*bytes_of("state.flags"), 1),
+    (*bytes_of("state.divider"), 2),
+    (SP, SP + 8, 4),
+    (SP + 16, SP_END, 4),
+    (*bytes_of("state.interrupt"), 4),
+)
 OTHERS = [*REGISTERS, *parts_of((DMEM, IMEM, 64), (RDRAM, END, 64))]
 
 
