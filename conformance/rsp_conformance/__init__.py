@@ -1,4 +1,4 @@
-"""The conformance suite: the instruction table, the cases, what judges them, and what runs them."""
+"""The conformance suite: the instruction table, the cases, what runs them, and what compares them."""
 
 from pathlib import Path
 

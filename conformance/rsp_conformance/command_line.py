@@ -18,11 +18,6 @@ def parser_of(command: str, doc: Optional[str]) -> argparse.ArgumentParser:
     return argparse.ArgumentParser(f"conformance/{command}", description=doc, formatter_class=raw)
 
 
-def complaint_unless(is_right: object, complaint: str) -> Complaints:
-    """A check with one complaint if it isn't right."""
-    return [] if is_right else [complaint]
-
-
 def first_complaints(name: str, complaints: Complaints) -> Complaints:
     """The first complaints of a case or a program, and the number of the others."""
     more = len(complaints) - MOST_NAMED
@@ -43,14 +38,14 @@ def write_output(text: str) -> None:
         sys.exit(f"standard output can't be written: {fault.strerror}")
 
 
-def print_checks(checks: Iterable[Complaints], prefix: str = "") -> int:
+def print_checks(checks: Iterable[Complaints]) -> int:
     """Prints the complaints of checks, and how many checks passed.
 
     Returns the exit status: 0 if at least one passed and none failed.
     """
     passed = failed = 0
     for complaints in checks:
-        write_output("".join(f"{prefix}{printable(complaint)}\n" for complaint in complaints))
+        write_output("".join(f"{printable(complaint)}\n" for complaint in complaints))
         passed, failed = passed + (not complaints), failed + bool(complaints)
     write_output(f"{passed} passed, {failed} failed\n")
     return int(failed > 0 or not passed)
