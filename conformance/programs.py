@@ -16,30 +16,21 @@ import json
 import os
 import sys
 from pathlib import Path
-from typing import Any, Dict, Iterator, NamedTuple, Tuple
+from typing import Any, Dict, Iterator, Tuple
 
-Program = Dict[str, Any]
 Difference = Tuple[str, str, str]  # what differs, what is expected, and what was found
 
 
-class ResultByte(NamedTuple):
-    """A byte of DMEM after a program: its case, the field there, and which byte of how many it is."""
-
-    case: Dict[str, Any]
-    field: str
-    byte: int
-    length: int
-
-
-def results_of(program: Program) -> Dict[str, ResultByte]:
-    """The bytes of DMEM that a program stores its results to, by their names in differences."""
-    results = {}
+def fields_of(program: Dict[str, Any]) -> Dict[int, str]:
+    """What the bytes of DMEM are after a program, by their address: a case and a field of its results."""
+    fields = {}
     for case in program["cases"]:
+        mark = f"; choice: {case['choice']}" if "choice" in case else ""
         for field, offset, length in program["layouts"][case["layout"]]:
-            for byte in range(length):
-                address = (int(case["at"], 16) + offset + byte) % 4096
-                results[f"DMEM {address:03x}"] = ResultByte(case, field, byte, length)
-    return results
+            for at in range(length):
+                address = (int(case["at"], 16) + offset + at) % 4096
+                fields[address] = f"{case['name']} ({case['text']}{mark}), {field}, "
+    return fields
 
 
 def differences(rsp: Any, imem: bytes, dmem: bytes, after: bytes) -> Iterator[Difference]:
@@ -55,17 +46,12 @@ def differences(rsp: Any, imem: bytes, dmem: bytes, after: bytes) -> Iterator[Di
             yield f"DMEM {at:03x}", f"{expected:02x}", f"{got:02x}"
 
 
-def check(rsp: Any, program: Program, folder: Path) -> Iterator[str]:
+def check(rsp: Any, program: Dict[str, Any], folder: Path) -> Iterator[str]:
     """Runs a program, and yields a line for each difference, with its case and its field."""
-    name, results = program["name"], results_of(program)
+    name, fields = program["name"], {f"DMEM {at:03x}": field for at, field in fields_of(program).items()}
     images = [(folder / f"{name}.{end}").read_bytes() for end in ("imem", "dmem", "after")]
     for what, expected, got in differences(rsp, *images):
-        where = name
-        if what in results:
-            case, field, _, _ = results[what]
-            mark = f"; choice: {case['choice']}" if "choice" in case else ""
-            where = f"{case['name']} ({case['text']}{mark}), {field}"
-        yield f"{where}, {what}: expected {expected}, got {got}"
+        yield f"{fields.get(what, name + ', ')}{what}: expected {expected}, got {got}"
 
 
 def main() -> int:

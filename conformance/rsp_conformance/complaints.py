@@ -1,6 +1,6 @@
 """What steps.py and programs.py find different after a case or a program, in the words of conformance/run."""
 
-from typing import Any, Dict, Iterator, Sequence
+from typing import Any, Dict, Iterator, Sequence, Tuple
 
 import programs
 import steps
@@ -8,6 +8,7 @@ import steps
 from rsp_conformance.command_line import Complaints, first_complaints
 
 Entry = Dict[str, Any]  # a case, or a program of a manifest
+ResultByte = Tuple[Entry, str, int, int]  # a case, a field of its results, a byte of it, and how many it has
 FLAG_NAMES = {"vco": ("carry", "not-equal"), "vcc": ("compare", "clip"), "vce": ("extra",)}
 
 
@@ -45,12 +46,22 @@ def in_words(key: str, expected: str, got: str) -> Iterator[str]:
         yield f"{what}: expected {expected}, got {got}"
 
 
+def results_of(entry: Entry) -> Dict[str, ResultByte]:
+    """The bytes of DMEM that a program stores its results to, by their names in differences."""
+    return {
+        f"DMEM {(int(case['at'], 16) + offset + byte) % 4096:03x}": (case, field, byte, length)
+        for case in entry["cases"]
+        for field, offset, length in entry["layouts"][case["layout"]]
+        for byte in range(length)
+    }
+
+
 def of_program(entry: Entry, rsp: Any, *images: bytes) -> Complaints:
     """How DMEM after a program differs from the expected DMEM: a text for each difference.
 
     The images are IMEM and DMEM before the program, and DMEM after it.
     """
-    results, found, name = programs.results_of(entry), [], entry["name"]
+    results, found, name = results_of(entry), [], entry["name"]
     for what, expected, got in programs.differences(rsp, *images):
         if what in results:
             found += [*in_result(results[what], what, expected, got)]
@@ -61,15 +72,13 @@ def of_program(entry: Entry, rsp: Any, *images: bytes) -> Complaints:
     return first_complaints(name, [*dict.fromkeys(found)])
 
 
-def in_result(result: programs.ResultByte, what: str, expected: str, got: str) -> Iterator[str]:
+def in_result(result: ResultByte, what: str, expected: str, got: str) -> Iterator[str]:
     """The lanes, flags or address of a wrong byte of a result."""
     case, field, byte, length = result
     start, pair = f"{case['name']} ({case['text']})", f"expected {expected}, got {got}"
     if field in FLAG_NAMES:
-        name = (*FLAG_NAMES[field], "above the flags")[
-            byte == 0
-        ]  # the first byte of a half has the bits 15 to 8
-        yield from (f"{start}, {flag}" for flag in wrong_flags([name], expected, got))
+        names, is_high = (*FLAG_NAMES[field], "above the flags"), byte == 0  # bits 15 to 8 come first
+        yield from (f"{start}, {flag}" for flag in wrong_flags([names[is_high]], expected, got))
     elif length == 16:
         yield f"{start}, {field}, lane {byte // 2}: {('high', 'low')[byte % 2]} byte: {pair}"
     else:
