@@ -19,7 +19,7 @@ from typing import Any, List
 
 from . import kit
 from .compiler import Compiler
-from .modules import Library
+from .modules import Library, absolute as modules_absolute
 from .syntax import AnttError, ends_in_type
 
 RUN = "Rattle.rsp_bench.specs.Run"
@@ -106,7 +106,7 @@ def check(c: Compiler, args: List[str]) -> int:
         if file is None:
             continue
         files += 1
-        todo.extend(c.library.absolute(u.path, module) for u in file.uses)
+        todo.extend(modules_absolute(u.path, module) for u in file.uses)
         for name, f in file.functions.items():
             if ends_in_type(f.type):
                 facts += 1
