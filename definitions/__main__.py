@@ -1,160 +1,120 @@
-"""Runs the definitions of rsp, without the prover and without the program.
+"""The command tools/define."""
 
-    define run [SCRIPT] [--rdram FILE] [--save FILE]   what out_of gives for a script (or standard input)
-    define asm SRC OUT                                 the words that meaning_of_text gives, or the fault
-    define dis FILE                                    listing, a line for each word
-    define steps FILE.jsonl ..                         step_of on test vectors
-    define why NAME A B [FLAGS] [--acc X]              a lane of an instruction, explained line by line
-    define cases                                       answers the cases of conformance/campaign (lines of JSON)
-    define check                                       which definitions are read, and which can be computed
-    --root FOLDER                                      the repository (default: the one around this file, or .)
-"""
-
-import json
+import argparse
 import os
 import sys
-import threading
-import time
-from typing import Any, List
+from typing import Any, Callable, Dict, List, NoReturn, Tuple
 
-from . import kit
+from .cases import answer_cases
 from .compiler import Compiler
-from .modules import Library, absolute as modules_absolute
-from .syntax import AnttError, ends_in_type
+from .explain import why
+from .modules import Library
+from .programs import Programs
+from .states import Machine
+from .steps import Steps
+from .syntax import ends_in_type
+from .working import say, work
 
+HERE = os.path.dirname(os.path.dirname(os.path.abspath(__file__)))
 RUN = "Rattle.rsp_bench.specs.Run"
-SOURCE = "Rattle.rsp_syntax.specs.SourceText"
+DESCRIPTION = """Computes the definitions of crates/*/specs, as they are, without the kit and without the program rsp.
+
+The bytes, files and statuses of run, asm and dis are those of the program. Status 0: all is well; 1: a fault or a
+difference; 2: a wrong argument."""
+Command = Callable[[], int]
 
 
-def take(args: List[str], name: str, default: Any = None) -> Any:
-    if name in args:
-        k = args.index(name)
-        value = args[k + 1]
-        del args[k : k + 2]
-        return value
-    return default
+class ArgumentParser(argparse.ArgumentParser):
+    """Refuses arguments in one line."""
+
+    def error(self, message: str) -> NoReturn:
+        say(f"{self.prog}: {message} (see {self.prog} --help)")
+        raise SystemExit(2)
 
 
-def read(path: str) -> bytes:
-    with open(path, "rb") as f:
-        return f.read()
+def parser() -> ArgumentParser:
+    """What the command line may be."""
+    found = ArgumentParser(prog="define", description=DESCRIPTION, formatter_class=argparse.RawDescriptionHelpFormatter)
+    found.add_argument("--root", default=HERE, metavar="FOLDER", help="the repository [default: that of this command]")
+    commands = found.add_subparsers(dest="command", metavar="COMMAND", required=True)
+
+    def add(name: str, about: str, *words: str, **options: Any) -> ArgumentParser:
+        made = commands.add_parser(name, help=about, description=about, **options)
+        for word in words:
+            made.add_argument(word.rstrip("+"), metavar=word.upper().rstrip("+"), nargs="+" if word[-1] == "+" else None)
+        return made
+
+    run = add("run", "Answers a script, as `out_of` says")
+    run.add_argument("script", metavar="SCRIPT", nargs="?", help="the script [default: standard input]")
+    run.add_argument("--rdram", metavar="FILE", help="RDRAM before the run [default: 4194304 zero bytes]")
+    run.add_argument("--save", metavar="FILE", help="the file for RDRAM after the run, which is overwritten")
+    add("asm", "Assembles a text into a file of words, as `meaning_of_text` says", "src", "out")
+    add("dis", "Lists a file of words, as `listing` says", "file")
+    add("steps", "Compares `step_of` with test vectors", "file+")
+    explained = add("why", "Explains a value after an instruction", add_help=False)
+    explained.add_argument("words", nargs=argparse.REMAINDER)
+    add("cases", "Answers cases as an emulator of conformance/campaign: a line of JSON for each")
+    covered = add("coverage", "Counts the cases and scripts that use each clause, and each value of its tests", "file+")
+    covered.add_argument("--table", metavar="FILE", help="a file for the whole table")
+    add("check", "Reads all definitions, and names what isn't computed")
+    return found
 
 
-def run(c: Compiler, args: List[str]) -> int:
-    rdram, save = take(args, "--rdram"), take(args, "--save")
-    script = read(args[0]) if args else sys.stdin.buffer.read()
-    image = read(rdram) if rdram else bytes(4194304)
-    if len(image) % 8 or not 64 <= len(image) <= 8388608:
-        print("rsp: fault 7 SizeFault", file=sys.stderr)
-        return 1
-    items = tuple(script)
-    sys.stdout.buffer.write(bytes(c.get(RUN, "out_of")(items, kit.Array(bytearray(image)))))
-    if save:
-        session = c.get(RUN, "session_of")(items, kit.Array(bytearray(image)))
-        with open(save, "wb") as f:
-            f.write(bytes(session.debugging.state.rdram.newest()))
-    return 0
-
-
-def asm(c: Compiler, args: List[str]) -> int:
-    meaning = c.get(SOURCE, "meaning_of_text")(tuple(read(args[0])), 0)
-    if isinstance(meaning, kit.Err):
-        name = bytes(c.get("Rattle.rsp_syntax.specs.Faults", "kind_name")(meaning._0.kind)).decode()
-        print(f"rsp: fault {name} line {meaning._0.line}", file=sys.stderr)
-        return 1
-    print(f"ok {len(meaning._0)} words")
-    with open(args[1], "wb") as f:
-        f.write(bytes(c.get("Rattle.rsp_memory.specs.Words", "words_bytes")(meaning._0)))
-    return 0
-
-
-def dis(c: Compiler, args: List[str]) -> int:
-    data = read(args[0])
-    words = tuple(int.from_bytes(data[i : i + 4], "big") for i in range(0, len(data), 4))
-    for line in c.get("Rattle.rsp_syntax.specs.Disassembly", "listing")(0, words):
-        print(bytes(line).decode())
-    return 0
-
-
-def steps(c: Compiler, args: List[str]) -> int:
-    from .states import Machine, differences
-
-    m = Machine(c)
-    passed = failed = 0
-    for path in args:
-        with open(path, encoding="utf-8") as f:
-            for line in f:
-                case = json.loads(line)
-                wrong = list(differences(m, case))
-                passed += not wrong
-                failed += bool(wrong)
-                for key, expected, got in wrong:
-                    print(f"{case['name']} ({case['text']}), {key}: the vector has {expected}, the definitions give {got}")
-    print(f"{passed} passed, {failed} failed")
-    return int(failed > 0 or not passed)
-
-
-def check(c: Compiler, args: List[str]) -> int:
-    files = computed = facts = 0
-    todo, seen = [RUN], set()
-    while todo:
-        module = todo.pop()
-        if module in seen or ".declared." in module or ".proofs." in module:
-            continue
-        seen.add(module)
-        file = c.library.file(module) if module.split(".")[1] in c.library.crates() else None
-        if file is None:
-            continue
+def check(library: Library) -> int:
+    """Compiles each definition on which the replies to a script rest, and counts them."""
+    compiler, files, computed, properties = Compiler(library), 0, 0, 0
+    for file in library.reached(RUN):
         files += 1
-        todo.extend(modules_absolute(u.path, module) for u in file.uses)
-        for name, f in file.functions.items():
-            if ends_in_type(f.type):
-                facts += 1
-                continue
-            c.get(module, name)
-            computed += 1
-    print(f"{files} files, {computed} definitions computed, {facts} properties not computed")
+        for name, function in file.functions.items():
+            is_property = ends_in_type(function.type)
+            properties += is_property
+            if not is_property:
+                compiler.get(file.module, name)
+                computed += 1
+    print(f"{files} files, {computed} definitions are computed, {properties} properties aren't")
     return 0
 
 
-def why(c: Compiler, args: List[str]) -> int:
-    from .explain import why as explain
-
-    return explain(c, args)
-
-
-def cases(c: Compiler, args: List[str]) -> int:
-    from .cases import cases as answer
-
-    return answer(c, args)
-
-
-COMMANDS = {"cases": cases, "run": run, "asm": asm, "dis": dis, "steps": steps, "why": why, "check": check}
-
-
-def main() -> int:
-    args = sys.argv[1:]
-    here = os.path.dirname(os.path.dirname(os.path.abspath(__file__)))
-    root = take(args, "--root") or next((p for p in (os.getcwd(), here) if os.path.isdir(os.path.join(p, "crates"))), ".")
-    if not args or args[0] not in COMMANDS:
-        print(__doc__, end="")
-        return 2
-    try:
-        return COMMANDS[args[0]](Compiler(Library(root)), args[1:])
-    except (AnttError, OSError) as error:
-        print(f"define: {error}", file=sys.stderr)
-        return 1
+def command_of(words: argparse.Namespace) -> Tuple[Command, Callable[[], str]]:
+    """The command that is asked for, and how far it has come."""
+    library = Library(words.root)
+    compiler = Compiler(library)
+    programs = Programs(compiler)
+    if words.command == "steps":
+        steps = Steps(Machine(compiler))
+        return lambda: steps.run(words.file), steps.progress
+    commands: Dict[str, Command] = {
+        "run": lambda: programs.run(words.script, words.rdram, words.save),
+        "asm": lambda: programs.asm(words.src, words.out),
+        "dis": lambda: programs.dis(words.file),
+        "why": lambda: why(compiler, words.words),
+        "cases": lambda: answer_cases(compiler),
+        "check": lambda: check(library),
+    }
+    return commands[words.command], programs.progress
 
 
-def in_thread() -> None:
-    result: List[int] = []
-    threading.stack_size(512 * 1024 * 1024)  # definitions are recursive
-    t = threading.Thread(target=lambda: result.append(main()))
-    t.start()
-    t.join()
-    sys.stdout.flush()
-    os._exit(result[0] if result else 1)
+def main(arguments: List[str]) -> int:
+    """Runs a command, and returns its status."""
+    words = parser().parse_args(arguments)
+    found: List[Tuple[Command, Callable[[], str]]] = []
+
+    def command() -> int:
+        found.append(command_of(words))
+        return found[0][0]()
+
+    return work(command, lambda: found[0][1]() if found else "")
 
 
 if __name__ == "__main__":
-    in_thread()
+    try:
+        STATUS = main(sys.argv[1:])
+        if sys.stdout is not None:
+            sys.stdout.flush()
+    except OSError:
+        say("define: standard output can't be written")
+        STATUS = 1
+    except SystemExit as ended:
+        STATUS = int(ended.code or 0)
+        sys.stdout.flush()
+    os._exit(STATUS)  # a thread may still compute

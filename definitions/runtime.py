@@ -57,6 +57,7 @@ class Climb:
         self.raw, self.at = raw, at  # the function by its clauses, and which argument is the number
         self.starts: Dict[Any, Tuple[Any, Dict[int, Any]]] = {}  # the other arguments, and values by numbers
         self.depth = 0  # how many calls are inside of others
+        self.computed = 0  # how many values were computed
 
     def __call__(self, *arguments: Any) -> Any:
         n = arguments[self.at]
@@ -76,6 +77,7 @@ class Climb:
             for k in range(max(values, default=-1) + 1, n + 1):
                 values[k] = self.raw(*others[: self.at], k, *others[self.at :])
                 values.pop(k - self.VALUES, None)
+                self.computed += 1
         finally:
             self.depth -= 1
         while self.depth == 0 and len(self.starts) > self.STARTS:
