@@ -7,6 +7,7 @@ from typing import Any, Callable, Dict, List, NoReturn, Tuple
 
 from .cases import answer_cases
 from .compiler import Compiler
+from .coverage import Coverage, report
 from .explain import why
 from .modules import Library
 from .programs import Programs
@@ -80,6 +81,9 @@ def command_of(words: argparse.Namespace) -> Tuple[Command, Callable[[], str]]:
     library = Library(words.root)
     compiler = Compiler(library)
     programs = Programs(compiler)
+    if words.command == "coverage":
+        coverage = Coverage(library)
+        return lambda: report(coverage, words.file, words.table), lambda: f"{coverage.ran} cases and scripts are counted"
     if words.command == "steps":
         steps = Steps(Machine(compiler))
         return lambda: steps.run(words.file), steps.progress

@@ -10,6 +10,7 @@ from .arrays import Array
 from .compiler import Compiler
 
 SESSION = "Rattle.rsp_bench.specs.Session"
+SESSION_NAMES = ("first_session", "line_answer", "end_reply")
 FEEDS = "Rattle.rsp_script_io.specs.Feeds"
 SYNTAX = "Rattle.rsp_syntax.specs"
 IMAGE_BYTES = 4194304
@@ -81,9 +82,8 @@ class Session:
     """A session of a script: its lines are answered one after another."""
 
     def __init__(self, compiler: Compiler, image: bytes) -> None:
-        self.line_answer = compiler.get(SESSION, "line_answer")
-        self.end_reply = compiler.get(SESSION, "end_reply")
-        self.session = compiler.get(SESSION, "first_session")(Array(bytearray(image)))
+        first_session, self.line_answer, self.end_reply = (compiler.get(SESSION, name) for name in SESSION_NAMES)
+        self.session = first_session(Array(bytearray(image)))
         self.lines = 0
 
     def answer(self, line: Any) -> bytes:
