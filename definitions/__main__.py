@@ -18,9 +18,9 @@ from .working import say, work
 
 HERE = os.path.dirname(os.path.dirname(os.path.abspath(__file__)))
 RUN = "Rattle.rsp_bench.specs.Run"
-DESCRIPTION = """Computes the definitions of crates/*/specs, as they are, without the kit and without the program rsp.
+DESCRIPTION = """Computes the definitions of crates/*/specs, without the kit and without the program.
 
-The bytes, files and statuses of run, asm and dis are those of the program. Status 0: all is well; 1: a fault or a
+The bytes, files and statuses of run, asm and dis are those of `rsp`. Status 0: all is well; 1: a fault or a
 difference; 2: a wrong argument."""
 Command = Callable[[], int]
 
@@ -35,14 +35,19 @@ class ArgumentParser(argparse.ArgumentParser):
 
 def parser() -> ArgumentParser:
     """What the command line may be."""
-    found = ArgumentParser(prog="define", description=DESCRIPTION, formatter_class=argparse.RawDescriptionHelpFormatter)
-    found.add_argument("--root", default=HERE, metavar="FOLDER", help="the repository [default: that of this command]")
+    found = ArgumentParser(
+        prog="define", description=DESCRIPTION, formatter_class=argparse.RawDescriptionHelpFormatter
+    )
+    found.add_argument(
+        "--root", default=HERE, metavar="FOLDER", help="the repository [default: that of this command]"
+    )
     commands = found.add_subparsers(dest="command", metavar="COMMAND", required=True)
 
     def add(name: str, about: str, *words: str, **options: Any) -> ArgumentParser:
         made = commands.add_parser(name, help=about, description=about, **options)
         for word in words:
-            made.add_argument(word.rstrip("+"), metavar=word.upper().rstrip("+"), nargs="+" if word[-1] == "+" else None)
+            many: Dict[str, Any] = {"nargs": "+"} if word[-1] == "+" else {}
+            made.add_argument(word.rstrip("+"), metavar=word.upper().rstrip("+"), **many)
         return made
 
     run = add("run", "Answers a script, as `out_of` says")
@@ -55,7 +60,9 @@ def parser() -> ArgumentParser:
     explained = add("why", "Explains a value after an instruction", add_help=False)
     explained.add_argument("words", nargs=argparse.REMAINDER)
     add("cases", "Answers cases as an emulator of conformance/campaign: a line of JSON for each")
-    covered = add("coverage", "Counts the cases and scripts that use each clause, and each value of its tests", "file+")
+    covered = add(
+        "coverage", "Counts the cases and scripts that use each clause, and each value of its tests", "file+"
+    )
     covered.add_argument("--table", metavar="FILE", help="a file for the whole table")
     add("check", "Reads all definitions, and names what isn't computed")
     return found
@@ -83,7 +90,10 @@ def command_of(words: argparse.Namespace) -> Tuple[Command, Callable[[], str]]:
     programs = Programs(compiler)
     if words.command == "coverage":
         coverage = Coverage(library)
-        return lambda: report(coverage, words.file, words.table), lambda: f"{coverage.ran} cases and scripts are counted"
+        return (
+            lambda: report(coverage, words.file, words.table),
+            lambda: f"{coverage.ran} cases and scripts are counted",
+        )
     if words.command == "steps":
         steps = Steps(Machine(compiler))
         return lambda: steps.run(words.file), steps.progress

@@ -11,10 +11,15 @@ class Array:
 
     __slots__ = ("items", "at", "value", "next", "count", "writes")
 
-    MOST = 65536  # writes after which the next version gets an array of its own, so that a kept one lets the rest go
+    MOST = (
+        65536  # writes after which the next version gets its own array, so that a kept one lets the rest go
+    )
 
     def __init__(self, items: Any) -> None:
-        self.items, self.at, self.value, self.next, self.count, self.writes = items, 0, None, None, len(items), 0
+        self.items, self.count = items, len(items)
+        self.at = self.writes = 0
+        self.value: Any = None
+        self.next: Any = None
 
     def __len__(self) -> int:
         return self.count

@@ -1,8 +1,8 @@
 """A definition as the text of a Python function.
 
-A definition with n patterns becomes a function of n arguments; as a value it takes them one at a time. A clause becomes
-an `if`, and clauses are tried in order. `if`, `cond`, `&&` and `||` compute only what they need. A call of itself at the
-end, or there after `suc`, becomes a loop.
+A definition with n patterns becomes a function of n arguments; as a value it takes them one at a time. A
+clause becomes an `if`, and clauses are tried in order. `if`, `cond`, `&&` and `||` compute only what they
+need. A call of itself at the end, or there after `suc`, becomes a loop.
 """
 
 from typing import TYPE_CHECKING, Any, Dict, List, Optional, Set, Tuple
@@ -16,16 +16,16 @@ if TYPE_CHECKING:
 
 # Operators that Python has, and those that kit.py defines.
 INFIX = {
-    "+": "{}+{}", "*": "{}*{}", "+ℤ": "{}+{}", "-ℤ": "{}-{}", "*ℤ": "{}*{}", "==": "{}=={}", "≡": "{}=={}", "≢": "{}!={}",
-    "<": "{}<{}", "≤": "{}<={}", "<ℤ": "{}<{}", "≤ℤ": "{}<={}", "&&": "{} and {}", "||": "{} or {}", "×": "{} and {}",
-    "⊎": "{} or {}", "^": "{}**{}",
+    "+": "{}+{}", "*": "{}*{}", "+ℤ": "{}+{}", "-ℤ": "{}-{}", "*ℤ": "{}*{}", "==": "{}=={}", "≡": "{}=={}",
+    "≢": "{}!={}", "<": "{}<{}", "≤": "{}<={}", "<ℤ": "{}<{}", "≤ℤ": "{}<={}", "&&": "{} and {}",
+    "||": "{} or {}", "×": "{} and {}", "⊎": "{} or {}", "^": "{}**{}",
 }  # fmt: skip
 CALLED = {"-": "kit_minus", "/": "kit_divide", "%": "kit_remainder", "++": "kit_append", "∷": "kit_cons"}
 # Functions of the kit that are written out if they have all arguments.
 WRITTEN = {
     "suc": (1, "({} + 1)"), "pos": (1, "{}"), "negsuc": (1, "(-1 - {})"), "not": (1, "(not {})"),
-    "int_lt": (2, "({} < {})"), "nat_lt": (2, "({} < {})"), "int_le": (2, "({} <= {})"), "nat_le": (2, "({} <= {})"),
-    "int_eq": (2, "({} == {})"), "nat_eq": (2, "({} == {})"),
+    "int_lt": (2, "({} < {})"), "int_le": (2, "({} <= {})"), "int_eq": (2, "({} == {})"),
+    "nat_lt": (2, "({} < {})"), "nat_le": (2, "({} <= {})"), "nat_eq": (2, "({} == {})"),
 }  # fmt: skip
 # The patterns of the kit's constructors: a test of the value, and the value of the one argument.
 PATTERNS = {
@@ -106,7 +106,9 @@ def has_closure(e: Any) -> bool:
 class Body:
     """Writes one definition, or with `function` None the facts of a record."""
 
-    def __init__(self, compiler: "Compiler", module: str, path: str, function: Optional[Function] = None) -> None:
+    def __init__(
+        self, compiler: "Compiler", module: str, path: str, function: Optional[Function] = None
+    ) -> None:
         self.compiler, self.module, self.path, self.function = compiler, module, path, function
         self.names: Dict[str, str] = {}  # the variables, with their names in Python
         self.is_loop = self.counts = False
@@ -142,7 +144,7 @@ class Body:
         return raw + head + self.keeping(code, arguments, most) if most else f"def {code}{head}"
 
     def keeping(self, code: str, arguments: List[str], most: int) -> str:
-        """A function that keeps so many results of another. What isn't a number is the same if it is the same object."""
+        """A function that keeps so many results. What isn't a number is the same if it is the same object."""
         assert self.function is not None
         kinds = argument_types(self.function.type)
         key = ", ".join(a if is_var(kind, "ℕ") else f"id({a})" for a, kind in zip(arguments, kinds))
@@ -167,7 +169,7 @@ class Body:
         return ""
 
     def climbs(self) -> Optional[int]:
-        """Which argument is the number of a function by recursion on it that leaves its other arguments as they are."""
+        """Which argument is the number of a recursion that leaves its other arguments as they are."""
         assert self.function is not None
         for clause in self.function.clauses:
             for at, pattern in enumerate(clause.patterns):
@@ -240,7 +242,12 @@ class Body:
             self.pattern(p, f"{at}[{len(members)}:]", tests, bound)
 
     def constructor_pattern(
-        self, found: Global, arguments: List[Expression], at: str, tests: List[str], bound: List[Tuple[str, str]]
+        self,
+        found: Global,
+        arguments: List[Expression],
+        at: str,
+        tests: List[str],
+        bound: List[Tuple[str, str]],
     ) -> None:
         """The pattern of a constructor with its arguments."""
         if found.kind == "kit":
@@ -252,7 +259,9 @@ class Body:
             tests.append(f"{at}.__class__ is {code}" if found.arity else f"{at} is {code}")
             parts = [f"{at}._{i}" for i in range(found.arity)]
         if len(arguments) != len(parts):
-            raise self.fail(f"`{found.name}` takes {len(parts)} arguments, and its pattern has {len(arguments)}")
+            raise self.fail(
+                f"`{found.name}` takes {len(parts)} arguments, and its pattern has {len(arguments)}"
+            )
         for argument, part in zip(arguments, parts):
             self.pattern(argument, part, tests, bound)
 
@@ -273,7 +282,8 @@ class Body:
             value, name = self.code(e[2]), self.bind(e[1])
             text = f"{pad}{name} = {value}\n{self.statement(e[3], pad)}"
         elif e[0] == "if":
-            text = f"{pad}if {self.tested(e[1], e)}:\n{self.statement(e[2], pad + '    ')}{self.statement(e[3], pad)}"
+            test, then = self.tested(e[1], e), self.statement(e[2], pad + "    ")
+            text = f"{pad}if {test}:\n{then}{self.statement(e[3], pad)}"
         elif self.is_loop and self.ends_in_itself(e) and e[0] == "app" and is_var(e[1], "suc"):
             text = f"{pad}more += 1\n{self.statement(e[2][0], pad)}"
         elif self.is_loop and self.ends_in_itself(e):
@@ -354,7 +364,8 @@ class Body:
     def code_of_rec(self, e: Expression) -> str:
         fields = {field: self.code(value) for field, value in e[2]}
         if e[1] is None:
-            return f"{self.compiler.record_class(tuple(fields))}({', '.join(fields[it] for it in sorted(fields))})"
+            values = ", ".join(fields[name] for name in sorted(fields))
+            return f"{self.compiler.record_class(tuple(fields))}({values})"
         return f"{self.compiler.update([*fields])}({self.code(e[1])}, {', '.join(fields.values())})"
 
     def code_of_op(self, e: Expression) -> str:
@@ -421,7 +432,9 @@ class Body:
             return repr(tuple(arguments[0][1].encode()))
         if found.name == "cond" and len(arguments) >= 3:
             test, then, otherwise, *others = arguments
-            return self.choice(self.tested(test, ("cond", *arguments)), then, otherwise) + self.one_by_one(others)
+            return self.choice(self.tested(test, ("cond", *arguments)), then, otherwise) + self.one_by_one(
+                others
+            )
         count, text = WRITTEN.get(found.name, (-1, ""))
         return text.format(*map(self.code, arguments)) if len(arguments) == count else None
 
@@ -438,7 +451,9 @@ class Body:
             return f"{code}({', '.join(given)})"
         if len(given) >= found.arity:
             return f"{code}({', '.join(given[: found.arity])}){rest}"
-        return code if found.arity == 1 else f"partly({code}, {found.arity}{''.join(', ' + it for it in given)})"
+        return (
+            code if found.arity == 1 else f"partly({code}, {found.arity}{''.join(', ' + it for it in given)})"
+        )
 
 
 def kit_has(name: str) -> bool:

@@ -1,4 +1,4 @@
-"""The definitions as an emulator for conformance/campaign: a line of JSON for each case, and one for each answer."""
+"""The definitions as an emulator of conformance/campaign: a line of JSON for each case and each answer."""
 
 import json
 import sys

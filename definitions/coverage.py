@@ -1,7 +1,7 @@
 """Counts the cases of test vectors, and the scripts, that use each clause and each value of its tests.
 
-A test is what `if` and `cond` decide by, an operand of `&&` and `||`, and which operand of a minimum or a maximum is taken.
-Where a rule is by lane, the cases are counted for each lane.
+A test is what `if` and `cond` decide by, an operand of `&&` and `||`, and which of two numbers a minimum or a
+maximum takes. Where a rule is by lane, the cases are counted for each lane.
 """
 
 from typing import Any, Callable, Counter, Dict, Iterator, List, NamedTuple, Optional, Set, Tuple
@@ -106,13 +106,17 @@ class CoveredCompiler(Compiler):
     def __init__(self, library: Library) -> None:
         super().__init__(library, CoveredBody)
         self.recorder = Recorder()
-        self.space.update(seen=self.recorder.seen, extreme=self.recorder.extreme, with_lane=self.recorder.with_lane)
+        self.space.update(
+            seen=self.recorder.seen, extreme=self.recorder.extreme, with_lane=self.recorder.with_lane
+        )
 
     def function(self, module: str, name: str) -> str:
         text = super().function(module, name)
         code = self.global_name(Global("function", module, name))
         if name == "each_lane":
-            text += f"\n{code}_raw = {code}\ndef {code}(f):\n    return {code}_raw(lambda i: with_lane(i, f))\n"
+            text += (
+                f"\n{code}_raw = {code}\ndef {code}(f):\n    return {code}_raw(lambda i: with_lane(i, f))\n"
+            )
         return text
 
 
@@ -189,10 +193,10 @@ class Coverage:
                 if (number, value) not in shown:
                     yield site, f"never {str(value).lower()}" if site.text else "not used"
                 elif number in of_lanes and absent:
-                    yield site, f"never {str(value).lower()} in the lanes {', '.join(map(str, absent))}"
+                    yield site, f"never {str(value).lower()} in lane {absent[0]}"
 
     def table(self) -> Iterator[str]:
-        """The lines of a table: each clause, and for each instruction both values of each test that it makes."""
+        """The lines of a table: each clause, and for each instruction both values of its tests."""
         yield "Instruction\tClause\tTest\tValue\tCases by lane\n"
         names = sorted({name for name, _ in self.counts} - {SCRIPTS})
         used = {(name, use.site) for name, use in self.counts}
@@ -222,7 +226,8 @@ def report(coverage: Coverage, paths: List[str], table: Optional[str]) -> int:
     for site, what in lacking:
         print(f"{site.path}:{site.line}: {site.name}: {site.text and '`' + site.text + '` is '}{what}")
     clauses = sum(not coverage.recorder.sites[number].text for number in coverage.all)
-    print(f"{coverage.ran} cases and scripts, {clauses} clauses, {len(coverage.all) - clauses} tests, {len(lacking)} lacking")
+    tests = len(coverage.all) - clauses
+    print(f"{coverage.ran} cases and scripts, {clauses} clauses, {tests} tests, {len(lacking)} lacking")
     if table is not None:
         write_file(table, "".join(coverage.table()).encode())
     return 0

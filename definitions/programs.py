@@ -62,7 +62,9 @@ def write_file(path: str, data: bytes) -> None:
         try:
             with open(number, "wb") as file:
                 file.write(data)
-            os.chmod(name, os.stat(real).st_mode & 0o7777 if os.path.exists(real) else 0o666 & ~current_umask())
+            os.chmod(
+                name, os.stat(real).st_mode & 0o7777 if os.path.exists(real) else 0o666 & ~current_umask()
+            )
             os.replace(name, real)
         except OSError:
             os.unlink(name)
@@ -82,7 +84,9 @@ class Session:
     """A session of a script: its lines are answered one after another."""
 
     def __init__(self, compiler: Compiler, image: bytes) -> None:
-        first_session, self.line_answer, self.end_reply = (compiler.get(SESSION, name) for name in SESSION_NAMES)
+        first_session, self.line_answer, self.end_reply = (
+            compiler.get(SESSION, name) for name in SESSION_NAMES
+        )
         self.session = first_session(Array(bytearray(image)))
         self.lines = 0
 

@@ -16,7 +16,15 @@ DEFAULT.update({f"v{n}": "".join(f"{n * 0x100 + i * 0x11:04x}" for i in range(8)
 DEFAULT.update({f"a{i}": f"{(i + 1) * 0x000100010001:012x}" for i in range(8)})
 DEFAULT.update({f"c{n}": "00000ff8" if n in (2, 3) else "00000000" for n in range(16)})
 OF_NO_STATE = "divided"  # a number that sets DIV_OUT in an emulator without that register
-NUMBERS = {"pc": "pc", "npc": "npc", "vco": "vco", "vcc": "vcc", "vce": "vce", "in": "div_in", "out": "div_out"}
+NUMBERS = {
+    "pc": "pc",
+    "npc": "npc",
+    "vco": "vco",
+    "vcc": "vcc",
+    "vce": "vce",
+    "in": "div_in",
+    "out": "div_out",
+}
 NUMBERS.update({"loaded": "div_loaded", "interrupt": "interrupt"})
 
 
@@ -38,8 +46,8 @@ def bits(mask: int) -> Tuple[bool, ...]:
 class Machine:
     """States and steps of the definitions.
 
-    Numbers are a dictionary: pc, npc, r, v, acc, vco, vcc, vce, div_in, div_out, div_loaded, interrupt and sp, the 16
-    SP registers as they are read.
+    Numbers are a dictionary: pc, npc, r, v, acc, vco, vcc, vce, div_in, div_out, div_loaded, interrupt and
+    sp, the 16 SP registers as they are read.
     """
 
     def __init__(self, compiler: Compiler) -> None:
@@ -110,7 +118,9 @@ class Machine:
     def state(self, keys: Mapping[str, str], memories: Mapping[str, bytes]) -> Any:
         """The state with these keys of a vector, all of which are given, and these memories."""
         n: Dict[str, Any] = {name: int(keys[key], 16) for key, name in NUMBERS.items()}
-        n.update(r=[int(keys[f"r{i}"], 16) for i in range(32)], acc=[int(keys[f"a{i}"], 16) for i in range(8)])
+        n.update(
+            r=[int(keys[f"r{i}"], 16) for i in range(32)], acc=[int(keys[f"a{i}"], 16) for i in range(8)]
+        )
         n["v"] = [[int(keys[f"v{i}"][at : at + 4], 16) for at in range(0, 32, 4)] for i in range(32)]
         n["sp"] = [int(keys[f"c{i}"], 16) for i in range(16)]
         return self.state_of(n, memories)

@@ -45,7 +45,8 @@ class Steps:
         self.failed += bool(wrong)
         choice = f"; choice: {case['choice']}" if "choice" in case else ""
         for key, expected, got in wrong:
-            print(f"{case['name']} ({case['text']}{choice}), {key}: the vector has {expected}, the definitions give {got}")
+            head = f"{case['name']} ({case['text']}{choice}), {key}"
+            print(f"{head}: the vector has {expected}, the definitions give {got}")
 
     def progress(self) -> str:
         """How many cases were compared."""

@@ -1,7 +1,6 @@
-"""Runs a command in a thread with a large stack, because definitions are recursive, and ends it in an orderly way."""
+"""Runs a command in a thread with a large stack, because definitions are recursive, and names its fault."""
 
 import os
-import sys
 import threading
 import time
 import traceback
@@ -35,7 +34,11 @@ def explained(error: BaseException) -> str:
     if isinstance(error, (AnttError, NoCase)):
         return str(error)
     place = place_of(error)
-    what = "it is too deeply recursive" if isinstance(error, RecursionError) else f"{type(error).__name__}: {error}"
+    what = (
+        "it is too deeply recursive"
+        if isinstance(error, RecursionError)
+        else f"{type(error).__name__}: {error}"
+    )
     return f"`{place}` can't be computed: {what}" if place else what
 
 
