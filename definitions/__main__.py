@@ -11,7 +11,7 @@ from .coverage import Coverage, report
 from .explain import why
 from .modules import Library
 from .programs import Programs
-from .states import Machine
+from .states import BadInput, Machine
 from .steps import Steps
 from .syntax import ends_in_type
 from .working import say, work
@@ -29,14 +29,14 @@ class ArgumentParser(argparse.ArgumentParser):
     """Refuses arguments in one line."""
 
     def error(self, message: str) -> NoReturn:
-        say(f"{self.prog}: {message} (see {self.prog} --help)")
+        say(f"define: {message} (see {self.prog} --help)")
         raise SystemExit(2)
 
 
 def parser() -> ArgumentParser:
     """What the command line may be."""
     found = ArgumentParser(
-        prog="define", description=DESCRIPTION, formatter_class=argparse.RawDescriptionHelpFormatter
+        prog="tools/define", description=DESCRIPTION, formatter_class=argparse.RawDescriptionHelpFormatter
     )
     found.add_argument(
         "--root", default=HERE, metavar="FOLDER", help="the repository [default: that of this command]"
@@ -57,8 +57,8 @@ def parser() -> ArgumentParser:
     add("asm", "Assembles a text into a file of words, as `meaning_of_text` says", "src", "out")
     add("dis", "Lists a file of words, as `listing` says", "file")
     add("steps", "Compares `step_of` with test vectors", "file+")
-    explained = add("why", "Explains a value after an instruction", add_help=False)
-    explained.add_argument("words", nargs=argparse.REMAINDER)
+    explained = add("why", "Explains a value after an instruction")
+    explained.add_argument("words", metavar="WORD", nargs="+", help="CASE WHAT, or TEXT WHAT KEY=HEX ..")
     add("cases", "Answers cases as an emulator of conformance/campaign: a line of JSON for each")
     covered = add(
         "coverage", "Counts the cases and scripts that use each clause, and each value of its tests", "file+"
@@ -85,6 +85,8 @@ def check(library: Library) -> int:
 
 def command_of(words: argparse.Namespace) -> Tuple[Command, Callable[[], str]]:
     """The command that is asked for, and how far it has come."""
+    if not os.path.isdir(os.path.join(words.root, "crates")):
+        raise BadInput(f"{words.root} has no folder `crates` of definitions")
     library = Library(words.root)
     compiler = Compiler(library)
     programs = Programs(compiler)

@@ -25,7 +25,7 @@ class Site(NamedTuple):
 
     path: str
     line: int
-    name: str
+    left: str  # the left side of the clause
     text: str  # of the test; empty for the clause
 
 
@@ -81,12 +81,15 @@ class CoveredBody(Body):
 
     compiler: "CoveredCompiler"
 
-    def site(self, text: str = "", line: int = 0) -> int:
+    left = ""  # the left side of the current clause
+
+    def site(self, text: str = "") -> int:
         """The number of a new site of the current clause."""
-        name = self.function.name if self.function else ""
-        return self.compiler.recorder.add(Site(self.path, line or self.line, name, text))
+        return self.compiler.recorder.add(Site(self.path, self.line, self.left, text))
 
     def begin(self, clause: Clause, pad: str) -> str:
+        name = self.function.name if self.function else ""
+        self.left = text_of(("app", ("var", name), clause.patterns)) if clause.patterns else name
         return f"{pad}seen({self.site()}, True)\n"
 
     def tested(self, e: Expression, where: Expression) -> str:
@@ -202,7 +205,7 @@ class Coverage:
         used = {(name, use.site) for name, use in self.counts}
         for number in self.of_step:
             site = self.recorder.sites[number]
-            place = f"{site.path[len('crates/') :]}:{site.line} {site.name}"
+            place = f"{site.path[len('crates/') :]}:{site.line} {site.left}"
             if not site.text:
                 yield f"-\t{place}\t\t\t{texts(self.by_lane(None, number, True))}\n"
                 continue
@@ -224,7 +227,7 @@ def report(coverage: Coverage, paths: List[str], table: Optional[str]) -> int:
         coverage.file(path)
     lacking = [*coverage.lacking()]
     for site, what in lacking:
-        print(f"{site.path}:{site.line}: {site.name}: {site.text and '`' + site.text + '` is '}{what}")
+        print(f"{site.path}:{site.line}: {site.left}: {site.text and '`' + site.text + '` is '}{what}")
     clauses = sum(not coverage.recorder.sites[number].text for number in coverage.all)
     tests = len(coverage.all) - clauses
     print(f"{coverage.ran} cases and scripts, {clauses} clauses, {tests} tests, {len(lacking)} lacking")
