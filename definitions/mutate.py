@@ -79,16 +79,26 @@ def changed(e: Expression) -> Iterator[Expression]:
         yield ("if", e[1], e[3], e[2], *e[4:])
 
 
+def is_expression(e: Any) -> bool:
+    """Whether it is an expression, and no list of them."""
+    return isinstance(e, tuple) and len(e) > 0 and isinstance(e[0], str)
+
+
+def is_small(what: str) -> bool:
+    """Whether the text of a change says too little without what is around it."""
+    return len(what) < 24
+
+
 def variants(e: Any) -> Iterator[Tuple[Any, str]]:
     """An expression with one part changed, and what the change is."""
-    if isinstance(e, tuple) and e and isinstance(e[0], str):
+    if is_expression(e):
         for new in changed(e):
             yield new, f"{text_of(e)} → {text_of(new)}"
     for at, part in enumerate(e):
         is_head = at == 1 and e[0] == "app" and part[0] == "var"
-        if isinstance(part, (tuple, list)) and not is_head:
-            for new, what in variants(part):
-                yield type(e)([*e[:at], new, *e[at + 1 :]]), what
+        for new, what in variants(part) if isinstance(part, (tuple, list)) and not is_head else ():
+            made = type(e)([*e[:at], new, *e[at + 1 :]])
+            yield made, f"{text_of(e)} → {text_of(made)}" if is_small(what) and is_expression(e) else what
 
 
 def changes_of(file: File, used: Set[Tuple[str, int]]) -> Iterator[Change]:

@@ -8,6 +8,7 @@ from pathlib import Path
 
 import pytest
 
+from lib import TOP
 from lib.campaigns import EMULATOR, FEW, agreed, campaign, counts_of, output_of, results_of
 from rsp_conformance.campaign.build import built
 

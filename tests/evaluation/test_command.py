@@ -14,7 +14,7 @@ import sys
 import time
 from functools import partial
 from pathlib import Path
-from typing import Any, List, Sequence
+from typing import Any, Dict, List, Sequence
 
 import pytest
 
@@ -70,9 +70,9 @@ INPUTS = {
     "too long": STEP + b"#" * 1048572,
     "too long at a newline": STEP + b"#" * 1048566 + b"\nstep\n",
     "long enough": STEP + b"#" * 1048565 + b"\nstep\n",
-    "too long in a block": b"asm 0\n" + b"\n" * 1048576,
+    "too long in a block": b"asm 0\n" + b"\n" * 100 + b"#" * 1048576,
 }
-BAD = {
+BAD: Dict[Any, str] = {
     (): "the following arguments are required: COMMAND",
     ("walk",): "argument COMMAND: invalid choice: 'walk'",
     ("asm", "x"): "the following arguments are required: OUT",
@@ -82,6 +82,20 @@ BAD = {
     ("coverage", "/none"): "cannot read /none",
     ("--root", "/none", "check"): "/none has no folder `crates` of definitions",
 }
+STANDARD = {
+    "argparse",
+    "functools",
+    "glob",
+    "json",
+    "os",
+    "random",
+    "re",
+    "signal",
+    "sys",
+    "tempfile",
+    "threading",
+}
+STANDARD |= {"time", "traceback", "typing"}
 CASE = '{"name": "X-1", "text": "", "word": "%s", "before": {%s}, "after": {%s}}'
 
 
@@ -155,7 +169,7 @@ def test_full_disk(folder: Path) -> None:
 def test_interrupted(folder: Path) -> None:
     """Ctrl-C ends a long run with one sentence and status 130, and nothing is saved."""
     (folder / "script").write_bytes(b"asm 0\nj 0\nnop\nend\nrun 1000000\n")
-    words = [DEFINE, "run", "script", "--save", "saved"]
+    words = [str(DEFINE), "run", "script", "--save", "saved"]
     pipe = subprocess.PIPE
     heeds = partial(signal.signal, signal.SIGINT, signal.SIG_DFL)
     how: Any = {"cwd": folder, "start_new_session": True, "preexec_fn": heeds}
@@ -203,7 +217,7 @@ def test_elsewhere(folder: Path) -> None:
     ),
 )
 def test_faulty_definition(path: str, old: str, new: str, said: str, folder: Path) -> None:
-    """A file that doesn't parse, a name that isn't there and a missing clause are named with file and line."""
+    """A file that doesn't parse, a name that isn't there and a missing clause: file and line are named."""
     copy, name = definitions_in(folder / "copy"), f"crates/{path}.antt"
     text = (copy / name).read_text()
     assert old in text
@@ -216,12 +230,9 @@ def test_faulty_definition(path: str, old: str, new: str, said: str, folder: Pat
 
 def test_python() -> None:
     """The package is Python 3.8, and imports only the standard library and itself."""
-    standard = set(
-        "argparse functools glob json os random re signal sys tempfile threading time traceback typing".split()
-    )
     for path in (TOP / "definitions").glob("*.py"):
         for node in ast.walk(ast.parse(path.read_text(), feature_version=(3, 8))):
             if isinstance(node, ast.Import):
-                assert {alias.name for alias in node.names} <= standard
+                assert {alias.name for alias in node.names} <= STANDARD
             elif isinstance(node, ast.ImportFrom) and not node.level:
-                assert node.module in standard
+                assert node.module in STANDARD
