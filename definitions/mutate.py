@@ -4,7 +4,7 @@ tools/python definitions.mutate [--count N] [--seed N] [--jobs N] [--root FOLDER
 
 Draws changes of the clauses that the vectors use, except those of the instruction table: a number by 1, an
 operator, a sign, swapped operands or branches, a dropped clause. OUT lists the changes that no vector shows;
-some of them change nothing. A change that can't be computed, or not within a minute, counts as shown.
+some of them change nothing. Reasons that OUT has are kept. A change that can't be computed, or not within a minute, counts as shown.
 """
 
 import argparse
@@ -41,7 +41,7 @@ OTHER.update({"false": "true", "negsuc": "pos"})
 ORDERED = {"-", "-ℤ", "/", "%", "++", "nat_lt", "nat_le", "int_lt", "int_le"}
 SECONDS = 60
 NOT_SHOWN, SHOWN = 0, 1
-HEAD = "Clause\tChange\tWhy it can't be shown\n"
+HEAD = "Clause\tChange\tWhy no vector shows it\n"
 
 
 class Change(NamedTuple):
@@ -175,6 +175,15 @@ class Score:
                 yield change
 
 
+def reasons_in(path: str) -> Dict[str, str]:
+    """What a table says of its rows, if there is one."""
+    if not os.path.exists(path):
+        return {}
+    with open(path, encoding="utf-8") as file:
+        rows = [line.rstrip("\n").rpartition("\t") for line in file]
+    return {row: reason for row, _, reason in rows}
+
+
 def main() -> int:
     """Writes the table, and prints the score."""
     parser = argparse.ArgumentParser("tools/python definitions.mutate", description=__doc__.split("\n")[0])
@@ -187,11 +196,12 @@ def main() -> int:
     words = parser.parse_args()
     score = Score(words.root, words.files)
     changes = score.drawn(words.count, words.seed)
-    lines = []
+    reasons, lines = reasons_in(words.out), []
     for change in score.not_shown(changes, words.jobs):
         path = change.file.path[len("crates/") :]
-        lines.append(f"{path}:{change.clause.line} {change.function.name}\t{change.text}\t\n")
-        print(lines[-1].strip(), flush=True)
+        row = f"{path}:{change.clause.line} {change.function.name}\t{change.text}"
+        lines.append(f"{row}\t{reasons.get(row, '')}\n")
+        print(row, flush=True)
     with open(words.out, "w", encoding="utf-8") as file:
         file.write(HEAD + "".join(sorted(lines)))
     print(f"{len(changes)} changes, {len(lines)} not shown")
