@@ -4,7 +4,8 @@ tools/python definitions.mutate [--count N] [--seed N] [--jobs N] [--root FOLDER
 
 Draws changes of the clauses that the vectors use, except those of the instruction table: a number by 1, an
 operator, a sign, swapped operands or branches, a dropped clause. OUT lists the changes that no vector shows;
-some of them change nothing. Reasons that OUT has are kept. A change that can't be computed, or not within a minute, counts as shown.
+some of them change nothing. Reasons that OUT has are kept. A change that can't be computed, or not within a
+minute, counts as shown.
 """
 
 import argparse
