@@ -8,6 +8,7 @@ from pathlib import Path
 
 import pytest
 
+from lib import TOP
 from lib.campaigns import EMULATOR, FEW, agreed, campaign, counts_of, output_of, results_of
 from rsp_conformance.campaign.build import built
 
@@ -129,3 +130,12 @@ def test_folder_of_another_campaign(folder: Path) -> None:
     (folder / "beq-0-40.json").write_text("{")
     output_of(folder, *words)
     assert results_of(folder) == whole
+
+
+def test_definitions(folder: Path) -> None:
+    """The definitions are an emulator of a campaign, in cases and in programs, and nothing differs."""
+    few = ("--instructions", "VADD,SB,MTC0", "--cases", 500, "--programs", 2, "--steps", 100, "--workers", 1)
+    ended = campaign("tools/define cases", folder / "out", *few, "--here", cwd=TOP)
+    assert (
+        ended.returncode == 0 and "1500 cases and 2 programs: 0 differ, 0 of them by faults" in ended.stdout
+    )

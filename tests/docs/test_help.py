@@ -50,7 +50,7 @@ def commands() -> List[List[str]]:
     files = [*TOP.glob("conformance/*"), *TOP.glob("tools/*"), TOP / "release", TOP / "prove"]
     programs = [path for path in sorted(files) if path.is_file() and os.access(path, os.X_OK)]
     measures = [path.stem for path in sorted(TOP.glob("measure/*.py")) if "__main__" in path.read_text()]
-    modules = ["rsp_tools.page_tables", *(f"measure.{name}" for name in measures)]
+    modules = ["rsp_tools.page_tables", "definitions.mutate", *(f"measure.{name}" for name in measures)]
     names = [str(path.relative_to(TOP)) for path in programs if path.name != "python"]
     return [*([name] for name in names), *(["tools/python", name] for name in modules)]
 

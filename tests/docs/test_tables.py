@@ -219,7 +219,7 @@ def test_figures() -> None:
     agreed = f"in {len(ROWS) * int(each) // 100_000 / 10} million cases"
     bugs, routines = page("conformance/second/bugs.tsv").splitlines()[1:], len([*TOP.glob("microcode/*.s")])
     z64 = json.loads(page("conformance/z64/campaign.json"))["instructions"].values()
-    covered = {line.split("\t")[0] for line in page("conformance/coverage.tsv").splitlines()[1:]}
+    covered = {line.split("\t")[0] for line in page("conformance/coverage.tsv").splitlines()[1:]} - {"-"}
     bench, command = (page(f"examples/{it}").count("\n") for it in ("hdl/tb.sv", "js/cases.mjs"))
     figures = {
         "README.md": f"{sum(steps):,} [test vectors]; {agreed}; {routines} [proved routines]; "
@@ -227,7 +227,7 @@ def test_figures() -> None:
         GUARANTEES: f"{agreed}; [{len(bugs)} faults were planted in it]",
         OF_VECTORS: f"{sum(steps):,} test vectors; {min(steps)} to {max(steps)} of each of the {len(steps)}; "
         f"the {bench} lines of [tb.sv]; some {round(command, -1)} lines, such as [cases.mjs]; "
-        f"outcomes of {len(covered)} instructions; {programs} whole programs",
+        f"each of the {len(covered)} instructions, both values; {programs} whole programs",
     }
     assert not [it for name in figures for it in figures[name].split("; ") if it not in sentences(name)]
 

@@ -1,5 +1,6 @@
-"""The layers of the Python packages: a module imports only modules of its own layer and of lower ones. Only
-fuzz and the tests of what needs the kit import the modules that need it."""
+"""The layers of the Python packages: a module imports only modules of its own layer and of lower ones. The two
+lowest stand alone: neither imports the other. Only fuzz and the tests of what needs the kit import the modules
+that need it."""
 
 import ast
 import re
@@ -18,7 +19,9 @@ LAYERS = {
     "lib": TESTS / "lib",
     "rsp_tools": TOP / "tools/rsp_tools",
     "rsp_conformance": TOP / "conformance/rsp_conformance",
+    "definitions": TOP / "definitions",
 }
+ALONE = ("rsp_conformance", "definitions")
 
 # What may import rsp_tools.kit beside itself: fuzz, and the tests of what needs the kit.
 KIT = "rsp_tools.kit"
@@ -46,7 +49,7 @@ def test_runners(name: str) -> None:
 
 @pytest.mark.parametrize("name", LAYERS)
 def test_imports(name: str) -> None:
-    higher = [*LAYERS][: [*LAYERS].index(name)]
+    higher = [*LAYERS][: [*LAYERS].index(name)] if name not in ALONE else [it for it in LAYERS if it != name]
     paths = [path for path in LAYERS[name].rglob("*.py") if "out" not in path.parts]
     assert paths and [f"{path}: {it}" for path in paths for it in imported(path) if it in higher] == []
 
