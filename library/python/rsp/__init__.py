@@ -18,6 +18,7 @@ from typing import Any, List
 
 from .compare import Emulator, FirstDifference, first_difference
 from .errors import FAULTS, AssemblyError, RspError
+from .explained import why
 from .helpers import Difference, Part
 from .machine import DMEM, IMEM, RDRAM, STATUS_WRITES, Machine, numpy_for as _numpy_for
 from .native import VERSION
@@ -36,6 +37,7 @@ __all__ = [
     "Line", "Machine", "Move", "NotHalted", "Part", "Ran", "Reason", "RspError", "STATUS_WRITES",
     "Scalars", "ScriptError", "SpWords", "State", "Status", "Stop", "Timeline", "Traced", "Words",
     "assemble", "explain_reply", "explain_text", "first_difference", "run_script", "state_fault", "text",
+    "why",
 ]  # fmt: skip
 
 
