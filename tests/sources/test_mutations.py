@@ -1,9 +1,12 @@
-"""The stored mutations of what isn't proved fit the files as they are, which tests/mutations/run tries.
+"""The stored mutations fit the files as they are: those of what isn't proved, which tests/mutations/run tries,
+and those of crates, most of which the gate rarely tries.
 
 They fail if a changed line leaves its mutation behind, or if one has no known form or names no test.
 """
 
+import re
 import shlex
+from typing import Dict
 
 import pytest
 
@@ -18,3 +21,17 @@ def test_stored(module: str) -> None:
         words = shlex.split(it.get("tests", ""))
         assert all((TOP / word).exists() for word in words if word.startswith("tests/")), it
         assert words[:1] and words[0].startswith("tests/") or it["equivalent"], it
+
+
+@pytest.mark.parametrize("folder", ["must-fail", "drawn"])
+def test_stored_of_crates(folder: str) -> None:
+    paths = [*TOP.glob(f"crates/*/{folder}/*.edit")]
+    for path in paths:
+        texts: Dict[str, str] = {}
+        for lines in re.split("(?m)^file: ", path.read_text())[1:]:
+            name, _, pairs = lines.partition("\n")
+            texts.setdefault(name, (path.parents[1] / name).read_text())
+            for old, new in re.findall("(?m)^old: (.*)\nnew: ?(.*)$", pairs):
+                assert texts[name].count(old) == 1, path
+                texts[name] = texts[name].replace(old, new)
+    assert paths
