@@ -130,6 +130,12 @@ def test_archive(stranger: User) -> None:
     refuses(stranger, f"cd ~/'an archive' && echo >>{SOURCE} && library/c/build", f"{SOURCE} isn't as it was")
 
 
+def test_folder_whose_name_is_no_text(stranger: User) -> None:
+    """The program's own path is no argument that has to be UTF-8."""
+    prints(stranger, "git clone -q . ~/$'\\xff'")
+    assert prints(stranger, f"cd ~/$'\\xff' && {FIRST}") == REPLIES
+
+
 def test_library_and_plugin(stranger: User) -> None:
     prints(stranger, "plugin/build ~/plugin.so && CC=false library/c/build")
 
