@@ -136,6 +136,14 @@ def test_folder_whose_name_is_no_text(stranger: User) -> None:
     assert prints(stranger, f"cd ~/$'\\xff' && {FIRST}") == REPLIES
 
 
+def test_folder_whose_name_separates_paths(stranger: User) -> None:
+    """A colon separates the folders of PYTHONPATH."""
+    where = "~/'a:b;c\"d'"
+    prints(stranger, f"git clone -q . {where}")
+    passed = prints(stranger, f"cd {where} && {FIRST} && conformance/run conformance/vectors ADD")
+    assert passed.startswith(REPLIES) and passed.endswith(" passed, 0 failed\n")
+
+
 def test_library_and_plugin(stranger: User) -> None:
     prints(stranger, "plugin/build ~/plugin.so && CC=false library/c/build")
 

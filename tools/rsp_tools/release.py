@@ -17,7 +17,6 @@ what was in dist. The last lines say what was left out, and why.
 import argparse
 import re
 import shutil
-import signal
 import subprocess
 import sys
 import tempfile
@@ -163,7 +162,6 @@ def release(is_tested: bool) -> None:
 
 
 def main() -> None:
-    signal.signal(signal.SIGINT, lambda *_: sys.exit(130))
     form = argparse.RawDescriptionHelpFormatter
     parser = argparse.ArgumentParser(prog="./release", description=__doc__, formatter_class=form)
     parser.add_argument("--untested", action="store_true", help=f"leave out tests/all {NEWCOMER}")
