@@ -1,12 +1,15 @@
 """Ctrl-C ends each command of the repository that is written in Python with one sentence, and status 130.
 
-It fails if a command shows a traceback instead.
+It fails if a command shows a traceback instead, or if conformance/run doesn't show how far it is.
 """
 
 import os
+import pty
+import signal
+import subprocess
 import sys
 from pathlib import Path
-from typing import List
+from typing import Any, Dict, List
 
 import pytest
 
@@ -41,3 +44,19 @@ def test_command(name: str, folder: Path) -> None:
 
 def test_list_of_commands() -> None:
     assert {"conformance/run", "fuzz/build", "release", "tools/shapes"} < {*commands()}
+
+
+def test_run_in_a_terminal(program: Path) -> None:
+    """It counts the checks before it is done, and ends after the Ctrl-C that is typed then."""
+    terminal, inside = pty.openpty()
+    streams: Dict[str, Any] = dict.fromkeys(("stdin", "stdout", "stderr"), inside)
+    words = (TOP / "conformance/run", "--program", program)
+    process = subprocess.Popen(words, start_new_session=True, **streams)
+    os.close(inside)
+    shown = b""
+    while b" passed, 0 failed\r" not in shown:
+        shown += os.read(terminal, 1000)
+    os.killpg(process.pid, signal.SIGINT)
+    assert process.wait(20) == 130
+    assert os.read(terminal, 1000) == b"\r\nrun: stopped by Ctrl-C\r\n"
+    os.close(terminal)
