@@ -151,6 +151,7 @@ def test_library_and_plugin(stranger: User) -> None:
 CHANGES = {
     f"echo '// more' >>{SOURCE}": SOURCE,
     "touch crates/rsp_numbers/specs/New.antt": "crates/rsp_numbers/specs/New.antt",
+    "touch 'crates/rsp_numbers/src/sign copy.rt'": "crates/rsp_numbers/src/sign copy.rt isn't",
     "rm -r crates/rsp_numbers/proofs": "crates/rsp_numbers/proofs/Join.antt",
     "mv crates/rsp_numbers/src/sign.rt crates/rsp_numbers/src/other.rt": "crates/rsp_numbers/src/other.rt",
     "sed -i '/^rsp_numbers:/s/$/ rsp_decode/' crates.txt": "crates.txt",
