@@ -4,6 +4,7 @@ from ctypes import byref, c_uint8
 from html import escape
 from typing import TYPE_CHECKING, Any, NamedTuple, Optional, Protocol
 
+from . import errors as _errors
 from . import helpers as _helpers
 from .helpers import Difference
 from .shapes import Request, RequestKind
@@ -113,10 +114,14 @@ def first_difference(
     machine's history is empty. Raises RspError with OUT_OF_RANGE if `every` or `limit`, 0 to 4294967295,
     isn't in its range, and ValueError if the emulator gives too few or too many bytes.
     """
-    from . import _lib, _numbers, _quick  # which are made after this module is loaded
+    from . import Machine, _lib, _numbers, _quick  # which are made after this module is loaded
 
     call, request = "first_difference", Request()
     to = byref(request)
+    _errors.check_type(call, "machine", machine, Machine)
+    for name in "run", "get", "set", "memory", "load":
+        if not hasattr(emulator, name):
+            raise TypeError(f"{call}: the emulator is of type {type(emulator).__name__}, without {name}()")
     every, limit = _numbers(call, every, limit)
     search = (c_uint8 * _lib.brsp_search_bytes(machine.image_length))()
     data = memoryview(search).cast("B")

@@ -2,12 +2,14 @@
 
 import collections
 import ctypes
+import operator
 from bisect import bisect
 from contextlib import contextmanager, suppress
 from functools import partial
 from typing import Callable, Counter, Iterator, List, NamedTuple, Optional, Set, Tuple
 
 from . import DMEM, IMEM, RDRAM, Reason, Machine, RspError, State
+from .errors import check_type
 from .writes import Register
 
 _PIECE = 1 << 16  # RDRAM is kept in pieces, which marks share as long as they are equal
@@ -59,6 +61,8 @@ class Timeline:
     """
 
     def __init__(self, machine: Machine, gap: int = 1 << 21, most: int = 32) -> None:
+        check_type("Timeline", "machine", machine, Machine)
+        self._gap, self._most = operator.index(gap), operator.index(most)
         self.machine = Machine(machine.memory(RDRAM, 0, machine.image_length), _HISTORY)
         for bank in DMEM, IMEM:
             self.machine.load(bank, 0, machine.memory(bank, 0, 4096))
@@ -67,7 +71,6 @@ class Timeline:
         self.breaks: Set[int] = set()
         self.watches: Set[Watch] = set()
         self.is_interrupted: Callable[[], bool] = lambda: False
-        self._gap, self._most = gap, most
         self._marks: List[_Mark] = []
         self._rdram: Tuple[bytes, ...] = ()
         self.changed()
@@ -144,6 +147,7 @@ class Timeline:
         The reason is LIMIT if no step from the one where this ends has changed it: that is `least`, or where
         you did, or as far as this came before it was interrupted, for which it asks at each mark.
         """
+        check_type("wrote", "register", register, str)
         sought, found = Register(register, self.machine), Found(Reason.LIMIT, self.step)
         for begin, end in self._windows(least):
             copy, found = self._copy_at(begin), Found(Reason.LIMIT, begin)
