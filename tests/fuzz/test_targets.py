@@ -7,6 +7,7 @@ something doesn't hold, or if one doesn't find a planted fault: three of each, i
 (faults.c) or in the sources in C. `-m "not outside"` leaves the fuzzer out.
 """
 
+import os
 import re
 import shutil
 from pathlib import Path
@@ -132,6 +133,15 @@ def test_dictionary() -> None:
     lines = dictionary().splitlines()
     assert [line for line in lines if not re.fullmatch(r'"(?:[^"\\]|\\x[0-9a-f]{2})+"', line)] == []
     assert len({*lines}) == len(lines) > 120 and {'"vmadh"', '"unwatch"', '"rdram"'} <= {*lines}
+
+
+@pytest.mark.needs("clang", RUNTIME)
+def test_build_without_the_kit(library: Path, folder: Path) -> None:
+    """The targets are linked with libbrsp.a, and take their seeds and some inputs more."""
+    ended = run(FUZZ / "build", folder, env={**os.environ, "PATH": "/usr/bin:/bin"})
+    assert ended.returncode == 0 and "the library is libbrsp.a" in ended.stdout, ended.stdout
+    for name in TARGETS:
+        succeeds(folder / name, "-runs=500", folder / f"{name}_seed_corpus", env=WITHOUT_LEAKS, cwd=folder)
 
 
 @pytest.fixture(scope="module")
