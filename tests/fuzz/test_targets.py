@@ -18,6 +18,7 @@ import pytest
 from lib import TESTS, TOP
 from lib.processes import Ended, run, succeeds
 from lib.sanitizers import WITHOUT_LEAKS, sanitizers
+from rsp_tools.fuzz.run import TABLE, try_inputs, with_count
 from rsp_tools.fuzz.seeds import SEEDS, dictionary
 from rsp_tools.fuzz.targets import TARGETS, compiler, link
 from rsp_tools.systems import header
@@ -142,6 +143,25 @@ def test_build_without_the_kit(library: Path, folder: Path) -> None:
     assert ended.returncode == 0 and "the library is libbrsp.a" in ended.stdout, ended.stdout
     for name in TARGETS:
         succeeds(folder / name, "-runs=500", folder / f"{name}_seed_corpus", env=WITHOUT_LEAKS, cwd=folder)
+
+
+@pytest.mark.parametrize("status, fault", ((0, ""), (77, "stat::number_of_executed_units: 12\n")))
+def test_inputs_are_counted(status: int, fault: str, folder: Path) -> None:
+    """Those of a target, also up to one that ends it."""
+    text = "#!/bin/sh\necho stat::number_of_executed_units: 12 >&2\nexit"
+    (folder / "texts").write_text(f"{text} {status}\n")
+    (folder / "texts").chmod(0o755)
+    assert try_inputs("texts", folder, 1) == (12, fault)
+
+
+@pytest.mark.parametrize("name", TARGETS)
+def test_count_is_added(name: str) -> None:
+    """The line of the target has the sum, and all other lines are as before."""
+    old, new = TABLE.read_text(), with_count(TABLE.read_text(), name, 5)
+    changed = [pair for pair in zip(old.splitlines(), new.splitlines()) if pair[0] != pair[1]]
+    ((before, after),) = (tuple(line.split("\t") for line in pair) for pair in changed)
+    assert after == [*before[:2], str(int(before[2]) + 5), *before[3:]]
+    assert new.count("\n") == old.count("\n") and f"`fuzz/run {name}`" in before
 
 
 @pytest.fixture(scope="module")
