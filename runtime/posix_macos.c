@@ -149,8 +149,10 @@ int posix_main(void);
 
 int main(int given, char **them)
 {
+    static char name[] = "rsp"; /* as in process.h */
     count = given;
     words = them;
+    if (count) words[0] = name;
     signal(SIGXFSZ, (handler)1); /* ignored: a file that may not be so long is a write that fails */
     return posix_main();
 }

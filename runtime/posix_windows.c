@@ -252,7 +252,9 @@ int posix_main(void);
 
 int wmain(int given, wchar_t **them)
 {
+    static wchar_t name[] = L"rsp"; /* as in process.h */
     count = given;
     words = them;
+    if (count) words[0] = name;
     return posix_main();
 }

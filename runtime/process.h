@@ -8,11 +8,14 @@
 static int count;
 static char **words;
 
-/* Keeps the arguments of the process, which main doesn't get, and ignores a signal. */
+/* Keeps the arguments of the process, which main doesn't get, and ignores a signal. main refuses arguments that aren't UTF-8, but the first one is the path
+ * of the program itself, whose folder may have any name. */
 static void begin(int given, char **them)
 {
+    static char name[] = "rsp";
     count = given;
     words = them;
+    if (count) words[0] = name;
     signal(SIGXFSZ, SIG_IGN); /* a file that may not be so long is a write that fails */
 }
 

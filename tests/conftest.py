@@ -21,7 +21,7 @@ from rsp_tools import build  # noqa: E402
 
 LIBRARY = TOP / "library/c"
 NOTHING = "nothing to test: "
-# What the tests start has to do without the paths that tools/python may have set.
+# What the tests start has to do without the paths of whoever starts them.
 os.environ.pop("PYTHONPATH", None)
 os.environ.pop("PYTHONSAFEPATH", None)
 

@@ -59,7 +59,7 @@ tell_change() { # TOP MARK: the name of the first source or file that isn't as c
         sed -n '1s|.*\(logic .*\)|tools/logic \1|p' "$1/$2" && sed 's|^|tools/logic |' "$1/tools/logic"
         grep -E "^(crates/($names)/|crates\.txt ($names)[: ])" "$1/compiled/sources" && tell_list "$1" $crates
         { sed 1,3d "$1/$2" && tell_files "$1" "$2"; } | sed 's/^\([^ ]*\)  \(.*\)/\2 \1/'
-    } | LC_ALL=C sort | uniq -u | sed 's/ .*//; q'
+    } | LC_ALL=C sort | uniq -u | sed -E -e 's#^(crates\.txt|tools/logic) .*#\1#' -e 's/ [0-9a-f]+$//' -e q # a name may have a blank
 } 2>/dev/null
 
 # The state of all files of a mark: as in git's index, sizes, times and inodes stand for the contents, because no command sets back the time of a change.

@@ -147,18 +147,17 @@ class RspError(Exception):
 
 
 def refusal_of(program: str) -> Optional[str]:
-    """Why a program can't be used as `rsp`, or None. It is tried with a script of one line."""
+    """Why a program can't be used as `rsp`, or None. It is tried with a script of one line. The file rsp of a
+    clone builds the program first, and what it says of that is shown."""
     try:
-        ended = subprocess.run([program, "run"], input=b"pc 0\n", capture_output=True)
+        ended = subprocess.run([program, "run"], input=b"pc 0\n", stdout=subprocess.PIPE)
     except FileNotFoundError:
         return f"{program} can't be started, because it isn't there: name another program"
     except OSError as fault:
         return f"{program} can't be started: {fault.strerror}"
     if ended.stdout == b"ok\n":
         return None
-    message = ended.stderr.decode(errors="replace").strip().split("\n")[0]
-    message = message or f"it answers `pc 0` by {ended.stdout[:40]!r}"
-    return f"{program} doesn't run scripts as rsp does: {message}"
+    return f"{program} doesn't run scripts as rsp does: it answers `pc 0` by {ended.stdout[:40]!r}"
 
 
 def run_script(program: str, script: Script) -> Iterator[Tuple[Any, List[str]]]:

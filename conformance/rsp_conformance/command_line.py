@@ -3,6 +3,7 @@
 import argparse
 import os
 import sys
+import threading
 from typing import Iterable, List, Optional
 
 from rsp_conformance import TOP
@@ -38,14 +39,40 @@ def write_output(text: str) -> None:
         sys.exit(f"standard output can't be written: {fault.strerror}")
 
 
+class Counts(threading.Thread):
+    """Counts checks, and shows the counts each second if standard error is a terminal."""
+
+    def __init__(self) -> None:
+        super().__init__(daemon=True)
+        self.passed = self.failed = 0
+        self.is_over = threading.Event()
+        if sys.stderr.isatty():
+            self.start()
+
+    def __str__(self) -> str:
+        return f"{self.passed} passed, {self.failed} failed"
+
+    def run(self) -> None:
+        while not self.is_over.wait(1):
+            print(self, end="\r", file=sys.stderr, flush=True)  # what is printed next overwrites it
+        print(" " * len(str(self)), end="\r", file=sys.stderr, flush=True)
+
+    def end(self) -> None:
+        self.is_over.set()
+        if self.is_alive():
+            self.join()
+
+
 def print_checks(checks: Iterable[Complaints]) -> int:
     """Prints the complaints of checks, and how many checks passed.
 
     Returns the exit status: 0 if at least one passed and none failed.
     """
-    passed = failed = 0
+    counts = Counts()
     for complaints in checks:
         write_output("".join(f"{printable(complaint)}\n" for complaint in complaints))
-        passed, failed = passed + (not complaints), failed + bool(complaints)
-    write_output(f"{passed} passed, {failed} failed\n")
-    return int(failed > 0 or not passed)
+        counts.passed += not complaints
+        counts.failed += bool(complaints)
+    counts.end()
+    write_output(f"{counts}\n")
+    return int(counts.failed > 0 or not counts.passed)

@@ -23,7 +23,7 @@ README.md beside this command says how they are read. The same words give the sa
 
 import argparse
 import sys
-from concurrent.futures import ThreadPoolExecutor
+from concurrent.futures import Future, ThreadPoolExecutor
 from pathlib import Path
 from typing import Callable, Dict, Iterator, List, Optional, Sequence, Tuple
 
@@ -80,6 +80,15 @@ def write_vectors(name: str, text: str, files: Dict[str, bytes], out: Path) -> s
     return text
 
 
+def faults_of(tasks: "Dict[Row, Future[None]]") -> Iterator[str]:
+    """Waits for the tasks of instructions. Yields a line for each that the program doesn't know."""
+    for row, task in tasks.items():
+        try:
+            task.result()
+        except bench.RspError as fault:
+            yield f"{row.name.upper()}: {fault}"
+
+
 def generate(
     rows: List[Row], write: Callable[[Row], None], out: Path, more: Sequence[str] = ()
 ) -> Iterator[str]:
@@ -88,11 +97,11 @@ def generate(
         make_folder(out / name)
     with ThreadPoolExecutor() as workers:
         tasks = {row: workers.submit(write, row) for row in rows}
-        for row, task in tasks.items():
-            try:
-                task.result()
-            except bench.RspError as fault:
-                yield f"{row.name.upper()}: {fault}"
+        try:
+            yield from faults_of(tasks)
+        finally:
+            for task in tasks.values():  # after a fault, or Ctrl-C, none begins
+                task.cancel()
 
 
 def write_all_forms(of: Path, names: Sequence[str], out: Path, more: Sequence[str]) -> int:

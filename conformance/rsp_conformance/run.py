@@ -7,10 +7,9 @@ instructions of FOLDER are run. The last line is `N passed, M failed`, of cases 
 status is 0 if none failed and one passed.
 """
 
-import itertools
 import sys
 from pathlib import Path
-from typing import Any, Dict, Iterator, List
+from typing import Any, Dict, Iterator, List, Sequence
 
 from rsp_conformance import bench, complaints
 from rsp_conformance.command_line import PROGRAM, Complaints, parser_of, print_checks, printable
@@ -79,6 +78,15 @@ def run_row(program: str, folder: Path, name: str) -> Iterator[Complaints]:
         raise VectorsFault(f"{fault.filename or folder} can't be read: {fault.strerror}") from None
 
 
+def run_rows(program: str, folder: Path, given: Sequence[str]) -> Iterator[Complaints]:
+    """The complaints of the given instructions, or of all. The program is tried first."""
+    names = names_in(folder, given)
+    if refusal := bench.refusal_of(program):
+        raise VectorsFault(refusal)
+    for name in names:
+        yield from run_row(program, folder, name)
+
+
 def main() -> None:
     parser = parser_of("run", __doc__)
     parser.add_argument("--program", default=PROGRAM)
@@ -86,11 +94,7 @@ def main() -> None:
     parser.add_argument("names", nargs="*", metavar="NAME")
     args = parser.parse_args()
     try:
-        names = names_in(args.folder, args.names)
-        if refusal := bench.refusal_of(args.program):
-            raise VectorsFault(refusal)
-        rows = (run_row(args.program, args.folder, name) for name in names)
-        sys.exit(print_checks(itertools.chain.from_iterable(rows)))
+        sys.exit(print_checks(run_rows(args.program, args.folder, args.names)))
     except (VectorsFault, FileFault) as fault:
         sys.exit(printable(f"run: {fault}"))
 

@@ -47,7 +47,7 @@ STOP_IN_TASKS = "if start == 4: os.kill(campaign, {})\nif start in (3, 4): time.
 # The signal, and the status and the errors of the campaign.
 STOPS = {
     "killed": (9, -9, ""),
-    "Ctrl-C": (2, 1, "campaign: stopped; started again, it continues\n"),
+    "Ctrl-C": (2, 130, "campaign: stopped; started again, it continues\n"),
 }
 
 

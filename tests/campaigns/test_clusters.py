@@ -120,7 +120,7 @@ def test_lost_workers(cluster: Cluster, folder: Path) -> None:
 GONE = " is gone: start it, and type the same line again, which continues the campaign\n"
 STOPPED = "campaign: stopped; started again, it continues\n"
 # What ends a campaign, its status, and the end of its errors.
-ENDS: List[Tuple[Any, int, str]] = [(signal.SIGKILL, -9, ""), (signal.SIGINT, 1, STOPPED), (None, 1, GONE)]
+ENDS: List[Tuple[Any, int, str]] = [(signal.SIGKILL, -9, ""), (signal.SIGINT, 130, STOPPED), (None, 1, GONE)]
 
 
 @LOST

@@ -7,6 +7,7 @@ something doesn't hold, or if one doesn't find a planted fault: three of each, i
 (faults.c) or in the sources in C. `-m "not outside"` leaves the fuzzer out.
 """
 
+import os
 import re
 import shutil
 from pathlib import Path
@@ -17,6 +18,7 @@ import pytest
 from lib import TESTS, TOP
 from lib.processes import Ended, run, succeeds
 from lib.sanitizers import WITHOUT_LEAKS, sanitizers
+from rsp_tools.fuzz.run import TABLE, try_inputs, with_count
 from rsp_tools.fuzz.seeds import SEEDS, dictionary
 from rsp_tools.fuzz.targets import TARGETS, compiler, link
 from rsp_tools.systems import header
@@ -132,6 +134,34 @@ def test_dictionary() -> None:
     lines = dictionary().splitlines()
     assert [line for line in lines if not re.fullmatch(r'"(?:[^"\\]|\\x[0-9a-f]{2})+"', line)] == []
     assert len({*lines}) == len(lines) > 120 and {'"vmadh"', '"unwatch"', '"rdram"'} <= {*lines}
+
+
+@pytest.mark.needs("clang", RUNTIME)
+def test_build_without_the_kit(library: Path, folder: Path) -> None:
+    """The targets are linked with libbrsp.a, and take their seeds and some inputs more."""
+    ended = run(FUZZ / "build", folder, env={**os.environ, "PATH": "/usr/bin:/bin"})
+    assert ended.returncode == 0 and "the library is libbrsp.a" in ended.stdout, ended.stdout
+    for name in TARGETS:
+        succeeds(folder / name, "-runs=500", folder / f"{name}_seed_corpus", env=WITHOUT_LEAKS, cwd=folder)
+
+
+@pytest.mark.parametrize("status, fault", ((0, ""), (77, "stat::number_of_executed_units: 12\n")))
+def test_inputs_are_counted(status: int, fault: str, folder: Path) -> None:
+    """Those of a target, also up to one that ends it."""
+    text = "#!/bin/sh\necho stat::number_of_executed_units: 12 >&2\nexit"
+    (folder / "texts").write_text(f"{text} {status}\n")
+    (folder / "texts").chmod(0o755)
+    assert try_inputs("texts", folder, 1) == (12, fault)
+
+
+@pytest.mark.parametrize("name", TARGETS)
+def test_count_is_added(name: str) -> None:
+    """The line of the target has the sum, and all other lines are as before."""
+    old, new = TABLE.read_text(), with_count(TABLE.read_text(), name, 5)
+    changed = [pair for pair in zip(old.splitlines(), new.splitlines()) if pair[0] != pair[1]]
+    ((before, after),) = (tuple(line.split("\t") for line in pair) for pair in changed)
+    assert after == [*before[:2], str(int(before[2]) + 5), *before[3:]]
+    assert new.count("\n") == old.count("\n") and f"`fuzz/run {name}`" in before
 
 
 @pytest.fixture(scope="module")

@@ -142,6 +142,20 @@ def test_archive(stranger: User) -> None:
     refuses(stranger, f"cd ~/'an archive' && echo >>{SOURCE} && library/c/build", f"{SOURCE} isn't as it was")
 
 
+def test_folder_whose_name_is_no_text(stranger: User) -> None:
+    """The program's own path is no argument that has to be UTF-8."""
+    prints(stranger, "git clone -q . ~/$'\\xff'")
+    assert prints(stranger, f"cd ~/$'\\xff' && {FIRST}") == REPLIES
+
+
+def test_folder_whose_name_separates_paths(stranger: User) -> None:
+    """A colon separates the folders of PYTHONPATH."""
+    where = "~/'a:b;c\"d'"
+    prints(stranger, f"git clone -q . {where}")
+    passed = prints(stranger, f"cd {where} && {FIRST} && conformance/run conformance/vectors ADD")
+    assert passed.startswith(REPLIES) and passed.endswith(" passed, 0 failed\n")
+
+
 def test_library_and_plugin(stranger: User) -> None:
     prints(stranger, "plugin/build ~/plugin.so && CC=false library/c/build")
 
@@ -149,6 +163,7 @@ def test_library_and_plugin(stranger: User) -> None:
 CHANGES = {
     f"echo '// more' >>{SOURCE}": SOURCE,
     "touch crates/rsp_numbers/specs/New.antt": "crates/rsp_numbers/specs/New.antt",
+    "touch 'crates/rsp_numbers/src/sign copy.rt'": "crates/rsp_numbers/src/sign copy.rt isn't",
     "rm -r crates/rsp_numbers/proofs": "crates/rsp_numbers/proofs/Join.antt",
     "mv crates/rsp_numbers/src/sign.rt crates/rsp_numbers/src/other.rt": "crates/rsp_numbers/src/other.rt",
     "sed -i '/^rsp_numbers:/s/$/ rsp_decode/' crates.txt": "crates.txt",

@@ -151,6 +151,14 @@ def test_pkg_config(prefix: Path, folder: Path, command: str, flags: str) -> Non
     assert version == f"{header.version()}\n"
 
 
+@pytest.mark.parametrize("separator", (":", ";", '"'))
+def test_folder_that_cmake_cannot_name(separator: str, folder: Path) -> None:
+    """It is refused before a build fails there for a reason that names no folder."""
+    ended = run("cmake", "-S", TOP, "-B", folder / f"a{separator}b")
+    why = f"brsp: Unix Makefiles can't build in a folder whose name has {separator} in it: "
+    assert ended.returncode == 1 and why in " ".join(ended.stdout.split())
+
+
 @pytest.mark.needs("cmake", "make")
 @PREFIXES
 def test_cmake(prefix: Path, folder: Path) -> None:

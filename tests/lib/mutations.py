@@ -36,7 +36,7 @@ Mutation = Dict[str, str]  # its lines, and the module in whose file it is
 MOST_DRAWN = 90  # processor seconds after which --drawn begins no other
 KNOWN = ("found", "skipped", "not drawn")
 OTHERS = ("macos-x86_64",)  # systems whose tests are outside the gate, so --drawn draws none
-# Without the paths by which tools/python has modules come from here.
+# Without the paths and options of whoever starts this.
 ENV = {name: value for name, value in os.environ.items() if not name.startswith("PYTHON")}
 
 

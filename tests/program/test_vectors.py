@@ -14,6 +14,7 @@ import re
 import runpy
 import subprocess
 import sys
+import time
 from pathlib import Path
 from types import ModuleType
 from typing import Any, Dict, Iterable, Sequence, Tuple
@@ -32,7 +33,7 @@ from rsp_conformance.library import Library, run_rows
 from rsp_conformance.run import Shown, run_entries, run_manifest
 from rsp_conformance.seeded_random import Random
 from rsp_conformance.states import texts_of
-from rsp_conformance.table import ROWS
+from rsp_conformance.table import ROWS, Row
 from rsp_conformance.vectors import VECTORS, entries_in, manifest_in
 
 ALL = [name.upper() for name in ROWS]
@@ -135,6 +136,29 @@ def test_name_of_a_byte() -> None:
         wrong = bytes(byte ^ (at == address) for at, byte in enumerate(right))
         (complaint,) = complaints.of_program(entry, Shown({"dmem": [wrong.hex()]}), right, right, right)
         assert complaint.startswith(f"{case['name']} ({case['text']}), {name}: expected ")
+
+
+def test_generation_after_a_fault(folder: Path) -> None:
+    """The instructions that haven't begun then don't begin."""
+    begun = []
+
+    def write(row: Row) -> None:
+        begun.append(row)
+        time.sleep(0.02)
+        raise OSError
+
+    with pytest.raises(OSError):
+        [*generate.generate([*ROWS.values()], write, folder)]
+    assert 0 < len(begun) < len(ROWS) / 2
+
+
+def test_program_that_is_not_built(folder: Path) -> None:
+    """All that the build says is shown: its first line seldom has the reason."""
+    (folder / "rsp").write_text("#!/bin/sh\necho first >&2\necho no space >&2\nexit 1\n")
+    (folder / "rsp").chmod(0o755)
+    ended = run(TOP / "conformance/run", "--program", folder / "rsp")
+    why = f"run: {folder}/rsp doesn't run scripts as rsp does: it answers `pc 0` by b''\n"
+    assert (ended.returncode, ended.stdout) == (1, f"first\nno space\n{why}")
 
 
 def ended_runner(

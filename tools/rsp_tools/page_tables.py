@@ -2,7 +2,7 @@
 
 `tools/python rsp_tools.page_tables` writes
 
-  docs/SCRIPT.md, docs/FAULTS.md, docs/INSTRUCTIONS.md
+  docs/SCRIPT.md, docs/FAULTS.md, docs/INSTRUCTIONS.md, SECURITY.md
                                    the columns of a table of docs/data that the page's head names
   crates/rsp_advice/src/tables.rt  what `--explain` says, from the same tables
   crates/rsp_advice/specs/Tables.antt  the names and the numbers in them
@@ -23,7 +23,12 @@ from rsp_tools import TOP, completions
 from rsp_tools.targets import CROSS, NATIVE
 
 DATA = TOP / "docs/data"
-TABLES = {"commands": "docs/SCRIPT.md", "faults": "docs/FAULTS.md", "instructions": "docs/INSTRUCTIONS.md"}
+TABLES = {
+    "commands": "docs/SCRIPT.md",
+    "faults": "docs/FAULTS.md",
+    "instructions": "docs/INSTRUCTIONS.md",
+    "hostile": "SECURITY.md",
+}
 ANCHOR = re.compile(r'<a id="([\w-]+)"></a>')  # by which a link leads to a place that isn't a heading
 ADVICE, KNOWN = "crates/rsp_advice/src/tables.rt", "crates/rsp_advice/specs/Tables.antt"
 MADE = "Made by `tools/python rsp_tools.page_tables` of docs/data."
@@ -70,6 +75,8 @@ def cell_of(line: Dict[str, str], column: str) -> str:
     cell = line[column]
     if column == "Instruction":
         return f"[{cell}](#{cell.lower()})"
+    if column == "Tried":
+        return f"{int(cell):,}"
     return f"`{cell}`" if column in ("Fault", "Command", "Example", "Text", "Tests") and cell != "-" else cell
 
 
@@ -165,7 +172,7 @@ def made() -> Dict[str, str]:
 
 
 def write() -> None:
-    """Writes the files that differ from what this module writes."""
+    """Writes the files that differ from what is made."""
     for name, text in made().items():
         if text != page(name):  # a source of a crate that is written again would be proved again
             (TOP / name).write_text(text)

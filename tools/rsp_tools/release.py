@@ -16,7 +16,6 @@ was left out, and why.
 
 import argparse
 import re
-import signal
 import subprocess
 import sys
 import tempfile
@@ -159,7 +158,6 @@ def release(is_tested: bool) -> None:
 
 
 def main() -> None:
-    signal.signal(signal.SIGINT, lambda *_: sys.exit(130))
     form = argparse.RawDescriptionHelpFormatter
     parser = argparse.ArgumentParser(prog="./release", description=__doc__, formatter_class=form)
     parser.add_argument("--untested", action="store_true", help=f"leave out tests/all {NEWCOMER}")

@@ -44,10 +44,10 @@ NUMBERS = {
 PROGRESS_SECONDS = 60  # between two lines of progress, if they go to a file
 
 
-def stop(sentence: object) -> NoReturn:
+def stop(sentence: object, status: int = 1) -> NoReturn:
     """Ends the campaign at once, and with it the children of tasks that still run."""
     print(printable(f"campaign: {sentence}"), file=sys.stderr, flush=True)
-    os._exit(1)
+    os._exit(status)
 
 
 class Progress:
@@ -239,5 +239,5 @@ if __name__ == "__main__":
     try:
         main()
     except KeyboardInterrupt:
-        stop("stopped; started again, it continues")
+        stop("stopped; started again, it continues", 130)
     os._exit(0)  # else Dask closes its connections first, and may write to stderr meanwhile

@@ -119,13 +119,20 @@ static const char *nth(const char *numbers, size_t n)
     return numbers;
 }
 
-static int is_in(const range *allowed, const char *number)
+/* The number that a text begins with; one that no range has if it has no digit, or anything else up to a space. */
+static uint64_t value_of(const char *number)
 {
-    uint64_t value = 0;
+    const uint64_t none = (uint64_t)1 << 32;
+    uint64_t value = *number && *number != ' ' ? 0 : none;
     for (; *number && *number != ' '; number++) {
-        if (*number < '0' || *number > '9' || value > allowed->high) return 0;
+        if (*number < '0' || *number > '9' || value >= none) return none;
         value = value * 10 + (uint64_t)(*number - '0');
     }
+    return value;
+}
+
+static int is_in(const range *allowed, uint64_t value)
+{
     return value >= allowed->low && value <= allowed->high && (value - allowed->low) % allowed->step == 0;
 }
 
@@ -145,7 +152,7 @@ static void put_sentence(writer *w, const char *sentence, const struct call *of,
         const size_t n = (size_t)(sentence[1] - '0');
         const char *number = nth(numbers, n);
         if (!*number) put_text(w, "it");
-        else if (of && of->given[n].allowed == &bank && is_in(&bank, number)) put_text(w, banks[*number - '0']);
+        else if (of && of->given[n].allowed == &bank && is_in(&bank, value_of(number))) put_text(w, banks[value_of(number)]);
         else put_given(w, number);
         sentence += 2;
     }
@@ -157,7 +164,7 @@ static int put_out_of_range(writer *w, const struct call *of, const char *number
     for (size_t n = 0; n < MOST_ARGUMENTS && of->given[n].name; n++) {
         const argument *it = &of->given[n];
         const char *number = nth(numbers, n);
-        if (!*number || is_in(it->allowed, number)) continue;
+        if (!*number || is_in(it->allowed, value_of(number))) continue;
         put_text(w, it->name);
         put_text(w, it->allowed == &image ? " has " : " is ");
         put_given(w, number);

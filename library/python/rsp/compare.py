@@ -4,7 +4,7 @@ from ctypes import byref, c_uint8
 from html import escape
 from typing import Any, NamedTuple, Optional, Protocol
 
-from . import helpers
+from . import errors, helpers
 from .helpers import Difference
 from .machine import Machine
 from .native import lib, numbers_of, quick
@@ -114,6 +114,10 @@ def first_difference(
     """
     call, request = "first_difference", Request()
     to = byref(request)
+    errors.check_type(call, "machine", machine, Machine)
+    for name in "run", "get", "set", "memory", "load":
+        if not hasattr(emulator, name):
+            raise TypeError(f"{call}: the emulator is of type {type(emulator).__name__}, without {name}()")
     every, limit = numbers_of(call, every, limit)
     search = (c_uint8 * lib.brsp_search_bytes(machine.image_length))()
     data = memoryview(search).cast("B")

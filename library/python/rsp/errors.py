@@ -63,6 +63,13 @@ def integers(call: str, numbers: Sequence[Any], item: str = "") -> Tuple[int, ..
         raise
 
 
+def check_type(call: str, name: str, value: object, kind: type) -> None:
+    """TypeError unless an argument is of a type of Python or of this package."""
+    if not isinstance(value, kind):
+        expected = kind.__name__ if kind.__module__ == "builtins" else f"rsp.{kind.__name__}"
+        raise TypeError(f"{call}: {name} is of type {type(value).__name__}, not {expected}")
+
+
 def has_low_byte_first(form: str) -> bool:
     """Whether numbers of a buffer have several bytes, the low one first. A form is as in `struct`; that of a
     structure has names between colons, and braces."""

@@ -28,8 +28,11 @@ class Owner:
     _owner, _refuses, _free = "machine", "pickled", "brsp_free"
 
     def _hold(self) -> None:
-        """Makes an empty handle."""
-        self._handle, self._other, self._lock = c_void_p(), c_void_p(), threading.Lock()
+        """Makes an empty handle. RuntimeError if there is one, because a call may be using its memory."""
+        lock = threading.Lock()
+        if self.__dict__.setdefault("_lock", lock) is not lock:
+            raise RuntimeError(f"this {self._owner} is made already, so __init__ makes nothing")
+        self._handle, self._other, self._lock = c_void_p(), c_void_p(), lock
         self._at, self._other_at = addressof(self._handle), addressof(self._other)
 
     def _check_free(self, call: str) -> None:

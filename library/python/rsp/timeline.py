@@ -2,12 +2,13 @@
 
 import collections
 import ctypes
+import operator
 from bisect import bisect
 from contextlib import contextmanager, suppress
 from functools import partial
 from typing import Callable, Counter, Iterator, List, NamedTuple, Optional, Set, Tuple
 
-from .errors import RspError
+from .errors import RspError, check_type
 from .machine import DMEM, IMEM, RDRAM, Machine
 from .shapes import Reason
 from .state import State
@@ -62,6 +63,8 @@ class Timeline:
     """
 
     def __init__(self, machine: Machine, gap: int = 1 << 21, most: int = 32) -> None:
+        check_type("Timeline", "machine", machine, Machine)
+        self._gap, self._most = operator.index(gap), operator.index(most)
         self.machine = Machine(machine.memory(RDRAM, 0, machine.image_length), _HISTORY)
         for bank in DMEM, IMEM:
             self.machine.load(bank, 0, machine.memory(bank, 0, 4096))
@@ -70,7 +73,6 @@ class Timeline:
         self.breaks: Set[int] = set()
         self.watches: Set[Watch] = set()
         self.is_interrupted: Callable[[], bool] = lambda: False
-        self._gap, self._most = gap, most
         self._marks: List[_Mark] = []
         self._rdram: Tuple[bytes, ...] = ()
         self.changed()
@@ -147,6 +149,7 @@ class Timeline:
         The reason is LIMIT if no step from the one where this ends has changed it: that is `least`, or where
         you did, or as far as this came before it was interrupted, for which it asks at each mark.
         """
+        check_type("wrote", "register", register, str)
         sought, found = Register(register, self.machine), Found(Reason.LIMIT, self.step)
         for begin, end in self._windows(least):
             copy, found = self._copy_at(begin), Found(Reason.LIMIT, begin)

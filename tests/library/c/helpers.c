@@ -360,6 +360,8 @@ static size_t unknown_call(char *to, size_t n) { return brsp_refusal_text(BRSP_O
 static size_t unknown_status(char *to, size_t n) { return brsp_refusal_text(7, "run", "", to, n); }
 static size_t without_number(char *to, size_t n) { return brsp_refusal_text(BRSP_NO_BREAK, "drop_break", "", to, n); }
 static size_t wrong_bank(char *to, size_t n) { return brsp_refusal_text(BRSP_NO_BREAK, "load", "9 1", to, n); }
+static size_t no_digit(char *to, size_t n) { return brsp_refusal_text(BRSP_OUT_OF_RANGE, "load", " 4096", to, n); }
+static size_t leading_zero(char *to, size_t n) { return brsp_refusal_text(BRSP_OUT_OF_RANGE, "load", "02 5", to, n); }
 static size_t flags(char *to, size_t n)
 {
     static const brsp_flag_bits it = { 1, 2, 3, 4, 5 };
@@ -391,6 +393,8 @@ static void texts(void)
     cut_text(unknown_status, "run: refused");
     cut_text(without_number, "drop_break: it has no breakpoint");
     cut_text(wrong_bank, "load: 9 has no breakpoint");
+    cut_text(no_digit, "load: bank is , not DMEM, IMEM or RDRAM");
+    cut_text(leading_zero, "load: the bytes from 5 on pass the end of RDRAM");
     cut_text(flags, "vco 0201 vcc 0403 vce 05");
     cut_text(traced, "12c ac010040 $2 00000007 $v3 0001 0002 0003 0004 0005 0006 0007 ffff stored 040 vco 0102 vcc 0304 vce 05");
     cut_text(unknown_kind, "");

@@ -204,6 +204,13 @@ REFUSALS: Tuple[Refusal, ...] = (
     (TypeError, "explain_text: text is of type bytes", lambda it: ANY.explain_text(b"nop")),
     (rsp.AssemblyError, "fault 11 UnknownName line 2: foo $1", lambda it: rsp.assemble("nop\n foo $1")),
     (AttributeError, "rsp has no names", lambda it: ANY.names),
+    (RuntimeError, "this machine is made already", lambda it: it.__init__(bytes(4096), 60)),
+    (RuntimeError, "this session is made already", lambda it: ANY.Session().__init__()),
+    (TypeError, "Timeline: machine is of type bytes, not rsp.Machine", lambda it: ANY.Timeline(b"")),
+    (TypeError, "'str' object cannot be interpreted as an int", lambda it: ANY.Timeline(it, "1")),
+    (TypeError, "wrote: register is of type int, not str", lambda it: ANY.Timeline(it).wrote(5)),
+    (TypeError, "machine is of type int, not rsp.Machine", lambda it: ANY.first_difference(5, it)),
+    (TypeError, "emulator is of type dict, without run()", lambda it: ANY.first_difference(it, {})),
 )
 
 

@@ -7,10 +7,11 @@ those that read text TARGET.dict. So they are called as OSS-Fuzz calls them:
 
 keeps what it finds in FOLDER, and in a file crash-.. the input for which something doesn't hold.
 
-The library is the kit's module of library/c/build, here with coverage and AddressSanitizer. It needs what
-that needs, and clang with its runtime (Debian's packages clang and libclang-rt-14-dev). CC, CFLAGS and
-LIB_FUZZING_ENGINE of the environment are used, as OSS-Fuzz sets them. The status is 0 if all are made, 1 if
-not, 2 if the arguments are wrong."""
+With the kit, the library is the kit's module of library/c/build, here with coverage and AddressSanitizer.
+Without the kit, the library is libbrsp.a, and only the sources in C have coverage and sanitizers, which is
+printed. It needs what library/c/build needs, and clang with its runtime (Debian's packages clang and
+libclang-rt-14-dev). CC, CFLAGS and LIB_FUZZING_ENGINE of the environment are used, as OSS-Fuzz sets them.
+The status is 0 if all are made, 1 if not, 2 if the arguments are wrong."""
 
 import argparse
 import os
@@ -34,14 +35,20 @@ KEPT = modules.KEPT / "fuzz"
 OPTIONS = "-x ir -c -O1 -fPIC -fsanitize=address,fuzzer-no-link -Wno-override-module".split()
 
 
+def built_library() -> List[Path]:
+    """The library that cc makes of compiled/, where everything is compiled already."""
+    folder = call(str(TOP / "library/c/build"), "--folder").rstrip("\n")
+    print(
+        "fuzz/build: there is no `rt`, the command of the Rattle kit, so the library is libbrsp.a: only the "
+        "sources in C have coverage and sanitizers",
+        file=sys.stderr,
+    )
+    return [Path(folder, "libbrsp.a")]
+
+
 def build_library(folder: Path) -> List[Path]:
     """Makes the library as two objects: the heap, and the kit's module, each of whose functions is
     instrumented. The module takes minutes, and is kept until a source of the library changes."""
-    if not shutil.which("rt"):
-        raise Refused(
-            "there is no `rt`, the command of the Rattle kit (compiled/record names it), whose module of "
-            "the library gets coverage and sanitizers: what compiled/ has is compiled already"
-        )
     source, made, heap = module("x86_64").text, folder / "library.o", folder / "heap.o"
     made_of = f"{' '.join(OPTIONS)}\n{source.with_name('mark').read_text(errors='surrogateescape')}"
     if not is_kept(KEPT, made_of):
@@ -76,7 +83,7 @@ def main() -> int:
     out.mkdir(parents=True, exist_ok=True)
     engine = os.environ.get("LIB_FUZZING_ENGINE", "-fsanitize=fuzzer").split()
     try:
-        library = build_library(out)
+        library = build_library(out) if shutil.which("rt") else built_library()
         for name in TARGETS:
             link(name, out / name, compiler(), *library, *engine)
             write_seeds(name, out)

@@ -1,0 +1,62 @@
+"""Ctrl-C ends each command of the repository that is written in Python with one sentence, and status 130.
+
+It fails if a command shows a traceback instead, or if conformance/run doesn't show how far it is.
+"""
+
+import os
+import pty
+import signal
+import subprocess
+import sys
+from pathlib import Path
+from typing import Any, Dict, List
+
+import pytest
+
+from lib import TOP
+from lib.processes import run
+
+# A python3 that has Ctrl-C typed when a module reads its arguments.
+PYTHON = f"""#!/bin/sh
+shift 2
+exec {sys.executable} -B -c "import argparse, os, signal
+argparse.ArgumentParser.parse_known_args = lambda *_: os.kill(os.getpid(), signal.SIGINT)
+$@"
+"""
+
+
+def commands() -> List[str]:
+    """The commands that tools/python runs."""
+    names = run("git", "ls-files", "-co", "--exclude-standard").stdout.splitlines()
+    paths = [TOP / name for name in names if os.access(TOP / name, os.X_OK)]
+    return [str(path.relative_to(TOP)) for path in paths if '/python" ' in path.read_text(errors="replace")]
+
+
+@pytest.mark.needs("git")
+@pytest.mark.parametrize("name", commands())
+def test_command(name: str, folder: Path) -> None:
+    (folder / "python3").write_text(PYTHON)
+    (folder / "python3").chmod(0o755)
+    ended = run(TOP / name, folder, env={**os.environ, "PATH": f"{folder}:{os.environ['PATH']}"})
+    assert ended.returncode == 130 and ended.stdout.count("\n") == 1, ended.stdout
+    assert ": stopped" in ended.stdout
+
+
+def test_list_of_commands() -> None:
+    assert {"conformance/run", "fuzz/build", "release", "tools/shapes"} < {*commands()}
+
+
+def test_run_in_a_terminal(program: Path) -> None:
+    """It counts the checks before it is done, and ends after the Ctrl-C that is typed then."""
+    terminal, inside = pty.openpty()
+    streams: Dict[str, Any] = dict.fromkeys(("stdin", "stdout", "stderr"), inside)
+    words = (TOP / "conformance/run", "--program", program)
+    process = subprocess.Popen(words, start_new_session=True, **streams)
+    os.close(inside)
+    shown = b""
+    while b" passed, 0 failed\r" not in shown:
+        shown += os.read(terminal, 1000)
+    os.killpg(process.pid, signal.SIGINT)
+    assert process.wait(20) == 130
+    assert os.read(terminal, 1000) == b"\r\nrun: stopped by Ctrl-C\r\n"
+    os.close(terminal)
