@@ -241,7 +241,9 @@ def test_mutations() -> None:
         [row["Crate"] for row in data("without_mutations")], [it for it in count if not count[it]]
     )
     tried = len([*TOP.glob("crates/*/must-fail/*.edit")])
-    assert f"refuses some {round(tried, -1)} wrong bodies of {round(sum(count.values()), -1)}" in page(GUARANTEES)
+    assert f"refuses some {round(tried, -1)} wrong bodies of {round(sum(count.values()), -1)}" in page(
+        GUARANTEES
+    )
 
 
 def test_definitions() -> None:
