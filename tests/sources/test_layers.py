@@ -1,6 +1,8 @@
-"""The layers of the Python packages: a module imports only modules of its own layer and of lower ones. The two
-lowest stand alone: neither imports the other. Only fuzz and the tests of what needs the kit import the modules
-that need it."""
+"""The layers of the Python packages: a module imports only modules of its own layer and of lower ones.
+
+The two lowest stand alone: neither imports the other. Only fuzz and the tests of what needs the kit import
+the modules that need it.
+"""
 
 import ast
 import re
@@ -55,13 +57,14 @@ def test_imports(name: str) -> None:
 
 
 def enters_kit(path: Path) -> bool:
-    """Whether a module imports one of rsp_tools.kit, by an absolute or a relative name."""
+    """Whether a module imports one of rsp_tools.kit, by an absolute name, or beside it by a relative one."""
+    form = rf"({KIT}|\.+kit)(\.|$)" if LAYERS["rsp_tools"] in path.parents else rf"{KIT}(\.|$)"
     for node in ast.walk(ast.parse(path.read_text())):
         if isinstance(node, ast.ImportFrom):
             names = [f"{'.' * node.level}{node.module or ''}.{alias.name}" for alias in node.names]
         else:
             names = [alias.name for alias in node.names] if isinstance(node, ast.Import) else []
-        if any(re.match(rf"({KIT}|\.+kit)(\.|$)", name) for name in names):
+        if any(re.match(form, name) for name in names):
             return True
     return False
 
