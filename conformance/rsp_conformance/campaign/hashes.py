@@ -59,9 +59,8 @@ def hash_of(paths: Iterable[object], more: str = "") -> str:
 
 def sources() -> List[Path]:
     """The sources of what a campaign compares with: our own files, and the library."""
-    own = [
-        path for ending in ("py", "tsv", "[ch]") for path in (HERE / "rsp_conformance").rglob(f"*.{ending}")
-    ]
+    folder = HERE / "rsp_conformance"
+    own = [path for ending in ("py", "tsv", "[ch]") for path in folder.rglob(f"*.{ending}")]
     own += TOP.glob("plugin/*.[ch]")
     return [*sorted(own), HEADER, library()]
 
