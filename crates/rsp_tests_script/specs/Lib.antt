@@ -1,0 +1,2 @@
+-- What the kit gives, in rows.
+pub mod KitRows
