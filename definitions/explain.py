@@ -1,338 +1,415 @@
-"""Why a number is what it is: the clauses that led to it, with the values put in.
+"""Why a value is what it is: the clauses that led to it, with the values put in.
 
-    define why CASE WHAT         of a test vector, such as: why VADD-000 v9.1   (lane 1 of $v9; also a1, r4, dmem.010)
-    define why "TEXT" WHAT [KEY=HEX ..]   of an instruction with the keys of test vectors: why "vadd $v1, $v2, $v3" v1.0 v2=.. v3=..
+    define why CASE WHAT                 of a test vector: define why VADD-000 v9.1
+    define why "TEXT" WHAT [KEY=HEX ..]  of an instruction, before which the keys of test vectors have these values:
+                                         define why "vadd $v1, $v2, $v3" v1.0 v2=0005.. v3=fffd..
 
-Definitions are interpreted here, slowly. A number carries the call whose value it is, and a call its caller: the path
-from the step to the number is printed.
+HEX.. repeats the digits. With --json the explanation is an object of JSON.
 """
 
-import glob
 import json
 import os
 import re
-from typing import Any, Dict, List, Optional, Tuple
+import sys
+from typing import Any, Dict, Iterator, List, Mapping, NamedTuple, Optional, Sequence, Set, Tuple
 
 from . import kit
-from . import states as machine
-from .compiler import CALLED, INFIX, Compiler, plain, short
-from .syntax import Function, argument_types
+from .compiler import Compiler
+from .modules import Library
+from .places import Place, named, place_of
+from .states import DEFAULT, SIZES, STEP, BadInput, Machine, before
+from .steps import cases_of
+from .syntax import AnttError, Expression, argument_types, text_of
+from .traced import Call, Found, Source, TracedCompiler
 
-FOLLOWED = {"rsp_machine", "rsp_compare", "rsp_multiply", "rsp_divide", "rsp_acc", "rsp_numbers", "rsp_lanes", "rsp_scalar", "rsp_loadstore", "rsp_regs"}
-PLUMBING = {"each_lane", "step_of", "step_by", "after_single_step", "executed", "outcome_at", "slice_index"}
-
-
-class Frame:
-    def __init__(self, caller: Optional["Frame"], module: str, f: Optional[Function], clause: Any, env: Dict[str, Any]):
-        self.caller, self.module, self.f, self.clause, self.env = caller, module, f, clause, env
-
-
-class Found(int):
-    """a number with the call whose value it is"""
-
-    frame: Frame
-
-
-class FoundBool(Found):
-    """a truth value with the call whose value it is"""
+TEXTS = "Rattle.rsp_syntax.specs.SourceText"
+SP = "Rattle.rsp_regs.specs.Sp"
+ENDS = "Rattle.rsp_machine.specs.declared.step.StepEnd.TheVariants"
+# Clauses on the way of each value, which say nothing of it.
+SILENT = set(
+    "step_of step_by executed after_single_step each_lane for_each all_flags flags_at results_of lows_of flags_after"
+    " modulo floor_div".split()
+)
+MOST_DEPTH = 4  # how far values in the clauses are explained, too
+MOST_PARTS = 8  # the longest list that is shown
+MOST_TEXT = 300  # the longest clause with its values put in
 
 
-def with_frame(v: Any, frame: Frame) -> Any:
-    if v.__class__ is int or v.__class__ is bool:
-        v = Found(v) if v.__class__ is int else FoundBool(v)
-        v.frame = frame
-    return v
+class Step(NamedTuple):
+    """A clause with its values."""
+
+    of: str  # the part of a clause before it whose value this one gives; "" for the value that is explained
+    file: str
+    line: int
+    comment: str
+    source: str
+    values: List[str]
+    tests: List[str]
+    forms: List[str]  # its right side with values put in
 
 
-class Interpreter:
-    def __init__(self, c: Compiler):
-        self.c = c
+class Explanation(NamedTuple):
+    """Why a value is what it is after an instruction."""
 
-    def call(self, module: str, name: str, args: List[Any], caller: Optional[Frame]) -> Any:
-        file = self.c.library.file(module)
-        f = file.functions[name]
-        for clause in f.clauses:
-            env: Dict[str, Any] = {}
-            if all(self.match(module, p, a, env) for p, a in zip(clause[0], args)):
-                frame = Frame(caller, module, f, clause, env)
-                return with_frame(self.eval(clause[1], env, frame), frame)
-        raise ValueError(f"no case of {name}")
+    text: str
+    what: str
+    before: str
+    after: str
+    note: str
+    steps: List[Step]
 
-    def match(self, module: str, p: Any, v: Any, env: Dict[str, Any]) -> bool:
-        if p[0] == "hole":
-            return True
-        if p[0] == "op" and p[1] == "∷":
-            return len(v) > 0 and self.match(module, p[2], v[0], env) and self.match(module, p[3], v[1:], env)
-        if p[0] == "tuple":
-            return all(self.match(module, q, x, env) for q, x in zip(p[1], v))
-        head, args = (p[1], p[2]) if p[0] == "app" else (p, [])
-        if head[:2] == ("var", "[]"):
-            return len(v) == 0
-        g = self.global_of(module, head)
-        if p[0] == "var" and (g is None or g.kind not in ("constructor", "kit") or g.kind == "kit" and g.name not in kit.CONSTANTS):
-            env[p[1]] = v
-            return True
-        if g.kind == "kit":
-            return {"true": lambda: v, "false": lambda: not v, "zero": lambda: v == 0, "None": lambda: v is kit.NONE,
-                    "suc": lambda: v > 0 and self.match(module, args[0], v - 1, env),
-                    "pos": lambda: v >= 0 and self.match(module, args[0], v, env),
-                    "negsuc": lambda: v < 0 and self.match(module, args[0], -1 - v, env)}[g.name]()  # fmt: skip
-        made = self.c.space[self.c.global_name(g)]
-        if not g.arity:
-            return v is made
-        return v.__class__ is made and all(self.match(module, q, getattr(v, f"_{i}"), env) for i, q in enumerate(args))
+    def __str__(self) -> str:
+        return "\n".join(self.lines())
 
-    def global_of(self, module: str, e: Any) -> Any:
-        if e[0] == "var":
-            return self.c.library.resolve(module, e[1])
-        if e[0] == "proj" and e[1][0] == "var":
-            return self.c.library.resolve(module, e[2], e[1][1])
+    def lines(self) -> Iterator[str]:
+        """The explanation as lines of a text."""
+        yield f"{self.text}: {self.what} is {self.after} after it, and {self.before} before (hexadecimal)"
+        if self.note:
+            yield f"  {self.note}"
+        for step in self.steps:
+            yield f"\n{step.of} above:" if step.of else ""
+            yield f"{step.file}:{step.line}"
+            yield from (f"  {line}" for line in [*step.comment.splitlines(), *step.source.splitlines()])
+            if step.values:
+                yield f"    with {', '.join(step.values)}"
+            yield from (f"    {test}" for test in step.tests)
+            yield from (f"    = {form}" for form in step.forms)
+
+
+def shown(value: Any, is_signed: bool = False) -> Optional[str]:
+    """A value as a short text; None if it has none."""
+    if isinstance(value, bool) or isinstance(value, Found) and value.is_truth:
+        return "true" if value else "false"
+    if isinstance(value, int):
+        return f"{int(value)}" if is_signed or value < 32 else f"0x{int(value):x}"
+    if isinstance(value, kit.Constant):
+        return value.name
+    if isinstance(value, tuple):
+        return shown_list(value)
+    fields = {name: getattr(value, name) for name in getattr(value, "__slots__", ()) if hasattr(value, name)}
+    if not fields or len(fields) > MOST_PARTS or isinstance(value, kit.Array):
         return None
-
-    def value_of(self, g: Any, frame: Frame) -> Any:
-        """a name as a function of one argument at a time"""
-        if g.kind == "function" and g.module.split(".")[1] in FOLLOWED:
-            def take(args: Tuple) -> Any:
-                if len(args) == g.arity:
-                    return self.call(g.module, g.name, list(args), frame)
-                return lambda x: take(args + (x,))
-            return take(())
-        if g.kind == "kit" and g.name == "cond":
-            return lambda b: lambda x: lambda y: x if b else y
-        code = self.c.global_name(g)
-        self.c.flush()
-        f = self.c.space[code]
-        if g.arity == 0:
-            return f() if g.kind == "function" else f
-        def given(args: Tuple) -> Any:
-            if len(args) == g.arity:
-                return f(*args)
-            return lambda x: given(args + (x,))
-        return given(())
-
-    def eval(self, e: Any, env: Dict[str, Any], frame: Frame) -> Any:
-        kind = e[0]
-        if kind == "num":
-            return e[1]
-        if kind in ("var", "proj"):
-            if kind == "var" and e[1] in env:
-                return env[e[1]]
-            if e[:2] == ("var", "[]"):
-                return ()
-            inside = kind == "proj" and e[1][0] == "var" and e[1][1] in env
-            g = None if inside else self.global_of(frame.module, e)
-            if g is not None:
-                return self.value_of(g, frame)
-            v = self.eval(e[1], env, frame)
-            return v[int(e[2])] if e[2].isdigit() else getattr(v, plain(e[2]))
-        if kind == "app":
-            if e[1][:2] == ("var", "codes"):
-                return tuple(e[2][0][1].encode())
-            f = self.eval(e[1], env, frame)
-            for a in e[2]:
-                f = f(self.eval(a, env, frame))
-            return f
-        if kind == "if":
-            return self.eval(e[2] if self.eval(e[1], env, frame) else e[3], env, frame)
-        if kind == "let":
-            inner = {**env, e[1]: self.eval(e[2], env, frame)}
-            frame.env = {**frame.env, e[1]: inner[e[1]]}
-            return self.eval(e[3], inner, frame)
-        if kind == "tuple":
-            return tuple(self.eval(x, env, frame) for x in e[1])
-        if kind == "lam":
-            def take(names: List[str], inner: Dict[str, Any]) -> Any:
-                if not names:
-                    return self.eval(e[2], inner, Frame(frame.caller, frame.module, frame.f, frame.clause, {**frame.env, **inner}))
-                return lambda x: take(names[1:], {**inner, names[0]: x})
-            return take(e[1], env)
-        if kind == "rec":
-            values = {f: with_frame(self.eval(x, env, frame), frame) for f, x in e[2]}
-            if e[1] is None:
-                made = self.c.space[self.c.record_class(tuple(values))]
-                return made(*(values[f] for f in sorted(values)))
-            new = self.eval(e[1], env, frame)._copy()
-            for f, v in values.items():
-                setattr(new, plain(f), v)
-            return new
-        _, op, a, b, _ = e
-        if op == "&&":
-            return self.eval(a, env, frame) and self.eval(b, env, frame)
-        if op == "||":
-            return self.eval(a, env, frame) or self.eval(b, env, frame)
-        x, y = self.eval(a, env, frame), self.eval(b, env, frame)
-        if op in CALLED:
-            return self.c.space[CALLED[op]](x, y)
-        return eval(INFIX[op].format("x", "y"))
+    return shown_record(value, fields)
 
 
-# ---- texts
+def shown_list(value: Sequence[Any]) -> Optional[str]:
+    """A list of a few numbers; a vector in the digits of its lanes."""
+    if len(value) > MOST_PARTS or not all(
+        isinstance(part, int) and shown(part) not in ("true", "false") for part in value
+    ):
+        return None
+    if len(value) == 8 and all(0 <= part < 65536 for part in value):
+        return f"[{' '.join(f'{part:04x}' for part in value)}]"
+    return f"[{' '.join(str(shown(part)) for part in value)}]"
 
 
-def scalar(v: Any) -> bool:
-    return isinstance(v, (int, bool)) or isinstance(v, kit.Constant)
+def shown_record(value: Any, fields: Mapping[str, Any]) -> Optional[str]:
+    """A constructor with its arguments, or a record."""
+    parts = {name: shown(part) for name, part in fields.items()}
+    if None in parts.values():
+        return None
+    if hasattr(value, "name"):
+        return " ".join([value.name, *map(str, parts.values())])
+    if all(isinstance(part, bool) or getattr(part, "is_truth", False) for part in fields.values()):
+        return f"{', '.join(name for name in parts if fields[name]) or 'no flag'} set"
+    return f"{{{', '.join(f'{name} {part}' for name, part in parts.items())}}}"
 
 
-class Printer:
-    def __init__(self, it: Interpreter, frame: Frame):
-        self.it, self.frame = it, frame
-        self.kinds: Dict[str, str] = {}
-        for p, t in zip(frame.clause[0], self.types(frame.f)):
-            if p[0] == "var":
-                self.kinds[p[1]] = t
-            elif p[0] == "app":
-                for q in p[2]:
-                    if q[0] == "var":
-                        self.kinds[q[1]] = "ℕ"
+class View:
+    """A clause with the values of a call."""
 
-    def types(self, f: Function) -> List[str]:
-        names = [t[1] if t[0] == "var" else "" for t in argument_types(f.type)]
-        return names + ["ℕ", "ℕ", "LaneFlags"] if f.type[:2] == ("var", "Rule") or str(f.type).endswith("'Rule', %d)" % f.line) else names
+    def __init__(self, compiler: TracedCompiler, call: Call) -> None:
+        assert call.source is not None
+        self.compiler, self.call, self.source = compiler, call, call.source
+        self.used: List[Tuple[str, Found]] = []  # parts whose values other clauses of the step gave
+        self.signed = self.signed_names(call.source)
+        self.tests: List[str] = []
+        self.variables = dict(call.values)
+        self.body = call.source.body
+        while self.body[0] in ("let", "if"):
+            self.body = self.bound(self.body) if self.body[0] == "let" else self.chosen(self.body)
 
-    def number(self, v: Any, kind: str = "") -> str:
-        if isinstance(v, (bool, FoundBool)):
-            return "true" if v else "false"
-        if isinstance(v, kit.Constant):
-            return v.name
-        return f"{int(v)}" if kind == "ℤ" or -10 < v < 10 or v < 0 else f"0x{int(v):x}"
+    def signed_names(self, source: Source) -> Dict[str, bool]:
+        """Which variables of the patterns are signed numbers."""
+        types = argument_types(source.function.type)
+        pairs = zip(source.clause.patterns, types)
+        return {pattern[1]: kind[:2] == ("var", "ℤ") for pattern, kind in pairs if pattern[0] == "var"}
 
-    def put(self, e: Any, deep: bool, top: bool = True) -> str:
-        """e with its variables replaced by their values; or, if deep, with each part that is a number replaced by it"""
-        env, frame = self.frame.env, self.frame
-        kind = e[0]
-        if kind == "num":
-            return str(e[1])
-        if kind == "if" and deep:
-            c = self.it.eval(e[1], env, frame)
-            return self.put(e[2] if c else e[3], deep, top)
-        if kind == "let" and deep:
-            return self.put(e[3], deep, top)
-        if kind in ("var", "proj") or (deep and not top):
-            try:
-                v = self.it.eval(e, env, frame)
-                if scalar(v):
-                    k = self.kinds.get(e[1], "") if kind == "var" else ""
-                    return self.number(v, k or ("ℤ" if self.is_int(e) else ""))
-            except Exception:
-                pass
-        if kind == "var":
-            return e[1]
-        if kind == "proj":
-            return f"{self.put(e[1], deep, False)}.{e[2]}"
-        if kind == "app":
-            return " ".join([self.put(e[1], False, False)] + [self.bracket(a, deep) for a in e[2]])
-        if kind == "op":
-            return f"{self.bracket(e[2], deep, e[1])} {e[1]} {self.bracket(e[3], deep, e[1])}"
-        if kind == "if":
-            return f"if {self.put(e[1], deep, False)} then {self.put(e[2], deep, False)} else {self.put(e[3], deep, False)}"
-        if kind == "let":
-            return f"let {e[1]} = {self.put(e[2], deep, False)} in {self.put(e[3], deep, False)}"
-        if kind == "rec":
-            base = "" if e[1] is None else self.bracket(e[1], deep) + " "
-            return f"record {base}{{ {'; '.join(f + ' = ' + self.put(x, deep, False) for f, x in e[2])} }}"
-        if kind == "lam":
-            return f"λ {' '.join(e[1])}. {self.put(e[2], deep, False)}"
-        if kind == "tuple":
-            return f"({', '.join(self.put(x, deep, False) for x in e[1])})"
-        return "_"
+    def bound(self, e: Expression) -> Expression:
+        """What follows a `let`, whose value is noted."""
+        value = self.compiler.value_of(e[2], self.call)
+        text = shown(value, self.is_signed(e[2]))
+        if text is not None:
+            self.tests.append(f"{e[1]} = {self.put(e[2], False)} = {text}")
+        self.signed[e[1]] = self.is_signed(e[2])
+        self.call.values = {**self.call.values, e[1]: value}
+        return e[3]
 
-    def is_int(self, e: Any) -> bool:
+    def chosen(self, e: Expression) -> Expression:
+        """The branch of an `if`, whose test is noted."""
+        is_true = bool(self.compiler.value_of(e[1], self.call))
+        self.tests.append(f"{self.put(e[1], False)} is {'true' if is_true else 'false'}")
+        return e[2] if is_true else e[3]
+
+    def values(self) -> List[str]:
+        """The variables with their values."""
+        found_ = []
+        for name, value in self.variables.items():
+            text = shown(value, self.signed.get(name, False))
+            if text is not None:
+                self.note(name, value)
+                found_.append(f"{name} = {text}{self.origin(value)}")
+        return found_
+
+    def origin(self, value: Any) -> str:
+        """The name of a value of the state before the step."""
+        return f" ({value.name})" if isinstance(value, Found) and value.name else ""
+
+    def note(self, text: str, value: Any) -> None:
+        """Remembers a part whose value another clause gave."""
+        if isinstance(value, Found) and value.call is not None:
+            self.used.append((text, value))
+
+    def forms(self) -> List[str]:
+        """The right side with the variables replaced, and then with all parts replaced, if they say more."""
+        forms = [self.put(self.body, False), self.put(self.body, True, True)]
+        found_ = [
+            form for form in dict.fromkeys(forms) if form != text_of(self.body) and len(form) < MOST_TEXT
+        ]
+        return found_
+
+    def is_signed(self, e: Expression) -> bool:
+        """Whether an expression is a signed number."""
         if e[0] == "op":
-            return e[1].endswith("ℤ")
-        if e[0] == "app" and e[1][0] == "var":
-            g = self.it.global_of(self.frame.module, e[1])
-            if g is not None and g.kind == "function":
-                t = self.it.c.library.file(g.module).functions[g.name].type
-                while t[0] in ("op", "pi"):
-                    t = t[3] if t[0] == "op" else t[2]
-                return t[:2] == ("var", "ℤ")
-            return e[1][1] in ("pos", "negsuc", "cast_signed", "int_min", "int_max")
-        return False
+            return bool(e[1].endswith("ℤ"))
+        if e[0] == "var":
+            return self.signed.get(e[1], False)
+        head = e[1] if e[0] == "app" else ("",)
+        if head[0] != "var":
+            return False
+        name = self.compiler.library.resolve(self.source.module, head[1])
+        file = self.compiler.library.file(name.module) if name and name.kind == "function" else None
+        if name is None or file is None:
+            return head[1] in ("pos", "negsuc", "cast_signed", "int_min", "int_max")
+        kind = file.functions[name.name].type
+        while kind[0] in ("pi", "op"):
+            kind = kind[2] if kind[0] == "pi" else kind[3]
+        return bool(kind[:2] == ("var", "ℤ"))
 
-    def bracket(self, e: Any, deep: bool, op: str = "") -> str:
-        text = self.put(e, deep, False)
-        simple = e[0] in ("var", "num", "proj", "tuple") or " " not in text or (e[0] == "app" and op) or (e[0] == "op" and e[1] == op)
-        return text if simple else f"({text})"
+    def short(self, e: Expression) -> Optional[str]:
+        """The value of a part, if it is short."""
+        try:
+            value = self.compiler.value_of(e, self.call)
+        except (AnttError, AttributeError, TypeError, NameError):
+            return None
+        self.note(text_of(e), value)
+        return shown(value, self.is_signed(e)) if isinstance(value, (int, kit.Constant)) else None
 
-    def tests(self, e: Any) -> List[str]:
-        out = []
-        while e[0] in ("if", "let"):
-            if e[0] == "let":
-                v = self.it.eval(e[2], self.frame.env, self.frame)
-                if scalar(v):
-                    out.append(f"{e[1]} = {self.put(e[2], False)} = {self.number(v, 'ℤ')}")
-                e = e[3]
-                continue
-            c = self.it.eval(e[1], self.frame.env, self.frame)
-            out.append(f"{self.put(e[1], False)} is {'true' if c else 'false'}")
-            e = e[2] if c else e[3]
-        return out
+    def put(self, e: Expression, is_deep: bool, is_top: bool = False) -> str:
+        """An expression with its variables replaced by their values; if it is deep, with all of its parts."""
+        kind = e[0]
+        if kind in ("var", "proj") or is_deep and not is_top and kind in ("app", "op", "if"):
+            text = self.short(e)
+            if text is not None:
+                return text
+        if kind == "proj":
+            return f"{self.bracketed(e[1], is_deep)}.{e[2]}"
+        if kind == "app":
+            return " ".join([text_of(e[1]), *(self.bracketed(part, is_deep) for part in e[2])])
+        if kind == "op":
+            return f"{self.bracketed(e[2], is_deep, e[1])} {e[1]} {self.bracketed(e[3], is_deep, e[1])}"
+        if kind == "if":
+            test, then, other = (self.put(part, is_deep) for part in e[1:4])
+            return f"if {test} then {then} else {other}"
+        if kind == "rec":
+            base = "" if e[1] is None else f"{self.bracketed(e[1], is_deep)} "
+            return f"record {base}{{ {'; '.join(f'{name} = {self.put(part, is_deep)}' for name, part in e[2])} }}"
+        if kind == "tuple":
+            return f"({', '.join(self.put(part, is_deep) for part in e[1])})"
+        return text_of(e)
 
-
-def show(it: Interpreter, value: Any) -> None:
-    path: List[Frame] = []
-    frame = getattr(value, "frame", None)
-    while frame is not None:
-        path.append(frame)
-        frame = frame.caller
-    root = len(it.c.library.root.rstrip("/")) + 1
-    last = None
-    for frame in reversed(path):
-        f = frame.f
-        if f.name in PLUMBING or frame.clause is last:
-            continue
-        last = frame.clause
-        p = Printer(it, frame)
-        file = it.c.library.file(frame.module).path
-        print(f"\n{file}:{frame.clause[2]}")
-        print("\n".join("  " + line for line in frame.clause[3].split("\n")))
-        known = [f"{k} = {p.number(v, p.kinds.get(k, ''))}" for k, v in frame.env.items() if scalar(v)]
-        for k, v in frame.env.items():
-            if v.__class__.__name__ == "R_carry_clip_compare_differ_extra" and not isinstance(v.carry, tuple):
-                known.append(f"{k}: " + (", ".join(n for n in ("carry", "differ", "compare", "clip", "extra") if getattr(v, n)) or "no flag") + " set")
-        if known:
-            print(f"    with {', '.join(known)}")
-        for t in p.tests(frame.clause[1]):
-            print(f"    {t}")
-        body = frame.clause[1]
-        a, b = p.put(body, False), p.put(body, True)
-        if body[0] not in ("if", "let"):
-            print(f"    = {a}")
-        if b != a:
-            print(f"    = {b}")
-    print(f"\n    = {int(value):x} (hexadecimal)")
+    def bracketed(self, e: Expression, is_deep: bool, op: str = "") -> str:
+        """The same, in brackets if it has several words; as an operand only if the operator needs them."""
+        text = self.put(e, is_deep)
+        is_one = " " not in text or e[0] == "tuple" or op and (e[0] == "app" or e[:2] == ("op", op))
+        return text if is_one else f"({text})"
 
 
-def why(c: Compiler, args: List[str]) -> int:
-    case: Dict[str, Any] = {"before": dict(a.split("=") for a in args[2:]), "after": {}}
-    if re.fullmatch(r"[A-Z0-9]+-\d+", args[0]):
-        path = os.path.join(c.library.root, "conformance/vectors/steps", args[0].rsplit("-", 1)[0] + ".jsonl")
-        case = next(x for x in map(json.loads, open(path, encoding="utf-8")) if x["name"] == args[0])
+class Explainer:
+    """Explains values after one step."""
+
+    def __init__(self, library: Library) -> None:
+        self.compiler = TracedCompiler(library)
+        self.machine = Machine(self.compiler)
+        self.texts: Dict[str, List[str]] = {}
+
+    def word_of(self, text: str, pc: int) -> int:
+        """The word of an instruction as assembly text."""
+        meaning = self.compiler.get(TEXTS, "meaning_of_text")(tuple(text.encode()), pc)
+        if isinstance(meaning, kit.Err):
+            name = self.compiler.get("Rattle.rsp_syntax.specs.Faults", "kind_name")(meaning._0.kind)
+            raise BadInput(f"{text[:60]!r} is no instruction: {bytes(name).decode()}")
+        if len(meaning._0) != 1:
+            raise BadInput(f"{text[:60]!r} is {len(meaning._0)} words, not one")
+        return int(meaning._0[0])
+
+    def text_of(self, word: int, pc: int) -> str:
+        """A word as assembly text."""
+        lines = self.compiler.get("Rattle.rsp_syntax.specs.Disassembly", "listing")(pc, (word,))
+        return bytes(lines[0]).decode().split(" ", 2)[2]
+
+    def explain(self, state: Any, place: Place, text: str) -> Explanation:
+        """Why a value is what it is after a step."""
+        trace = self.compiler.trace
+        old = named(self.compiler, state)
+        end, new = self.machine.step_of(old)
+        before, after = (self.value_at(it, place) for it in (state, new))
+        calls = self.calls_at(new, place)
+        trace.is_on = False
+        note = self.note_on(end, calls, after)
+        digits = [f"{value % (1 << 4 * place.digits):0{place.digits}x}" for value in (before, after)]
+        return Explanation(text, place.name, *digits, note, self.steps(calls) if calls else [])
+
+    def note_on(self, end: Any, calls: List[Call], after: Any) -> str:
+        """What is to be said of a value besides its clauses."""
+        if end is not self.compiler.constructor(ENDS, "Done"):
+            return (
+                f"The step answers {end.name if hasattr(end, 'name') else 'Reserved'}, and changes nothing."
+            )
+        if not calls:
+            return "No clause writes it: the step leaves it as it was."
+        moved = isinstance(after, Found) and after.name
+        return f"It is {after.name} from before the step, moved as it is." if moved else ""
+
+    def value_at(self, state: Any, place: Place) -> Any:
+        """The value at a place of a state."""
+        value = state
+        for step in place.path:
+            value = getattr(value, step) if isinstance(step, str) else value[step]
+        if place.path == ("sp",):
+            value = self.machine.read_value(int(place.name[1:]), value)
+        return value
+
+    def calls_at(self, state: Any, place: Place) -> List[Call]:
+        """The calls that gave and moved the value at a place; none if the step left it."""
+        trace, holder, calls = self.compiler.trace, state, []
+        for step in place.path:
+            value = getattr(holder, step) if isinstance(step, str) else holder[step]
+            writer = trace.writer_of(holder, step) if isinstance(step, str) else None
+            calls.append(trace.call_of(value) or writer)
+            holder = value
+        if isinstance(holder, Found) and holder.name == place.name and holder.call is None:
+            return []
+        if place.path == ("sp",):
+            calls = [trace.call_of(self.value_at(state, place)), *calls]
+        given = [call for call in reversed(calls) if call is not None]
+        return given if place.path == ("sp",) else given[:1]
+
+    def steps(self, calls: Sequence[Call]) -> List[Step]:
+        """The clauses on the way to calls, and then those of the values in them."""
+        steps: List[Step] = []
+        seen: Set[int] = set()
+        left: List[Tuple[str, Call, int]] = [("", call, 0) for call in calls]
+        while left:
+            of, call, depth = left.pop(0)
+            for one in path_to(call):
+                if one.source is None or one.source.function.name in SILENT or id(one) in seen:
+                    continue
+                seen.add(id(one))
+                step, view = self.step(one, of)
+                if step._replace(of="") not in [it._replace(of="") for it in steps]:
+                    steps.append(step)
+                    of = ""
+                if depth < MOST_DEPTH:
+                    left += [(text, it.call, depth + 1) for text, it in view.used if it.call]
+        return steps
+
+    def step(self, call: Call, of: str) -> Tuple[Step, View]:
+        """A clause as a step of the explanation."""
+        view = View(self.compiler, call)
+        source, values = view.source, view.values()
+        step = Step(
+            of, source.path, source.line, self.comment(source), source.text, values, view.tests, view.forms()
+        )
+        return step, view
+
+    def comment(self, source: Source) -> str:
+        """The comment above a definition."""
+        if source.path not in self.texts:
+            self.texts[source.path] = self.compiler.library.text(source.path).split("\n")
+        lines, end = self.texts[source.path], source.function.line - 1
+        start = end
+        while start > 0 and lines[start - 1].startswith("--"):
+            start -= 1
+        return "\n".join(lines[start:end])
+
+
+def path_to(call: Optional[Call]) -> List[Call]:
+    """The calls from the first one to this one."""
+    path: List[Call] = []
+    while call is not None:
+        path.insert(0, call)
+        call = call.caller
+    return path
+
+
+def arguments_of(words: Sequence[str]) -> Dict[str, Any]:
+    """The keys before an instruction, from KEY=HEX."""
+    keys: Dict[str, Any] = {}
+    for word in words:
+        key, sign, digits = word.partition("=")
+        bank, _, address = key.partition(".")
+        if not sign or bank not in SIZES and key not in DEFAULT:
+            raise BadInput(
+                f"{word[:40]!r} is no KEY=HEX with a key of test vectors, such as r4=12, v2=0005.. or dmem.010=0102"
+            )
+        if bank in SIZES:
+            keys.setdefault(bank, {})[address] = digits
+        else:
+            keys[key] = filled(key, digits)
+    return keys
+
+
+def filled(key: str, digits: str) -> str:
+    """The digits of a key: after HEX.. repeated, and a number with zeros in front."""
+    count = len(DEFAULT[key])
+    if digits.endswith("..") and len(digits) > 2 and count % len(digits[:-2]) == 0:
+        return digits[:-2] * (count // len(digits[:-2]))
+    return digits if key[0] == "v" and key[1:].isdigit() else digits.rjust(count, "0")
+
+
+def case_of(library: Library, name: str) -> Dict[str, Any]:
+    """A case of the test vectors by its name."""
+    path = os.path.join(library.root, "conformance/vectors/steps", f"{name.rpartition('-')[0]}.jsonl")
+    if not os.path.isfile(path):
+        raise BadInput(f"there is no case {name}: {path} isn't there")
+    for case in cases_of(path):
+        if case["name"] == name:
+            return case
+    raise BadInput(f"there is no case {name} in {path}")
+
+
+def why(compiler: Compiler, words: Sequence[str]) -> int:
+    """Prints why a value of a case, or after an instruction, is what it is."""
+    is_json = "--json" in words
+    words = [word for word in words if word != "--json"]
+    if len(words) < 2 or words[0] in ("-h", "--help"):
+        print(__doc__, end="")
+        return 0 if words[:1] in (["-h"], ["--help"]) else 2
+    place = place_of(words[1])
+    explainer = Explainer(compiler.library)
+    if re.fullmatch(r"[A-Z0-9]+-\d+", words[0]):
+        case = case_of(compiler.library, words[0])
     else:
-        words = c.get("Rattle.rsp_syntax.specs.SourceText", "meaning_of_text")(tuple(args[0].encode()), int(case["before"].get("pc", "0"), 16))
-        if isinstance(words, kit.Err):
-            print("define: this text has no meaning")
-            return 1
-        case.update(word=f"{words._0[0]:08x}", text=args[0])
-    m = machine.Machine(c)
-    keys, memories = machine.before(case)
-    state = m.state(keys, memories)
-    it = Interpreter(c)
-    after = it.call("Rattle.rsp_machine.specs.Step", "step_of", [state], None)[1]
-    bank, _, index = args[1].partition(".")
-    if bank in ("dmem", "imem", "rdram"):
-        value = getattr(after, bank)[int(index, 16)]
-    elif bank[0] == "v" and bank[1:].isdigit():
-        value = after.vectors[int(bank[1:])][int(index)]
-    elif bank[0] == "a":
-        value = after.accumulators[int(bank[1:])]
-    elif bank[0] == "r":
-        value = after.registers[int(bank[1:])]
-    else:
-        value = getattr(after.flags, bank)[int(index)]
-    print(f"{case['text']}: {args[1]} is {int(value):x} (hexadecimal) after it")
-    if not isinstance(value, Found):
-        print("  The step leaves it as it was, or takes it from a register or a memory as it is.")
-        return 0
-    show(it, value)
+        keys = arguments_of(words[2:])
+        pc = int(keys.get("pc", "0"), 16)
+        case = {"text": words[0], "before": keys, "word": f"{explainer.word_of(words[0], pc):08x}"}
+    state = explainer.machine.state(*before({**case, "before": {k: v for k, v in case["before"].items()}}))
+    explanation = explainer.explain(state, place, case["text"])
+    print(json.dumps(as_json(explanation), ensure_ascii=False) if is_json else explanation)
     return 0
+
+
+def as_json(explanation: Explanation) -> Dict[str, Any]:
+    """An explanation as an object of JSON."""
+    return {**explanation._asdict(), "steps": [step._asdict() for step in explanation.steps]}
