@@ -30,7 +30,10 @@ SILENT = set(
     "step_of step_by executed after_single_step each_lane for_each all_flags flags_at results_of lows_of flags_after"
     " modulo floor_div".split()
 )
-MOST_DEPTH = 4  # how far values in the clauses are explained, too
+# Their clauses are shown only on the way of the value itself: signed and unsigned values, lanes, bytes of memories.
+HELPERS = {"rsp_numbers", "rsp_lanes", "rsp_memory"}
+RULES = {"clamp16"}  # which are shown nevertheless
+MOST_STEPS = 40  # how many clauses are shown
 MOST_PARTS = 8  # the longest list that is shown
 MOST_TEXT = 300  # the longest clause with its values put in
 
@@ -92,6 +95,11 @@ def shown(value: Any, is_signed: bool = False) -> Optional[str]:
     return shown_record(value, fields)
 
 
+def in_48_bits(value: Any) -> str:
+    """A number of an accumulator in its digits; nothing for a short one."""
+    return f"{value % (1 << 48):012x}" if isinstance(value, int) and not -65536 <= value < 65536 else ""
+
+
 def shown_list(value: Sequence[Any]) -> Optional[str]:
     """A list of a few numbers; a vector in the digits of its lanes."""
     if len(value) > MOST_PARTS or not all(
@@ -100,7 +108,7 @@ def shown_list(value: Sequence[Any]) -> Optional[str]:
         return None
     if len(value) == 8 and all(0 <= part < 65536 for part in value):
         return f"[{' '.join(f'{part:04x}' for part in value)}]"
-    return f"[{' '.join(str(shown(part)) for part in value)}]"
+    return f"[{' '.join(str(int(part)) for part in value)}]"
 
 
 def shown_record(value: Any, fields: Mapping[str, Any]) -> Optional[str]:
@@ -121,7 +129,7 @@ class View:
     def __init__(self, compiler: TracedCompiler, call: Call) -> None:
         assert call.source is not None
         self.compiler, self.call, self.source = compiler, call, call.source
-        self.used: List[Tuple[str, Found]] = []  # parts whose values other clauses of the step gave
+        self.used: List[Tuple[str, Call]] = []  # parts whose values other clauses of the step gave
         self.signed = self.signed_names(call.source)
         self.tests: List[str] = []
         self.variables = dict(call.values)
@@ -158,17 +166,25 @@ class View:
             text = shown(value, self.signed.get(name, False))
             if text is not None:
                 self.note(name, value)
-                found_.append(f"{name} = {text}{self.origin(value)}")
+                found_.append(f"{name} = {text}{self.origin(value, self.signed.get(name, False))}")
         return found_
 
-    def origin(self, value: Any) -> str:
-        """The name of a value of the state before the step."""
-        return f" ({value.name})" if isinstance(value, Found) and value.name else ""
+    def origin(self, value: Any, is_signed: bool) -> str:
+        """The digits of a long signed number, and the name of a value of the state before the step."""
+        parts = [in_48_bits(value)] if is_signed else []
+        parts += [value.name] if isinstance(value, Found) else []
+        text = " ".join(part for part in parts if part)
+        return f" ({text})" if text else ""
 
     def note(self, text: str, value: Any) -> None:
         """Remembers a part whose value another clause gave."""
-        if isinstance(value, Found) and value.call is not None:
-            self.used.append((text, value))
+        call = value.call if isinstance(value, Found) else None
+        if call is None or call.source is None or call is self.call:
+            return
+        is_of_step = path_to(call)[0] is path_to(self.call)[0]
+        crate, name = call.source.module.split(".")[1], call.source.function.name
+        if crate not in (HELPERS if not is_of_step else ("rsp_numbers",)) or name in RULES:
+            self.used.append((text, call))
 
     def forms(self) -> List[str]:
         """The right side with the variables replaced, and then with all parts replaced, if they say more."""
@@ -196,14 +212,31 @@ class View:
             kind = kind[2] if kind[0] == "pi" else kind[3]
         return bool(kind[:2] == ("var", "ℤ"))
 
-    def short(self, e: Expression) -> Optional[str]:
-        """The value of a part, if it is short."""
+    def value(self, e: Expression) -> Any:
+        """The value of a part; None if it is computed only in part."""
         try:
-            value = self.compiler.value_of(e, self.call)
+            return self.compiler.value_of(e, self.call)
         except (AnttError, AttributeError, TypeError, NameError):
             return None
-        self.note(text_of(e), value)
-        return shown(value, self.is_signed(e)) if isinstance(value, (int, kit.Constant)) else None
+
+    def short(self, e: Expression) -> Optional[str]:
+        """The value of a part, if it is short."""
+        value = self.value(e)
+        if not isinstance(value, (int, kit.Constant)):
+            return None
+        self.note_parts(e, value)
+        return shown(value, self.is_signed(e))
+
+    def note_parts(self, e: Expression, value: Any) -> None:
+        """Remembers what gave a part, or else its parts."""
+        if isinstance(value, Found) and value.call is not None:
+            self.note(text_of(e), value)
+        elif e[0] == "if":
+            branch = e[2] if self.value(e[1]) else e[3]
+            self.note_parts(branch, self.value(branch))
+        elif e[0] in ("app", "op"):
+            for part in e[2] if e[0] == "app" else e[2:4]:
+                self.note_parts(part, self.value(part))
 
     def put(self, e: Expression, is_deep: bool, is_top: bool = False) -> str:
         """An expression with its variables replaced by their values; if it is deep, with all of its parts."""
@@ -265,7 +298,6 @@ class Explainer:
         end, new = self.machine.step_of(old)
         before, after = (self.value_at(it, place) for it in (state, new))
         calls = self.calls_at(new, place)
-        trace.is_on = False
         note = self.note_on(end, calls, after)
         digits = [f"{value % (1 << 4 * place.digits):0{place.digits}x}" for value in (before, after)]
         return Explanation(text, place.name, *digits, note, self.steps(calls) if calls else [])
@@ -300,28 +332,32 @@ class Explainer:
             holder = value
         if isinstance(holder, Found) and holder.name == place.name and holder.call is None:
             return []
+        own = [holder, holder.earlier] if isinstance(holder, Found) else []
+        given = [it.call for it in own if it and it.call] or [call for call in calls[::-1] if call][:1]
         if place.path == ("sp",):
-            calls = [trace.call_of(self.value_at(state, place)), *calls]
-        given = [call for call in reversed(calls) if call is not None]
-        return given if place.path == ("sp",) else given[:1]
+            given.append(trace.call_of(self.value_at(state, place)))
+        return [call for call in given if call is not None]
 
     def steps(self, calls: Sequence[Call]) -> List[Step]:
         """The clauses on the way to calls, and then those of the values in them."""
         steps: List[Step] = []
         seen: Set[int] = set()
-        left: List[Tuple[str, Call, int]] = [("", call, 0) for call in calls]
-        while left:
-            of, call, depth = left.pop(0)
+        shown_already: Set[Tuple[Any, ...]] = set()
+        left = [("", call) for call in calls]
+        while left and len(steps) < MOST_STEPS:
+            of, call = left.pop(0)
             for one in path_to(call):
                 if one.source is None or one.source.function.name in SILENT or id(one) in seen:
                     continue
                 seen.add(id(one))
                 step, view = self.step(one, of)
-                if step._replace(of="") not in [it._replace(of="") for it in steps]:
-                    steps.append(step)
+                key = (step.file, step.line, step.source, *step.values)
+                if key not in shown_already:
+                    is_new = all(it.comment != step.comment for it in steps)
+                    steps.append(step if is_new else step._replace(comment=""))
+                    shown_already.add(key)
                     of = ""
-                if depth < MOST_DEPTH:
-                    left += [(text, it.call, depth + 1) for text, it in view.used if it.call]
+                    left += view.used
         return steps
 
     def step(self, call: Call, of: str) -> Tuple[Step, View]:

@@ -158,6 +158,6 @@ def named(compiler: Compiler, state: Any) -> Any:
         accumulators=numbers("a", state.accumulators),
         flags=record(state.flags, {}),
         divider=record(state.divider, {"input": "in", "output": "out"}),
-        sp=record(state.sp, {}),
+        sp=record(state.sp, {"memory": "c0", "dram": "c1", "dpc": "c8 + "}),
         **{bank: Array(Memory(bank, getattr(state, bank).newest())) for bank in SIZES},
     )

@@ -10,7 +10,7 @@ from typing import Any, Callable, Dict, List, NamedTuple, Optional, Tuple
 from .bodies import Body, names_in, plain, shifted
 from .compiler import Compiler
 from .kit import slice_set
-from .modules import Library
+from .modules import Global, Library
 from .syntax import Clause, Expression, Function, text_of
 
 
@@ -23,6 +23,7 @@ class Found(int):
     call: Optional["Call"] = None
     name = ""
     is_truth = False
+    earlier: Optional["Found"] = None  # the same number before the call wrote it
 
 
 def found(value: int, call: Optional["Call"], name: str = "", is_truth: bool = False) -> Found:
@@ -83,10 +84,21 @@ class Trace:
 
     def written(self, xs: Any, i: int, x: Any) -> Any:
         """`slice_set`, whose member is one of the call that is made."""
-        if isinstance(x, int) and self.now is not None:
-            is_truth = x.is_truth if isinstance(x, Found) else x.__class__ is bool
-            x = found(x, self.now, x.name if isinstance(x, Found) else "", is_truth)
-        return self.given(slice_set(xs, i, x))
+        return self.given(slice_set(xs, i, self.moved(x, self.now)))
+
+    def moved(self, x: Any, call: Optional[Call]) -> Any:
+        """A number that a call writes or passes on."""
+        if not isinstance(x, int) or call is None:
+            return x
+        if not isinstance(x, Found):
+            return found(x, call, is_truth=x.__class__ is bool)
+        made = found(x, call, x.name, x.is_truth)
+        made.earlier = x
+        return made
+
+    def part(self, x: Any) -> Any:
+        """A field of a record that the call makes: a number of the state before is one that the call passes on."""
+        return self.moved(x, self.now) if isinstance(x, Found) and x.call is None else self.given(x)
 
     def updated(self, base: Any, record: Any, fields: Tuple[str, ...]) -> Any:
         """A record that differs from another in these fields."""
@@ -172,8 +184,14 @@ class TracedBody(Body):
         return f"{pad}TRACE.begin({self.source(clause.source, clause.body, clause.line)}, {{{values}}})\n"
 
     def code_of_given(self, e: Expression) -> str:
-        """A part of a record or of a list, as a value of the call."""
-        return f"TRACE.given({self.code(e[1])})" if self.is_traced() else self.code(e[1])
+        """A field of a record."""
+        return f"TRACE.part({self.code(e[1])})" if self.is_traced() else self.code(e[1])
+
+    def called(self, found: Global, head: Expression, arguments: List[Expression]) -> str:
+        """A call; the arguments of a constructor are values of the call that makes it."""
+        if found.kind == "constructor" and found.of != "kit":
+            arguments = [("given", argument) for argument in arguments]
+        return super().called(found, head, arguments)
 
     def code_of_inside(self, e: Expression) -> str:
         """The body of a function after λ."""
