@@ -9,8 +9,8 @@ from .states import DEFAULT, SIZES, BadInput
 from .traced import Found, found
 
 # The other names of scalar registers after `$`: $a0 is one, and a0 without `$` is the accumulator of lane 0.
-SCALARS = "zero at r2 r3 a0 a1 a2 a3 t0 t1 t2 t3 t4 t5 t6 t7 s0 s1 s2 s3 s4 s5 s6 s7 t8 t9 k0 k1 gp sp s8 ra".split()
-ALIASES = {**{f"${name}": f"r{n}" for n, name in enumerate(SCALARS)}, "$fp": "r30"}
+SCALARS = "zero at r2 r3 a0 a1 a2 a3 t0 t1 t2 t3 t4 t5 t6 t7 s0 s1 s2 s3 s4 s5 s6 s7 t8 t9 k0 k1 gp sp s8 ra"
+ALIASES = {**{f"${name}": f"r{n}" for n, name in enumerate(SCALARS.split())}, "$fp": "r30"}
 # The lists of flags: which key of vectors has their bits, and from which bit on.
 FLAGS = {
     "carry": ("vco", 0),
@@ -30,6 +30,8 @@ HOW = {
     "memory": "a byte of a memory has an address in hexadecimal, as dmem.010",
 }
 KNOWN = "v9.1, acc.2, carry.0, vco.3, r4, $s1, c4, pc, npc, in, out, loaded, interrupt, dmem.010"
+SP_FIELDS = {0: ("memory",), 1: ("dram",), 2: ("skip",), 3: ("skip",), 5: (), 6: (), 7: ("semaphore",)}
+STATUS = ("halted", "broke", "single_step", "intbreak", "signals")
 FIELDS = {"in": "input", "out": "output", "loaded": "loaded"}
 
 
@@ -39,6 +41,7 @@ class Place(NamedTuple):
     name: str
     digits: int  # hexadecimal digits of its value
     path: Tuple[Union[str, int], ...]  # the fields and indices that lead to it in a state
+    fields: Tuple[str, ...] = ()  # of an SP register: the fields of `sp` that its word has
 
 
 def number(text: Optional[str], below: int, how: str, base: int = 10) -> int:
@@ -104,7 +107,7 @@ def scalar(digits: str, index: Optional[str]) -> Place:
 def sp_register(digits: str, index: Optional[str]) -> Place:
     """An SP register, as it is read."""
     register = number(digits, 16, "c") if index is None else number("", 16, "c")
-    return Place(f"c{register}", 8, ("sp",))
+    return Place(f"c{register}", 8, ("sp",), SP_FIELDS.get(register, STATUS if register == 4 else ("dpc",)))
 
 
 def flag_bit(name: str, index: Optional[str]) -> Place:

@@ -1,8 +1,8 @@
 """Computes definitions so that a number carries the clause whose value it is.
 
-A number is a Found: it knows the call that gave it, or the part of the state that it was before the step. A call
-knows its clause, the values of its variables, and the call that it was made in. Lists and records are found by
-their identity.
+A number is a Found: it knows the call that gave it, or its name in the state before the step. A call knows
+its clause, the values of its variables, and the call that it was made in. Lists and records are found by
+identity.
 """
 
 from typing import Any, Callable, Dict, List, NamedTuple, Optional, Tuple
@@ -18,7 +18,7 @@ UNTRACED = {"rsp_decode", "rsp_syntax"}  # crates that give an instruction from 
 
 
 class Found(int):
-    """A number or a truth value: the call that gave or wrote it, and its name if it is one of the state before."""
+    """A number or a truth value, with the call that gave or wrote it, or its name in the state before."""
 
     call: Optional["Call"] = None
     name = ""
@@ -52,6 +52,15 @@ class Call:
         self.caller = caller
         self.source: Optional[Source] = None  # None as long as no clause fits
         self.values: Dict[str, Any] = {}
+
+
+def path_to(call: Optional[Call]) -> List[Call]:
+    """The calls from the first one to this one."""
+    path: List[Call] = []
+    while call is not None:
+        path.insert(0, call)
+        call = call.caller
+    return path
 
 
 class Trace:
@@ -97,7 +106,7 @@ class Trace:
         return made
 
     def part(self, x: Any) -> Any:
-        """A field of a record that the call makes: a number of the state before is one that the call passes on."""
+        """A field of a record that the call makes; a number of the state before is passed on by the call."""
         return self.moved(x, self.now) if isinstance(x, Found) and x.call is None else self.given(x)
 
     def updated(self, base: Any, record: Any, fields: Tuple[str, ...]) -> Any:
