@@ -20,7 +20,7 @@ from .places import Place, named, place_of
 from .states import DEFAULT, SIZES, BadInput, Machine, before, check_keys
 from .steps import cases_of
 from .traced import Call, Found, Source, TracedCompiler, path_to
-from .views import View
+from .views import View, is_helper
 
 TEXTS = "Rattle.rsp_syntax.specs.SourceText"
 ENDS = "Rattle.rsp_machine.specs.declared.step.StepEnd.TheVariants"
@@ -74,7 +74,7 @@ class Explanation(NamedTuple):
 
 
 class Explainer:
-    """Explains values after one step."""
+    """Explains values after a step."""
 
     def __init__(self, library: Library) -> None:
         self.compiler = TracedCompiler(library)
@@ -91,15 +91,12 @@ class Explainer:
             raise BadInput(f"{text[:60]!r} is {len(meaning._0)} words, not one")
         return int(meaning._0[0])
 
-    def text_of(self, word: int, pc: int) -> str:
-        """A word as assembly text."""
-        lines = self.compiler.get("Rattle.rsp_syntax.specs.Disassembly", "listing")(pc, (word,))
-        return bytes(lines[0]).decode().split(" ", 2)[2]
-
     def explain(self, state: Any, place: Place, text: str) -> Explanation:
         """Why a value is what it is after a step."""
-        if place.path[0] in SIZES and place.path[1] >= len(getattr(state, place.path[0])):
+        bank, *path = place.path
+        if bank in SIZES and int(path[0]) >= len(getattr(state, str(bank))):
             raise BadInput(f"{place.name} is outside of the memory")
+        self.compiler.trace.clear()
         old = named(self.compiler, state)
         end, new = self.machine.step_of(old)
         before_, after = (self.value_at(it, place) for it in (state, new))
@@ -153,23 +150,29 @@ class Explainer:
         """The clauses on the way to calls, and then those of the values in them."""
         steps: List[Step] = []
         seen: Set[int] = set()
-        shown_already: Set[Tuple[Any, ...]] = set()
+        shown: Set[Tuple[Any, ...]] = set()
         left = [("", call) for call in calls]
         while left and len(steps) < MOST_STEPS:
             of, call = left.pop(0)
-            for one in path_to(call):
-                if one.source is None or one.source.function.name in SILENT or id(one) in seen:
-                    continue
-                seen.add(id(one))
+            for one in self.path(call, not of, seen):
                 step, view = self.step(one, of)
                 key = (step.file, step.line, step.source, *step.values)
-                if key not in shown_already:
+                if key not in shown:
                     is_new = all(it.comment != step.comment for it in steps)
                     steps.append(step if is_new else step._replace(comment=""))
-                    shown_already.add(key)
+                    shown.add(key)
                     of = ""
                     left += view.used
         return steps
+
+    def path(self, call: Call, is_main: bool, seen: Set[int]) -> Iterator[Call]:
+        """The calls on the way to a call that weren't seen and say something of it."""
+        for one in path_to(call):
+            if one.source is None or one.source.function.name in SILENT or id(one) in seen:
+                continue
+            seen.add(id(one))
+            if is_main or one is call or not is_helper(one.source):
+                yield one
 
     def step(self, call: Call, of: str) -> Tuple[Step, View]:
         """A clause as a step of the explanation."""

@@ -68,12 +68,16 @@ class Trace:
 
     def __init__(self) -> None:
         self.sources: List[Source] = []
-        self.is_on = True
         self.now: Optional[Call] = None
         self.made: Dict[int, Tuple[Any, Call]] = {}  # lists and records, by their identity
         self.updates: Dict[
             int, Tuple[Any, Any, Tuple[str, ...], Optional[Call]]
         ] = {}  # records after an update
+
+    def clear(self) -> None:
+        """Forgets the calls of a step."""
+        self.made.clear()
+        self.updates.clear()
 
     def begin(self, number: int, values: Dict[str, Any]) -> None:
         """A clause fits the call that is made."""
@@ -125,8 +129,6 @@ class Trace:
 
     def inside(self, number: int, values: Dict[str, Any], compute: Callable[[], Any]) -> Any:
         """The value of a function after λ, which is a call of its own."""
-        if not self.is_on:
-            return compute()
         caller = self.now
         self.now = Call(caller)
         self.begin(number, values)
@@ -139,8 +141,6 @@ class Trace:
         """A definition whose calls are traced."""
 
         def call(*arguments: Any) -> Any:
-            if not self.is_on:
-                return function(*arguments)
             caller = self.now
             self.now = Call(caller)
             try:
@@ -166,6 +166,13 @@ class TracedBody(Body):
     def text(self, code: str) -> str:
         text = super().text(code)
         return text + f"\n{code} = TRACE.wrapped({code})\n" if self.is_traced() else text
+
+    def keeping(self, code: str, arguments: List[str], most: int) -> str:
+        """Nothing is kept, because a kept value has the call of another step."""
+        return f"{code} = {code}__raw\n" if self.is_traced() else super().keeping(code, arguments, most)
+
+    def climbs(self) -> Optional[int]:
+        return None if self.is_traced() else super().climbs()
 
     def is_traced(self) -> bool:
         """Whether calls of this definition are traced."""

@@ -57,6 +57,11 @@ def shown_record(value: Any, fields: Mapping[str, Any]) -> Optional[str]:
     return f"{{{', '.join(f'{name} {part}' for name, part in parts.items())}}}"
 
 
+def is_helper(source: Source) -> bool:
+    """Whether a clause is shown only on the way of the value that is explained."""
+    return source.module.split(".")[1] in HELPERS and source.function.name not in RULES
+
+
 class View:
     """A clause with the values of a call."""
 
@@ -115,9 +120,7 @@ class View:
         call = value.call if isinstance(value, Found) else None
         if call is None or call.source is None or call is self.call:
             return
-        is_of_step = path_to(call)[0] is path_to(self.call)[0]
-        crate, name = call.source.module.split(".")[1], call.source.function.name
-        if crate not in (HELPERS if not is_of_step else ("rsp_numbers",)) or name in RULES:
+        if path_to(call)[0] is path_to(self.call)[0] or not is_helper(call.source):
             self.used.append((text, call))
 
     def forms(self) -> List[str]:

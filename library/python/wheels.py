@@ -20,6 +20,7 @@ from pathlib import Path
 from typing import Any, Dict, Sequence, Union
 
 HERE = Path(__file__).resolve().parent
+TOP = HERE.parents[1]
 LIBRARY = "libbrsp.so"
 TEXT = (HERE / "pyproject.toml").read_text()
 PROJECT = dict(re.findall(r'(?m)^([a-z-]+) = (?:\{ text = )?"(.*)"(?: \})?$', TEXT))
@@ -73,9 +74,27 @@ def write(
 
 
 def with_library(library: Path, name: str) -> Dict[str, bytes]:
-    """The files of the module with a library of this name."""
+    """The files of the module, with a library of this name and the definitions."""
     paths = [*sorted((HERE / "rsp").glob("*.py*")), HERE / "rsp/py.typed"]
-    return {**{f"rsp/{it.name}": it.read_bytes() for it in paths}, f"rsp/{name}": library.read_bytes()}
+    files = {**{f"rsp/{it.name}": it.read_bytes() for it in paths}, f"rsp/{name}": library.read_bytes()}
+    return {**files, **definitions()}
+
+
+def definitions() -> Dict[str, bytes]:
+    """The definitions, with the types that they name, and the package that computes them."""
+    sys.path.insert(0, str(TOP))
+    sys.dont_write_bytecode = True
+    from definitions.modules import Library
+
+    library = Library(str(TOP))
+    files = [*library.reached("Rattle.rsp_bench.specs.Run")]
+    for file in files:
+        library.scope(file.module)  # reads the types
+    code = {
+        f"rsp/definitions/{it.name}": it.read_bytes() for it in sorted((TOP / "definitions").glob("*.py"))
+    }
+    paths = sorted([file.path for file in files] + [*library.declared])
+    return {**code, **{f"rsp/definitions/{path}": (TOP / path).read_bytes() for path in paths}}
 
 
 def with_command(name: str, program: bytes) -> Dict[str, bytes]:
@@ -85,7 +104,7 @@ def with_command(name: str, program: bytes) -> Dict[str, bytes]:
 
 def clone() -> Any:
     """The module of the clone of this folder that makes the library and the program."""
-    tools = HERE.parents[1] / "tools"
+    tools = TOP / "tools"
     if not (tools / "rsp_tools").is_dir():
         raise RuntimeError(COPIED)
     sys.path.insert(0, str(tools))

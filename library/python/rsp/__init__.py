@@ -44,6 +44,7 @@ __all__ = [
     "Line", "Machine", "Move", "NotHalted", "Part", "Ran", "Reason", "RspError", "STATUS_WRITES",
     "Scalars", "ScriptError", "SpWords", "State", "Status", "Stop", "Timeline", "Traced", "Words",
     "assemble", "explain_reply", "explain_text", "first_difference", "run_script", "state_fault", "text",
+    "why",
 ]  # fmt: skip
 
 _S = TypeVar("_S", bound=Structure)
@@ -368,6 +369,20 @@ def text(word: int, address: int = 0) -> str:
     out = _shapes.Line()
     _check(_lib.brsp_text(word, address, byref(out)), "text", [word, address])
     return str(out.text.decode())
+
+
+def why(state: Union["Machine", State], word: Union[int, str], what: str) -> Any:
+    """Why a value is what it is after an instruction: the clauses of the definitions that lead to it, with
+    their values. `print` shows them; `before` and `after` are the value in hexadecimal digits, and each of
+    `steps` has a `file`, a `line`, the `source`, `values`, `tests` and `forms`.
+
+    `word` is the instruction, or its text. It is executed at pc of a state whose memories are zeros, or of a
+    machine, which stays as it is. `what` is a name such as "v9.1", "$s1", "acc.2", "carry.0", "pc", "c4" or
+    "dmem.010"; another one raises ValueError.
+    """
+    from .explained import why as explain  # here, because the package is made of this module
+
+    return explain(state, word, what)
 
 
 def state_fault(state: State) -> Optional[str]:

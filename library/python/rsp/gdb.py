@@ -15,6 +15,7 @@ import signal
 import socket
 import struct
 import sys
+import threading
 import time
 from contextlib import contextmanager, suppress
 from pathlib import Path
@@ -51,6 +52,8 @@ monitor counts [STEP]  how often each instruction was executed, from a step to t
 monitor wrote NAME     goes back to the last change of a register or lane: $r8, $t0, $v18[3], $acc, $vco
 monitor waits          the waits for a DMA that are missing from here to the halt, or in 1000000 steps
 monitor why            why the last breakpoint or watch was refused
+monitor why NAME       what gave a value in the last step, or in the step that `wrote` found: $v3.2, $s1,
+                       acc.2, carry.0, dmem.010, by the definitions
 These are as in a script for `rsp run`:
 monitor task ADDR | pc ADDR | load BANK ADDR HEX | write N VALUE | read N
 monitor regs | vregs | acc | flags | sp | mem BANK ADDR LEN | dis ADDR N
@@ -114,6 +117,18 @@ def _description() -> Tuple[bytes, List[_Register]]:
 _XML, _REGISTERS = _description()
 
 
+def _why(machine: rsp.Machine, pc: int, name: str) -> str:
+    """Why a value is what it is after a step, or why that can't be said. A byte may have GDB's address."""
+    with suppress(ValueError):
+        bank, address = _place(int(name, 16))
+        name = f"{bank.name.lower()}.{address:x}" if name.startswith("0x") else name
+    try:
+        word = int.from_bytes(machine.memory(rsp.IMEM, pc, 4), "big")
+        return str(rsp.why(machine, word, name))
+    except (ValueError, ImportError) as fault:
+        return f"fault: {fault}"
+
+
 def _hex(text: str) -> bytes:
     """A text as packets have it."""
     return text.encode().hex().encode()
@@ -159,6 +174,7 @@ class Stub:
         line.is_interrupted = self._interrupted
         self._was_interrupted, self._end = False, math.inf  # the time at which a packet has to be answered
         self._why, self._news = "nothing was refused", ""
+        self._writing: Optional[int] = None  # the step that `wrote` has found
         self._more: Optional[Callable[[], str]] = None  # continues a command that takes long
         self._imem, self._imem_changes = b"", 0  # what GDB has seen
         self._breaks: Set[int] = set()  # GDB's addresses; below 4096 that of a JR's target, which is a link
@@ -402,6 +418,7 @@ class Stub:
         with self._slice():
             found = self.line.wrote(name)
         if found.reason is rsp.Reason.WATCH:
+            self._writing = found.step
             return f"step {found.step}: {self.line.machine.listing(self.line.machine.regs().pc, 1)[0]}"
         if self._was_interrupted and found.step:
             self._more = lambda: self._wrote(name, start)
@@ -409,6 +426,28 @@ class Stub:
         self._was_interrupted = False  # if the search took its time, that doesn't end the way back
         self.line.goto(start)
         return f"no step from {found.step} to {start} has changed {name}"
+
+    def _explained(self, name: str = "") -> str:
+        """Why the last breakpoint was refused, or why a value is what it is after the last step, or after the
+        step that `wrote` has found. GDB waits for a reply for two seconds, and this may take longer on a slow
+        computer, so what GDB has sourced asks for it again."""
+        if not name:
+            return self._why
+        step = self.line.step
+        if step != self._writing and not step:
+            raise ValueError("no step was made: `monitor why` explains the last one")
+        before = self.line.copy_at(step if step == self._writing else step - 1)
+        pc = before.regs().pc
+        found: List[str] = []
+        thread = threading.Thread(target=lambda: found.append(_why(before, pc, name)), daemon=True)
+        thread.start()
+        return self._awaited(thread, found)
+
+    def _awaited(self, thread: threading.Thread, found: List[str]) -> str:
+        """The reply of a thread, or that it isn't there yet."""
+        thread.join(3 * _SLICE)
+        self._more = (lambda: self._awaited(thread, found)) if thread.is_alive() else None
+        return "still computing" if self._more else "".join(found)
 
     def _counts(self, first: str = "0") -> str:
         step = self.line.step
@@ -449,7 +488,7 @@ class Stub:
             "counts": self._counts,
             "wrote": lambda name: self._wrote(name, self.line.step),
             "waits": self._waits,
-            "why": lambda: self._why,
+            "why": self._explained,
             "task": lambda at: self._change(machine.start_task, _number(at)),
             "pc": lambda at: self._change(machine.set_pc, _number(at)),
             "load": lambda bank, at, data: self._change(

@@ -164,6 +164,13 @@ class Timeline:
         self._goto(here)
         return counted
 
+    def copy_at(self, step: int) -> Machine:
+        """A copy of the machine at a step up to the present one. The timeline stays where it is."""
+        here = self.step
+        copy = self._copy_at(step)
+        self._goto(here)
+        return copy
+
     def _copy_at(self, step: int) -> Machine:
         self._goto(step)
         return self.machine.copy()

@@ -41,6 +41,6 @@ def copy_of_package(folder: Path) -> Path:
     """A copy of library/python in a tree that is otherwise the repository."""
     package, ignored = folder / "tree/library/python", shutil.ignore_patterns("__pycache__")
     shutil.copytree(TOP / "library/python", package, ignore=ignored)
-    for name in "tools", "library/c":
+    for name in "tools", "library/c", "definitions", "crates":
         (folder / "tree" / name).symlink_to(TOP / name)
     return package

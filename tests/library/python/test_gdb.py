@@ -431,6 +431,54 @@ def test_wrote(monkeypatch: pytest.MonkeyPatch) -> None:
     assert (asked.reply(b"s") or b"").startswith(b"T05") and line.step == 6
 
 
+WRITES = """ori $17, $0, 5
+mtc2 $17, $v3[4]
+sqv $v3[0], 0($0)
+vadd $v3, $v3, $v3
+break"""
+# Which step the machine is at, what is asked, and what the reply has: the values are 5, and 5 + 5.
+EXPLAINED = (
+    (
+        1,
+        "$s1",
+        ["ori $17, $0, 0x0005: r17 is 00000005 after it", "ScalarRules.antt", "immediate_result Ori s imm"],
+    ),
+    (2, "$v3.2", ["mtc2 $17, $v3[4]: v3.2 is 0005 after it", "Moves.antt", "value = 5 (r17)"]),
+    (3, "0x04000005", ["dmem.005 is 05 after it", "Stores.antt", "store_pairs Sqv vt e a"]),
+    (4, "acc.2", ["a2 is 00000000000a after it", "Adds.antt", "vadd a b f", "a = 5 (v3.2), b = 5 (v3.2)"]),
+    (4, "carry.2", ["carry.2 is 0 after it", "vco_cleared"]),
+    (4, "$s1", ["No clause writes it"]),
+    (5, "c4", ["break: c4 is 00000003 after it", "after_break s = record s { halted = true; broke = true"]),
+    (0, "$s1", ["fault: no step was made"]),
+    (4, "$v32.0", ["fault: why: v has a number from 0 to 31"]),
+    (4, "0x05000000", ["fault: why: '0x05000000' is no value"]),
+)
+
+
+@pytest.mark.parametrize("step, name, parts", EXPLAINED)
+def test_why(step: int, name: str, parts: List[str]) -> None:
+    """`monitor why` explains what the last step put there."""
+    asked = Stub(rsp.Timeline(loaded(WRITES)), lambda: False, lambda text: None)
+    asked.line.goto(step)
+    reply = asked._monitor("why", name)
+    while asked._more:
+        reply = asked._more()
+    assert_parts(reply, parts)
+    assert asked.line.step == step
+
+
+def test_why_of_the_writing_step() -> None:
+    """After `monitor wrote`, `monitor why` explains the step that it has found; alone it tells refusals."""
+    asked = Stub(rsp.Timeline(loaded(WRITES)), lambda: False, lambda text: None)
+    asked.line.goto(4)
+    assert asked._monitor("wrote", "$r17").startswith("step 0: ")
+    reply = asked._monitor("why", "$r17")
+    while asked._more:
+        reply = asked._more()
+    assert_parts(reply, ["ori $17, $0, 0x0005: r17 is 00000005 after it"])
+    assert asked._monitor("why") == "nothing was refused\n"
+
+
 NAMES = """at a0 a1 a2 a3 t0 t1 t2 t3 t4 t5 t6 t7 s0 s1 s2 s3 s4 s5 s6 s7
 t8 t9 k0 k1 gp sp fp s8 ra""".split()
 

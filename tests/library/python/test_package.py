@@ -58,6 +58,21 @@ def test_installed_files(site: Path, library: Path) -> None:
     assert by_python("-c", ASKED, path=site) == f"{site}/rsp/__init__.py 3 0\n"
 
 
+WHY = "s = rsp.State(); s.vectors[2][0] = 7; print(rsp.why(s, 'vadd $v1, $v2, $v3', 'v1.0'))"
+
+
+@in_site
+def test_installed_definitions(site: Path) -> None:
+    """An install explains values as the tree does, by definitions of its own."""
+    shown = [by_python("-c", f"import rsp; {WHY}", path=path) for path in (site, OURS)]
+    assert "a = 7 (v2.0), b = 0 (v3.0)" in shown[0] and shown[0] == shown[1]
+    files = [*(site / "rsp/definitions/crates").rglob("*.*")]
+    assert sum(it.stat().st_size for it in files) < 600_000
+    assert not [
+        it for it in files if it.read_bytes() != (TOP / it.relative_to(site / "rsp/definitions")).read_bytes()
+    ]
+
+
 # Examples with their words, and what they print: one beside another emulator, one on a loop of three turns.
 SHOWN: Dict[str, Tuple[List[object], str]] = {
     "first_difference": ([], FIRST_DIFFERENCE),
