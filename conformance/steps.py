@@ -24,6 +24,7 @@ import fileinput
 import json
 import os
 import sys
+from contextlib import suppress
 from typing import Any, Dict, Iterator, List, Tuple
 
 SIZES = {"dmem": 4096, "imem": 4096, "rdram": 131072}
@@ -93,9 +94,23 @@ def run(mine: Any, lacks: Any, cases: List[Dict[str, Any]]) -> Tuple[Dict[str, i
         mark = f"; choice: {case['choice']}" if "choice" in case else ""
         for what, expected, got in wrong:
             print(f"{case['name']} ({case['text']}{mark}), {what}: expected {expected}, got {got}")
+        if wrong and not counts["failed"]:
+            with suppress(ValueError, TypeError, StopIteration):  # what was got isn't such a text
+                say_why(case["name"], *wrong[0])
         counts["failed" if wrong else "passed"] += 1
         counts["choices"] += bool(wrong and mark)
     return counts, skipped
+
+
+def say_why(name: str, what: str, expected: str, got: str) -> None:
+    """Names the command that explains the first lane, bit or number that differs, to standard error."""
+    if what in ("vco", "vcc", "vce"):
+        bits = int(expected, 16) ^ int(got, 16)
+        what += f".{max((bits & -bits).bit_length() - 1, 0)}"
+    elif what[0] == "v":
+        what += f".{next(at for at in range(8) if expected[4 * at :][:4] != got[4 * at :][:4])}"
+    command = f"tools/define why {name} {what.replace(' ', '.')}"
+    print(f"steps.py: in a clone, {command} explains what is expected", file=sys.stderr)
 
 
 def main() -> int:

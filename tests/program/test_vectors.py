@@ -21,6 +21,7 @@ from unittest.mock import patch
 
 import pytest
 
+from definitions.places import place_of
 from lib import TOP, devices
 from lib.pages import page
 from lib.processes import Ended, run, succeeds
@@ -190,8 +191,17 @@ def head_of(entry: Dict[str, Any]) -> str:
 RUNNERS = pytest.mark.parametrize("name", ("VADDC", "SQV", "MTC0", "BEQ", "STV"))
 
 
+def assert_explained(entry: Dict[str, Any], hint: str) -> None:
+    """That the command that steps.py names is one that explains a value of this case."""
+    found = re.fullmatch(
+        r"steps.py: in a clone, tools/define why (\S+) (\S+) explains what is expected\n", hint
+    )
+    assert found and found[1] == entry["name"], hint
+    place_of(found[2])
+
+
 @RUNNERS
-def test_runners_of_steps(name: str, program: Path, library: Path, folder: Path) -> None:
+def test_runners_of_steps(name: str, program: Path, library: Path, folder: Path, capsys: Any) -> None:
     """conformance/steps.py and conformance/run pass an instruction's first cases, and name spoilt ones."""
     all_entries, random, path = entries_in(VECTORS, name), Random("runner", name), folder / "steps.jsonl"
     entries = [*all_entries[:2], *[entry for entry in all_entries if "choice" in entry][:1]]
@@ -205,6 +215,7 @@ def test_runners_of_steps(name: str, program: Path, library: Path, folder: Path)
             output = output_of_runner("steps", path)
             end = f"\n0 passed, 1 failed{' (1 with a choice)' * ('choice' in entry)}\n"
             assert output.startswith(head_of(entry)) and output.endswith(end), false
+            assert_explained(entry, capsys.readouterr().err)
             assert found and all(complaint.startswith(f"{entry['name']} (") for complaint in found), false
 
 
@@ -302,6 +313,8 @@ def test_runner_for_an_emulator_that_lacks_an_instruction(library: Path, capsys:
     skipped = f"{count} skipped\nskipped: {count} of BREAK"
     assert 0 < len(wrong) < len(tried) < len(entries) and "; choice: pc after BREAK), " in lines[0]
     assert output_of_runner("steps", path, Lacking) == "\n".join([*lines, counts + skipped, ""])
+    hint = f"steps.py: in a clone, tools/define why {wrong[0]['name']} interrupt explains what is expected\n"
+    assert capsys.readouterr().err == hint
     Lacking.refusal = KeyError
     first = next(it for it in entries if it not in tried)
     for name, file in ("steps", path), ("programs", VECTORS / "programs/BREAK.json"):

@@ -1,7 +1,7 @@
 """`tools/define why` explains a value by the clauses that led to it.
 
-It fails if a clause isn't the text of its file at its line, if the numbers put in aren't those that somebody has
-computed by hand, if a value of a test vector isn't explained, or if a bad argument gets no sentence of its own.
+It fails if a clause isn't the text of its file at its line, if the numbers put in aren't those that were
+computed by hand, if a value of a test vector isn't explained, or if a bad argument gets no sentence.
 """
 
 import json
@@ -11,29 +11,32 @@ from typing import Any, Dict, Iterator, List, Tuple
 
 import pytest
 
-from definitions.explain import Explainer
+from definitions.compiler import Compiler
+from definitions.explain import Explainer, why
 from definitions.modules import Library
 from definitions.places import place_of
-from definitions.states import DEFAULT, before
+from definitions.states import DEFAULT, BadInput, before
 from lib import TOP
-from lib.processes import Ended, run, succeeds
+from lib.processes import run, succeeds
 
 WHY = ("tools/define", "why")
 VECTORS = sorted((TOP / "conformance/vectors/steps").glob("*.jsonl"))
 LANES = re.compile(r"v\d+")
 # Lane 1 of $v6 and $v10 is 65be and 65bf. The sum is 26046 + 26047 = 52093, which is cb7d and more than 7fff.
-VADD = """v9.1 is 7fff after it | Step.antt:76 | Adds.antt:17 | vadd a b f = clamped (s16 a +ℤ s16 b
-a = 0x65be (v6.1), b = 0x65bf (v10.1) | = clamped 52093 f | n = 52093 | = record { result = 0x7fff; low = 0xcb7d;
+VADD = """v9.1 is 7fff after it | Step.antt:76 | Adds.antt:17
+vadd a b f = clamped (s16 a +ℤ s16 b
+a = 0x65be (v6.1), b = 0x65bf (v10.1) | = clamped 52093 f | n = 52093
+= record { result = 0x7fff; low = 0xcb7d;
 int_max (negsuc 32767) (int_min (pos 32767) 52093)"""
 # 5 and -3 differ in their signs, and their sum is 2, so carry is set, and -(-3) isn't taken.
-VCH = """carry.0 is 1 after it | a = 5 (v2.0), b = 0xfffd (v3.0) | signs_differ 5 0xfffd is true | n = s16 5 +ℤ s16
+VCH = """carry.0 is 1 after it | a = 5 (v2.0), b = 0xfffd (v3.0) | signs_differ 5 0xfffd is true | n = s16 5
 = plain 5 (record { carry = true; differ = true; compare = false; clip = true; extra = false })"""
-# $4 is 8 and the offset 1 quadword, so byte 3 of $v2 is that at 8 + 16 + 1, and the two before it are as before.
-LSV = "v2.1 is 0142 after it | to_byte vt (e + k) (a + k) | k = 0 | b = 0x42 (dmem.00a) | value = 8 (r4)"
+# $4 is 8 and the offset 2, so byte 3 of $v2, the low one of lane 1, is that at 10. The high one stays 01.
+LBV = "v2.1 is 0142 after it | b = 0x42 (dmem.00a) | value = 8 (r4) | to_byte vt (e + k) (a + k) | k = 0"
 SHOWN: Dict[Tuple[str, ...], str] = {
     ("VADD-000", "v9.1"): VADD,
     ("vch $v1, $v2, $v3", "carry.0", "v2=0005..", "v3=fffd.."): VCH,
-    ("lbv $v2[3], 2($4)", "v2.1", "v2=0101..", "r4=8", "dmem.00a=42"): LSV,
+    ("lbv $v2[3], 2($4)", "v2.1", "v2=0101..", "r4=8", "dmem.00a=42"): LBV,
     ("vadd $v1, $v2, $v3", "v4.0"): "No clause writes it: the step leaves it as it was.",
     ("vmov $v1[0], $v2", "v1.0", "v2=0007.."): "It is v2.0 from before the step, moved as it is.",
     ("vadd $v1, $v2, $v3", "v1.0", "c4=1"): "The step answers Halted, and changes nothing.",
@@ -75,10 +78,6 @@ def assert_parts(output: str, parts: str) -> None:
         assert at >= 0, f"{part!r} isn't in its place in:\n{output}"
 
 
-def refusal(*words: str) -> "Ended[str]":
-    return run(*WHY, *words)
-
-
 @pytest.mark.parametrize("words", SHOWN, ids=" ".join)
 def test_explained(words: Tuple[str, ...]) -> None:
     assert_parts(succeeds(*WHY, *words), SHOWN[words])
@@ -86,10 +85,18 @@ def test_explained(words: Tuple[str, ...]) -> None:
 
 @pytest.mark.parametrize("words", REFUSED, ids=" ".join)
 def test_refused(words: Tuple[str, ...]) -> None:
-    """One line, with status 2."""
-    ended = refusal(*words)
-    assert ended.returncode == 2 and len(ended.stdout.splitlines()) == 1, ended.stdout
-    assert ended.stdout.startswith("define: ") and REFUSED[words] in ended.stdout
+    with pytest.raises(BadInput) as refused:
+        why(Compiler(Library(str(TOP))), words)
+    assert REFUSED[words] in str(refused.value) and "\n" not in str(refused.value)
+
+
+def test_status() -> None:
+    """A refusal is one line, with status 2."""
+    ended = run(*WHY, "VADD-000", "v9.8")
+    assert (ended.returncode, ended.stdout) == (
+        2,
+        "define: v has a number from 0 to 31 and a lane from 0 to 7, as v9.1\n",
+    )
 
 
 @pytest.fixture(scope="module")
