@@ -1,5 +1,5 @@
 -- What the kit's definitions give that the definitions of this repository use, in rows: the prover accepts each by
--- computing, and tests/mathematics/test_kit.py computes the same rows by definitions/kit.py.
+-- computing, and tests/evaluation/test_kit.py computes the same rows by definitions/kit.py.
 use Rattle.std.specs.Prelude.{◌≡◌, ℕ, ◌+◌, ◌-◌, ◌*◌, ◌/◌, ◌%◌, ◌^◌, ◌==◌, suc, min, ℤ, pos, negsuc, ◌+ℤ◌, ◌-ℤ◌, ◌*ℤ◌, neg_ℤ, unsigned_abs, int_lt, int_le, Bool, true, false, not, ◌&&◌, ◌||◌, cond, if◌then◌else◌, nat_lt, nat_le, nat_eq, bit_and, bit_or, bit_xor}
 use Rattle.std.specs.Prelude.{List, [], ◌∷◌, ◌++◌, length, slice_index, slice_index_or, slice_set, take, drop, reverse, replicate, map, flat_map, fold, filter, count_by, position, find, codes, bytes_eq, decimal, refl}
 use Rattle.std.specs.Prelude.{Some, None, is_some, is_none, option_map, option_and_then, unwrap_or, ok_or, Ok, Err}
