@@ -4,7 +4,7 @@ from typing import Any, Dict, Iterable, Iterator, List, Mapping, NamedTuple, Seq
 
 from .arrays import Array
 from .compiler import Compiler
-from .kit import bool_mask
+from .kit import mask_l
 
 STEP = "Rattle.rsp_machine.specs.Step"
 SIZES = {"dmem": 4096, "imem": 4096, "rdram": 131072}
@@ -107,7 +107,7 @@ class Machine:
             "acc": [a % (1 << 48) for a in state.accumulators],
             "vco": self.vco(state.flags),
             "vcc": self.vcc(state.flags),
-            "vce": bool_mask(state.flags.extra),
+            "vce": mask_l(state.flags.extra),
             "div_in": divider.input,
             "div_out": divider.output,
             "div_loaded": int(divider.loaded),
