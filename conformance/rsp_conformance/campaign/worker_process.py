@@ -17,6 +17,7 @@ from . import CampaignFault, Unusable, operands_read
 from .generator import END, Array, cases_of, memories_of
 from .random_programs import check_programs
 from .protocol import BATCH, PROGRAM, RESERVED, SHOWN, UNDONE, UNSHOWN, Result, name_of
+from .explaining import command_for
 from .compare import Sides, differences, in_brief, named, parts_that_differ
 from .supervise import end_with_parent
 
@@ -50,7 +51,9 @@ class Cases:
         if not in_full:
             return f"{head}{operands_read.in_brief(self.name, word, state, lines[0])}): {in_brief(lines)}"
         before = operands_read.reads_of(self.name, word, state, self.memories)
-        return "\n  ".join([f"{head})", *(f"before: {what} {value}" for what, value in before), *lines])
+        command = command_for(self.name, word, state, self.memories.tobytes(), lines[0])
+        why = [f"explained in a clone by {command}"] * bool(command)
+        return "\n  ".join([f"{head})", *(f"before: {what} {value}" for what, value in before), *lines, *why])
 
     def batch(self, at: int, n: int, ends: Array, room: int, in_full: bool) -> Result:
         """The result of `n` cases, with at most `room` shown, because showing one takes milliseconds."""
