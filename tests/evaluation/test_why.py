@@ -113,7 +113,8 @@ def wanted(case: Dict[str, Any]) -> Iterator[Tuple[str, str]]:
         elif isinstance(text, dict):
             yield from ((f"{key}.{at}", digits[:2]) for at, digits in [*text.items()][:1])
         elif key in ("vco", "vcc", "vce"):
-            yield f"{key}.0", str(int(text, 16) & 1)
+            bits = range(0, 4 * len(text), 8)  # lane 0 of each list of flags
+            yield from ((f"{key}.{bit}", str(int(text, 16) >> bit & 1)) for bit in bits)
         elif key in DEFAULT:
             yield key, text
 
