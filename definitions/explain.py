@@ -19,8 +19,8 @@ DESCRIPTION = """Explains a value after an instruction by the clauses that led t
   tools/define why VADD-000 v9.1                                       after a test vector
   tools/define why 'vadd $v1, $v2, $v3' v1.0 v2=0005.. v3=fffd..       after an instruction
 
-WHAT is v9.1, acc.2, carry.0, vco.3, r4, $s1, c4, pc, npc, in, out, loaded, interrupt or dmem.010. KEY is a key
-of test vectors, or the address of bytes such as dmem.010; `..` repeats the digits before it."""
+WHAT is v9.1, acc.2, carry.0, vco.3, r4, $s1, c4, pc, npc, in, out, loaded, interrupt or dmem.010. KEY is a
+key of test vectors, or the address of bytes such as dmem.010; `..` repeats the digits before it."""
 TEXTS = "Rattle.rsp_syntax.specs.SourceText"
 ENDS = "Rattle.rsp_machine.specs.declared.step.StepEnd.TheVariants"
 # Clauses on the way of each value, which say nothing of it.
