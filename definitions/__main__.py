@@ -8,7 +8,7 @@ from typing import Any, Callable, Dict, List, NoReturn, Tuple
 from .cases import answer_cases
 from .compiler import Compiler
 from .coverage import Coverage, report
-from .explain import why
+from .explain import add_words, why
 from .modules import Library
 from .programs import Programs
 from .states import BadInput, Machine
@@ -57,8 +57,7 @@ def parser() -> ArgumentParser:
     add("asm", "Assembles a text into a file of words, as `meaning_of_text` says", "src", "out")
     add("dis", "Lists a file of words, as `listing` says", "file")
     add("steps", "Compares `step_of` with test vectors", "file+")
-    explained = add("why", "Explains a value after an instruction")
-    explained.add_argument("words", metavar="WORD", nargs="+", help="CASE WHAT, or TEXT WHAT KEY=HEX ..")
+    add_words(add("why", "Explains a value after an instruction"))
     add("cases", "Answers cases as an emulator of conformance/campaign: a line of JSON for each")
     covered = add(
         "coverage", "Counts the cases and scripts that use each clause, and each value of its tests", "file+"
@@ -103,7 +102,7 @@ def command_of(words: argparse.Namespace) -> Tuple[Command, Callable[[], str]]:
         "run": lambda: programs.run(words.script, words.rdram, words.save),
         "asm": lambda: programs.asm(words.src, words.out),
         "dis": lambda: programs.dis(words.file),
-        "why": lambda: why(compiler, words.words),
+        "why": lambda: why(library, words),
         "cases": lambda: answer_cases(compiler),
         "check": lambda: check(library),
     }

@@ -1,20 +1,12 @@
-"""Why a value is what it is: the clauses that led to it, with the values put in.
+"""Why a value is what it is: the clauses that led to it, with the values put in."""
 
-    define why CASE WHAT [--json]        in a test vector: define why VADD-000 v9.1
-    define why "TEXT" WHAT [KEY=HEX ..]  after an instruction, before which keys of test vectors have values:
-                                         define why "vadd $v1, $v2, $v3" v1.0 v2=0005.. v3=fffd..
-
-WHAT is v9.1, acc.2, carry.0, vco.3, r4, $s1, c4, pc, npc, in, out, loaded, interrupt or dmem.010. `HEX..`
-repeats the digits. With --json the explanation is an object of JSON.
-"""
-
+import argparse
 import json
 import os
 import re
 from typing import Any, Dict, Iterator, List, NamedTuple, Sequence, Set, Tuple
 
 from . import kit
-from .compiler import Compiler
 from .modules import Library
 from .places import Place, named, place_of
 from .states import DEFAULT, SIZES, BadInput, Machine, before, check_keys
@@ -22,6 +14,13 @@ from .steps import cases_of
 from .traced import Call, Found, Source, TracedCompiler, path_to
 from .views import View, is_helper
 
+DESCRIPTION = """Explains a value after an instruction by the clauses that led to it, with the values put in.
+
+  tools/define why VADD-000 v9.1                                       after a test vector
+  tools/define why 'vadd $v1, $v2, $v3' v1.0 v2=0005.. v3=fffd..       after an instruction
+
+WHAT is v9.1, acc.2, carry.0, vco.3, r4, $s1, c4, pc, npc, in, out, loaded, interrupt or dmem.010. KEY is a
+key of test vectors, or the address of bytes such as dmem.010; `..` repeats the digits before it."""
 TEXTS = "Rattle.rsp_syntax.specs.SourceText"
 ENDS = "Rattle.rsp_machine.specs.declared.step.StepEnd.TheVariants"
 # Clauses on the way of each value, which say nothing of it.
@@ -233,23 +232,30 @@ def case_of(library: Library, name: str) -> Dict[str, Any]:
     raise BadInput(f"there is no case {name} in {path}")
 
 
-def why(compiler: Compiler, words: Sequence[str]) -> int:
+def add_words(parser: argparse.ArgumentParser) -> None:
+    """Adds the arguments of the command to its parser."""
+    parser.description, parser.formatter_class = DESCRIPTION, argparse.RawDescriptionHelpFormatter
+    parser.add_argument("case", metavar="CASE|TEXT", help="a test vector, or an instruction")
+    parser.add_argument("what", metavar="WHAT", help="the value")
+    parser.add_argument(
+        "keys", metavar="KEY=HEX", nargs="*", help="a register or bytes before an instruction"
+    )
+    parser.add_argument("--json", action="store_true", help="prints an object of JSON")
+
+
+def why(library: Library, words: argparse.Namespace) -> int:
     """Prints why a value of a case, or after an instruction, is what it is."""
-    is_json = "--json" in words
-    words = [word for word in words if word != "--json"]
-    if len(words) < 2 or words[0] in ("-h", "--help"):
-        print(__doc__, end="")
-        return 0 if words[:1] in (["-h"], ["--help"]) else 2
-    place = place_of(words[1])
-    explainer = Explainer(compiler.library)
-    if re.fullmatch(r"[A-Z0-9]+-\d+", words[0]):
-        case = case_of(compiler.library, words[0])
+    place, explainer = place_of(words.what), Explainer(library)
+    if re.fullmatch(r"[A-Z0-9]+-\d+", words.case):
+        case = case_of(library, words.case)
+        if words.keys:
+            raise BadInput(f"a case has its own values, so it takes no {words.keys[0][:40]!r}")
     else:
-        keys = arguments_of(words[2:])
-        word = explainer.word_of(words[0], int(keys.get("pc", "0"), 16))
-        case = {"text": words[0], "before": keys, "word": f"{word:08x}"}
+        keys = arguments_of(words.keys)
+        word = explainer.word_of(words.case, int(keys.get("pc", "0"), 16))
+        case = {"text": words.case, "before": keys, "word": f"{word:08x}"}
     explanation = explainer.explain(explainer.machine.state(*before(case)), place, case["text"])
-    print(json.dumps(as_json(explanation), ensure_ascii=False) if is_json else explanation)
+    print(json.dumps(as_json(explanation), ensure_ascii=False) if words.json else explanation)
     return 0
 
 

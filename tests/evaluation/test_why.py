@@ -11,7 +11,7 @@ from typing import Any, Dict, Iterator, List, Tuple
 
 import pytest
 
-from definitions.compiler import Compiler
+from definitions.__main__ import parser
 from definitions.explain import Explainer, why
 from definitions.modules import Library
 from definitions.places import place_of
@@ -66,7 +66,7 @@ REFUSED: Dict[Tuple[str, ...], str] = {
     ("nop", "v1.0", "dmem.00x=12"): "dmem takes hexadecimal addresses and bytes",
     ("nop", "v1.0", "pc=2"): "pc and npc are multiples of 4",
     ("nop", "v1.0", "v40=12"): "'v40=12' is no KEY=HEX of test vectors",
-    ("nop", "v1.0", "--jsn"): "'--jsn' is no KEY=HEX of test vectors",
+    ("VADD-000", "v1.0", "r4=12"): "a case has its own values, so it takes no 'r4=12'",
 }
 
 
@@ -86,7 +86,7 @@ def test_explained(words: Tuple[str, ...]) -> None:
 @pytest.mark.parametrize("words", REFUSED, ids=" ".join)
 def test_refused(words: Tuple[str, ...]) -> None:
     with pytest.raises(BadInput) as refused:
-        why(Compiler(Library(str(TOP))), words)
+        why(Library(str(TOP)), parser().parse_args(["why", *words]))
     assert REFUSED[words] in str(refused.value) and "\n" not in str(refused.value)
 
 
@@ -113,7 +113,8 @@ def wanted(case: Dict[str, Any]) -> Iterator[Tuple[str, str]]:
         elif isinstance(text, dict):
             yield from ((f"{key}.{at}", digits[:2]) for at, digits in [*text.items()][:1])
         elif key in ("vco", "vcc", "vce"):
-            yield f"{key}.0", str(int(text, 16) & 1)
+            bits = range(0, 4 * len(text), 8)  # lane 0 of each list of flags
+            yield from ((f"{key}.{bit}", str(int(text, 16) >> bit & 1)) for bit in bits)
         elif key in DEFAULT:
             yield key, text
 

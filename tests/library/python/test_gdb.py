@@ -470,12 +470,12 @@ def test_why(step: int, name: str, parts: List[str]) -> None:
 def test_why_of_the_writing_step() -> None:
     """After `monitor wrote`, `monitor why` explains the step that it has found; alone it tells refusals."""
     asked = Stub(rsp.Timeline(loaded(WRITES)), lambda: False, lambda text: None)
-    asked.line.goto(4)
-    assert asked._monitor("wrote", "$r17").startswith("step 0: ")
-    reply = asked._monitor("why", "$r17")
+    asked.line.goto(5)
+    assert asked._monitor("wrote", "$v3[2]").startswith("step 3: ")
+    reply = asked._monitor("why", "$v3.2")
     while asked._more:
         reply = asked._more()
-    assert_parts(reply, ["ori $17, $0, 0x0005: r17 is 00000005 after it"])
+    assert_parts(reply, ["vadd $v3, $v3, $v3: v3.2 is 000a after it"])
     assert asked._monitor("why") == "nothing was refused\n"
 
 
