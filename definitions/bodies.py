@@ -104,7 +104,10 @@ def has_closure(e: Any) -> bool:
 
 
 class Body:
-    """Writes one definition, or with `function` None the facts of a record."""
+    """Writes one definition, or with `function` None the facts of a record.
+
+    A subclass may write tests, choices and operators otherwise, as coverage.py does; a Compiler takes it.
+    """
 
     def __init__(
         self, compiler: "Compiler", module: str, path: str, function: Optional[Function] = None
@@ -282,7 +285,7 @@ class Body:
             value, name = self.code(e[2]), self.bind(e[1])
             text = f"{pad}{name} = {value}\n{self.statement(e[3], pad)}"
         elif e[0] == "if":
-            test, then = self.tested(e[1], e), self.statement(e[2], pad + "    ")
+            test, then = self.tested(e[1]), self.statement(e[2], pad + "    ")
             text = f"{pad}if {test}:\n{then}{self.statement(e[3], pad)}"
         elif self.is_loop and self.ends_in_itself(e) and e[0] == "app" and is_var(e[1], "suc"):
             text = f"{pad}more += 1\n{self.statement(e[2][0], pad)}"
@@ -310,7 +313,7 @@ class Body:
             raise self.fail(f"an expression `{e[0]}` isn't computed")
         return str(write(e))
 
-    def tested(self, e: Expression, where: Expression) -> str:
+    def tested(self, e: Expression) -> str:
         """The test of `if`, or an operand of `&&` and `||`."""
         return self.code(e)
 
@@ -355,7 +358,7 @@ class Body:
         return text
 
     def code_of_if(self, e: Expression) -> str:
-        return self.choice(self.tested(e[1], e), e[2], e[3])
+        return self.choice(self.tested(e[1]), e[2], e[3])
 
     def choice(self, test: str, then: Expression, otherwise: Expression) -> str:
         """One of two values by a test."""
@@ -380,8 +383,8 @@ class Body:
             return f"{CALLED[op]}({self.code(a)}, {self.code(b)})"
         if op not in INFIX:
             raise self.fail(f"the operator {op} isn't computed", line)
-        write = self.tested if op in ("&&", "||") else lambda part, where: self.code(part)
-        return f"({INFIX[op].format(write(a, e), write(b, e))})"
+        write = self.tested if op in ("&&", "||") else self.code
+        return f"({INFIX[op].format(write(a), write(b))})"
 
     def list_of(self, e: Expression) -> str:
         """A list by its first members and the rest."""
@@ -432,7 +435,7 @@ class Body:
             return repr(tuple(arguments[0][1].encode()))
         if found.name == "cond" and len(arguments) >= 3:
             test, then, otherwise, *others = arguments
-            return self.choice(self.tested(test, ("cond", *arguments)), then, otherwise) + self.one_by_one(
+            return self.choice(self.tested(test), then, otherwise) + self.one_by_one(
                 others
             )
         count, text = WRITTEN.get(found.name, (-1, ""))

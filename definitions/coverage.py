@@ -92,7 +92,7 @@ class CoveredBody(Body):
         self.left = text_of(("app", ("var", name), clause.patterns)) if clause.patterns else name
         return f"{pad}seen({self.site()}, True)\n"
 
-    def tested(self, e: Expression, where: Expression) -> str:
+    def tested(self, e: Expression) -> str:
         return f"seen({self.site(text_of(e))}, {self.code(e)})"
 
     def special(self, found: Global, arguments: List[Expression]) -> Optional[str]:

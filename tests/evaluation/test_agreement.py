@@ -81,9 +81,8 @@ def test_drawn_blocks(defined: Compiler, rsp: Any) -> None:
     texts = ["\n".join([f"asm {4 * random.below(1024)}", *lines, "end", "dis 0 4", ""]) for lines in blocks]
     script = "".join(texts).encode()
     expected = rsp("run", script=script).output
-    assert {line.split()[1] for line in expected.splitlines() if line.startswith(b"fault")} >= {
-        b"10", b"11", b"12", b"13", b"15"
-    }  # fmt: skip
+    faults = {line.split()[1] for line in expected.splitlines() if line.startswith(b"fault")}
+    assert faults >= {b"10", b"11", b"12", b"15"}
     assert computed(lambda: answered(defined, script)) == expected
 
 
