@@ -16,7 +16,7 @@ from lib.packages import need
 from lib.processes import run, succeeds
 
 HEADERS = "/usr/include/mupen64plus"
-STRICT = ("-std=gnu11", "-O2", "-Wall", "-Wextra", "-Wconversion", "-Werror", "-S")
+STRICT = ("-std=gnu11", "-O2", "-Wall", "-Wextra", "-Wconversion", "-Werror")
 FOLDERS = ("-Ilibrary/c", "-Iplugin", "-Iconformance/rsp_conformance/campaign", f"-I{HEADERS}")
 # What the scripts that compile these files define: a planted fault, words of microcode.
 DEFINED = ("-DFAULT=1", "-DSETTING=0", "-DSAVING=0", "-DLOADING=0")
@@ -78,7 +78,8 @@ def test_c(name: str, compiler: str, folder: Path) -> None:
     found = (command for end, command in COMPILERS[compiler].items() if name.endswith(end))
     command = next(found, (compiler,))
     need(command[0], *[HEADERS] * (name == FRONT), *[WINDOWS] * name.endswith("windows.c"))
-    succeeds(*command, *STRICT, *FOLDERS, *DEFINED, name, "-o", folder / "out.s")
+    end = "-fsyntax-only" if command[0] == "clang" else "-S"  # gcc finds some faults only as it optimizes
+    succeeds(*command, *STRICT, *FOLDERS, *DEFINED, name, end, "-o", folder / "out.s")
 
 
 @pytest.mark.needs("cargo", "rustfmt", "cargo-clippy")
