@@ -82,8 +82,8 @@ def program_repository() -> Iterator[ToyRepository]:
 def library_repository() -> Iterator[ToyRepository]:
     with tempfile.TemporaryDirectory() as folder:
         repository = ToyRepository(Path(folder))
-        result = repository.run(C)
-        assert result.status == 0 and result.proved == {"rsp_decode", "rsp_c"}
+        with ThreadPoolExecutor(2) as pool:
+            repository.results.update(zip(("one", "other"), pool.map(repository.run, [C, C])))
         assert (repository.root / "library/c/libbrsp.so").is_file()
         yield repository
 
@@ -174,13 +174,9 @@ def test_another_kit(library_repository: ToyRepository, folder: Path) -> None:
     assert repository.run(C, "broken") == NOTHING
 
 
-@of_program
-def test_two_at_once(program_repository: ToyRepository, folder: Path) -> None:
-    """One proves each crate, and the other one waits for it."""
-    repository = program_repository.copied(folder)
-    repository.edit(MIDDLE, "rsp_above::answer()", "rsp_above::answer() & 7")
-    with ThreadPoolExecutor(2) as pool:
-        one, other = pool.map(repository.run, [RSP, RSP])
+@of_library
+def test_two_at_once(library_repository: ToyRepository) -> None:
+    """One of two runs proves each crate, and the other one waits for it."""
+    one, other = map(library_repository.results.__getitem__, ("one", "other"))
     assert one.status == other.status == 0
-    assert ["rsp_middle" in result.proved for result in (one, other)].count(True) == 1
-    assert repository.run(RSP, "broken") == NOTHING
+    assert sorted([*one.proved, *other.proved]) == ["rsp_c", "rsp_decode"]

@@ -70,8 +70,9 @@ def new_files(user: User) -> Set[str]:
 
 
 @pytest.mark.needs("cmake", "make", "clang")
-@pytest.mark.parametrize("compiler", ["gcc", "clang"])
-@pytest.mark.parametrize("how", HOW)
+@pytest.mark.parametrize(
+    "how, compiler", [("subdirectory", "gcc"), ("subdirectory", "clang"), ("fetched", "gcc")]
+)
 def test_cmake_in_another_project(stranger: User, home: Path, how: str, compiler: str) -> None:
     """Otherwise only: that it isn't the library alone there, that its install has files of rsp, or that the
     project's own words for the compiler don't fit assembly."""
@@ -146,15 +147,17 @@ def test_cmake_for_another_system(system: str, folder: Path) -> None:
 
 
 @pytest.mark.needs("/usr/lib/python3*/ensurepip")
-@pytest.mark.parametrize("how", ["./library/python", "'git+file://{}#subdirectory=library/python'"])
-def test_pip(stranger: User, home: Path, how: str) -> None:
+def test_pip(stranger: User, home: Path) -> None:
     """Otherwise only: that one of the two commands isn't installed or doesn't run, that pip's build writes
     into the clone, or that who has an old pip, which copies the folder, isn't told what to type."""
-    source = how.format(str(stranger.at).replace(" ", "%20"))
-    prints(stranger, f"python3 -m venv ~/venv && ~/venv/bin/pip install {source}")
-    assert prints(stranger, f"cd ~ && venv/bin/rsp {FIRST}") == REPLIES
-    assert prints(stranger, "cd ~ && printf '$?#3f' | venv/bin/rsp-gdb").startswith("+$T05")
-    assert new_files(stranger) == set()
+    prints(stranger, "python3 -m venv ~/venv")
+    address = str(stranger.at).replace(" ", "%20")
+    for source in "./library/python", f"'git+file://{address}#subdirectory=library/python'":
+        prints(stranger, f"~/venv/bin/pip install {source}")
+        assert prints(stranger, f"cd ~ && venv/bin/rsp {FIRST}") == REPLIES
+        assert prints(stranger, "cd ~ && printf '$?#3f' | venv/bin/rsp-gdb").startswith("+$T05")
+        assert new_files(stranger) == set()
+        prints(stranger, "~/venv/bin/pip uninstall -y rsp && [ ! -e ~/venv/bin/rsp ]")
     copied = stranger.types("cp -r library/python ~ && ~/venv/bin/pip install ~/python")
     assert copied.returncode and "pip install --upgrade pip" in copied.stderr + copied.stdout
 
