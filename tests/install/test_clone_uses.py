@@ -46,6 +46,10 @@ HOW = {
 FetchContent_Declare(brsp GIT_REPOSITORY "file://{top}" GIT_TAG HEAD)
 FetchContent_MakeAvailable(brsp)""",
 }
+# Leaves one commit without a parent in a clone, because cargo unpacks all to which a name there leads.
+ONE_COMMIT = """git remote remove origin && git checkout -q --orphan one
+git for-each-ref --format='delete %(refname)' | git update-ref --stdin
+git -c user.name=one -c user.email=one commit -qm one"""
 # What a page or a module of it names, which a browser fetches.
 NAMED = re.compile(r'(?:(?:src|href)=|from |import |import\(|URL\()"([^"#:]+)[#"]')
 
@@ -198,14 +202,12 @@ def test_cargo(folder: Path, how: str) -> None:
     than it says."""
     clone, at = folder / "a b/rsp", folder / "a b/uses"
     succeeds("git", "clone", "-q", TOP, clone)
+    succeeds("sh", "-ec", ONE_COMMIT, cwd=clone)
     at.mkdir()
     lines, code = block_with(EMBEDDING, "[dependencies]\nrsp"), block_with(EMBEDDING, "fn main() -> Result")
     address = f"'file://{str(clone).replace(' ', '%20')}'"
-    added = (
-        f"cargo add -q rsp --git {address}"
-        if how == "--git"
-        else f"echo '{lines.split(chr(10))[1]}' >>Cargo.toml"
-    )
+    by_path = f"echo '{lines.split(chr(10))[1]}' >>Cargo.toml"
+    added = by_path if how == "--path" else f"cargo add -q rsp --git {address}"
     cargo(at, f"cargo init -q --vcs none --name uses && {added}")
     (at / "src/main.rs").write_text(code)
     assert cargo(at, "cargo run -q") == "Halt 1234\n" and "It prints `Halt 1234`." in page(EMBEDDING)

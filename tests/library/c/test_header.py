@@ -23,8 +23,7 @@ NUMBERS = shapes.PROVED.numbers
 CAMPAIGN = "conformance/rsp_conformance/campaign"
 FOLDERS = [f"-I{TOP / it}" for it in ("examples/c", CAMPAIGN)]
 # How files that use the headers are compiled: for one standard at each level, and for each standard at one
-# level, because all levels of all standards take minutes. Clang warns the same at each level, before it makes
-# code.
+# level, because all levels of all standards take minutes. Clang's warnings don't depend on the level.
 LEVELS = ("-O0", "-O1", "-O2", "-O3", "-Os")
 WARNS = "-fsyntax-only"
 OF_C = ("-std=c99 -O0", "-std=c17 -O0", "-std=c2x -O0", "-std=c11 -O1 -fsanitize=address,undefined")
