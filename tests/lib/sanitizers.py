@@ -8,7 +8,7 @@ from typing import Dict, Tuple
 
 from lib.processes import run
 
-WORDS = ("-O1", "-g1", "-fsanitize=address,undefined", "-fno-sanitize-recover=all")
+WORDS = ("-O1", "-g1", "-Wno-format-truncation", "-fsanitize=address,undefined", "-fno-sanitize-recover=all")
 # The environment of a program that frees nothing before it ends.
 WITHOUT_LEAKS: Dict[str, str] = {**os.environ, "ASAN_OPTIONS": "detect_leaks=0"}
 
