@@ -144,7 +144,7 @@ def test_needs_of_the_system(installed: Path, library: Path) -> None:
 
 
 @pytest.mark.needs("python:pip")
-@pytest.mark.parametrize("name", ["scripts", "failing_allocations", "bad_input", "saves"])
+@pytest.mark.parametrize("name", ["scripts", "cookbook", "failing_allocations", "bad_input", "saves"])
 def test_passes_the_tests_of_the_program(installed: Path, name: str) -> None:
     """As the program of a clone, which begins otherwise. It also ignores the signal of a file's limit."""
     (path,) = TESTS.glob(f"*/test_{name}.py")

@@ -1,5 +1,5 @@
 /* How many blocks of memory are held after brsp_new, brsp_copy, brsp_free, brsp_assemble and the calls of a session, done or refused, and what each
- * returns: brsp_new at some 130 depths, brsp_new and brsp_session_new for images of every class of lengths. A machine has equally many blocks at each
+ * returns: brsp_new at every depth, brsp_new and brsp_session_new for images of every class of lengths. A machine has equally many blocks at each
  * depth except 0, and BRSP_NO_MEMORY is returned only if an allocation failed. What a handle held is given back, and a refused call leaves
  * nothing. Linked with -Wl,--wrap=malloc,--wrap=realloc,--wrap=free. */
 #include "brsp.h"
@@ -43,7 +43,7 @@ static void depths(long one)
     static const uint32_t wrong[] = { 4097, 4098, 8192, 65536, 0x7fffffffu, 0x80000000u, 0xffffffffu };
     uint32_t depth;
     size_t i;
-    for (depth = 0; depth <= 4096; depth += depth < 64 || depth >= 4090 ? 1 : 61) { /* 64 + 61 * 66 is 4090 */
+    for (depth = 0; depth <= 4096; depth++) {
         long blocks = depth ? one : blocks_of(0);
         see("brsp_new, of depth", depth, brsp_new(&m, image, 64, depth), BRSP_OK, blocks);
         see("brsp_new again, of depth", depth, brsp_new(&m, image, 64, depth), BRSP_OK, blocks);
