@@ -435,9 +435,7 @@ class Body:
             return repr(tuple(arguments[0][1].encode()))
         if found.name == "cond" and len(arguments) >= 3:
             test, then, otherwise, *others = arguments
-            return self.choice(self.tested(test), then, otherwise) + self.one_by_one(
-                others
-            )
+            return self.choice(self.tested(test), then, otherwise) + self.one_by_one(others)
         count, text = WRITTEN.get(found.name, (-1, ""))
         return text.format(*map(self.code, arguments)) if len(arguments) == count else None
 
