@@ -62,3 +62,35 @@ class Array:
             items[at] = value
         made.items = items
         return made
+
+
+class Grown:
+    """A list that grew at its end: its versions share one array, of which each has the first members."""
+
+    __slots__ = ("items", "count")
+
+    def __init__(self, items: List[Any], count: int) -> None:
+        self.items, self.count = items, count
+
+    def __len__(self) -> int:
+        return self.count
+
+    def __getitem__(self, at: Any) -> Any:
+        if at.__class__ is slice:
+            return tuple(self.items[place] for place in range(*at.indices(self.count)))
+        return self.items[range(self.count)[at]]
+
+    def __iter__(self) -> Iterator[Any]:
+        return iter(self[:])
+
+    def __eq__(self, other: Any) -> bool:
+        return tuple(self) == tuple(other)
+
+    def __hash__(self) -> int:
+        return hash(tuple(self))
+
+    def extended(self, more: Any) -> "Grown":
+        """The list with others after it."""
+        items = self.items if len(self.items) == self.count else self.items[: self.count]
+        items.extend(more)
+        return Grown(items, self.count + len(more))
