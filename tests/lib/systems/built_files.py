@@ -9,6 +9,8 @@ import zipfile
 from pathlib import Path
 from typing import Dict, Set
 
+from lib import TOP
+from lib.definitions import rests_on
 from lib.processes import run
 from rsp_tools.systems import header, places
 from rsp_tools.systems.toolchain import call
@@ -41,6 +43,17 @@ def check_record(text: str, files: Dict[str, bytes]) -> None:
     assert sorted(text.splitlines()) == sorted(expected)
 
 
+def check_definitions(files: Dict[str, bytes]) -> Set[str]:
+    """Those on which replies rest, the sources of types, and what computes them, as in the tree."""
+    found = {it for it in files if it.startswith("rsp/definitions/")}
+    at = {it: it.replace("rsp/definitions/", "" if "/crates/" in it else "definitions/", 1) for it in found}
+    assert not [it for it in found if files[it] != (TOP / at[it]).read_bytes()]
+    definitions, _ = rests_on(TOP / "crates/rsp_bench/specs/Run.antt")
+    needed = {str(path.relative_to(TOP)) for path in (*definitions, *TOP.glob("definitions/*.py"))}
+    assert needed <= {*at.values()} and any(path.endswith(".rt") for path in at.values())
+    return found
+
+
 def check_wheel(target: Target, path: Path) -> None:
     """A wheel's tags, its files, and its record."""
     info = f"rsp-{header.version()}.dist-info"
@@ -59,6 +72,6 @@ def check_wheel(target: Target, path: Path) -> None:
     expected = modules | {library, command, *(f"{info}/{it}" for it in ("METADATA", "WHEEL", "RECORD"))}
     if target.python == "linux":
         expected.add(f"{info}/entry_points.txt")  # of rsp-gdb
-    assert {*files} == expected
+    assert {*files} - check_definitions(files) == expected
     assert re.findall(r"(?m)^Tag: py3-none-(.*)$", files[f"{info}/WHEEL"].decode()) == [*target.wheel]
     check_record(files[f"{info}/RECORD"].decode(), files)
