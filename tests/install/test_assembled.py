@@ -128,7 +128,8 @@ def test_helpers(monkeypatch: pytest.MonkeyPatch) -> None:
 def test_mutations(folder: Path) -> None:
     """The record has those of `rt ci` that were refused, and also says how many weren't."""
     (folder / "said").write_text("rt: must-fail a/b.edit: refused, as it must be: c\nmust-fail a/d.edit: NOT")
-    assert re.fullmatch(r"1 of 2 refused, \d{4}-\d\d-\d\d", record.mutations(str(folder / "said")))
+    form = r"1 of 2 refused, \d{4}-\d\d-\d\d; \d+ are tried by each run of the gate, and \d+ are those of .*"
+    assert re.fullmatch(form, record.mutations(str(folder / "said")))
 
 
 def test_notice() -> None:

@@ -53,12 +53,14 @@ def counts(name: str) -> Tuple[int, int]:
 
 
 def mutations(output: str) -> str:
-    """The count of a file that has the output of `rt ci`, and the file's day."""
+    """How many there are, and how many a file with the output of `rt ci` says are refused, with its day."""
+    stored = [len([*CRATES.glob(f"*/{folder}/*.edit")]) for folder in ("must-fail", "drawn")]
+    there = "; {} are tried by each run of the gate, and {} are those of which it draws some".format(*stored)
     if not output:
-        return "not run"
+        return f"not run{there}"
     form, path = r"(?m)^(?:rt: )?must-fail \S+: (refused, as it must be)?", Path(output)
     tried, day = re.findall(form, path.read_text(errors="replace")), time_of(path)
-    return f"{len([*filter(None, tried)])} of {len(tried)} refused, {datetime.date.fromtimestamp(day)}"
+    return f"{len([*filter(None, tried)])} of {len(tried)} refused, {datetime.date.fromtimestamp(day)}{there}"
 
 
 def made_of(tops: Sequence[str]) -> str:
