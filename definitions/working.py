@@ -1,10 +1,12 @@
 """Runs a command in a thread with a large stack, because definitions are recursive, and names its fault."""
 
 import os
+import sys
 import threading
 import time
 import traceback
-from typing import Callable, List
+from contextlib import contextmanager
+from typing import Any, Callable, Iterator, List
 
 from .programs import Fault
 from .runtime import NoCase
@@ -12,6 +14,7 @@ from .states import BadInput
 from .syntax import AnttError
 
 STACK_BYTES = 512 * 1024 * 1024
+CALLS = 400_000  # in each other, for which the stack suffices
 FIRST_REPORT = 10  # seconds
 
 
@@ -61,19 +64,57 @@ def status_of(command: Callable[[], int]) -> int:
     return 1
 
 
+@contextmanager
+def deep_calls() -> Iterator[None]:
+    """Lets a thread that begins meanwhile compute definitions. Python's limit of calls holds for all threads,
+    so it is as before at the end."""
+    calls, size = sys.getrecursionlimit(), threading.stack_size(STACK_BYTES)
+    sys.setrecursionlimit(max(calls, CALLS))
+    try:
+        yield
+    finally:
+        sys.setrecursionlimit(calls)
+        threading.stack_size(size)
+
+
+def computed(function: Callable[[], Any]) -> Any:
+    """What a function that computes definitions returns or raises, whatever the stack of the caller is."""
+    results: List[Any] = []
+    errors: List[BaseException] = []
+
+    def run() -> None:
+        try:
+            results.append(function())
+        except BaseException as error:
+            errors.append(error)
+
+    with deep_calls():
+        thread = threading.Thread(target=run)
+        thread.start()
+        thread.join()
+    if errors:
+        raise errors[0]
+    return results[0]
+
+
+def report_until_end(thread: threading.Thread, progress: Callable[[], str]) -> None:
+    """Waits for a thread, and says from time to time how far it has come."""
+    begun, report = time.monotonic(), FIRST_REPORT
+    while thread.is_alive():
+        thread.join(max(0.0, begun + report - time.monotonic()))
+        if thread.is_alive():
+            say(f"define: {report} s: {progress() or 'still computing'}")
+            report *= 2
+
+
 def work(command: Callable[[], int], progress: Callable[[], str]) -> int:
     """Runs a command, and says from time to time how far it has come. Ctrl-C ends it with status 130."""
     ended: List[int] = []
-    threading.stack_size(STACK_BYTES)
-    thread = threading.Thread(target=lambda: ended.append(status_of(command)), daemon=True)
-    begun, report = time.monotonic(), FIRST_REPORT
     try:
-        thread.start()
-        while thread.is_alive():
-            thread.join(max(0.0, begun + report - time.monotonic()))
-            if thread.is_alive():
-                say(f"define: {report} s: {progress() or 'still computing'}")
-                report *= 2
+        with deep_calls():
+            thread = threading.Thread(target=lambda: ended.append(status_of(command)), daemon=True)
+            thread.start()
+            report_until_end(thread, progress)
     except KeyboardInterrupt:
         say("define: stopped by Ctrl-C")
         return 130

@@ -16,8 +16,9 @@ from definitions.compiler import Compiler
 from definitions.coverage import Coverage
 from definitions.modules import Library
 from definitions.states import Machine, differences
+from definitions.working import computed
 from lib import TOP
-from lib.evaluation import LINES, answered, command, compiler, computed, faulty, vectors
+from lib.evaluation import LINES, answered, command, compiler, faulty, vectors
 from lib.processes import run, succeeds
 from lib.script_cases import ScriptCase, all_cases
 from rsp_conformance.seeded_random import Random

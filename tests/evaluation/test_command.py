@@ -83,7 +83,7 @@ BAD: Dict[Any, str] = {
     ("--root", "/none", "check"): "/none has no folder `crates` of definitions",
 }
 STANDARD = {
-    *("argparse", "functools", "glob", "json", "os", "random", "re"),
+    *("argparse", "contextlib", "functools", "glob", "json", "os", "random", "re"),
     *("signal", "sys", "tempfile", "threading", "time", "traceback", "types", "typing"),
 }
 CASE = '{"name": "X-1", "text": "", "word": "%s", "before": {%s}, "after": {%s}}'

@@ -6,6 +6,7 @@ computed by hand, if a value of a test vector isn't explained, or if a bad argum
 
 import json
 import re
+import sys
 from pathlib import Path
 from typing import Any, Dict, Iterator, List, Tuple
 
@@ -145,3 +146,12 @@ def test_json() -> None:
     (adds,) = [it for it in found["steps"] if it["source"].startswith("vadd ")]
     assert adds["file"] == "crates/rsp_compare/specs/Adds.antt" and adds["line"] == 17
     assert adds["values"][:2] == ["a = 0x65be (v6.1)", "b = 0x65bf (v10.1)"]
+
+
+def test_limit_of_python() -> None:
+    """Python's limit of calls in each other, which holds for all of a program, is as before `rsp.why`."""
+    import rsp
+
+    limit = sys.getrecursionlimit()
+    assert str(rsp.why(rsp.State(), "ori $1, $0, 5", "r1")).startswith("ori $1, $0, 0x0005: r1 is 00000005 ")
+    assert sys.getrecursionlimit() == limit < 400_000

@@ -1,14 +1,12 @@
 """What the tests of the package `definitions` share."""
 
-import threading
 from pathlib import Path
-from typing import Any, Callable, Dict, List, Optional
+from typing import Dict, List, Optional
 
 from definitions.compiler import Compiler
 from definitions.kit import lines
 from definitions.modules import Library
 from definitions.programs import IMAGE_BYTES, Session
-from definitions.working import STACK_BYTES
 from lib import TOP
 from rsp_conformance.seeded_random import Random
 
@@ -21,27 +19,6 @@ LINES = [
 BANKS = ("dmem", "imem", "rdram")
 STATEMENTS = ("addiu $1, $1, 1", "bgez $1, 0", "nop", "mtc0 $1, $c2", "break", "sqv $v1[0], 16($0)")
 LETTERS = 'abcdefghijklmnopqrstuvwxyz0123456789$[](),:;#.+- \tqhvxVRL_"/{|~'
-
-
-def computed(work: Callable[[], Any]) -> Any:
-    """What a function returns in a thread with the stack that definitions need."""
-    results: List[Any] = []
-    errors: List[BaseException] = []
-
-    def run() -> None:
-        try:
-            results.append(work())
-        except BaseException as error:
-            errors.append(error)
-
-    threading.stack_size(STACK_BYTES)
-    thread = threading.Thread(target=run)
-    thread.start()
-    thread.join()
-    threading.stack_size(0)
-    if errors:
-        raise errors[0]
-    return results[0]
 
 
 def compiler(changed: Optional[Dict[str, str]] = None) -> Compiler:

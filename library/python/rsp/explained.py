@@ -5,7 +5,7 @@ import importlib
 import importlib.util
 import sys
 from pathlib import Path
-from typing import Any, Dict, Tuple, Union
+from typing import Any, Callable, Dict, Tuple, Union
 
 from .machine import DMEM, IMEM, RDRAM, Machine
 from .state import State
@@ -35,6 +35,11 @@ def _package() -> Tuple[Any, Any]:
     modules = importlib.import_module(f"{_NAME}.modules")
     explain = importlib.import_module(f"{_NAME}.explain")
     return explain, explain.Explainer(modules.Library(str(root)))
+
+
+def _computed(function: Callable[[], Any]) -> Any:
+    """What a function that computes definitions returns, in a thread with the stack that they need."""
+    return importlib.import_module(f"{_NAME}.working").computed(function)
 
 
 def _numbers(state: State) -> Dict[str, Any]:
@@ -85,7 +90,8 @@ def why(state: Union[Machine, State], word: Union[int, str], what: str) -> Any:
         word = words[0]
     try:
         place = explain.place_of(what)
-        before = explainer.machine.state_of(_numbers(registers), _memories(state, word, registers.pc))
-        return explainer.explain(before, place, text(word, registers.pc))
+        given = _numbers(registers), _memories(state, word, registers.pc)
+        said = text(word, registers.pc)
+        return _computed(lambda: explainer.explain(explainer.machine.state_of(*given), place, said))
     except explain.BadInput as bad:
         raise ValueError(f"why: {bad}") from None
