@@ -50,7 +50,7 @@ def test_vectors(words: str, sentence: str, files: Path, program: Path, library:
 
 @pytest.mark.parametrize("tool", ["generate", "run"])
 def test_no_program(tool: str, folder: Path) -> None:
-    """In a repository without its assembly they say in a line why there is no program."""
+    """In a repository without its assembly they show why there is no program, and say so in a line."""
     for name in "conformance/rsp_conformance", "library/python", "tools":
         shutil.copytree(TOP / name, folder / name, ignore=shutil.ignore_patterns("out", "__pycache__"))
     for name in "rsp", f"conformance/{tool}", "conformance/steps.py", "conformance/programs.py":
@@ -59,8 +59,9 @@ def test_no_program(tool: str, folder: Path) -> None:
     (folder / "compiled").mkdir()
     words = ["--cases", 2, folder / "new"] if tool == "generate" else []
     ended = run(folder / "conformance" / tool, *words, cwd=folder, env={"PATH": "/usr/bin:/bin"})
-    assert (ended.returncode, ended.stdout.count("\n")) == (1, 1), ended.stdout
-    assert "compiled/ has no assembly" in ended.stdout
+    why, sentence, _ = ended.stdout.split("\n")
+    assert ended.returncode == 1 and "compiled/ has no assembly" in why
+    assert sentence.startswith(f"{tool}: {folder}/rsp doesn't run scripts as rsp does: ")
 
 
 @pytest.mark.needs("cc", "python:numpy")

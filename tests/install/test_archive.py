@@ -147,7 +147,7 @@ def test_needs_of_the_system(installed: Path, library: Path) -> None:
 @pytest.mark.parametrize("name", ["scripts", "cookbook", "failing_allocations", "bad_input", "saves"])
 def test_passes_the_tests_of_the_program(installed: Path, name: str) -> None:
     """As the program of a clone, which begins otherwise. It also ignores the signal of a file's limit."""
-    (path,) = TESTS.glob(f"*/test_{name}.py")
+    (path,) = (it for it in TESTS.glob(f"*/test_{name}.py") if it.parent.name in ("program", "mathematics"))
     left_out = ["--left-out=released"] * (name == "saves")
     words = ("-B", "-m", "pytest", "-q", f"--program={installed}/bin/rsp", *left_out, path)
     output = succeeds(sys.executable, *words, timeout=800)

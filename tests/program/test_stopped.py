@@ -8,6 +8,7 @@ import pty
 import signal
 import subprocess
 import sys
+from functools import partial
 from pathlib import Path
 from typing import Any, Dict, List
 
@@ -16,6 +17,8 @@ import pytest
 from lib import TOP
 from lib.processes import run
 
+# Whoever starts the tests may ignore the signal of Ctrl-C.
+HEEDS = partial(signal.signal, signal.SIGINT, signal.SIG_DFL)
 # A python3 that has Ctrl-C typed when a module reads its arguments.
 PYTHON = f"""#!/bin/sh
 shift 2
@@ -37,7 +40,8 @@ def commands() -> List[str]:
 def test_command(name: str, folder: Path) -> None:
     (folder / "python3").write_text(PYTHON)
     (folder / "python3").chmod(0o755)
-    ended = run(TOP / name, folder, env={**os.environ, "PATH": f"{folder}:{os.environ['PATH']}"})
+    path = {**os.environ, "PATH": f"{folder}:{os.environ['PATH']}"}
+    ended = run(TOP / name, folder, env=path, preexec_fn=HEEDS)
     assert ended.returncode == 130 and ended.stdout.count("\n") == 1, ended.stdout
     assert ": stopped" in ended.stdout
 
@@ -51,7 +55,7 @@ def test_run_in_a_terminal(program: Path) -> None:
     terminal, inside = pty.openpty()
     streams: Dict[str, Any] = dict.fromkeys(("stdin", "stdout", "stderr"), inside)
     words = (TOP / "conformance/run", "--program", program)
-    process = subprocess.Popen(words, start_new_session=True, **streams)
+    process = subprocess.Popen(words, start_new_session=True, preexec_fn=HEEDS, **streams)
     os.close(inside)
     shown = b""
     while b" passed, 0 failed\r" not in shown:

@@ -24,7 +24,6 @@ import pytest
 
 from definitions.places import place_of
 from lib import TOP, devices
-from lib.pages import page
 from lib.processes import Ended, run, succeeds
 from rsp_conformance import bench, complaints, full, generate
 from rsp_conformance.command_line import Complaints
@@ -59,10 +58,8 @@ def test_again(name: str, program: Path, folder: Path) -> None:
 
 
 def test_files() -> None:
-    """There are no files of other instructions, and coverage.tsv has the table's order."""
+    """There are no files of other instructions."""
     assert {path.stem.split("-")[0] for path in VECTORS.glob("*/*")} == {*ALL}
-    names = [line.split("\t")[0] for line in page("conformance/coverage.tsv").splitlines()[1:]]
-    assert [*dict.fromkeys(names)] == [name for name in ALL if name in names]
 
 
 SIZES = {"dmem": 4096, "imem": 4096, "rdram": 1 << 17}
