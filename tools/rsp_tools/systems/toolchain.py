@@ -3,7 +3,7 @@
 import shutil
 import subprocess
 from pathlib import Path
-from typing import Dict, Optional, Union
+from typing import Any, Dict, Optional, Union
 
 from rsp_tools.targets import TARGETS
 
@@ -39,15 +39,16 @@ def missing(*programs: str) -> str:
     return " ".join(dict.fromkeys(PACKAGES.get(it, it) for it in programs if not found(it)))
 
 
-def call(program: str, *words: Word, executable: str = "", text: str = "") -> str:
-    """The output of a program for a text. Refused, with its last lines, if it fails."""
+def call(
+    program: str, *words: Word, executable: str = "", text: str = "", folder: Optional[Path] = None
+) -> str:
+    """The output of a program for a text, in a folder. Refused, with its last lines, if it fails."""
     executable = executable or found(program) or ""
     if not executable:
         raise Refused(f"there is no {program}: Debian's package {missing(program)} has it")
     command = [program, *map(str, words)]
-    ended = subprocess.run(
-        command, executable=executable, input=text, capture_output=True, text=True, errors="replace"
-    )
+    how: Dict[str, Any] = {"executable": executable, "cwd": folder, "capture_output": True}
+    ended = subprocess.run(command, input=text, text=True, errors="replace", **how)
     if ended.returncode:
         last = "\n".join((ended.stdout + ended.stderr).strip().splitlines()[-20:])
         raise Refused(f"{program} failed with status {ended.returncode}:\n{last}")

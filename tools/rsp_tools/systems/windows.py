@@ -57,7 +57,9 @@ def make_library(out: Path, at: Path) -> None:
         call("llvm-dlltool", *words, "-d", exports)
     call("llvm-ar", "rcsD", out / "lib/libbrsp.a", *gnu)
     msvc = [at / "msvc.o", *helpers.objects(call, MSVC, at)]
-    call("llvm-lib", f"/out:{out}/lib/brsp_static.lib", *msvc)
+    # It names the objects by their paths from where the library is.
+    call("llvm-lib", "/out:brsp_static.lib", *(it.name for it in msvc), folder=at)
+    shutil.copyfile(at / "brsp_static.lib", out / "lib/brsp_static.lib")
 
 
 def describe(out: Path) -> None:
