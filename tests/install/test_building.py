@@ -82,7 +82,8 @@ def program_repository() -> Iterator[ToyRepository]:
 def library_repository() -> Iterator[ToyRepository]:
     with tempfile.TemporaryDirectory() as folder:
         repository = ToyRepository(Path(folder))
-        repository.results.update(zip(("one", "other"), ThreadPoolExecutor(2).map(repository.run, [C, C])))
+        result = repository.run(C)
+        assert result.status == 0 and result.proved == {"rsp_decode", "rsp_c"}
         assert (repository.root / "library/c/libbrsp.so").is_file()
         yield repository
 
@@ -173,8 +174,13 @@ def test_another_kit(library_repository: ToyRepository, folder: Path) -> None:
     assert repository.run(C, "broken") == NOTHING
 
 
-@of_library
-def test_two_at_once(library_repository: ToyRepository) -> None:
-    """One of two runs proves a crate, and the other one waits for it."""
-    results = [library_repository.results[it] for it in ("one", "other")]
-    assert [(it.status, "rsp_decode" in it.proved) for it in sorted(results)] == [(0, True), (0, False)]
+@of_program
+def test_two_at_once(program_repository: ToyRepository, folder: Path) -> None:
+    """One proves each crate, and the other one waits for it."""
+    repository = program_repository.copied(folder)
+    repository.edit(MIDDLE, "rsp_above::answer()", "rsp_above::answer() & 7")
+    with ThreadPoolExecutor(2) as pool:
+        one, other = pool.map(repository.run, [RSP, RSP])
+    assert one.status == other.status == 0
+    assert ["rsp_middle" in result.proved for result in (one, other)].count(True) == 1
+    assert repository.run(RSP, "broken") == NOTHING

@@ -21,8 +21,9 @@ CRATES = """# small crates
 rsp_decode:
 rsp_above: rsp_decode
 rsp_side:
+rsp_beside:
 rsp_middle: rsp_above
-rsp_main: rsp_middle rsp_side
+rsp_main: rsp_middle rsp_side rsp_beside
 rsp_other: rsp_decode
 rsp_c staticlib: rsp_decode
 """
@@ -37,7 +38,7 @@ SOURCES = {
 use std::process::ExitCode;
 
 fn main(_rt: HostRuntime) -> ExitCode {
-    let _ = rsp_side::answer();
+    let _ = (rsp_side::answer(), rsp_beside::answer());
     ExitCode::from(rsp_middle::answer())
 }
 """,
