@@ -56,7 +56,7 @@ class Change(NamedTuple):
 
 
 def changed(e: Expression) -> Iterator[Expression]:
-    """What may stand in place of an expression, except changes of its parts."""
+    """What may replace an expression, except changes of its parts."""
     if e[0] == "num":
         yield ("num", e[1] + 1)
         if e[1]:

@@ -15,6 +15,7 @@ from .syntax import AnttError
 
 STACK_BYTES = 512 * 1024 * 1024
 CALLS = 400_000  # in each other, for which the stack suffices
+ONE = threading.Lock()  # is held while the limits are changed, because they hold for all threads
 FIRST_REPORT = 10  # seconds
 
 
@@ -68,13 +69,14 @@ def status_of(command: Callable[[], int]) -> int:
 def deep_calls() -> Iterator[None]:
     """Lets a thread that begins meanwhile compute definitions. Python's limit of calls holds for all threads,
     so it is as before at the end."""
-    calls, size = sys.getrecursionlimit(), threading.stack_size(STACK_BYTES)
-    sys.setrecursionlimit(max(calls, CALLS))
-    try:
-        yield
-    finally:
-        sys.setrecursionlimit(calls)
-        threading.stack_size(size)
+    with ONE:
+        calls, size = sys.getrecursionlimit(), threading.stack_size(STACK_BYTES)
+        sys.setrecursionlimit(max(calls, CALLS))
+        try:
+            yield
+        finally:
+            sys.setrecursionlimit(calls)
+            threading.stack_size(size)
 
 
 def computed(function: Callable[[], Any]) -> Any:

@@ -7,6 +7,7 @@ computed by hand, if a value of a test vector isn't explained, or if a bad argum
 import json
 import re
 import sys
+from concurrent.futures import ThreadPoolExecutor
 from pathlib import Path
 from typing import Any, Dict, Iterator, List, Tuple
 
@@ -152,6 +153,8 @@ def test_limit_of_python() -> None:
     """Python's limit of calls in each other, which holds for all of a program, is as before `rsp.why`."""
     import rsp
 
-    limit = sys.getrecursionlimit()
-    assert str(rsp.why(rsp.State(), "ori $1, $0, 5", "r1")).startswith("ori $1, $0, 0x0005: r1 is 00000005 ")
+    limit, expected = sys.getrecursionlimit(), "ori $1, $0, 0x0005: r1 is 00000005 "
+    with ThreadPoolExecutor(4) as pool:  # two at once would each take the other's limit for the first one
+        found = [*pool.map(lambda _: str(rsp.why(rsp.State(), "ori $1, $0, 5", "r1")), range(8))]
+    assert all(it.startswith(expected) for it in found)
     assert sys.getrecursionlimit() == limit < 400_000

@@ -1,6 +1,6 @@
 """The layers of the Python packages: a module imports only modules of its own layer and of lower ones.
 
-The two lowest stand alone: neither imports the other. Only fuzz and the tests of what needs the kit import
+The two lowest are apart: neither imports the other. Only fuzz and the tests of what needs the kit import
 the modules that need it.
 """
 
