@@ -1,10 +1,12 @@
 -- What `rsp asm` and `rsp dis` do with a file.
-use Rattle.std.specs.Prelude.{◌≡◌, ◌⊎◌, ◌+◌, ◌*◌, ◌/◌, ◌%◌, ◌<◌, ◌≤◌, ℕ, List, ◌++◌, length, map, drop, codes, decimal, Option, None, Some, MatchOption, Result, Err, MatchResult}
+use Rattle.std.specs.Prelude.{◌≡◌, ◌⊎◌, ◌+◌, ◌*◌, ◌/◌, ◌%◌, ◌<◌, ◌≤◌, ℕ, List, ◌++◌, length, map, drop, codes, decimal, Option, None, Some, MatchOption, Result, Err, MatchResult, string_bytes}
 use Rattle.std.specs.List.{range_with_len}
 use Rattle.std.specs.Str.{IsUtf8}
 use Rattle.byteorder.specs.Endian.{big_number}
 use Rattle.rsp_commands.specs.Operand.{instruction_address_of}
 use Rattle.rsp_syntax.specs.SourceText.{meaning_of_text}
+use Rattle.rsp_explain.specs.Said.{AreExplained, IsExplained, text_faults}
+use Rattle.rsp_explain.specs.declared.head.Head.{Head}
 use Rattle.rsp_cli_files.specs.declared.fault.Fault.{Fault}
 use Rattle.rsp_cli_files.specs.declared.fault.Fault.TheVariants.{NoAddress, NotText, ScriptTooLong, OutOfMemory, Source, Explained, WordsSize, RunWrite}
 use Rattle.rsp_cli_files.specs.declared.files.FileFault.{FileFault}
@@ -43,10 +45,14 @@ IsTextFault bytes (NotText at) = (length bytes ≤ source_limit) × ¬ IsUtf8 by
 IsTextFault bytes ScriptTooLong = source_limit < length bytes
 IsTextFault bytes fault = ⊥
 
+-- what explains the faults of a source text: it begins with the one for which the assembler refuses the text, and names all as far as twenty
+abbrev pub IsTextExplained : List ℕ → ℕ → List ℕ → Type 0
+IsTextExplained text origin said = (head : Head) × IsExplained head 0 (meaning_of_text text origin) said × AreExplained head 0 (text_faults text origin) said
+
 -- why a source text isn't assembled: by its fault, which may be explained, or for want of memory
 abbrev pub IsSourceFault : List ℕ → ℕ → Fault → Type 0
 IsSourceFault text origin (Source fault) = meaning_of_text text origin ≡ Err fault
-IsSourceFault text origin (Explained said) = MatchResult (meaning_of_text text origin) (λ _. ⊥) (λ _. Unit {0})
+IsSourceFault text origin (Explained said) = MatchResult (meaning_of_text text origin) (λ _. ⊥) (λ _. IsTextExplained text origin (string_bytes said))
 IsSourceFault text origin OutOfMemory = Unit {0}
 IsSourceFault text origin fault = ⊥
 
