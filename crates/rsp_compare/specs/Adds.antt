@@ -1,5 +1,6 @@
 -- The add instructions, each by its rule for one lane. a is a lane of vs and b a lane of the selected vt, as unsigned
 -- values; s16 gives the signed ones. A flag that a rule doesn't name is kept.
+-- Sources: Nintendo's RSP Programmer's Guide, chapter on vector unit instructions; the N64brew Wiki's page "Reality Signal Processor/CPU Core".
 use Rattle.std.specs.Prelude.{ℕ, ℤ, pos, negsuc, ◌+◌, ◌%◌, ◌+ℤ◌, ◌-ℤ◌, false, not, ◌&&◌, int_lt, nat_lt, nat_eq, if◌then◌else◌}
 use Rattle.std.specs.Ordering.{int_eq}
 use Rattle.rsp_lanes.specs.Lanes.{bit}

@@ -1,4 +1,5 @@
 -- The compare and merge instructions, each by its rule for one lane. A flag that a rule doesn't name is kept.
+-- Sources: Nintendo's RSP Programmer's Guide, chapter on vector unit instructions; the N64brew Wiki's page "Reality Signal Processor/CPU Core".
 use Rattle.std.specs.Prelude.{ℕ, Bool, false, not, ◌&&◌, ◌||◌, int_lt, if◌then◌else◌}
 use Rattle.std.specs.Ordering.{int_eq}
 use Rattle.rsp_numbers.specs.Numbers.{s16}

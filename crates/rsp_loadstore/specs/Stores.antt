@@ -1,4 +1,6 @@
 -- Vector stores as lists of pairs: what is stored, and its address.
+-- Sources: Nintendo's RSP Programmer's Guide, chapter on vector unit instructions; the N64brew Wiki's page "Reality Signal Processor/CPU Core".
+-- That STV's rule also holds for an odd element, and at an address that isn't a multiple of 16, is our choice.
 use Rattle.std.specs.Prelude.{ℕ, ◌≡◌, ◌⊎◌, ◌+◌, ◌-◌, ◌*◌, ◌/◌, ◌%◌, List, if◌then◌else◌, nat_lt}
 use Rattle.std.specs.List.{fold}
 use Rattle.rsp_memory.specs.Memory.{with_byte}
