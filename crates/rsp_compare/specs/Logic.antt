@@ -7,6 +7,7 @@ use Rattle.rsp_lanes.specs.Outcome.{Rule, plain}
 use Rattle.rsp_compare.specs.declared.logic.LogicOp.{LogicOp}
 use Rattle.rsp_compare.specs.declared.logic.LogicOp.TheVariants.{Vand, Vnand, Vor, Vnor, Vxor, Vnxor}
 
+-- the result, bit by bit; complement inverts all sixteen bits
 abbrev pub bits_of : LogicOp → ℕ → ℕ → ℕ
 bits_of Vand a b = bit_and a b
 bits_of Vnand a b = complement (bit_and a b)
