@@ -1,5 +1,4 @@
 -- How the program ends, and what it has done then.
-use Rattle.std.specs.Io.KnownBytes.{Appends}
 use Rattle.std.specs.Prelude.{◌≡◌, ◌≢◌, ◌⊎◌, ℕ, List, length, Bool, true, false, Option, None, IfSome, option_map, Result, Ok, Err}
 use Rattle.rsp_cli_args.specs.declared.Request.{Request}
 use Rattle.rsp_cli_args.specs.declared.Request.TheVariants.{Run, Assemble, Disassemble}
@@ -7,15 +6,10 @@ use Rattle.rsp_cli.specs.declared.status.Status.{Status}
 use Rattle.rsp_cli.specs.declared.status.Status.TheVariants.{Done, Faulted, Refused}
 use Rattle.rsp_script_io.specs.declared.run.RunFault.{RunFault}
 use Rattle.rsp_script_io.specs.declared.run.RunFault.TheVariants.{ReadFault, WriteFault, ScriptTooLong, OutOfMemory}
-use Rattle.rsp_memory.specs.Words.{words_bytes}
-use Rattle.rsp_syntax.specs.SourceLine.{text_of_lines}
-use Rattle.rsp_syntax.specs.Disassembly.{listing}
-use Rattle.rsp_cli_args.specs.declared.AssembleFiles.{AssembleFiles}
-use Rattle.rsp_cli_args.specs.declared.DisassembleFiles.{DisassembleFiles}
 use Rattle.rsp_cli_files.specs.declared.files.FileFault.{FileFault}
-use Rattle.rsp_cli_files.specs.Files.{IfHeld, IsSavedAs, SameFiles}
+use Rattle.rsp_cli_files.specs.Files.{SameFiles}
 use Rattle.rsp_cli_files.specs.Overwriting.{overwrites}
-use Rattle.rsp_cli_files.specs.Words.{AtOrigin, FitsImem, MeansWords, count_line, words_of, origin_of, IsAssembleFault, IsDisassembleFault}
+use Rattle.rsp_cli_files.specs.Words.{origin_of, IsAssembled, IsDisassembled, IsAssembleFault, IsDisassembleFault}
 use Rattle.rsp_cli.specs.Runs.{IsAnswered, IsRequestFault, LeavesFiles}
 use Rattle.rsp_cli_files.specs.declared.fault.Fault.{Fault}
 use Rattle.rsp_cli_files.specs.declared.fault.Fault.TheVariants as faults
@@ -53,24 +47,11 @@ pub record Work : Type 0 where
   pub output : Option (List ℕ)
   pub written : Option (List ℕ)
 
--- an assembly that is done: OUT holds the bytes of the words that the source text means, and without a listing their number is printed
-abbrev pub IsAssembled : AssembleFiles → Work → Type 0
-IsAssembled asked w = IfHeld (w.before asked.source.now) (λ text. MeansWords (option_map (λ t. t.now) asked.at) text (λ words.
-    IsSavedAs asked.out.now w.before w.after (words_bytes words)
-    × (asked.with_listing ≡ false → Appends w.output w.written (count_line (length words)))))
-
--- a disassembly that is done: the words fit IMEM, and without a listing and labels the text of each is printed; no file has changed
-abbrev pub IsDisassembled : DisassembleFiles → Work → Type 0
-IsDisassembled asked w = IfHeld (w.before asked.words.now) (λ bytes. AtOrigin (option_map (λ t. t.now) asked.at) (λ origin.
-    FitsImem origin bytes
-    × (asked.with_labels ≡ false → asked.with_listing ≡ false → Appends w.output w.written (text_of_lines (listing origin (words_of bytes))))))
-    × SameFiles w.before w.after
-
 -- a request that is done, where a script is answered with these replies, and leaves this image
 abbrev pub IsFulfilled : (out image_after : List ℕ → List ℕ → List ℕ) → Request → Work → Type 0
 IsFulfilled out image_after (Run asked) w = IsAnswered out image_after asked w.before w.after w.input w.output w.written
-IsFulfilled out image_after (Assemble asked) w = IsAssembled asked w
-IsFulfilled out image_after (Disassemble asked) w = IsDisassembled asked w
+IsFulfilled out image_after (Assemble asked) w = IsAssembled asked w.before w.after w.output w.written
+IsFulfilled out image_after (Disassemble asked) w = IsDisassembled asked w.before w.after w.output w.written
 
 -- a request that failed, why, and that no file has changed, except by a strict run that was refused for its replies, and by an assembly
 -- whose words are saved, but whose listing can't be written

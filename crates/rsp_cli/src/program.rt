@@ -38,7 +38,7 @@ pub fn work<S: ScriptRunner, F: FileStore, R: Read + Drop, W: Write + Drop, E: W
     ensures refused { result ≡ Status.Refused → files.new ≡ files.old }
     ensures worked { ((files.new ≡ files.old) × (result ≡ Status.Done → errors.new ≡ errors.old))
         ⊎ ((asked : Request) × (written : Option (List ℕ)) × IsCarriedOut (F.same files.old) S.out_of S.image_of asked
-      (record { before = F.content files.old; after = F.content files.new; input = R.remaining input; output = W.contents output; written = written }) result) }
+        (record { before = F.content files.old; after = F.content files.new; input = R.remaining input; output = W.contents output; written = written }) result) }
 {
     match read_arguments(alloc, args) {
         Ok(asked) => carry_out(alloc, &asked, runner, files, input, output, errors),
@@ -58,7 +58,7 @@ fn carry_out<'a, S: ScriptRunner, F: FileStore, R: Read + Drop, W: Write + Drop,
 ) -> Status
     ensures refused { result ≡ Status.Refused → files.new ≡ files.old }
     ensures worked { (written : Option (List ℕ)) × IsCarriedOut (F.same files.old) S.out_of S.image_of asked.now
-      (record { before = F.content files.old; after = F.content files.new; input = R.remaining input; output = W.contents output; written = written }) result }
+        (record { before = F.content files.old; after = F.content files.new; input = R.remaining input; output = W.contents output; written = written }) result }
 {
     if let Err(fault) = check_request(files, asked) {
         return refuse(&fault, errors);
@@ -108,10 +108,10 @@ fn answer_request<'a, S: ScriptRunner, F: FileStore, R: Read + Drop, W: Write + 
     errors: &mut E,
 ) -> Ended<'a, FromRead<R>, ToWrite<W>>
     ensures work { IsWork S.out_of S.image_of asked.now
-      (record { before = F.content files.old; after = F.content files.new; input = R.remaining input; output = W.contents output.entry; written = W.contents result.sink.inner }) result.result }
+        (record { before = F.content files.old; after = F.content files.new; input = R.remaining input; output = W.contents output; written = W.contents result.sink.inner }) result.result }
     ensures unfit { IfRun asked.now (λ named. IfSome (option_map (λ t. t.now) named.script) (λ name. IsUnfit (F.content files.old name) →
         MatchResult result.result (λ _. ⊥) (IsScriptFault name (F.content files.old name))
-        × (result.sink.inner ≡ output.entry) × SameFiles (F.content files.old) (F.content files.new))) }
+        × (result.sink.inner ≡ output) × SameFiles (F.content files.old) (F.content files.new))) }
     ensures reads { IfRun asked.now (λ _. result.source.failures ≡ failed_reads (run_end result.result)) }
     ensures writes { IfRun asked.now (λ _. result.sink.failures ≡ failed_writes (run_end result.result)) }
     ensures long { IfRun asked.now (λ named. IsErrOf (run_end result.result) RunFault.ScriptTooLong

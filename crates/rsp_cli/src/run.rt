@@ -287,14 +287,7 @@ fn run_watched<
 }
 
 /// The same, under a watch that is made.
-fn run_under<
-    'a,
-    S: ScriptRunner,
-    F: FileStore,
-    R: Source + Drop,
-    W: Sink + Drop,
-    E: Write + Drop,
->(
+fn run_under<'a, S: ScriptRunner, F: FileStore, R: Source + Drop, W: Sink + Drop, E: Write + Drop>(
     alloc: Global,
     asked: &RunFiles<'a>,
     image: Rdram,
@@ -302,7 +295,7 @@ fn run_under<
     files: &mut F,
     source: R,
     sink: W,
-    watch: Watch<'_, E>,
+    watch: Watch<'_, '_, E>,
 ) -> Ended<'a, R, W>
     requires source { R.fault_count source < 2 ^ 64 - 1 }
     requires sink { W.fault_count sink < 2 ^ 64 - 1 }
@@ -326,7 +319,8 @@ fn run_under<
 /// The same, with a sink that watches the replies and counts the faults among them.
 fn run_counted<
     'a,
-    'b,
+    't,
+    'n,
     S: ScriptRunner,
     F: FileStore,
     R: Source + Drop,
@@ -339,8 +333,8 @@ fn run_counted<
     runner: &S,
     files: &mut F,
     source: R,
-    sink: CountingSink<Watcher<'b, W, E>>,
-) -> Ended<'a, R, CountingSink<Watcher<'b, W, E>>>
+    sink: CountingSink<Watcher<'t, 'n, W, E>>,
+) -> Ended<'a, R, CountingSink<Watcher<'t, 'n, W, E>>>
     requires source { R.fault_count source < 2 ^ 64 - 1 }
     requires sink { W.fault_count sink.sink.sink < 2 ^ 64 - 1 }
     ensures replies { OnOk result.result (IfSome (R.rest source) (λ bytes. Appends (W.written sink.entry.sink.sink) (W.written result.sink.sink.sink) (S.out_of bytes image))) }
@@ -388,9 +382,9 @@ fn run_plainly<'a, S: ScriptRunner, F: FileStore, R: Source + Drop, W: Sink + Dr
 ) -> Ended<'a, R, W>
     requires source { R.fault_count source < 2 ^ 64 - 1 }
     requires sink { W.fault_count sink < 2 ^ 64 - 1 }
-    ensures replies { OnOk result.result (IfSome (R.rest source.entry) (λ bytes. Appends (W.written sink.entry) (W.written result.sink) (S.out_of bytes image))) }
-    ensures saved { OnOk result.result (IfSome (R.rest source.entry) (λ bytes. IsSaved (option_map (λ t. t.now) saved.entry) (F.content files.old) (F.content files.new) (S.image_of bytes image))) }
-    ensures streams { RunsOver (run_end result.result) (streams_of R.fault_count R.rest W.fault_count source.entry sink.entry) (streams_of R.fault_count R.rest W.fault_count result.source result.sink) }
+    ensures replies { OnOk result.result (IfSome (R.rest source) (λ bytes. Appends (W.written sink) (W.written result.sink) (S.out_of bytes image))) }
+    ensures saved { OnOk result.result (IfSome (R.rest source) (λ bytes. IsSaved (option_map (λ t. t.now) saved.entry) (F.content files.old) (F.content files.new) (S.image_of bytes image))) }
+    ensures streams { RunsOver (run_end result.result) (streams_of R.fault_count R.rest W.fault_count source sink) (streams_of R.fault_count R.rest W.fault_count result.source result.sink) }
     ensures err { IfErr result.result (IsRunFault (option_map (λ t. t.now) saved.entry)) }
     ensures same { OnErr result.result (SameFiles (F.content files.old) (F.content files.new)) }
 {
@@ -405,7 +399,8 @@ fn run_plainly<'a, S: ScriptRunner, F: FileStore, R: Source + Drop, W: Sink + Dr
 /// The same, and then ends with a fault if `sink` counted one among the replies.
 fn run_strictly<
     'a,
-    'b,
+    't,
+    'n,
     S: ScriptRunner,
     F: FileStore,
     R: Source + Drop,
@@ -418,8 +413,8 @@ fn run_strictly<
     runner: &S,
     files: &mut F,
     source: R,
-    sink: CountingSink<Watcher<'b, W, E>>,
-) -> Ended<'a, R, CountingSink<Watcher<'b, W, E>>>
+    sink: CountingSink<Watcher<'t, 'n, W, E>>,
+) -> Ended<'a, R, CountingSink<Watcher<'t, 'n, W, E>>>
     requires source { R.fault_count source < 2 ^ 64 - 1 }
     requires sink { W.fault_count sink.sink.sink < 2 ^ 64 - 1 }
     ensures replies { OnOk result.result (IfSome (R.rest source) (λ bytes. Appends (W.written sink.entry.sink.sink) (W.written result.sink.sink.sink) (S.out_of bytes image))) }

@@ -91,9 +91,9 @@ const LONGEST: usize = 64;
 
 /// The replies to a script as they are written: which line each answers, and what is said of those that are faults.
 #[derive(Drop)]
-pub(crate) struct Watch<'a, E> {
+pub(crate) struct Watch<'t, 'n, E> {
     alloc: Global,
-    text: Text<'a>,
+    text: Text<'t>,
     places: Places,
     /// How the reply at work begins.
     reply: [u8; LONGEST],
@@ -103,21 +103,21 @@ pub(crate) struct Watch<'a, E> {
     /// The line of the first fault, if it is known.
     first: Option<usize>,
     /// How a line is named.
-    head: Head<'a>,
+    head: Head<'n>,
     /// What explains the faults, if something does.
     explainer: Option<Explainer<E>>,
     /// How many replies were to be explained.
     count: u64,
 }
 
-impl<'a, E: Write> Watch<'a, E> {
+impl<'t, 'n, E: Write> Watch<'t, 'n, E> {
     /// Before the first reply.
     pub(crate) fn new(
         alloc: Global,
-        text: Text<'a>,
-        head: Head<'a>,
+        text: Text<'t>,
+        head: Head<'n>,
         explainer: Option<Explainer<E>>,
-    ) -> Watch<'a, E> {
+    ) -> Watch<'t, 'n, E> {
         Watch {
             alloc,
             text,
@@ -229,14 +229,14 @@ impl<'a, E: Write> Watch<'a, E> {
 
 /// A sink that passes replies on to another one, and watches them.
 #[derive(Drop)]
-pub(crate) struct Watcher<'a, W, E> {
+pub(crate) struct Watcher<'t, 'n, W, E> {
     sink: W,
-    watch: Watch<'a, E>,
+    watch: Watch<'t, 'n, E>,
 }
 
-impl<'a, W: Sink, E: Write> Watcher<'a, W, E> {
+impl<'t, 'n, W: Sink, E: Write> Watcher<'t, 'n, W, E> {
     /// A sink before its first reply.
-    pub(crate) fn new(sink: W, watch: Watch<'a, E>) -> Watcher<'a, W, E>
+    pub(crate) fn new(sink: W, watch: Watch<'t, 'n, E>) -> Watcher<'t, 'n, W, E>
         ensures { result.sink ≡ sink }
     {
         Watcher { sink, watch }
@@ -257,7 +257,7 @@ impl<'a, W: Sink, E: Write> Watcher<'a, W, E> {
     }
 }
 
-impl<'a, W, E: Drop> Watcher<'a, W, E> {
+impl<W, E: Drop> Watcher<'_, '_, W, E> {
     /// The other sink, when all is written.
     pub(crate) fn into_sink(self) -> W
         ensures { result ≡ self.entry.sink }
@@ -266,7 +266,7 @@ impl<'a, W, E: Drop> Watcher<'a, W, E> {
     }
 }
 
-impl<W: Sink, E: Write> Sink for Watcher<'_, W, E> {
+impl<W: Sink, E: Write> Sink for Watcher<'_, '_, W, E> {
     /// The bytes that the other sink has taken.
     ghost written = { λ s. W.written s.sink };
 
