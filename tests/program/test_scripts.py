@@ -231,6 +231,7 @@ CASES = {
     "missing image, explained": fails("run --explain --rdram no", b"cannot read no" + MISSING),
     "no folder, explained": fails("asm text no/words --explain", b"cannot write no/words" + MISSING),
     "folder, explained": fails("dis . --explain", b"cannot read .\n  note: it is a folder"),
+    "no name for the cause": fails("dis /proc/self/mem --explain", b"cannot read /proc/self/mem"),
     "half, explained": fails("run --rdram half --explain", b"fault 7 SizeFault\n  note: half has 6" + IMAGES),
     "too long, explained": fails("dis many --explain", b"bad size\n  note: many has 4097" + WORDS_AT_0),
     "no text, explained": fails(
