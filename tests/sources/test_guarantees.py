@@ -6,8 +6,8 @@ isn't there. They run nothing and prove nothing.
   docs/data/contracts.tsv         each clause is one of its call's contract
   docs/data/laws.tsv              each public function of each laws.rt
   docs/data/preconditions.tsv     each `requires` of each public function, and nothing else
-  docs/data/allocations.tsv       each public function that takes an allocator or may return AllocError; the
-                                  tests are there
+  docs/data/allocations.tsv       each public function that takes an allocator, also by a runtime, or whose
+                                  result may say that memory ran out; the tests are there
   docs/data/streams.tsv           each clause of run_bench
   docs/data/without_mutations.tsv   each crate without a file *.edit
   docs/data/unproved.tsv          each file that is linked into what we ship, or included from it, or changes
@@ -47,9 +47,10 @@ FOUND = re.compile(
     re.M | re.S,
 )
 FORMS = {"name": r"^[^/\"\n]*\bfn \w+[(<]", "clause": r"^\s*requires\b", "ensures": r"^\s*ensures\b"}
-# Where the signature of a function ends, and what in it says that the call may need memory.
+# Where the signature of a function ends, and what in it, or in the head of its block, says that the call may
+# need memory, besides the faults of which one is OutOfMemory.
 SIGNATURE_END = re.compile(r"\brequires\b|\bensures\b|\{\}?\n|;\n")
-OF_MEMORY = re.compile(r"\bGlobal\b|\bAllocError\b")
+OF_MEMORY = ("Global", "AllocGlobal", "AllocError")
 # The folders whose headers nobody gets, or of which the page speaks as a whole.
 OTHER_HEADERS = ("tests/", "fuzz/", "plugin/", "conformance/")
 
@@ -88,11 +89,11 @@ def parts_of(path: Path, names: Optional[Set[str]], types: Set[str]) -> Iterator
     for group, form in FORMS.items():
         read = sum(match[group] is not None for match in found)
         assert len(re.findall(form, text, re.M)) <= read, f"{path}: not each {group} can be read"
-    kind = owner = call = signature = ""
+    kind = head = owner = call = signature = ""
     is_met = False
     for match in found:
         if match["kind"] or match["end"]:
-            kind, owner, call = match["kind"] or "", match["owner"] or "", ""
+            kind, owner, call, head = match["kind"] or "", match["owner"] or "", "", match[0]
             is_met = match["met"] is not None
         elif match["name"]:
             name = match["name"]
@@ -101,6 +102,7 @@ def parts_of(path: Path, names: Optional[Set[str]], types: Set[str]) -> Iterator
             is_public = match["seen"] == "pub " or kind == "trait"
             call = f"{owner}::{name}".lstrip(":") if is_named and (is_public or is_met) else ""
             signature = "" if is_met else SIGNATURE_END.split(text[match.start() :], maxsplit=1)[0]
+            signature += head if signature and "AllocGlobal" in head else ""
             if call and not is_met:
                 yield Part(call, signature)
         elif call and match["ensures"]:
@@ -198,7 +200,16 @@ def test_unproved_files() -> None:
 def is_a_test(name: str) -> bool:
     """Whether a test in which allocations fail has this name."""
     tests = (TESTS / "program/test_failing_allocations.py").read_text()
-    return f'"{name}"' in tests or (TESTS / "library/c" / name).is_file()
+    is_there = f'"{name}"' in tests or f"def {name}(" in tests
+    return is_there or (TESTS / "library/c" / name).is_file()
+
+
+def faults_of_memory() -> Iterator[str]:
+    """The types of the faults of which one is OutOfMemory."""
+    for path in TOP.glob("crates/*/src/**/*.rt"):
+        for name, variants in re.findall(r"(?m)^pub enum (\w+)[^{]*\{\n((?: .*\n|\n)*)\}", path.read_text()):
+            if re.search(r"(?m)^    OutOfMemory\b", variants):
+                yield name
 
 
 def test_allocations() -> None:
@@ -207,8 +218,9 @@ def test_allocations() -> None:
     A line of `brsp_*` names each call that no other line names.
     """
     named = {*listed("allocations", "Crate", "Call")}
+    of_memory = re.compile(rf"\b(?:{'|'.join([*OF_MEMORY, *faults_of_memory()])})\b")
     lost, used = [], set()
-    for call in ((crate, part.call) for crate, part in public_parts() if OF_MEMORY.search(part.signature)):
+    for call in ((crate, part.call) for crate, part in public_parts() if of_memory.search(part.signature)):
         fitting = {call, (call[0], f"{call[1].split('_')[0]}_*")} & named
         lost += [] if fitting else [call]
         used |= {call} & fitting or fitting
@@ -223,7 +235,7 @@ def test_tests_of_allocations() -> None:
     assert tests and not [name for name in tests if not is_a_test(name)]
     assert {(row["Allocates"], row["Test"]) for row in rows if row["Allocates"] != "yes"} == {("never", "-")}
     assert not [
-        row for row in rows if (row["Allocates"] == "yes") != (row["Why it takes an allocator"] == "-")
+        row for row in rows if (row["Allocates"] == "yes") != (row["Why its signature says so"] == "-")
     ]
 
 
