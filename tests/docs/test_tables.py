@@ -36,6 +36,7 @@ Line = Dict[str, str]
 OF_VECTORS, GUARANTEES = "conformance/README.md", "docs/GUARANTEES.md"
 OPEN_BLOCK = "fault 10 BadLine line 1\n"  # what a script ends with that hasn't closed its block
 FORMS = 27  # that were planned otherwise
+COMMANDS: Tuple[Tuple[str, ...], ...] = ((), ("run",), ("asm",), ("dis",))
 PLANNED = {"--rdram", "--save", "--help"}  # the options
 FAULTS = {*range(4, 8), *range(10, 18), *range(20, 28), *range(30, 34), *range(40, 44)}
 
@@ -221,11 +222,11 @@ def test_forms_planned_otherwise() -> None:
 def test_command_lines(program: Path) -> None:
     """DECISIONS names each option that wasn't planned, and none that the program doesn't know."""
     named = {*re.findall(r"--[a-z]+", " ".join(planned_otherwise().values()))}
-    helps = [run(program, *words, "--help").stdout for words in ([], ["run"], ["asm"], ["dis"])]
+    helps = [run(program, *words, "--help").stdout for words in COMMANDS]
     offered = {*re.findall(r"--[a-z]+", "".join(helps))} - PLANNED
     assert offered <= named
     for option in named - offered - PLANNED:
-        lines = [run(program, *words, option).stdout for words in ([], ["run"], ["asm"], ["dis"])]
+        lines = [run(program, *words, option).stdout for words in COMMANDS]
         assert not all("unexpected argument" in line for line in lines), option
 
 
