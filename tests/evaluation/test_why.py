@@ -145,7 +145,7 @@ def test_json() -> None:
     found = json.loads(succeeds(*WHY, "VADD-000", "v9.1", "--json"))
     assert (found["before"], found["after"], found["what"]) == ("0911", "7fff", "v9.1")
     (adds,) = [it for it in found["steps"] if it["source"].startswith("vadd ")]
-    assert adds["file"] == "crates/rsp_compare/specs/Adds.antt" and adds["line"] == 17
+    assert adds["file"] == "crates/rsp_compare/specs/Adds.antt" and adds["line"] == 19
     assert adds["values"][:2] == ["a = 0x65be (v6.1)", "b = 0x65bf (v10.1)"]
 
 
