@@ -142,10 +142,11 @@ pub extern "C" fn brsp_event(
             Err(_) => OUT_OF_RANGE,
             Ok(end) => {
                 let end = event_end(n, end);
-                *out = match end {
-                    MoveEnd::Move { steps, .. } if asked && is_status_write(end) => step_status(&mut debugger, steps),
-                    _ => c_reached(end, debugger.machine()),
-                };
+                // Each arm writes `out` itself, because LLVM copies a value that both make.
+                match end {
+                    MoveEnd::Move { steps, .. } if asked && is_status_write(end) => *out = step_status(&mut debugger, steps),
+                    _ => *out = c_reached(end, debugger.machine()),
+                }
                 OK
             }
         }
