@@ -5,8 +5,9 @@ record --check FILE: compares the record with the crates, and with what `rt ci` 
 record has other sources of the program or the library, other counts or other mutations, or if a mutation
 wasn't refused. The last line is `N passed, M failed`.
 
-Of a crate of which no FILE says anything, the record keeps its line, with the sum of the sources of which
-that was said. If it has no line, the record isn't written, so that each line is what the kit said.
+Of a crate of which no FILE says anything, the record keeps its lines, with the sum of the sources of which
+that was said. Without a line of its functions, the record isn't written. A crate whose mutations nothing says
+were all tried has no line of them, and the record counts such crates, so that each line is what the kit said.
 """
 
 import argparse
@@ -166,9 +167,7 @@ def renewed(before: Record, said: Said) -> Record:
     of_mutations = {
         it: line_of_mutations(it, said.mutations.get(it, {}), before.tried.get(it)) for it in LINES
     }
-    lacking = [name for name, line in proved.items() if not line]
-    lacking += [f"the mutations of {crate}" for crate, line in of_mutations.items() if not line]
-    if lacking:
+    if lacking := [name for name, line in proved.items() if not line]:
         raise Refused(f"nothing here says what became of {', '.join(lacking)} ({HELP})")
     return Record(
         {name: line for name, line in proved.items() if line},
@@ -189,11 +188,14 @@ def functions(record: Record) -> str:
 
 
 def mutations(record: Record) -> str:
-    """How many mutations were refused."""
-    each_time = len([it for crate in LINES for it in edits(crate) if it.parent.name == "must-fail"])
+    """How many mutations were refused, and of how many crates not all were tried."""
+    stored = [it for crate in LINES for it in edits(crate)]
+    each_time = len([it for it in stored if it.parent.name == "must-fail"])
     total = sum(line.number for line in record.tried.values())
+    others = len([crate for crate in LINES if edits(crate) and crate not in record.tried])
     return (
-        f"{total} were tried, and all were refused; each run of the gate tries {each_time}, and draws others"
+        f"{total} of {len(stored)} were tried, and all were refused; those of {others} crates have no line here; "
+        f"each run of the gate tries {each_time}, and draws others"
     )
 
 
@@ -248,7 +250,7 @@ def faults(text: str, said: Said) -> List[str]:
     found = [fault_of_proof(name, record.proved.get(name), said.proofs.get(name)) for name in names()]
     for crate in LINES:
         line = record.tried.get(crate)
-        is_right = line and (line.number, line.edits) == (len(edits(crate)), sum_of_edits(crate))
+        is_right = not line or (line.number, line.edits) == (len(edits(crate)), sum_of_edits(crate))
         found.append("" if is_right else f"the record has other mutations of {crate}")
     head = dict(re.findall(r"(?m)^(day|kit) +(.*)$", text))
     if not any(found) and text != text_of(record, head.get("day", ""), head.get("kit", "")):
