@@ -4,6 +4,7 @@ It fails if a clone in a folder with a blank, with an empty HOME and no `rt`, do
 builds of sources that are changed. That the kit makes the same bytes is for ./prove.
 """
 
+import os
 import re
 from pathlib import Path
 
@@ -119,7 +120,7 @@ def test_tree_that_cannot_be_written(out: str, stranger: User) -> None:
         prints(stranger, f"chmod u+w {folders} library/c")
 
 
-@pytest.mark.needs("root")
+@pytest.mark.skipif(os.geteuid() != 0, reason="only root gives a file to another user")
 def test_cache_of_another_user(stranger: User) -> None:
     """What another user has put into a cache that both can write isn't run, and nothing is put there."""
     folders = "crates/rsp_main crates/rsp_c library/c"

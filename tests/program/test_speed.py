@@ -1,4 +1,4 @@
-"""Host instructions of a step, counted by callgrind, within 3 percent of docs/data/speed.tsv and speed_single.tsv.
+"""Host instructions of a step, counted by callgrind, within 3 percent of the tables in docs/data.
 
 A change of one line can cost each step some 60 host instructions, because the compiler then keeps the loop's
 state in memory. No other test notices that.
@@ -8,8 +8,9 @@ from pathlib import Path
 
 import pytest
 
-from lib.pages import data
-from measure.speed import COLUMNS, LOOPS, STOPS, compile_caller, figure, single_of, steps_of
+from lib.pages import data, page
+from measure.speed import COLUMNS, LOOPS, STOPS, compile_caller, figure, single_of, steps_of, write_tables
+from rsp_tools import page_tables
 
 STEPS = (10_240, 20_480)
 CODES = dict(zip(LOOPS, COLUMNS["speed"][1:]))
@@ -47,3 +48,14 @@ def test_steps(title: str, names: list[str], caller: Path) -> None:
 def test_store_under_a_watch(caller: Path) -> None:
     found = figure(single_of(caller, STORE), *STEPS)
     assert found == pytest.approx(cell("speed_single", STORE, "Host instructions"), rel=0.03)
+
+
+def test_write(folder: Path, monkeypatch: pytest.MonkeyPatch) -> None:
+    """--write writes the rows into the tables as they are, with their commit at the end."""
+    monkeypatch.setattr(page_tables, "DATA", folder)
+    monkeypatch.setattr(page_tables, "write", lambda: None)
+    write_tables({name: [[*row.values()][:-1] for row in data(name)] for name in COLUMNS})
+    for name in COLUMNS:
+        lines = [(folder / f"{name}.tsv").read_text(), page(f"docs/data/{name}.tsv")]
+        before, after = ([line.rpartition("\t")[0] for line in text.splitlines()] for text in lines)
+        assert before == after
