@@ -81,6 +81,9 @@ def test_without_reading(stranger: User) -> None:
     prints(stranger, f"{FIRST}; sleep 2.1; {FIRST}")
     bare = f"{with_tools(stranger, '')} CC= {FIRST}"
     assert prints(stranger, bare) == REPLIES
+    first = "crates/rsp_main/specs/New.antt"  # of a folder that wasn't there
+    refuses(stranger, f"mkdir crates/rsp_main/specs; touch {first}; {FIRST}", f"{first} isn't as it was")
+    prints(stranger, f"rm -r crates/rsp_main/specs; {FIRST}; sleep 2.1; {FIRST}")
     hidden = f"printf q | dd of={SOURCE} conv=notrunc status=none; touch -r ~/kept {SOURCE}"
     refuses(stranger, f"cp -p {SOURCE} ~/kept; {hidden}; sleep 2.1; {FIRST}", f"{SOURCE} isn't as it was")
     young = f"git checkout -q {SOURCE}; while touch {SOURCE}; do sleep 0.2; done & trap 'kill $!' EXIT"
