@@ -11,8 +11,8 @@ write its reply. --write measures the tables of calls and of single instructions
 and makes the tables of docs/SPEED.md of them.
 
 A figure is the difference between a long and a short run, divided by the difference of their steps or lines.
-The figure of a call includes 18 host instructions for the loop that makes the calls. callgrind counts a
-`rep stosb`, by which memory is cleared, once for each byte.
+The figure of a call includes some five host instructions for the loop that makes the calls. callgrind counts
+a `rep stosb`, by which memory is cleared, once for each byte.
 
 A change of one line can cost each step some 60 host instructions. After a change of the decoder, run
 `nm crates/rsp_main/out/rsp | grep Machine::perform`: if this lists a function, LLVM doesn't inline the
@@ -30,6 +30,7 @@ import resource
 import subprocess
 import sys
 import tempfile
+from concurrent.futures import ThreadPoolExecutor
 from pathlib import Path
 from typing import Callable, Dict, Iterable, Iterator, List, Sequence, Tuple
 
@@ -133,7 +134,9 @@ def host_instructions(command: Command, options: Sequence[str] = ()) -> int:
 
 def figure(command_of: CommandOf, short: int = SHORT, long: int = LONG) -> float:
     """Host instructions a step, a line or a call."""
-    return (host_instructions(command_of(long)) - host_instructions(command_of(short))) / (long - short)
+    with ThreadPoolExecutor(2) as pool:
+        more, fewer = pool.map(host_instructions, map(command_of, (long, short)))
+    return (more - fewer) / (long - short)
 
 
 def script(imem: bytes, *commands: str) -> bytes:
