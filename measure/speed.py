@@ -5,18 +5,23 @@ instructions, vector computing instructions, and both mixed with loads and store
 of each loop, an addition, a branch and its delay slot, count as steps too. The steps are made by calls of the
 library for C (measure/speed.c), without a history and with one of 100 states, and by the program's
 `run`, which records its steps too: with nothing to stop at, with a breakpoint that is never reached, and with
-a watch of bytes that never change. Then follow calls without a step, and lines of a script: what the program
-takes to read one, to carry it out and to write its reply.
+a watch of bytes that never change. Then follow calls without a step, single instructions, each in a loop of
+602 words that repeats it, and lines of a script: what the program takes to read one, to carry it out and to
+write its reply. --write measures the tables of calls and of single instructions, writes them into docs/data,
+and makes the tables of docs/SPEED.md of them.
 
 A figure is the difference between a long and a short run, divided by the difference of their steps or lines.
-The figure of a call includes 18 host instructions for the loop that makes the calls.
+The figure of a call includes some five host instructions for the loop that makes the calls. callgrind counts
+a `rep stosb`, by which memory is cleared, once for each byte.
 
 A change of one line can cost each step some 60 host instructions. After a change of the decoder, run
 `nm crates/rsp_main/out/rsp | grep Machine::perform`: if this lists a function, LLVM doesn't inline the
 execution of an instruction, and steps are slower.
 
 With --time, `run` and the plugin z64 take turns, and the least time counts, so that other work disturbs
-little. It needs library/c/build, cc and valgrind, and for --z64 and --time Debian's mupen64plus-rsp-z64.
+little. --stalls compares the times of VMOV and VAND in the same way, because no count shows how long a
+processor waits for what it has just written. It needs library/c/build, cc and valgrind, and for --z64 and
+--time Debian's mupen64plus-rsp-z64.
 """
 
 import os
@@ -25,14 +30,16 @@ import resource
 import subprocess
 import sys
 import tempfile
+from concurrent.futures import ThreadPoolExecutor
 from pathlib import Path
-from typing import Callable, Dict, Iterable, Sequence, Tuple
+from typing import Callable, Dict, Iterable, Iterator, List, Sequence, Tuple
 
 from lib import z64
-from lib.processes import STRICT, compiled
+from lib.processes import STRICT, compiled, succeeds
 from measure import LIBRARY, PROGRAM, need, parser_of
+from rsp_tools import page_tables
 
-SHORT, LONG = 102_400, 512_000  # in steps: multiples of the 1,024 that one call of brsp_trace makes
+SHORT, LONG = 20_480, 61_440  # in steps: multiples of the 1,024 that one call of brsp_trace makes
 SHORT_SCRIPT, LONG_SCRIPT = 2_000, 4_000  # in lines
 TURNS = 9
 SHORT_TIME, LONG_TIME = 1_000_000, 21_000_000  # in steps
@@ -57,15 +64,44 @@ DATA = bytes((i * 37 + 11) % 256 for i in range(4096))
 
 # How speed.c makes steps, and what a script has before its line `run`.
 CALLS = {
-    "`brsp_run`": "run",
-    "`brsp_run_until_move`": "until",
+    "`brsp_run`, all steps in one call": "run",
+    "`brsp_run_until_move`, all steps in one call": "until",
+    "`brsp_event`, all steps in one call": "event",
     "`brsp_step`": "step",
     "`brsp_trace` of 1,024 steps": "trace",
     "`brsp_run` of one step": "run1",
     "`brsp_step_changes`": "changes",
+    "`brsp_event` of one step": "event1",
 }
-OTHER_CALLS = {"`brsp_reg`": "reg", "`brsp_get`": "get", "`brsp_set`": "set"}
-STOPS = {"`run`": "", "`run`, one breakpoint": "break 4092", "`run`, one watch": "watch 4000 4"}
+STOPS = {
+    "`run` in a script, which has a history of 256 states": "",
+    "the same, while a breakpoint is set": "break 4092",
+    "the same, while four bytes are watched": "watch 4000 4",
+}
+OTHER_CALLS = ("reg", "get", "set", "read", "write")
+# Instructions in a long `brsp_run`: how speed.c makes it, and the line of the text.
+SINGLE = {
+    "LW": ("run", "lw $1, 4($20)"),
+    "SW": ("run", "sw $1, 4($20)"),
+    "SH": ("run", "sh $1, 4($20)"),
+    "SW, while other bytes are watched": ("run+watch", "sw $1, 4($20)"),
+    "MFC2": ("run", "mfc2 $1, $v2[4]"),
+    "MFC0 of SP_STATUS": ("run", "mfc0 $1, $c4"),
+    "MTC0 of SP_STATUS": ("run", "mtc0 $0, $c4"),
+}
+VMOV, VAND = "vmov $v1[1], $v2[1]", "vand $v1, $v2, $v3"
+# The columns of the two tables in docs/data, whose names with `.tsv` these are.
+COLUMNS = {
+    "speed": [
+        "By",
+        "Scalar code",
+        "Vector code",
+        "Mixed code",
+        "With a history of 100 states, add",
+        "Commit",
+    ],
+    "speed_single": ["What", "Host instructions", "Commit"],
+}
 # Lines of a script. They are carried out while IMEM has a loop of two words, `j 0` and `nop`.
 COMMANDS = "step|run 1|pc 0|read 4|write 4 0|regs|vregs|acc|flags|sp|mem dmem 0 256|dis 0 64"
 LINES = {
@@ -98,7 +134,9 @@ def host_instructions(command: Command, options: Sequence[str] = ()) -> int:
 
 def figure(command_of: CommandOf, short: int = SHORT, long: int = LONG) -> float:
     """Host instructions a step, a line or a call."""
-    return (host_instructions(command_of(long)) - host_instructions(command_of(short))) / (long - short)
+    with ThreadPoolExecutor(2) as pool:
+        more, fewer = pool.map(host_instructions, map(command_of, (long, short)))
+    return (more - fewer) / (long - short)
 
 
 def script(imem: bytes, *commands: str) -> bytes:
@@ -115,6 +153,12 @@ def by_calls(caller: Path, how: str, name: str, depth: int = 0) -> CommandOf:
     """The steps of a loop, made by calls of the library."""
     text = "".join(f".word 0x{word}\n" for word in code(name).hex(" ", 4).split())
     return lambda steps: ([caller, how, depth, steps, text], b"")
+
+
+def by_line(caller: Path, how: str, line: str) -> CommandOf:
+    """The steps of a loop of 600 times the same instruction, made by calls of the library."""
+    text = "\n".join(["ori $20, $0, 0x80", "start:", *[line] * 600, "j start", "nop", ""])
+    return lambda steps: ([caller, how, 0, steps, text], b"")
 
 
 def by_script(name: str, before: str = "") -> CommandOf:
@@ -155,28 +199,66 @@ def nanoseconds(*commands: CommandOf) -> Sequence[float]:
     return [1e9 * (long - short) / (LONG_TIME - SHORT_TIME) for short, long in zip(least[::2], least[1::2])]
 
 
+def texts_of(figures: Iterable[float]) -> List[str]:
+    return [f"{it:,.1f}" if it < 1000 else f"{it:,.0f}" for it in figures]
+
+
 def print_row(title: str, figures: Iterable[float]) -> None:
-    texts = (f"{it:,.1f}" if it < 1000 else f"{it:,.0f}" for it in figures)
-    print(f"| {title} | {' | '.join(texts)} |", flush=True)
+    print(f"| {title} | {' | '.join(texts_of(figures))} |", flush=True)
 
 
 def print_heading(title: str, names: Iterable[str] = LOOPS) -> None:
     print(f"| {title} | {' | '.join(names)} |\n|---|{'---|' * len([*names])}", flush=True)
 
 
-def print_steps() -> None:
-    print_heading("Host instructions a step")
+def steps_of(caller: Path, title: str) -> Callable[[str], CommandOf]:
+    """How the steps of a row are made, of the loop with a name."""
+    if title in STOPS:
+        return lambda name: by_script(name, STOPS[title])
+    return lambda name: by_calls(caller, CALLS[title], name)
+
+
+def row_of_steps(caller: Path, title: str) -> List[str]:
+    """The figures of a row for all loops, and what a history adds to them."""
+    figures = [figure(steps_of(caller, title)(name)) for name in LOOPS]
+    if title in STOPS:
+        return [*texts_of(figures), ""]
+    more = [figure(by_calls(caller, CALLS[title], name, 100)) - it for name, it in zip(LOOPS, figures)]
+    return [*texts_of(figures), f"{min(more):.0f} to {max(more):.0f}"]
+
+
+def single_of(caller: Path, title: str) -> CommandOf:
+    """How the calls or the steps of a row are made that has one figure."""
+    return by_line(caller, *SINGLE[title]) if title in SINGLE else by_calls(caller, title[6:-1], "scalar")
+
+
+def measured_tables(caller: Path) -> Iterator[Tuple[str, List[str]]]:
+    """Each row of the two tables, without its commit, after the table's name."""
+    for title in (*CALLS, *STOPS):
+        yield "speed", [title, *row_of_steps(caller, title)]
+    for title in (*(f"`brsp_{it}`" for it in OTHER_CALLS), *SINGLE):
+        yield "speed_single", [title, *texts_of([figure(single_of(caller, title))])]
+
+
+def print_steps() -> Dict[str, List[List[str]]]:
+    """Prints the rows of both tables, and returns them."""
+    rows: Dict[str, List[List[str]]] = {name: [] for name in COLUMNS}
     with tempfile.TemporaryDirectory() as folder:
-        caller = compile_caller(Path(folder))
-        for depth, more in ((0, ""), (100, ", a history of 100 states")):
-            for title, how in CALLS.items():
-                print_row(title + more, [figure(by_calls(caller, how, name, depth)) for name in LOOPS])
-        for title, how in OTHER_CALLS.items():
-            print_row(title, [figure(by_calls(caller, how, "scalar"))])
-    for title, before in STOPS.items():
-        print_row(title, [figure(by_script(name, before)) for name in LOOPS])
-    print()
-    print_lines()
+        for table, row in measured_tables(compile_caller(Path(folder))):
+            if not rows[table]:
+                print_heading(COLUMNS[table][0], COLUMNS[table][1:-1])
+            rows[table].append(row)
+            print(f"| {' | '.join(row)} |", flush=True)
+    return rows
+
+
+def write_tables(rows: Dict[str, List[List[str]]]) -> None:
+    """Writes both tables, and the page that has them."""
+    commit = succeeds("git", "rev-parse", "--short=8", "HEAD").strip()
+    for name, lines in rows.items():
+        text = "".join("\t".join(line) + "\n" for line in [COLUMNS[name], *([*it, commit] for it in lines)])
+        (page_tables.DATA / f"{name}.tsv").write_text(text)
+    page_tables.write()
 
 
 def print_lines(lines: Dict[str, str] = LINES) -> None:
@@ -194,6 +276,14 @@ def print_z64() -> None:
     print_row("z64", [figure(on_z64(name)) for name in LOOPS])
 
 
+def print_stalls() -> None:
+    with tempfile.TemporaryDirectory() as folder:
+        caller = compile_caller(Path(folder))
+        vmov, vand = nanoseconds(*(by_line(caller, "run", line) for line in (VMOV, VAND)))
+    print_heading("Times as long", [""])
+    print_row("VMOV / VAND", [vmov / vand])
+
+
 def print_times() -> None:
     print_heading("Nanoseconds a step")
     ours, others = zip(*(nanoseconds(by_script(name), on_z64(name)) for name in LOOPS))
@@ -209,15 +299,28 @@ def main() -> None:
     text = "the nanoseconds of a processor that a step takes, ours and z64's"
     group.add_argument("--time", action="store_true", help=text)
     group.add_argument("--line", metavar="LINE", help="this line of a script alone")
+    group.add_argument("--stalls", action="store_true", help="how many times as long as a VAND a VMOV takes")
+    group.add_argument("--write", action="store_true", help="the tables in docs, which it writes")
     arguments = parser.parse_args()
-    need(*["valgrind"] * (not arguments.time), *[z64.PLUGIN] * (arguments.z64 or arguments.time))
+    need(
+        *["valgrind"] * (not arguments.time and not arguments.stalls),
+        *[z64.PLUGIN] * (arguments.z64 or arguments.time),
+    )
     if arguments.line:
         print_lines({f"`{arguments.line}`": arguments.line})
     elif arguments.z64 or arguments.time:
         (print_z64 if arguments.z64 else print_times)()
+    elif arguments.stalls:
+        need("cc")
+        print_stalls()
     else:
         need("cc")
-        print_steps()
+        rows = print_steps()
+        if arguments.write:
+            write_tables(rows)
+        else:
+            print()
+            print_lines()
 
 
 if __name__ == "__main__":

@@ -62,9 +62,10 @@ tell_change() { # TOP MARK: the name of the first source or file that isn't as c
     } | LC_ALL=C sort | uniq -u | sed -E -e 's#^(crates\.txt|tools/logic) .*#\1#' -e 's/ [0-9a-f]+$//' -e q # a name may have a blank
 } 2>/dev/null
 
-# The state of all files of a mark: as in git's index, sizes, times and inodes stand for the contents, because no command sets back the time of a change.
-# A file that is younger than two seconds may change again without another time, if its filesystem has the coarsest clock.
-tell_state() { # TOP MARK
+# The names, from crates/, of all whose state counts for a mark. A folder counts too, because its time is that of its last new or removed name, and so does
+# one that isn't there. /bin/sh counts for the machine, because one with another processor has another.
+# What is younger than two seconds may change again without another time, if its filesystem has the coarsest clock.
+list_counted() { # TOP MARK
     (
         cd "$1/crates" && mark=$2 && shift 2 || exit
         {
@@ -74,19 +75,31 @@ tell_state() { # TOP MARK
             done
         } <"$mark"
         for it in $crates; do set -- "$@" "$it/src" "$it/specs" "$it/proofs"; done
-        echo "$(uname -m) ${CC-}"
-        find -L ../crates.txt ../tools/logic "$mark" "$@" -name '.*' -prune -o ! -type d \
-            \( -newerct '2 seconds ago' -printf '//young\n' -o -printf '%p %s %C@ %i\n' \) 2>/dev/null
+        set -- ../crates.txt ../tools/logic /bin/sh "$mark" "$@"
+        for it; do shift && if [ -e "$it" ]; then set -- "$@" "$it"; else echo "$it"; fi; done
+        find -L "$@" -name '.*' -prune -o \( -newerct '2 seconds ago' -printf '//young\n' -o -print \) 2>/dev/null || echo //young # as any change
     )
+}
+
+# As in git's index, sizes, times and inodes stand for the contents, because no command sets back the time of a change.
+tell_state() { # TOP NAMES, in a subshell: the state of these files and folders, after a line for the compiler
+    {
+        echo "${CC-}" && cd "$1/crates" && export LC_ALL=C && set -f && IFS='
+'
+        # shellcheck disable=SC2046  # each line is a name
+        exec stat -L -c '%i %s %.9Z' $(cat "$2")
+    } 2>/dev/null
 }
 
 is_current() { # TOP MARK: as is_made, and that cc makes such files; without reading files whose state is that of the last time
     case $2 in /*) ;; *) set -- "$1" "$1/$2" ;; esac
     read -r proved_by 2>/dev/null <"$2" || return
-    state=$(tell_state "$1" "$2")
-    [ "$state" = "$(cat "$2.state" 2>/dev/null)" ] && return
+    tell_state "$1" "$2.state.names" | cmp -s - "$2.state" && return
+    names=$(list_counted "$1" "$2")
+    { printf '%s\n' "$names" >"$2.state.names"; } 2>/dev/null
+    state=$(tell_state "$1" "$2.state.names")
     is_made "$1" "$2" && is_for "$2" "$(tell_machine)" || return
-    case $state in *//young*) ;; *'/crates.txt '*) printf '%s\n' "$state" >"$2.state" ;; esac 2>/dev/null
+    case $names in *//young*) ;; *) [ "$state" = "${CC-}" ] || { printf '%s\n' "$state" >"$2.state"; } 2>/dev/null ;; esac
     true
 }
 
@@ -125,8 +138,12 @@ find_place() { # TOP CRATE [FOLDER]: sets `folder`, and `mark`, which says of wh
 
 # The folder for a user who can't write the tree.
 tell_cache() { # TOP
-    echo "${XDG_CACHE_HOME:-${HOME-}/.cache}/rsp/$(cd "$1" && pwd -P | tell_sums | cut -c 1-16)"
+    case ${XDG_CACHE_HOME-} in /*) cache=$XDG_CACHE_HOME ;; *) cache=${HOME-}/.cache ;; esac
+    echo "$cache/rsp/$(cd "$1" && pwd -P | tell_sums | cut -c 1-16)"
 }
+
+# shellcheck disable=SC3067  # dash has -O, as bash and busybox have
+is_own() { [ -O "$1" ]; } # FOLDER: whether it is this user's, and not prepared by another one, who can write a shared cache too
 
 can_place() { # TOP CRATE: whether tools/link can put files into the tree: into the two folders, or into the crate, where it makes those that aren't there
     for place in "$folder" "${mark%/*}"; do
@@ -138,5 +155,5 @@ can_place() { # TOP CRATE: whether tools/link can put files into the tree: into 
 find_made() { # TOP CRATE: whether its files are there, made of the sources as they are. Sets `folder`, where they lie, and `proved_by`
     find_place "$1" "$2" "${RSP_OUT-}"
     is_current "$1" "$mark" && return
-    [ -z "${RSP_OUT-}" ] && ! can_place "$1" "$2" && find_place "$1" "$2" "$(tell_cache "$1")" && is_current "$1" "$mark"
+    [ -z "${RSP_OUT-}" ] && ! can_place "$1" "$2" && find_place "$1" "$2" "$(tell_cache "$1")" && is_own "$folder" && is_current "$1" "$mark"
 }

@@ -43,8 +43,9 @@ function stop_of({ reason, steps, pc, watch, word }) {
 
 /** The same with the move before which it is. */
 function move_stop_of({ stop, word, number, writes, value }) {
-  const is_move = stop.reason === Reason.MOVE || stop.reason === Reason.DMA;
-  return { ...stop_of(stop), move: is_move ? { word, number, writes: writes !== 0, value } : null };
+  const is_move = stop.reason === Reason.MOVE || stop.reason === Reason.DMA, made = stop_of(stop);
+  if (is_move) made.move = { word, number, writes: writes !== 0, value };
+  return made;
 }
 
 /** A DMA, or null if it has no rows. */
@@ -312,7 +313,7 @@ export class Machine {
   event(steps, reads = 0, writes = 0) {
     this.#fill("event", [steps, reads, writes]);
     const { at, dma, status, interrupt } = struct("brsp_reached");
-    return { ...move_stop_of(at), dma: dma_of(dma), status, interrupt: interrupt !== 0 };
+    return Object.assign(move_stop_of(at), { dma: dma_of(dma), status, interrupt: interrupt !== 0 });
   }
 
   trace(steps) {

@@ -4,12 +4,15 @@ It fails if a clone in a folder with a blank, with an empty HOME and no `rt`, do
 builds of sources that are changed. That the kit makes the same bytes is for ./prove.
 """
 
+import os
 import re
+from pathlib import Path
 
 import pytest
 
 from lib import TOP
 from lib.pages import page
+from lib.processes import run
 from lib.user import User, prints
 
 pytestmark = [
@@ -19,7 +22,7 @@ pytestmark = [
 ]
 FIRST = "./rsp run examples/first.rsp"
 # What the scripts of the shell call beside the compiler, binutils and a program that sums.
-TOOLS = "sh cat cp cut dirname find grep head mkdir mktemp mv readlink rm sed sort uname uniq"
+TOOLS = "sh cat cmp cp cut dirname find grep head mkdir mktemp mv readlink rm sed sort stat uname uniq"
 OUT = "crates/rsp_main/out crates/rsp_c/out library/c/libbrsp* plugin/*.so"
 SOURCE = "crates/rsp_numbers/src/lib.rt"
 REPLIES = page("examples/first.out")
@@ -78,6 +81,9 @@ def test_without_reading(stranger: User) -> None:
     prints(stranger, f"{FIRST}; sleep 2.1; {FIRST}")
     bare = f"{with_tools(stranger, '')} CC= {FIRST}"
     assert prints(stranger, bare) == REPLIES
+    first = "crates/rsp_main/specs/New.antt"  # of a folder that wasn't there
+    refuses(stranger, f"mkdir crates/rsp_main/specs; touch {first}; {FIRST}", f"{first} isn't as it was")
+    prints(stranger, f"rm -r crates/rsp_main/specs; {FIRST}; sleep 2.1; {FIRST}")
     hidden = f"printf q | dd of={SOURCE} conv=notrunc status=none; touch -r ~/kept {SOURCE}"
     refuses(stranger, f"cp -p {SOURCE} ~/kept; {hidden}; sleep 2.1; {FIRST}", f"{SOURCE} isn't as it was")
     young = f"git checkout -q {SOURCE}; while touch {SOURCE}; do sleep 0.2; done & trap 'kill $!' EXIT"
@@ -107,6 +113,7 @@ def test_tree_that_cannot_be_written(out: str, stranger: User) -> None:
     prints(stranger, f"rm -rf {OUT} && mkdir -p {folders} && chmod a-w {folders} library/c")
     try:
         assert prints(stranger, FIRST) == prints(stranger, f"CC=false {FIRST}") == REPLIES
+        assert "\nrecorded as proved and built by rattle-kit-" in prints(stranger, "./rsp --version")
         cache = prints(stranger, "library/c/build --folder && CC=false library/c/build")
         assert cache.startswith(f"{stranger.env['HOME']}/.cache/rsp/")
         assert stranger.types(IMPORT).stderr == ""
@@ -114,6 +121,22 @@ def test_tree_that_cannot_be_written(out: str, stranger: User) -> None:
         refuses(stranger, f"HOME=/none {FIRST}", "cannot write /none/.cache/rsp/")
     finally:
         prints(stranger, f"chmod u+w {folders} library/c")
+
+
+@pytest.mark.skipif(os.geteuid() != 0, reason="only root gives a file to another user")
+def test_cache_of_another_user(stranger: User) -> None:
+    """What another user has put into a cache that both can write isn't run, and nothing is put there."""
+    folders = "crates/rsp_main crates/rsp_c library/c"
+    prints(stranger, f"rm -rf {OUT} && mkdir -p ~/shared && chmod 777 ~/shared && chmod a-w {folders}")
+    try:
+        shared = f"XDG_CACHE_HOME=~/shared {FIRST}"
+        assert prints(stranger, shared) == REPLIES
+        run("chown", "-R", "0", Path(stranger.env["HOME"], "shared/rsp"), check=True)
+        run("chmod", "-R", "a+rwX", Path(stranger.env["HOME"], "shared/rsp"), check=True)
+        refuses(stranger, shared, "cannot write ")
+        assert prints(stranger, f"XDG_CACHE_HOME=shared {FIRST}") == REPLIES  # a relative one counts as none
+    finally:
+        prints(stranger, f"chmod u+w {folders}")
 
 
 @pytest.mark.needs("aarch64-linux-gnu-gcc", "qemu-aarch64")

@@ -32,7 +32,8 @@ def mark_outside(
     """Marks tests below a folder, all or those with a fixture, as `outside`, except those for the gate."""
     import pytest  # here, because the command works without it
 
-    for item in (it for it in items if below in it.path.parents and fixture in ["", *it.fixturenames]):
+    inside = (it for it in items if str(it.path).startswith(f"{below}/"))  # parents take a second
+    for item in (it for it in inside if fixture in ["", *it.fixturenames]):
         if not {item.name, item.originalname} & {*in_gate}:
             item.add_marker(pytest.mark.outside(why))
         if not item.get_closest_marker("timeout"):

@@ -9,6 +9,7 @@ theorems. NAME.script is what `rsp run` reads, NAME.expected what it must print.
 Of the examples and of microcode/, NAME.rsp must print NAME.out.
 """
 
+import functools
 import re
 from pathlib import Path
 from typing import Iterator, List, Optional, Tuple
@@ -83,6 +84,7 @@ def faults_in(script: bytes, output: bytes) -> Iterator[Tuple[int, bytes]]:
         yield block + int(reply.split()[-1]), reply
 
 
+@functools.lru_cache(None)
 def all_cases() -> List[ScriptCase]:
     paths = [*SCRIPTS.glob("*/*.script"), *TOP.glob("examples/*.rsp"), *TOP.glob("microcode/*.rsp")]
     assert len(paths) > 100

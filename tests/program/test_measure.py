@@ -22,7 +22,11 @@ RUNS = {
     "host run-six": (["cc", "valgrind"], r".*\n.*\n\| of six \| \d{3}\.\d \|\n"),
 }
 LONG_RUNS = {
-    "speed": (["cc", "valgrind"], rf"(?s).*(?:{FIGURES}){{15}}.*(?:\| .* \| [\d,.]+ \|\n){{15}}"),
+    "speed": (
+        ["cc", "valgrind"],
+        rf"(?s)(?:.*\| -?\d+ to \d+ \|\n){{8}}.*(?:{FIGURES}){{12}}.*(?:\| .* \| [\d,.]+ \|\n){{15}}",
+    ),
+    "speed --stalls": (["cc"], rf"(?s).*{FIGURES}"),
     "speed --z64": (["valgrind", Z64], rf"(?s).*{FIGURES}"),
     "speed --time": ([Z64], rf"(?s).*(?:{FIGURES}){{3}}"),
     "plugin_speed": (["cc", "valgrind", Z64], r"(?s)(?:.*\|---.*\|.*\d \|\n){3}\n"),

@@ -63,12 +63,16 @@ CHECKS: Dict[str, Tuple[Sequence[str], Sequence[str]]] = {
 }
 
 
+# For all clones of a user, as black's: mypy compares the sums of files, and reads again only what differs.
+CACHE = Path(os.environ.get("XDG_CACHE_HOME") or Path.home() / ".cache") / "rsp/mypy"
+
+
 @pytest.mark.parametrize("tool", CHECKS)
-def test_files(tool: str, folder: Path) -> None:
+def test_files(tool: str) -> None:
     need(tool)
     options, files = CHECKS[tool]
     assert files
-    succeeds(tool, *options, *files, env={**os.environ, "MYPY_CACHE_DIR": str(folder)}, timeout=580)
+    succeeds(tool, *options, *files, env={**os.environ, "MYPY_CACHE_DIR": str(CACHE)}, timeout=580)
 
 
 @pytest.mark.parametrize("compiler", COMPILERS)

@@ -2,7 +2,7 @@
 
 `tools/python rsp_tools.page_tables` writes
 
-  docs/SCRIPT.md, docs/FAULTS.md, docs/INSTRUCTIONS.md, SECURITY.md
+  docs/SCRIPT.md, docs/FAULTS.md, docs/INSTRUCTIONS.md, docs/SPEED.md, SECURITY.md
                                    the columns of a table of docs/data that the page's head names
   crates/rsp_advice/src/tables.rt  what `--explain` says, from the same tables
   crates/rsp_advice/specs/Tables.antt  the names and the numbers in them
@@ -34,7 +34,7 @@ ADVICE, KNOWN = "crates/rsp_advice/src/tables.rt", "crates/rsp_advice/specs/Tabl
 MADE = "Made by `tools/python rsp_tools.page_tables` of docs/data."
 # The faults of replies, except those of assembly text.
 REPLIED = {*range(4, 7), *range(20, 28), *range(30, 34)}
-LAYERS, SYSTEMS = "docs/ARCHITECTURE.md", "docs/SYSTEMS.md"
+LAYERS, SPEED, SYSTEMS = "docs/ARCHITECTURE.md", "docs/SPEED.md", "docs/SYSTEMS.md"
 
 
 def page(name: str) -> str:
@@ -165,6 +165,7 @@ def made() -> Dict[str, str]:
         **{file: with_table(page(file), name) for name, file in TABLES.items()},
         LAYERS: with_group(page(LAYERS), r"(?ms)^## Layers\n.*?^```text\n(.*?)^```$", layers),
         SYSTEMS: with_table(with_group(page(SYSTEMS), head_of_systems, systems()), "last_runs"),
+        SPEED: with_table(with_table(page(SPEED), "speed"), "speed_single"),
         ADVICE: advice(),
         KNOWN: known(),
         **completions.files(),

@@ -28,6 +28,9 @@ from .texts import Line
 
 STATUS_WRITES = 1 << 16  # a bit of the mask `writes` of Machine.event
 DMEM, IMEM, RDRAM = Bank.DMEM, Bank.IMEM, Bank.RDRAM
+# So many steps don't let another thread run meanwhile, because that takes longer than they do. Even if each is a
+# DMA of 1 MiB, they take less time than Python leaves a thread before it lets another one run.
+_FEW_STEPS = 32
 _HALTED = (Status.HALTED,)
 _STEP_ENDS = {status.value: status for status in (Status.OK, Status.HALTED, Status.RESERVED)}
 _S = TypeVar("_S", bound=Structure)
@@ -112,10 +115,13 @@ class Machine(Owner):
         return out.value
 
     def _fill_alone(self, call: str, out: _S, *given: int) -> _S:
-        """As `_fill`, of a call that may take long."""
+        """As `_fill`, of a call that may take long. Its first number is its steps."""
         numbers = numbers_of(call, *given)
-        status = self._call_alone(call, getattr(lib, f"brsp_{call}"), *numbers, byref(out))
-        self._check_done(status, call, numbers)
+        if numbers[0] <= _FEW_STEPS:
+            self._call(call, *numbers, out, numbers=numbers)
+        else:
+            status = self._call_alone(call, getattr(lib, f"brsp_{call}"), *numbers, out)
+            self._check_done(status, call, numbers)
         return out
 
     # Whole states, by tools/shapes

@@ -58,6 +58,11 @@ def check(status: int, call: str = "", numbers: Sequence[int] = (), owner: str =
 def numbers_of(call: str, *given: Any, most: int = (1 << 32) - 1) -> Tuple[int, ...]:
     """The arguments of a call as integers. It refuses numbers that ctypes would cut, and a last one above
     `most`."""
+    for number in given:
+        if type(number) is not int or not 0 <= number <= most:
+            break
+    else:
+        return given  # at once, because what follows takes three times as long
     numbers = errors.integers(call, given)
     if numbers and (min(numbers) < 0 or max(numbers) >= 1 << 32 or numbers[-1] > most):
         check(Status.OUT_OF_RANGE, call, numbers)

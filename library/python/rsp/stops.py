@@ -6,6 +6,8 @@ from . import shapes
 from .shapes import Bank, Reason
 
 _REASONS = (*Reason,)  # by their numbers
+# Looked up once, because the lookup in the Enum takes longer than the comparison.
+_WATCH, _RESERVED, _BEFORE_MOVES = Reason.WATCH, Reason.RESERVED, (Reason.MOVE, Reason.DMA)
 
 
 class Move(NamedTuple):
@@ -75,20 +77,23 @@ class NotHalted(Exception):
 def stop_of(out: Any) -> Stop:
     """The stop of a run."""
     reason = _REASONS[out.reason]
-    stop = Stop(reason, out.steps, out.pc, out.watch if reason == Reason.WATCH else None)
-    stop.word = out.word if reason == Reason.RESERVED else None
+    stop = Stop(reason, out.steps, out.pc, out.watch if reason is _WATCH else None)
+    if reason is _RESERVED:
+        stop.word = out.word
     return stop
 
 
 def move_stop_of(out: shapes.Move) -> Stop:
     """A stop, with the move that is next."""
     stop = stop_of(out.stop)
-    if stop.reason in (Reason.MOVE, Reason.DMA):
+    if stop.reason in _BEFORE_MOVES:
         stop.move = Move(out.word, out.number, bool(out.writes), out.value)
     return stop
 
 
 def dma_of(out: shapes.Dma) -> Optional[Dma]:
     """A DMA, or None if it has no rows."""
+    if not out.rows:
+        return None
     numbers = out.address, out.rdram, out.length, out.rows, out.skip
-    return Dma(Bank(out.bank), *numbers, bool(out.to_rdram)) if out.rows else None
+    return Dma(Bank(out.bank), *numbers, bool(out.to_rdram))

@@ -29,6 +29,8 @@ LAYOUTS = f"""
 import {{ STRUCTS }} from "{FOLDER}/shapes.js";
 import {{ layout }} from "{FOLDER}/layout.js";
 const places = ({{ size, fields }}) => [size, fields.map((it) => [it.name, it.offset, it.size])];
+const anew = Object.keys(STRUCTS).filter((it) => layout(it) !== layout(it)); // each read would compute these
+if (anew.length) throw new Error(`layouts are computed anew: ${{anew}}`);
 console.log(JSON.stringify(Object.fromEntries(Object.keys(STRUCTS).map((it) => [it, places(layout(it))]))));
 """
 

@@ -17,5 +17,5 @@ def built_library(library: Path) -> Path:
 def pytest_collection_modifyitems(items: List[pytest.Item]) -> None:
     """A call of the library that doesn't return ends by a thread: no signal gets through to it."""
     for item in items:
-        if HERE in item.path.parents:
+        if str(item.path).startswith(f"{HERE}/"):
             item.add_marker(pytest.mark.timeout(300, method="thread"))
