@@ -64,7 +64,7 @@ def test_results_after_a_stop(stop: str, folder: Path) -> None:
     while glob.glob(f"/proc/[0-9]*/cwd/{starts.name}"):
         time.sleep(0.1)
     for out in (["out"], ["--here", "whole"]):
-        assert campaign(*words, *out, cwd=folder).returncode == 0
+        assert campaign(*words, *out, cwd=folder).returncode == 1
     results, whole = results_of(folder / "out"), results_of(folder / "whole")
     assert results == whole and results["sra-0-40.json"]["differ"]
 
@@ -112,7 +112,7 @@ def test_file_that_has_changed(named: str, folder: Path) -> None:
     core_in(folder / "work", "Forgets")
     (folder / "more/below/file").write_text("of the emulator")
     ended = campaign(*words, cwd=folder / "work")
-    assert ended.returncode == 1 and "the emulator's files have changed since" in ended.stderr
+    assert ended.returncode == 2 and "the emulator's files have changed since" in ended.stderr
 
 
 def test_folder_of_another_campaign(folder: Path) -> None:
@@ -125,7 +125,7 @@ def test_folder_of_another_campaign(folder: Path) -> None:
         ended = campaign(*words, *other, "--here", folder)
         how = "take another folder for OUT, or delete this one"
         expected = f"campaign: {folder} holds another campaign: {why}; {how}\n"
-        assert (ended.returncode, ended.stderr) == (1, expected)
+        assert (ended.returncode, ended.stderr) == (2, expected)
     whole = results_of(folder)
     (folder / "beq-0-40.json").write_text("{")
     output_of(folder, *words)

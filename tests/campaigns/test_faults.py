@@ -97,7 +97,7 @@ def test_array_of_another_shape(folder: Path) -> None:
     words = ("python:emulator:Few", "--instructions", "vadd,vsub", "--cases", 3)
     ended = campaign(*words, "--here", folder)
     form = r"campaign: python:emulator:Few: `ends` returned an array .* and \(2,\), not END .*\n"
-    assert (ended.returncode, ended.stdout) == (1, "") and re.fullmatch(form, ended.stderr), ended.stderr
+    assert (ended.returncode, ended.stdout) == (2, "") and re.fullmatch(form, ended.stderr), ended.stderr
 
 
 def test_command_of_hexadecimal_lines(folder: Path) -> None:

@@ -19,9 +19,8 @@ from typing import Any, Dict, Iterator, List, Tuple
 import pytest
 
 import rsp
-from lib.processes import STRICT, compiled
+from lib.campaigns import core_with
 from rsp_conformance import HERE as CONFORMANCE, bench, generate, library_states, states
-from rsp_conformance.campaign.hashes import SOURCES
 from rsp_conformance.campaign.supervise import check
 from rsp_conformance.cases import ENTRIES
 from rsp_conformance.steps import Entry
@@ -137,12 +136,6 @@ def generated(program: Path, folder: Path, numbers: range, *names: str) -> None:
         generate.write_row(str(program), row, "1", numbers, folder, ())
 
     assert not [*generate.generate([ROWS[name.lower()] for name in names], write, folder)]
-
-
-def core_with(bug: int, folder: Path) -> Path:
-    """The core with a bug."""
-    words = ("-std=c11", *STRICT, "-march=x86-64-v2", "-shared", "-fPIC", f"-I{SOURCES}")
-    return compiled(folder / "second.so", *words, f"-DPLANTED={bug}", CORE)
 
 
 @pytest.mark.parametrize("cases", (0, 20), ids=("small set", "new cases"))

@@ -32,7 +32,7 @@ from rsp_conformance.command_line import printable
 from . import CampaignFault
 from .hashes import hashes, other_hashes
 from .search import fewest
-from .protocol import BATCH, END_BYTES, SHOWN, STATUS_AT, UNDONE, Options, Result, name_of, plural
+from .protocol import BATCH, END_BYTES, FAULT, SHOWN, STATUS_AT, UNDONE, Options, Result, name_of, plural
 
 # The emulator, the instruction, the seed, the first number, and how many.
 Task = Tuple[str, str, str, int, int]
@@ -49,13 +49,14 @@ FAULTS, SEARCH_SECONDS, BEGIN_SECONDS = 8, 60, 60
 FIRST_LINES, LAST_LINES, LINE_BYTES = 5, 20, 400
 PYTHON = TOP / "tools/python"
 NUMBERS = ("count", "unshown", "missing", "differ", "choices", "processor")
-COUNTS = ("parts", "met")  # of what differs, and of the dependences of programs
+COUNTS = ("met",)  # of the dependences of programs
 LISTS = ("shown", "faults", "programs", "unseen")
 
 
 def nothing() -> Result:
     """A result without cases, to which others are added."""
-    return {**dict.fromkeys(NUMBERS, 0), **{key: {} for key in COUNTS}, **{key: [] for key in LISTS}}
+    counts = {key: {} for key in (*COUNTS, "kinds")}  # type: Result
+    return {**dict.fromkeys(NUMBERS, 0), **counts, **{key: [] for key in LISTS}}
 
 
 def add(total: Result, result: Result) -> None:
@@ -65,6 +66,9 @@ def add(total: Result, result: Result) -> None:
     for key in COUNTS:
         more = result.get(key, {})
         total[key] = {name: total[key].get(name, 0) + more.get(name, 0) for name in {**total[key], **more}}
+    for kind, (count, first) in result.get("kinds", {}).items():
+        earlier, line = total["kinds"].get(kind, (0, first))
+        total["kinds"][kind] = [earlier + count, min(line, first, key=number_in)]
 
 
 def end_with_parent(parent: int) -> None:
@@ -181,7 +185,13 @@ def fault_of(task: Task, number: int, cause: Optional[int], why: str) -> Result:
     elif cause < number:
         why += f"; the shortest run that shows it begins with {name_of(*task[1:3], cause)}"
     line = f"{name_of(*task[1:3], number)}: {why}"
-    return {"count": 1, "differ": 1, "shown": [line], "faults": [[number, cause, why]]}
+    return {
+        "count": 1,
+        "differ": 1,
+        "kinds": {FAULT: [1, line]},
+        "shown": [line],
+        "faults": [[number, cause, why]],
+    }
 
 
 def run_in_children(task: Task, options: Options) -> Result:
