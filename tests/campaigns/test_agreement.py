@@ -41,7 +41,7 @@ from campaigns.emulator import WrongShift as Mine
 with open(f"{os.path.basename(os.getcwd())}.starts", "ab", 0) as file:
     file.write(b"x")
     start = file.tell()
-campaign = os.getppid()
+campaign = int(open(f"/proc/{os.getppid()}/stat").read().rpartition(")")[2].split()[1])
 """
 STOP_IN_TASKS = "if start == 4: os.kill(campaign, {})\nif start in (3, 4): time.sleep(999)\n"
 # The signal, and the status and the errors of the campaign.

@@ -1,6 +1,7 @@
 """Emulators that hang, die and answer garbage: each fault is named by its case, and all other cases are run.
 """
 
+import glob
 import re
 from pathlib import Path
 
@@ -84,6 +85,33 @@ def test_difference_that_depends_on_what_ran_before(name: str, number: int, step
     form = rf"PROGRAM-g3-1-00000{number}: {step} xor .*: expected .*; not cut down, {why}"
     assert re.search(form, output), output
     assert counts_of(folder) == {"program": (2, 1, 0)}
+
+
+# An emulator that leaves a process in its group, and one that has called setsid. Neither ends by itself.
+WRAPPED = f"sleep 1000 &\nsetsid sleep 1000 &\nexec {EMULATOR}\n"
+
+
+@pytest.mark.parametrize("how", ["", "die"])
+def test_processes_of_an_emulator(how: str, folder: Path) -> None:
+    """All are gone when a campaign ends, also one that a fault ends."""
+    (folder / "wrap.sh").write_text(f"{WRAPPED[:-1]} $*\n")
+    words = ("--instructions", "vadd", "--cases", 20, "--here", "out")
+    ended = campaign(f"sh {folder}/wrap.sh {how} {word_17()}", *words, cwd=folder)
+    left = [path for path in glob.glob("/proc/[0-9]*/cwd/wrap.sh") if Path(path).samefile(folder / "wrap.sh")]
+    assert (left, ended.returncode) == ([], int(how == "die")), ended.stdout + ended.stderr
+
+
+@pytest.mark.parametrize(
+    "emulator, why",
+    [
+        ("sh -c 'yes | tr -d \\\\n'", "the command's line has 1048576 bytes, and doesn't end"),
+        ("hex:yes", "the command has printed more than 16777216 bytes"),
+    ],
+)
+def test_output_without_an_end(emulator: str, why: str, folder: Path) -> None:
+    """It is a fault, and no process keeps more of it."""
+    output = output_of(folder, emulator, "--instructions", "vadd", "--cases", 1)
+    assert f"{name_of('vadd', '1', 0)}: {why}" in output, output
 
 
 def test_lost_register(folder: Path) -> None:

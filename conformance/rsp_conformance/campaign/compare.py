@@ -7,7 +7,7 @@ import numpy as np
 import rsp
 from rsp_conformance.table import ignored_bits, row_of
 
-from .build import built
+from .build import library_object
 from .emulators import Object, emulator_of, memories_in, patched, word_of
 from .generator import BANKS, END, IMEM, MEMORIES, RDRAM, STATE, Array, bytes_of
 from .known import AND, CHOICE
@@ -72,7 +72,7 @@ class Sides:
 
     def __init__(self, spec: str, memories: bytes) -> None:
         self.spec = spec
-        self.library, self.emulator = Object(built("library"), memories), emulator_of(spec, memories)
+        self.library, self.emulator = Object(library_object(), memories), emulator_of(spec, memories)
         self.machine, hidden = rsp.Machine(bytes(MEMORIES - RDRAM)), ~self.emulator.seen
         self.unseen = [part for part, (low, high) in PARTS.items() if hidden[low:high].any()]
         hidden[slice(*bytes_of("state.zero"))] = 255  # no register

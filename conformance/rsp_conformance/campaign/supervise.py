@@ -12,6 +12,7 @@ result to its standard output.
 
 import contextlib
 import ctypes
+import functools
 import json
 import mmap
 import os
@@ -24,6 +25,7 @@ import threading
 import time
 from collections import deque
 from multiprocessing import Pipe
+from multiprocessing.reduction import sendfds
 from typing import Deque, Iterator, List, Optional, Tuple
 
 from rsp_conformance import TOP
@@ -44,6 +46,8 @@ KEEP = {
     "OMP_NUM_THREADS": "1",
 }
 FAULTS, SEARCH_SECONDS, BEGIN_SECONDS = 8, 60, 60
+DESCRIPTORS, STATUS_BYTES = 4, 4  # that a task gets, and that its end gives
+LOCK, LIBC = threading.Lock(), ctypes.CDLL(None)
 # The lines of an emulator's output that are shown with its fault, because a panic's message comes before a
 # long backtrace, but perhaps after a log; and the bytes after which a line is cut.
 FIRST_LINES, LAST_LINES, LINE_BYTES = 5, 20, 400
@@ -73,9 +77,49 @@ def add(total: Result, result: Result) -> None:
 
 def end_with_parent(parent: int) -> None:
     """Has the system kill this process when its parent ends, also if it has ended already."""
-    ctypes.CDLL(None).prctl(1, signal.SIGKILL)
+    LIBC.prctl(1, signal.SIGKILL)
     if os.getppid() != parent:
         sys.exit("the parent is gone")
+
+
+@functools.lru_cache(None)
+def starter() -> socket.socket:
+    """The socket of starter.py, which starts the processes of tasks."""
+    ours, its = socket.socketpair()
+    with contextlib.closing(its):
+        subprocess.Popen(
+            [PYTHON, "rsp_conformance.campaign.starter", str(its.fileno())],
+            stdin=subprocess.DEVNULL,
+            stdout=subprocess.DEVNULL,
+            pass_fds=[its.fileno()],
+            start_new_session=True,
+            env={**os.environ, **KEEP},
+        )
+    return ours
+
+
+class Process:
+    """The process of a task, which starter.py has forked."""
+
+    def __init__(self, *descriptors: int) -> None:
+        self.life, its = socket.socketpair()
+        self.status: Optional[int] = None
+        with LOCK, contextlib.closing(its):
+            sendfds(starter(), [*descriptors, its.fileno()])
+
+    def kill(self) -> None:
+        with contextlib.suppress(OSError):  # it has ended
+            self.life.shutdown(socket.SHUT_WR)
+
+    def wait(self) -> int:
+        """The status after the end of the process and of all that it has started: -N after signal N."""
+        if self.status is None:
+            data = self.life.recv(STATUS_BYTES)
+            self.life.close()
+            if not data:
+                raise CampaignFault("the process that starts the campaign's tasks is gone")
+            self.status = int.from_bytes(data, "little", signed=True)
+        return self.status
 
 
 class OutputReader(threading.Thread):
@@ -96,7 +140,7 @@ class OutputReader(threading.Thread):
 
     def lines(self) -> str:
         """The lines that are shown, after the end of the process."""
-        self.join(1)  # not for ever, because another process may still have the pipe
+        self.join()
         gap = [b".."] if self.count > FIRST_LINES + LAST_LINES else []
         lines = (line.decode(errors="backslashreplace").strip() for line in (*self.first, *gap, *self.last))
         return " / ".join(printable(line) for line in lines if line)
@@ -116,17 +160,9 @@ class Child:
         for at in range(BATCH):
             self.statuses[at] = UNDONE
         self.results, child_end = Pipe()
-        numbers = os.getpid(), shared, child_end.fileno()
         pipe, output = os.pipe()
         self.output = OutputReader(pipe)
-        self.process = subprocess.Popen(
-            [PYTHON, "rsp_conformance.campaign.worker_process", *map(str, numbers)],
-            stdout=output,  # to which Verilator writes the messages of assertions
-            stderr=output,
-            pass_fds=numbers[1:],
-            start_new_session=True,
-            env={**os.environ, **KEEP},
-        )
+        self.process = Process(shared, child_end.fileno(), output)
         for descriptor in shared, output:
             os.close(descriptor)
         child_end.close()
@@ -155,6 +191,7 @@ class Child:
             self.is_begun = True
             yield result
         self.process.kill()
+        self.process.wait()
         output, self.is_unusable = self.output.lines(), result.get("is_unusable", False)
         self.fault = printable(result["fault"]) + (f"; it wrote: {output}" if output else "")
 

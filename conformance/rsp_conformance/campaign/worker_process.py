@@ -1,11 +1,9 @@
 """The work of a task's child process: runs batches of cases, or programs, on the library and on the emulator.
 
-It sends the result of each batch to its parent. Its arguments are the parent's process and two descriptors,
-from supervise.py.
+It sends the result of each batch to the campaign.
 """
 
 import mmap
-import sys
 import time
 from multiprocessing.connection import Connection
 from typing import Iterator, List, Set
@@ -20,7 +18,6 @@ from .protocol import BATCH, NOT_THERE, PROGRAM, RESERVED, SHOWN, UNDONE, UNSHOW
 from .explaining import command_for
 from .known import choices_of
 from .compare import Sides, differences, in_brief, kinds_of, named
-from .supervise import end_with_parent
 
 MOST_KINDS = 32  # of which a task shows the first case in words
 WHY_NOT_THERE = f"because the emulator answers that the word is reserved (status {RESERVED})"
@@ -113,9 +110,8 @@ def check_cases(
         yield result
 
 
-def main(parent: int, shared: int, pipe: int) -> None:
+def main(shared: int, pipe: int) -> None:
     """The ends of the present batch are in shared memory, so the parent knows which cases are done."""
-    end_with_parent(parent)
     connection, used = Connection(pipe), 0.0
     (spec, name, seed, start, count), options = connection.recv()
     if name == PROGRAM:
@@ -130,7 +126,3 @@ def main(parent: int, shared: int, pipe: int) -> None:
     except Exception as fault:  # of an emulator in Python, too
         why = str(fault) if isinstance(fault, CampaignFault) else f"{type(fault).__name__}: {fault}"
         connection.send({"fault": why, "is_unusable": isinstance(fault, Unusable)})
-
-
-if __name__ == "__main__":
-    main(*map(int, sys.argv[1:]))
