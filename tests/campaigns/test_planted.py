@@ -173,6 +173,14 @@ def test_lanes_written_one_after_the_other(bug: int, folder: Path) -> None:
         assert {bool(re.search(r"-\d{3}$", vector)) for vector in found} == {True, False}, (name, found)
 
 
+@pytest.mark.parametrize("bug", (2, 19, 64, *range(99, 105)))
+def test_sp_registers(bug: int, folder: Path) -> None:
+    """Faults in the semaphore, a DMA's fields, rows and ends, and single step are found by vectors."""
+    lib = ctypes.CDLL(str(core_with(bug, folder)))
+    vectors = (vector for name in ("MTC0", "MFC0") for vector in vectors_of(name, lib))
+    assert any(not is_same for _, is_same in vectors)
+
+
 @pytest.mark.parametrize("bug, name, entry", [(97, "VRCP", 300), (98, "VRSQ", 301)])
 def test_wrong_entry(bug: int, name: str, entry: int, program: Path, folder: Path) -> None:
     """The vectors of `--entries` find a wrong entry of a divide table."""
