@@ -87,6 +87,15 @@ def test_difference_that_depends_on_what_ran_before(name: str, number: int, step
     assert counts_of(folder) == {"program": (2, 1, 0)}
 
 
+def test_case_that_depends_on_what_ran_before(folder: Path) -> None:
+    """It is repeated on a new emulator, and said to agree there. One that differs there isn't."""
+    why = "it agrees on a new emulator, so it depends on what the emulator ran before"
+    for name, is_hidden in (("Stale", True), ("WrongShift", False)):
+        words = (f"python:emulator:{name}", "--instructions", "sra", "--cases", 100)
+        output = output_of(folder / name, *words)
+        assert re.search(r"(?m)^SRA .*: expected", output) and (f"; {why}\n" in output) == is_hidden, output
+
+
 # An emulator that leaves a process in its group, and one that has called setsid. Neither ends by itself.
 WRAPPED = f"sleep 1000 &\nsetsid sleep 1000 &\nexec {EMULATOR}\n"
 

@@ -34,7 +34,20 @@ from rsp_conformance.command_line import printable
 from . import CampaignFault
 from .hashes import hashes, other_hashes
 from .search import fewest
-from .protocol import BATCH, END_BYTES, FAULT, SHOWN, STATUS_AT, UNDONE, Options, Result, name_of, plural
+from .protocol import (
+    BATCH,
+    END_BYTES,
+    FAULT,
+    NOT_THERE,
+    PROGRAM,
+    SHOWN,
+    STATUS_AT,
+    UNDONE,
+    Options,
+    Result,
+    name_of,
+    plural,
+)
 
 # The emulator, the instruction, the seed, the first number, and how many.
 Task = Tuple[str, str, str, int, int]
@@ -46,6 +59,7 @@ KEEP = {
     "OMP_NUM_THREADS": "1",
 }
 FAULTS, SEARCH_SECONDS, BEGIN_SECONDS = 8, 60, 60
+AGREES = "it agrees on a new emulator, so it depends on what the emulator ran before"
 DESCRIPTORS, STATUS_BYTES = 4, 4  # that a task gets, and that its end gives
 LOCK, LIBC = threading.Lock(), ctypes.CDLL(None)
 # The lines of an emulator's output that are shown with its fault, because a panic's message comes before a
@@ -253,6 +267,24 @@ def run_in_children(task: Task, options: Options) -> Result:
     return result
 
 
+def shown_anew(task: Task, line: str, options: Options) -> str:
+    """The line of a case that differs, with a sentence if the case alone agrees on a new emulator."""
+    number = number_in(line)
+    with contextlib.closing(Child((*task[:3], number, 1), options)) as child:
+        batches = [batch for batch in child if batch["count"]]
+    agrees = batches and not (batches[0]["differ"] or batches[0]["missing"])
+    return f"{line}; {AGREES}" if agrees else line
+
+
+def show_anew(task: Task, result: Result, options: Options) -> None:
+    """Repeats the first case of each kind of differences."""
+    firsts = [first for kind, (_, first) in result["kinds"].items() if kind not in (FAULT, NOT_THERE)]
+    lines = {line: shown_anew(task, line, options) for line in firsts}
+    result["shown"] = [lines.get(line, line) for line in result["shown"]]
+    for kind in result["kinds"].values():
+        kind[1] = lines.get(kind[1], kind[1])
+
+
 def number_in(line: str) -> int:
     """The number in the name at the beginning of a line."""
     found = re.match(r"\w+-\w+-\w+-(\d+)", line)
@@ -271,6 +303,8 @@ def check(spec: str, name: str, seed: str, start: int, count: int, options: Opti
     if "hashes" in options and (other := other_hashes(options["hashes"], hashes(spec, options["files"]))):
         raise CampaignFault(f"the files of the {other[0]} aren't those with which this campaign began")
     result["shown"] = sorted(result["shown"], key=number_in)[:SHOWN]
+    if name != PROGRAM and count > 1:
+        show_anew((spec, name, seed, start, count), result, options)
     result["unseen"] = [*dict.fromkeys(result["unseen"])]
     task = {"instruction": name, "seed": seed, "start": start, "size": count}
     return {**task, **result, "seconds": time.time() - began}
