@@ -41,7 +41,7 @@ def test_line_of_libdragon(row: List[str], program: Path) -> None:
     """A line is refused. What the page says to write is assembled, and has what `--explain` shows."""
     theirs, ours = (re.findall("`(.*?)`", cell)[0] for cell in row)
     printed = run(program, "run", "--explain", input=f"asm 0\n{theirs}\nend\n").stdout
-    shown = re.findall(r"(?m)^  (?:try: (.*)|help: (\$\S+) if .*|help: the assembler .*)$", printed)
+    shown = re.findall(r"(?m)^  (?:try: (.*)|help: (\$\S+) if .*|help: write the address .*)$", printed)
     assert printed.startswith("fault 1") and shown
     assert not [part for parts in shown for part in parts if part not in ours]
     assert replies(program, f"asm 0\n{ours}\nend\n") == "ok 1 words\n"

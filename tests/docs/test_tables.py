@@ -35,6 +35,9 @@ from rsp_tools.crates import LINES, uses
 Line = Dict[str, str]
 OF_VECTORS, GUARANTEES = "conformance/README.md", "docs/GUARANTEES.md"
 OPEN_BLOCK = "fault 10 BadLine line 1\n"  # what a script ends with that hasn't closed its block
+FORMS = 27  # that were planned otherwise
+COMMANDS: Tuple[Tuple[str, ...], ...] = ((), ("run",), ("asm",), ("dis",))
+PLANNED = {"--rdram", "--save", "--help"}  # the options
 FAULTS = {*range(4, 8), *range(10, 18), *range(20, 28), *range(30, 34), *range(40, 44)}
 
 
@@ -194,14 +197,19 @@ def test_faults_of_commands() -> None:
     assert listed == caused | {("end", "10 BadLine"), ("end", "16 PastEnd")}
 
 
+def planned_otherwise() -> Dict[str, str]:
+    """What DECISIONS has of each form that was planned otherwise, by what was planned."""
+    return {row[0]: row[1] for row in tables("docs/DECISIONS.md", "## Forms that were planned otherwise")}
+
+
 def test_forms_planned_otherwise() -> None:
     """DECISIONS has each form that was planned otherwise: who shortens the page drops no reason.
 
     It names each crate that wasn't planned, and as GUARANTEES does, those of the kit.
     """
-    rows = {row[0]: row[1] for row in tables("docs/DECISIONS.md", "## Forms that were planned otherwise")}
+    rows = planned_otherwise()
     others = re.findall(r"`(rsp_\w+)`", rows["sixteen crates"])
-    assert len(rows) >= 18 and rows["sixteen crates"].startswith(f"{len(LINES)}: ")
+    assert len(rows) == FORMS and rows["sixteen crates"].startswith(f"{len(LINES)}: ")
     assert len({*others} & LINES.keys()) == len(others) == len(LINES) - 16
     of_std = {"core", "std_alloc", "std_heap", "std_io"}
     of_kit = {used for name in LINES for used in uses(name)} - LINES.keys() - of_std
@@ -209,6 +217,17 @@ def test_forms_planned_otherwise() -> None:
     assert_same_items(re.findall(r"`(\w+)`", listed), of_kit)
     (trusted,) = re.findall(r"\*\*The kit's libraries\*\*, (.*?)\. - ", sentences(GUARANTEES))
     assert_same_items(re.findall(r"`(\w+)`", trusted), of_kit | {"rsp_example"})
+
+
+def test_command_lines(program: Path) -> None:
+    """DECISIONS names each option that wasn't planned, and none that the program doesn't know."""
+    named = {*re.findall(r"--[a-z]+", " ".join(planned_otherwise().values()))}
+    helps = [run(program, *words, "--help").stdout for words in COMMANDS]
+    offered = {*re.findall(r"--[a-z]+", "".join(helps))} - PLANNED
+    assert offered <= named
+    for option in named - offered - PLANNED:
+        lines = [run(program, *words, option).stdout for words in COMMANDS]
+        assert not all("unexpected argument" in line for line in lines), option
 
 
 def test_figures() -> None:

@@ -25,7 +25,7 @@ WHY = ("tools/define", "why")
 VECTORS = sorted((TOP / "conformance/vectors/steps").glob("*.jsonl"))
 LANES = re.compile(r"v\d+")
 # Lane 1 of $v6 and $v10 is 65be and 65bf. The sum is 26046 + 26047 = 52093, which is cb7d and more than 7fff.
-VADD = """v9.1 is 7fff after it | Step.antt:76 | Adds.antt:17
+VADD = """v9.1 is 7fff after it | Step.antt:76 | Adds.antt:19
 vadd a b f = clamped (s16 a +ℤ s16 b
 a = 0x65be (v6.1), b = 0x65bf (v10.1) | = clamped 52093 f | n = 52093
 = record { result = 0x7fff; low = 0xcb7d;
@@ -145,7 +145,7 @@ def test_json() -> None:
     found = json.loads(succeeds(*WHY, "VADD-000", "v9.1", "--json"))
     assert (found["before"], found["after"], found["what"]) == ("0911", "7fff", "v9.1")
     (adds,) = [it for it in found["steps"] if it["source"].startswith("vadd ")]
-    assert adds["file"] == "crates/rsp_compare/specs/Adds.antt" and adds["line"] == 17
+    assert adds["file"] == "crates/rsp_compare/specs/Adds.antt" and adds["line"] == 19
     assert adds["values"][:2] == ["a = 0x65be (v6.1)", "b = 0x65bf (v10.1)"]
 
 

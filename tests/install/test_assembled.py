@@ -1,7 +1,8 @@
 """compiled/ as tools/assemble makes it and ./prove compares it, by the files as they are and by small texts.
 
 It fails if files are named or written so that git keeps each change of a line as a whole file, if other code
-is assembled than the kit's, if ./prove passes what is stale, or if NOTICE leaves out a crate of the kit.
+is assembled than the kit's, if ./prove passes what is stale, or if NOTICE leaves out a crate of the kit or
+names another kit than the one that made the files.
 """
 
 import re
@@ -83,14 +84,15 @@ def test_what_prove_says(
         return status, capsys.readouterr().out.splitlines()[-1]
 
     monkeypatch.setattr(assemble, "COMPILED", folder)
-    monkeypatch.setattr(assemble, "record", lambda tops, _: assemble.made_of(tops))
+    monkeypatch.setattr(assemble, "new_text", lambda: assemble.made_of(assemble.TOPS))
+    (folder / "NOTICE").write_text("kit 1\n")
     monkeypatch.setattr(record, "sources", lambda _: "sum -")
     assert run("kit 1", "sum 1", b"1\n") == (1, "0 passed, 5 failed")
-    assert assemble.write(made, "") == 0 and "a.s, rsp_main.made, b.s" in capsys.readouterr().out
+    assert assemble.write(made) == 0 and "a.s, rsp_main.made, b.s" in capsys.readouterr().out
     assert run("kit 1", "sum 1", b"1\n") == run("kit 2", "sum 1", b"1\n") == (0, "5 passed, 0 failed")
     (folder / "record").write_text("<<<<<<< HEAD\n")  # after a merge in which the marks fit
     for name in "record", "nothing":
-        assert assemble.write(made, "") == 0 and f": {name} in compiled/" in capsys.readouterr().out
+        assert assemble.write(made) == 0 and f": {name} in compiled/" in capsys.readouterr().out
     assert run("kit 1", "sum 1", b"2\n") == (1, "4 passed, 1 failed")
     assert run("kit 2", "sum 1", b"2\n") == (3, "4 passed, 0 failed")
     assert run("kit 2", "sum 2", b"2\n") == (1, "2 passed, 3 failed")
@@ -125,17 +127,16 @@ def test_helpers(monkeypatch: pytest.MonkeyPatch) -> None:
     assert [it for listed in names.values() for it in listed if not (TOP / it).is_file()] == []
 
 
-def test_mutations(folder: Path) -> None:
-    """The record has those of `rt ci` that were refused, and also says how many weren't."""
-    (folder / "said").write_text("rt: must-fail a/b.edit: refused, as it must be: c\nmust-fail a/d.edit: NOT")
-    form = r"1 of 2 refused, \d{4}-\d\d-\d\d; \d+ are tried by each run of the gate, and \d+ are those of .*"
-    assert re.fullmatch(form, record.mutations(str(folder / "said")))
-
-
 def test_notice() -> None:
-    """It names the crates of the kit that ours use, and those whose names are in the files."""
+    """It names the crates of the kit that ours use, those whose names are in the files, and the kit of the
+    mark, which tools/assemble writes with the mark."""
     below = {used for crate in assemble.ON_TOP for name in with_below(crate.name) for used in uses(name)}
     texts = "".join(path.read_text() for path in assemble.COMPILED.glob("Linux-*.s"))
     inside = {*re.findall(r'"\.text\.(?:unlikely\.)?<*(\w+)::', texts)}
-    listed = {*re.findall(r"(?m)^  (\w+)(?:$| +after )", (TOP / "compiled/NOTICE").read_text())}
-    assert listed == (below | inside) - {*LINES}
+    notice, mark = ((TOP / "compiled" / name).read_text() for name in ("NOTICE", PROGRAM.made))
+    assert {*re.findall(r"(?m)^  (\w+)(?:$| +after )", notice)} == (below | inside) - {*LINES}
+    assert re.findall(r"rattle-kit-\w+", notice) == re.findall(r"\Arattle-kit-\w+", mark)
+    assert (
+        assemble.with_kit("the kit (rattle-kit-1a).", "rattle-kit-2 logic 0\nrest")
+        == "the kit (rattle-kit-2)."
+    )

@@ -127,7 +127,7 @@ def test_run(script: bytes, output: bytes, first: str, binary: Path, calls: Path
     image.write_bytes(bytes(128))
     words = [binary, "run", "--rdram", image, "--save", saved]
     answers = answers_of(calls, words, script, output, saved)
-    assert re.fullmatch(rf"{READING}(43 after 0;)+{first}(17 after {len(output)};)*", answers)
+    assert re.fullmatch(rf"{READING}(43 after 0;)+{first}(17 after {len(output)};)+", answers)
 
 
 def test_asm(binary: Path, calls: Path, folder: Path) -> None:

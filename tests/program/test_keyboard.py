@@ -39,8 +39,9 @@ def type_step(program: Path, *words: str, script: bytes = STEP, **streams: Any) 
 
 
 def after_greeting(errors: bytes) -> List[str]:
-    """The lines after the greeting, which has each command's name. All of them fit a terminal."""
-    greeting, _, rest = errors.decode().partition("Ctrl-D ends the script.\n")
+    """The lines after the greeting: each command's name, the help, how to end. All of them fit a terminal."""
+    last = "'rsp help run' shows their operands. Ctrl-D ends the script.\n"
+    greeting, _, rest = errors.decode().partition(last)
     assert {*re.findall(r"\w+", greeting.partition(":")[2])} == {command.split()[0] for command in COMMANDS}
     assert max(map(len, errors.splitlines())) <= 80
     return rest.splitlines()
@@ -113,7 +114,9 @@ REFUSED = {
         ("addiu $1, $0, 1", "li $1, 5", ".half 1", "nop", "loop: nop"),
         "help: write asm ADDR, then lines of assembly text, then end",
     ),
-    **dict.fromkeys(("quit", "exit", "q"), "help: Ctrl-D ends the script"),
+    **dict.fromkeys(
+        ("quit", "exit", "q"), "help: Ctrl-D ends the script if you type it; from a file, leave the line out"
+    ),
     **dict.fromkeys(("help", "?"), f"{NAMES}\n  help: Ctrl-D ends the script"),
     "xyzzy": NAMES,
 }
@@ -138,7 +141,18 @@ def test_refused_number(command: str, rsp: Any) -> None:
 
 # Lines with the last line that is said of them.
 LAST = {
-    "break 010": "help: 010 is 10 in decimal; hexadecimal numbers begin with 0x",
+    "break 010": "help: 010 is 10 in decimal; write 0x010 if it is hexadecimal, as in replies",
+    "break 01 02": "expected: break ADDR",
+    "mem 010 4": "help: 010 is 10 in decimal; write 0x010 if it is hexadecimal, as in replies",
+    "mem dmem 04095 4": "help: 04095 is 4095 in decimal; write 0x04095 if it is hexadecimal, as in replies",
+    "unbreak 0012": "help: 0012 is 12 in decimal; write 0x0012 if it is hexadecimal, as in replies",
+    "watch 0100 65": "help: 0100 is 100 in decimal; write 0x0100 if it is hexadecimal, as in replies",
+    "watch 010 0": "help: 010 is 10 in decimal; write 0x010 if it is hexadecimal, as in replies",
+    "load dmem 4095 0102": "help: DMEM and IMEM have 4096 bytes, RDRAM as many as the file of --rdram",
+    "load dmem 010 012": "help: 010 is 10 in decimal; write 0x010 if it is hexadecimal, as in replies",
+    "load dmem 10 012": "help: numbers are decimal, or 0x and hexadecimal",
+    "break 09": "help: numbers are decimal, or 0x and hexadecimal",
+    "step 012  # 034": "help: 012 is 12 in decimal; write 0x012 if it is hexadecimal, as in replies",
     "run 0": "note: N isn't 1 to 1,000,000",
     "load dmem 0 0x12": "help: HEX has no 0x and no blanks",
     "mem dmem 0 0x1000": "help: numbers are decimal, or 0x and hexadecimal",

@@ -110,6 +110,7 @@ FILES = {
     "script": b"load rdram 0x3ffffe 0102\nfoo\nunbreak 0",
     "long": b"step\n" + b"#" * (LONGEST_SCRIPT - 4),
     "-x": STEP,
+    "-": STEP,
     "code": bytes.fromhex("1000fffe1000fffe002000480020000800000000"),
 }
 LISTING = b"""ok 5 words
@@ -180,6 +181,7 @@ CASES = {
     # Scripts in files, which are read before the image, while standard input isn't.
     "script in a file": Case("run script --save saved", REFUSED_TWICE, left=SAVED),
     "script with the name of an option": Case("run -- -x", STEPPED),
+    "script with the name of a dash": Case("run -", STEPPED, script=b"foo\n"),
     "script and image": fails("run none --rdram missing", b"cannot read none"),
     "script and no image": fails("run script --rdram missing", b"cannot read missing"),
     "script is a folder": fails("run .", b"cannot read ."),
@@ -231,6 +233,7 @@ CASES = {
     "missing image, explained": fails("run --explain --rdram no", b"cannot read no" + MISSING),
     "no folder, explained": fails("asm text no/words --explain", b"cannot write no/words" + MISSING),
     "folder, explained": fails("dis . --explain", b"cannot read .\n  note: it is a folder"),
+    "no name for the cause": fails("dis /proc/self/mem --explain", b"cannot read /proc/self/mem"),
     "half, explained": fails("run --rdram half --explain", b"fault 7 SizeFault\n  note: half has 6" + IMAGES),
     "too long, explained": fails("dis many --explain", b"bad size\n  note: many has 4097" + WORDS_AT_0),
     "no text, explained": fails(
@@ -265,6 +268,7 @@ def test_output_is_full(words: str, rsp: Any, folder: Path) -> None:
     assert content(folder / "words") == (WORDS if "asm" in words else None)
 
 
+LONGEST_LABEL = b"a" * 32
 LABELS = b"".join(b"%x:\n" % (0xA00000 + i) for i in range(130000))
 # Source texts with the words that they become, or their fault.
 SOURCES = {
@@ -277,6 +281,12 @@ SOURCES = {
     "many labels": (LABELS + b".word a00000, affff", "15 LabelMissing line 130001"),
     "many labels, one twice": (LABELS + b"a00000: foo", "14 LabelTwice line 130001"),
     "many labels, each found": (LABELS + b".word a00000, a1fbcf", bytes(8)),
+    "labels with names of statements": (b"nop: j end\nend: j nop", b"\x08\0\0\1\x08\0\0\0"),
+    "longest label": (b"j %s\n%s:" % (LONGEST_LABEL, LONGEST_LABEL), b"\x08\0\0\1"),
+    "label too long": (b"%sa: nop" % LONGEST_LABEL, "10 BadLine line 1"),
+    "label too long in an operand": (b"j %sa" % LONGEST_LABEL, "12 BadOperand line 1"),
+    "label after the last word": (b"nop\n" * 1023 + b".word x\nx:", bytes(4092) + b"\0\0\x10\0"),
+    "jump after the last word": (b"nop\n" * 1023 + b"j x\nx:", "13 OutOfRange line 1024"),
 }
 
 

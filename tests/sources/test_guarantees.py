@@ -6,8 +6,8 @@ isn't there. They run nothing and prove nothing.
   docs/data/contracts.tsv         each clause is one of its call's contract
   docs/data/laws.tsv              each public function of each laws.rt
   docs/data/preconditions.tsv     each `requires` of each public function, and nothing else
-  docs/data/allocations.tsv       each public function that takes an allocator or may return AllocError; the
-                                  tests are there
+  docs/data/allocations.tsv       each public function that takes an allocator, also by a runtime, or whose
+                                  result may say that memory ran out; the tests are there
   docs/data/streams.tsv           each clause of run_bench
   docs/data/without_mutations.tsv   each crate without a file *.edit
   docs/data/unproved.tsv          each file that is linked into what we ship, or included from it, or changes
@@ -47,9 +47,10 @@ FOUND = re.compile(
     re.M | re.S,
 )
 FORMS = {"name": r"^[^/\"\n]*\bfn \w+[(<]", "clause": r"^\s*requires\b", "ensures": r"^\s*ensures\b"}
-# Where the signature of a function ends, and what in it says that the call may need memory.
+# Where the signature of a function ends, and what in it, or in the head of its block, says that the call may
+# need memory, besides the faults of which one is OutOfMemory.
 SIGNATURE_END = re.compile(r"\brequires\b|\bensures\b|\{\}?\n|;\n")
-OF_MEMORY = re.compile(r"\bGlobal\b|\bAllocError\b")
+OF_MEMORY = ("Global", "AllocGlobal", "AllocError")
 # The folders whose headers nobody gets, or of which the page speaks as a whole.
 OTHER_HEADERS = ("tests/", "fuzz/", "plugin/", "conformance/")
 
@@ -88,11 +89,11 @@ def parts_of(path: Path, names: Optional[Set[str]], types: Set[str]) -> Iterator
     for group, form in FORMS.items():
         read = sum(match[group] is not None for match in found)
         assert len(re.findall(form, text, re.M)) <= read, f"{path}: not each {group} can be read"
-    kind = owner = call = signature = ""
+    kind = head = owner = call = signature = ""
     is_met = False
     for match in found:
         if match["kind"] or match["end"]:
-            kind, owner, call = match["kind"] or "", match["owner"] or "", ""
+            kind, owner, call, head = match["kind"] or "", match["owner"] or "", "", match[0]
             is_met = match["met"] is not None
         elif match["name"]:
             name = match["name"]
@@ -101,6 +102,7 @@ def parts_of(path: Path, names: Optional[Set[str]], types: Set[str]) -> Iterator
             is_public = match["seen"] == "pub " or kind == "trait"
             call = f"{owner}::{name}".lstrip(":") if is_named and (is_public or is_met) else ""
             signature = "" if is_met else SIGNATURE_END.split(text[match.start() :], maxsplit=1)[0]
+            signature += head if signature and "AllocGlobal" in head else ""
             if call and not is_met:
                 yield Part(call, signature)
         elif call and match["ensures"]:
@@ -109,8 +111,8 @@ def parts_of(path: Path, names: Optional[Set[str]], types: Set[str]) -> Iterator
             yield Part(call, signature, clause=" ".join(match["clause"].split()))
 
 
-def public_parts() -> Iterator[Tuple[str, Part]]:
-    """The crates with their public parts; a program has none."""
+def public_parts(with_inner: bool = False) -> Iterator[Tuple[str, Part]]:
+    """The crates with their public parts, and those of types that they don't export; a program has none."""
     for crate in crates():
         source = TOP / "crates" / crate / "src"
         if (source / "lib.rt").exists():
@@ -118,7 +120,8 @@ def public_parts() -> Iterator[Tuple[str, Part]]:
             types = {name for names in named.values() for name in names or ()}
             for path in sorted(source.rglob("*.rt")):
                 module = path.relative_to(source).with_suffix("").parts[0]
-                yield from ((crate, part) for part in parts_of(path, named.get(module, set()), types))
+                names = None if with_inner else named.get(module, set())
+                yield from ((crate, part) for part in parts_of(path, names, types))
 
 
 def listed(name: str, *columns: str) -> List[Tuple[str, ...]]:
@@ -198,7 +201,16 @@ def test_unproved_files() -> None:
 def is_a_test(name: str) -> bool:
     """Whether a test in which allocations fail has this name."""
     tests = (TESTS / "program/test_failing_allocations.py").read_text()
-    return f'"{name}"' in tests or (TESTS / "library/c" / name).is_file()
+    is_there = f'"{name}"' in tests or f"def {name}(" in tests
+    return is_there or (TESTS / "library/c" / name).is_file()
+
+
+def faults_of_memory() -> Iterator[str]:
+    """The types of the faults of which one is OutOfMemory."""
+    for path in TOP.glob("crates/*/src/**/*.rt"):
+        for name, variants in re.findall(r"(?m)^pub enum (\w+)[^{]*\{\n((?: .*\n|\n)*)\}", path.read_text()):
+            if re.search(r"(?m)^    OutOfMemory\b", variants):
+                yield name
 
 
 def test_allocations() -> None:
@@ -207,8 +219,9 @@ def test_allocations() -> None:
     A line of `brsp_*` names each call that no other line names.
     """
     named = {*listed("allocations", "Crate", "Call")}
+    of_memory = re.compile(rf"\b(?:{'|'.join([*OF_MEMORY, *faults_of_memory()])})\b")
     lost, used = [], set()
-    for call in ((crate, part.call) for crate, part in public_parts() if OF_MEMORY.search(part.signature)):
+    for call in ((crate, part.call) for crate, part in public_parts() if of_memory.search(part.signature)):
         fitting = {call, (call[0], f"{call[1].split('_')[0]}_*")} & named
         lost += [] if fitting else [call]
         used |= {call} & fitting or fitting
@@ -223,7 +236,7 @@ def test_tests_of_allocations() -> None:
     assert tests and not [name for name in tests if not is_a_test(name)]
     assert {(row["Allocates"], row["Test"]) for row in rows if row["Allocates"] != "yes"} == {("never", "-")}
     assert not [
-        row for row in rows if (row["Allocates"] == "yes") != (row["Why it takes an allocator"] == "-")
+        row for row in rows if (row["Allocates"] == "yes") != (row["Why its signature says so"] == "-")
     ]
 
 
@@ -270,9 +283,11 @@ def test_laws() -> None:
     )
 
 
-def promises() -> Set[Tuple[str, str, str]]:
-    """Each clause of a public function: crate, call, and the clause's name."""
-    return {(crate, part.call, part.promise) for crate, part in public_parts() if part.promise is not None}
+def promises(with_inner: bool = False) -> Set[Tuple[str, str, str]]:
+    """Each clause of a public function, also of types that no crate exports: crate, call, and the clause's
+    name."""
+    parts = public_parts(with_inner)
+    return {(crate, part.call, part.promise) for crate, part in parts if part.promise is not None}
 
 
 def test_contracts() -> None:
@@ -283,7 +298,7 @@ def test_contracts() -> None:
     written, found = {*listed("contracts", "Crate", "Call", "Clauses")}, promises()
     of_c = {clause for clause in found if clause[1].startswith("brsp_")}
     of_all = {(crate, "brsp_*", name) for crate, _, name in of_c}
-    assert written and not written - found - of_all
+    assert written and not written - found - of_all - promises(with_inner=True)
     assert of_c and not [it for it in of_c if not {it, (it[0], "brsp_*", it[2])} & written]
 
 

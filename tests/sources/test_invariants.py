@@ -1,7 +1,8 @@
 """Those invariants of docs/ARCHITECTURE.md that a search of the sources can find broken, and a table.
 
 One private loop makes all steps; `std::simd` and `unsafe` are where the page says; three matches inspect an
-instruction while a step executes it; no definition of the main theorem is called scaffolding.
+instruction while a step executes it; no definition of the main theorem is called scaffolding; no number of
+the vector unit is wider than 32 bits.
 """
 
 import re
@@ -54,6 +55,18 @@ def test_unsafe(texts: Texts) -> None:
     lines = [f"{path}: {line.strip()}" for path, text in texts.items() for line in text.splitlines()]
     found = [it for it in lines if re.search(r"\bunsafe\b", it.replace("#[unsafe(no_mangle)]", ""))]
     assert_same_items(found, UNSAFE)
+
+
+def test_widths(texts: Texts) -> None:
+    """No number of the vector unit is wider than 32 bits, except in the accumulators of whole numbers, which
+    only state the rules. An array of no `u128` has no number, and aligns what is after it."""
+    crates = [f"crates/rsp_{name}/" for name in ("lanes", "acc", "multiply", "compare")]
+    code = {
+        path: text.replace("[u128; 0]", "") for path, text in texts.items() if path.startswith((*crates,))
+    }
+    wide = {path for path, text in code.items() if re.search(r"(?<![A-Za-z_])[iuf](64|128)(x\d+)?\b", text)}
+    assert wide == {"crates/rsp_acc/src/plain.rt"}
+    assert all(any(path.startswith(crate) for path in code) for crate in crates)
 
 
 def test_loop(texts: Texts) -> None:

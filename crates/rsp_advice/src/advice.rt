@@ -1,8 +1,9 @@
 // What helps with a text of another assembler. Each function returns an empty text if there is nothing to say.
 
+use crate::commands::command_named;
 use crate::fits::{is_label, number_of};
+use crate::names::is_same;
 use crate::nearest::is_instruction;
-use crate::statements::DATA;
 use rsp_decode::Operand;
 
 const COLON: &str = "the colon follows the label directly";
@@ -11,14 +12,23 @@ const COMMAS: &str = "write a comma between operands";
 
 const COMMENT: &str = "a comment begins with # or ;";
 
+const COMMAND: &str =
+    "this is a command of scripts: in a script, write end before it, which closes the block";
+
 const DOLLAR: &str = "a register begins with $, as $8";
 
 const ELEMENT: &str =
     "leave out what follows the dot of the name; an element follows a register, as $v3[0]";
 
+const HALT: &str = "break halts the RSP; in a script, end closes the block";
+
 const LABEL: &str = "a label has letters, digits and _, no digit first, and at most 32 bytes";
 
 const LINE: &str = "a line has at most 256 bytes, each a tab or 20 to 7e hexadecimal";
+
+/// What helps with a name that the linker of another assembler makes a number.
+const LINKED: &str =
+    "write the address in DMEM as a number; to use a name, assemble by Python's rsp.assemble(text, symbols=..) or by make_elf.py TEXT ELF DATA";
 
 const MEMORY: &str = "write a number, a label, or a label + or - a number, and ($r) after it";
 
@@ -57,6 +67,10 @@ pub fn of_name(name: &str, operand: &str) -> &'static str {
         ITSELF
     } else if has_element(name) {
         ELEMENT
+    } else if is_same(name, "quit") || is_same(name, "exit") {
+        HALT
+    } else if command_named(name).is_some() {
+        COMMAND
     } else {
         ""
     }
@@ -100,7 +114,7 @@ pub fn of_operand(kind: Operand, text: &str) -> &'static str {
         return comment;
     }
     if text.contains("%lo(") || text.contains("%hi(") {
-        return DATA;
+        return LINKED;
     }
     match kind {
         Operand::Scalar(_) if lacks_comma(text) => COMMAS,

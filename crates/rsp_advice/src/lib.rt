@@ -23,7 +23,9 @@ pub use commands::{
 };
 pub use fits::{Filled, Operands};
 pub use nearest::{is_instruction, nearest_command, nearest_statement};
-pub use readings::{Apart, Lanes, Readings, of_apart, of_extra, of_lanes};
+pub use readings::{
+    Apart, Lanes, Moved, Readings, Shortened, of_apart, of_extra, of_lanes, of_moved, of_shortened,
+};
 pub use spelling::{Spelling, respelled, respelled_in_range, respelled_label, sp_number};
 pub use statements::{Statement, is_other, of_other, of_reshaped};
 pub use visible::{Label, Labelled, Visible};

@@ -1,7 +1,10 @@
 // What may be meant where a text of another assembler has the element of a vector register, or an offset, as an operand of its own.
 
 use crate::fits::{Operands, is_label, number_of};
-use crate::spelling::{BYTES, ELEMENTS, leading_number, scalar, vector_register};
+use crate::names::is_same;
+use crate::spelling::{
+    BYTES, ELEMENTS, Spelling, leading_number, respelled, scalar, scalar_number, vector_register,
+};
 use rsp_decode::Operand;
 use std::fmt::{self, Display, Formatter, Write};
 
@@ -137,6 +140,67 @@ pub fn of_lanes<'a>(name: &'a str, operands: &Operands<'a>) -> Option<Lanes<'a>>
         lane: BYTES.get(usize::from(lane))?,
         source: Readings::of_computing(whole_register(source)?, element_number(element)?)?,
     })
+}
+
+/// A computing instruction without one of its three operands, as another assembler writes it whose first source is the first operand.
+#[derive(Clone, Copy)]
+pub struct Shortened<'a> {
+    name: &'a str,
+    register: u8,
+    source: Spelling<'a>,
+}
+
+impl Display for Shortened<'_> {
+    fn fmt<W: Write>(&self, f: &mut Formatter<W>) -> fmt::Result {
+        let Shortened {
+            name,
+            register,
+            source,
+        } = self;
+        write!(
+            f,
+            "{name} $v{register}, $v{register}, {source} if $v{register} is a source, too"
+        )
+    }
+}
+
+/// The three operands of a computing instruction that has two. None if it has more or fewer, or one of them can't be read.
+pub fn of_shortened<'a>(name: &'a str, operands: &Operands<'a>) -> Option<Shortened<'a>> {
+    let [register, source, _, _] = operands.first;
+    let register = whole_register(register)?;
+    let source = respelled(Operand::VectorElement, source)?;
+    if operands.count != 2 || !source.is_sure() {
+        return None;
+    }
+    Some(Shortened {
+        name,
+        register,
+        source,
+    })
+}
+
+/// The vector register of a move, which another assembler writes by its number and without an element.
+#[derive(Clone, Copy)]
+pub struct Moved(usize);
+
+impl Display for Moved {
+    fn fmt<W: Write>(&self, f: &mut Formatter<W>) -> fmt::Result {
+        let register = self.0;
+        write!(
+            f,
+            "$v{register}[0] for lane 0, $v{register}[2] for lane 1, .. $v{register}[14] for lane 7: the element is a byte"
+        )
+    }
+}
+
+/// The vector register of `mtc2` or `mfc2` that has the text of a scalar one. None of another instruction or text.
+pub fn of_moved(name: &str, text: &str) -> Option<Moved> {
+    let register = scalar_number(text)?;
+    if register < 32 && (is_same(name, "mtc2") || is_same(name, "mfc2")) {
+        Some(Moved(register))
+    } else {
+        None
+    }
 }
 
 /// What the number of an offset may be.

@@ -208,7 +208,7 @@ fn small_number(text: &str) -> Option<usize> {
 }
 
 /// The number of a register that is written as a scalar one.
-fn scalar_number(text: &str) -> Option<usize> {
+pub(crate) fn scalar_number(text: &str) -> Option<usize> {
     small_number(text.strip_prefix('$')?)
 }
 

@@ -8,8 +8,7 @@ use std::fmt::{self, Display, Formatter, Write};
 const CONDITIONS: &str =
     "no macros or conditions here: let a preprocessor such as m4 write the lines";
 
-/// What helps where a text has data.
-pub(crate) const DATA: &str =
+const DATA: &str =
     "the assembler makes only words of IMEM: write data to DMEM by load or by a DMA, and its address in DMEM as a number, because a label is an address in IMEM";
 
 const DATA_AT: &str =
@@ -43,6 +42,12 @@ const REORDER: &str =
 const COMPARISONS: &str = "the RSP compares vectors by vlt, veq, vne and vge, and by no other";
 
 const BYTES: &str = "the RSP has no vector sums of bytes: vadd and vsub add and subtract halves";
+
+const SECTION: &str =
+    "leave the line out; if the file has another section of code, as of an overlay, assemble each by itself at its address (rsp asm --at ADDR)";
+
+const ANY_SECTION: &str =
+    "assemble a section of code by itself at its address (rsp asm --at ADDR), which keeps overlays apart; write data to DMEM by load or by a DMA";
 
 const UNSIGNED: &str = "the RSP has no unsigned vector sums: vaddc and vsubc don't clamp";
 
@@ -82,6 +87,7 @@ const OTHERS: &[(&str, &str, bool, &str)] = &[
     ("jmp", "t", true, "j %1"),
     ("jmp", "r", true, "jr $%1"),
     ("brk", "", true, "break"),
+    ("ret", "", false, "jr $ra, and nop in its delay slot"),
     (
         "abs",
         "rr",
@@ -154,6 +160,18 @@ const OTHERS: &[(&str, &str, bool, &str)] = &[
     ("vaddb vsubb vaccb vsucb", "*", false, BYTES),
     ("vgt vgtu vle vlte vltu vgeu", "*", false, COMPARISONS),
     (
+        "lwc2",
+        "*",
+        false,
+        "the LWC2 of the RSP are its vector loads, such as lqv $v1[0], 0($2): write the one that is meant",
+    ),
+    (
+        "swc2",
+        "*",
+        false,
+        "the SWC2 of the RSP are its vector stores, such as sqv $v1[0], 0($2): write the one that is meant",
+    ),
+    (
         "lwv",
         "*",
         false,
@@ -169,10 +187,14 @@ const OTHERS: &[(&str, &str, bool, &str)] = &[
     (".org origin .text", "a", false, ORIGIN_AT),
     (".text", "", true, LEFT_OUT),
     (".org origin .create .open base .text", "*", false, ORIGIN),
-    (".section", "=.text", false, LEFT_OUT),
+    (".section", "=.text", false, SECTION),
+    (".section", "=.data", false, DATA),
+    (".section", "=.bss", false, DATA),
+    (".section", "=.rodata", false, DATA),
+    (".section", "*", false, ANY_SECTION),
     (".data .bss .rdata .rodata .sdata", ".", false, DATA_AT),
     (
-        ".data .bss .section .rdata .rodata .sdata .ds .ds.b .ds.h .ds.w .dcb .dcb.b .dcb.w .dcb.l .dc.b .dc.w .dc.l .half .hword .short .byte .dh .db .dw .dd dh db dw dd .long .int .dword .quad .2byte .4byte .8byte .zero .space .skip .fill .ascii .asciz .asciiz .string .float .double .comm .lcomm",
+        ".data .bss .rdata .rodata .sdata .ds .ds.b .ds.h .ds.w .dcb .dcb.b .dcb.w .dcb.l .dc.b .dc.w .dc.l .half .hword .short .byte .dh .db .dw .dd dh db dw dd .long .int .dword .quad .2byte .4byte .8byte .zero .space .skip .fill .ascii .asciz .asciiz .string .float .double .comm .lcomm",
         "*",
         false,
         DATA,
@@ -229,6 +251,7 @@ const RESHAPED: &[(&str, &str, bool, &str)] = &[
     ("sra", "rrr", true, "srav $%1, $%2, $%3"),
     ("beq", "rit", true, "addiu $at, $0, %2\nbeq $%1, $at, %3"),
     ("bne", "rit", true, "addiu $at, $0, %2\nbne $%1, $at, %3"),
+    ("break", "z", true, "break"),
 ];
 
 /// What is advised in place of a statement.

@@ -11,8 +11,8 @@ use Rattle.rsp_acc.specs.contracts.planes.PlaneAcc as PlaneAcc
 use Rattle.rsp_acc.specs.contracts.planes.PlaneAccAcc.TheImpl as Acc
 use Rattle.rsp_acc.proofs.planes.PlaneAcc.TheLaws as planes
 use Rattle.rsp_debug.proofs.debugger.Debugger.TheLaws as debugger
-use Rattle.rsp_c.proofs.held_bench.HeldBench.TheLaws as bench
-use Rattle.rsp_c.specs.Holding.{debugger_row, bench_row}
+use Rattle.rsp_c.proofs.held_session.HeldSession.TheLaws as session
+use Rattle.rsp_c.specs.Holding.{debugger_row, session_row}
 use Rattle.rsp_c.specs.contracts.handle.BoxParts as BoxParts
 
 abbrev pub boxed_of : (row : RattleType) → Laws row → Bx
@@ -22,7 +22,7 @@ abbrev pub E : Bx
 E = boxed_of debugger_row (debugger.the_row_laws PlaneAcc.the_row Acc.ghosts planes.the_row_laws)
 
 abbrev pub EB : Bx
-EB = boxed_of bench_row bench.the_row_laws
+EB = boxed_of session_row session.the_row_laws
 
 -- the fields of such a box
 abbrev pub parts_row : Bx → RattleType

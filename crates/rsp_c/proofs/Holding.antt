@@ -55,14 +55,14 @@ module _ {M : Type 1} {𝓤 : Ura M} {𝓛 : Logic 𝓤} {K : Type 0} {Γ : List
       fpack t (Valss (RawPtr ∷ E.al.row ∷ [])) (within (shape RspMachine.the_type) (d.at, (((tt, tt), tt), tt)) (v ∷ [])) (p, (h ∷ [], tt)) $ fjoin t $ s)
 
   -- the same of a bench's handle
-  pub bench_out : K → (d : RspSession.the_row.Denot) (vs : List Val)
+  pub session_out : K → (d : RspSession.the_row.Denot) (vs : List Val)
       → ((h : Val) → vs ≡ pair (ptr_val d.at) h ∷ [] → Fits EB.al h → Seq K 𝓛 (‵ (holding EB.row d.alloc d.at d.bench) ∷ ‵ (EB.al.row.own_val d.alloc (h ∷ [])) ∷ Γ) G) → Seq K 𝓛 (‵ (RspSession.the_row.own_val d vs) ∷ Γ) G
-  bench_out t d vs k =
+  session_out t d vs k =
       fsplit t $ fpick t (λ vss. fsplit t $ feq_l t (λ ev. fsplit t $ feq_l t (λ ep. fsplit t $ handle_tells EB.al t d.alloc vss.1.0 (λ h ea fits. move t (1 ∷ []) $ drop t $ move t (1 ∷ []) $ k h
       (subst (λ (ws : List Val). vs ≡ vstruct (of_list (ptr_val d.at ∷ (ws ++ []))) ∷ []) ea (subst (λ (ps : List Val). vs ≡ vstruct (of_list (ps ++ (vss.1.0 ++ []))) ∷ []) ep ev)) fits))))
 
-  pub bench_in : K → (d : RspSession.the_row.Denot) (h : Val)
+  pub session_in : K → (d : RspSession.the_row.Denot) (h : Val)
       → Step K 𝓛 (‵ (RspSession.the_row.own_val d (pair (ptr_val d.at) h ∷ [])) ∷ Γ) G (‵ (holding EB.row d.alloc d.at d.bench) ∷ ‵ (EB.al.row.own_val d.alloc (h ∷ [])) ∷ Γ) G
-  bench_in t d h = step (λ s. let v : Val = pair (ptr_val d.at) h in let p : List Val = ptr_val d.at ∷ [] in
+  session_in t d h = step (λ s. let v : Val = pair (ptr_val d.at) h in let p : List Val = ptr_val d.at ∷ [] in
       nothing t $ move t (2 ∷ 0 ∷ []) $ fjoin t $ feq_i t (List Val) p p refl $ fjoin t $ feq_i t (List Val) (v ∷ []) (v ∷ []) refl $ fjoin t $
       fpack t (Valss (RawPtr ∷ EB.al.row ∷ [])) (within (shape RspSession.the_type) (d.at, (((tt, tt), tt), tt)) (v ∷ [])) (p, (h ∷ [], tt)) $ fjoin t $ s)

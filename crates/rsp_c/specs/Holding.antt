@@ -9,7 +9,7 @@ use Rattle.std_heap.specs.contracts.GlobalAllocator.TheImpl.{ghosts}
 use Rattle.rsp_acc.specs.contracts.planes.PlaneAcc as PlaneAcc
 use Rattle.rsp_acc.specs.contracts.planes.PlaneAccAcc.TheImpl as Acc
 use Rattle.rsp_debug.specs.contracts.debugger.Debugger as Debugger
-use Rattle.rsp_c.specs.contracts.held_bench.HeldBench as HeldBench
+use Rattle.rsp_c.specs.contracts.held_session.HeldSession as HeldSession
 
 abbrev pub debugger_row : RattleType
 debugger_row = Debugger.the_row PlaneAcc.the_row Acc.ghosts
@@ -17,11 +17,11 @@ debugger_row = Debugger.the_row PlaneAcc.the_row Acc.ghosts
 abbrev pub Opened : Type 0
 Opened = debugger_row.Denot
 
-abbrev pub bench_row : RattleType
-bench_row = HeldBench.the_row
+abbrev pub session_row : RattleType
+session_row = HeldSession.the_row
 
-abbrev pub OpenedBench : Type 0
-OpenedBench = bench_row.Denot
+abbrev pub OpenedSession : Type 0
+OpenedSession = session_row.Denot
 
 abbrev pub holding : (row : RattleType) → Global → Ptr → Option row.Denot → Fml
 holding row alloc p None = feq Ptr p null_ptr

@@ -55,6 +55,7 @@ fn event_end(n: u32, end: MoveEnd) -> MoveEnd
 }
 
 /// What a run reached that ended so.
+#[inline(always)]
 fn c_reached<A: Acc>(end: MoveEnd, machine: &Machine<A>) -> RspReached
     ensures { result ≡ c_reached end machine.now }
 {
@@ -91,7 +92,9 @@ fn is_status_write(end: MoveEnd) -> bool
 
 /// Makes the step of a write of SP_STATUS, after a run of `steps`, and reports what that comes to. The call makes this step itself,
 /// because the step alone knows whether the interrupt was raised, and a breakpoint after it would be missed if the caller made it. It
-/// ends after each such write, because a loop inside the call would need a definition of its own.
+/// ends after each such write, because a loop inside the call would need a definition of its own. It isn't inlined, so that an event
+/// without it saves few registers of the host.
+#[inline(never)]
 fn step_status<A: Acc>(debugger: &mut Debugger<A>, steps: u32) -> RspReached
     requires { steps < 1000000 }
     ensures reached { result ≡ c_after_status steps debugger.old }
@@ -139,10 +142,11 @@ pub extern "C" fn brsp_event(
             Err(_) => OUT_OF_RANGE,
             Ok(end) => {
                 let end = event_end(n, end);
-                *out = match end {
-                    MoveEnd::Move { steps, .. } if asked && is_status_write(end) => step_status(&mut debugger, steps),
-                    _ => c_reached(end, debugger.machine()),
-                };
+                // Each arm writes `out` itself, because LLVM copies a value that both make.
+                match end {
+                    MoveEnd::Move { steps, .. } if asked && is_status_write(end) => *out = step_status(&mut debugger, steps),
+                    _ => *out = c_reached(end, debugger.machine()),
+                }
                 OK
             }
         }

@@ -2,9 +2,9 @@
 
 ghost use Rattle.std.specs.Box.Ownership.{box_owns};
 ghost use Rattle.std.specs.Prelude.{◌≡◌, Option, None, Some, MatchOption};
-ghost use Rattle.rsp_c.specs.Holding.{holding, debugger_row, Opened, bench_row, OpenedBench};
+ghost use Rattle.rsp_c.specs.Holding.{holding, debugger_row, Opened, session_row, OpenedSession};
 
-use crate::held_bench::HeldBench;
+use crate::held_session::HeldSession;
 use rsp_acc::PlaneAcc;
 use rsp_debug::Debugger;
 use std::alloc::{Allocator, Global};
@@ -128,11 +128,11 @@ impl Drop for RspMachine {
 pub struct RspSession {
     at: *mut u8,
     alloc: Global,
-    pub ghost bench: { Option OpenedBench },
+    pub ghost bench: { Option OpenedSession },
 }
 
 impl Model for RspSession {
-    ghost also_owns = { λ h. holding bench_row h.alloc h.at h.bench };
+    ghost also_owns = { λ h. holding session_row h.alloc h.at h.bench };
 }
 
 // As of a `RspMachine`.
@@ -150,7 +150,7 @@ impl RspSession {
     }
 
     /// The handle of a bench.
-    pub fn of(parts: BoxParts<HeldBench, Global>) -> RspSession
+    pub fn of(parts: BoxParts<HeldSession, Global>) -> RspSession
         ensures { result.bench ≡ Some parts.value }
     {
         let BoxParts { ptr, alloc } = parts;
@@ -161,7 +161,7 @@ impl RspSession {
     }
 
     /// The bench of the handle, if it owns one.
-    pub fn into_parts(self) -> Option<BoxParts<HeldBench, Global>>
+    pub fn into_parts(self) -> Option<BoxParts<HeldSession, Global>>
         ensures { MatchOption result (self.bench ≡ None) (λ p. self.bench ≡ Some p.value) }
     {
         let RspSession { at, alloc } = self;
@@ -169,13 +169,13 @@ impl RspSession {
             return None;
         }
         Some(BoxParts {
-            ptr: at as *mut HeldBench,
+            ptr: at as *mut HeldSession,
             alloc,
         })
     }
 
     /// Takes the bench out of the handle, if it owns one.
-    pub fn take(&mut self, alloc: Global) -> Option<Box<HeldBench, Global>>
+    pub fn take(&mut self, alloc: Global) -> Option<Box<HeldSession, Global>>
         ensures was { MatchOption result (self.old.bench ≡ None) (λ b. self.old.bench ≡ Some b.value) }
         ensures now { self.new.bench ≡ None }
     {
@@ -187,7 +187,7 @@ impl RspSession {
     }
 
     /// Puts a bench into the handle, which owns none.
-    pub fn put(&mut self, bench: Box<HeldBench, Global>)
+    pub fn put(&mut self, bench: Box<HeldSession, Global>)
         requires { self.old.bench ≡ None }
         ensures { self.new.bench ≡ Some bench.value }
     {

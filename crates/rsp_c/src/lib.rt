@@ -11,7 +11,7 @@ mod explain;
 mod explanations;
 mod fault;
 mod handle;
-mod held_bench;
+mod held_session;
 mod labels;
 pub mod laws;
 mod life;

@@ -12,7 +12,7 @@ ghost use Rattle.rsp_c.specs.Bytes.{bank_bytes};
 ghost use Rattle.rsp_c.specs.Calls.{IsDoneIf, IsNext};
 
 use crate::handle::{RspSession, with_held};
-use crate::held_bench::HeldBench;
+use crate::held_session::HeldSession;
 use crate::life::{is_image_length, rdram_of};
 use crate::memory::bytes_of;
 use crate::status::{
@@ -27,7 +27,7 @@ const REPLIES: usize = 16384;
 
 /// A bench whose machine has a copy of an image of the RDRAM. AllocError if out of memory.
 #[inline(always)]
-fn new_bench(alloc: Global, image: &[u8]) -> Result<Box<HeldBench, Global>, AllocError>
+fn new_bench(alloc: Global, image: &[u8]) -> Result<Box<HeldSession, Global>, AllocError>
     requires { IsImageLength (length image.now) }
     ensures { IfOk result (λ held. held.value ≡ first_bench image.now) }
 {
@@ -35,7 +35,7 @@ fn new_bench(alloc: Global, image: &[u8]) -> Result<Box<HeldBench, Global>, Allo
         return Err(AllocError);
     };
     let reply = Reply::new();
-    match Box::new(alloc, HeldBench { bench, reply }) {
+    match Box::new(alloc, HeldSession { bench, reply }) {
         Err(_) => Err(AllocError),
         Ok(held) => Ok(held),
     }

@@ -51,6 +51,7 @@ pub fn c_divider(divider: &Divider) -> RspDivideState
 }
 
 /// A stop of a machine with this IMEM.
+#[inline(always)]
 pub fn c_stop(stop: Stop, imem: &SpMem) -> RspStop
     ensures { result ≡ c_stop stop imem.now }
 {
@@ -80,6 +81,7 @@ pub const AT_INTERRUPT: u32 = 7;
 pub const AT_STATUS: u32 = 8;
 
 /// The end of a run that also ends before moves, of a machine with this IMEM.
+#[inline(always)]
 pub fn c_move(end: MoveEnd, imem: &SpMem) -> RspMove
     ensures { result ≡ c_move end imem.now }
 {

@@ -3,5 +3,5 @@ pub mod Ends
 pub mod Faults
 pub mod Inputs
 pub mod Runs
-pub mod Scripts
+pub mod Streams
 pub mod Watching

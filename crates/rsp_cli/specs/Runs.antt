@@ -1,16 +1,16 @@
 -- What a run leaves: replies, the file that it saves, and the fault with which it ends.
 use Rattle.std.specs.Io.KnownBytes.{Appends}
-use Rattle.std.specs.Prelude.{◌≡◌, ◌<◌, ◌⊎◌, ℕ, List, length, Option, None, Some, IfSome, Result, Ok, Err, option_map}
+use Rattle.std.specs.Prelude.{◌≡◌, ◌<◌, ◌⊎◌, ℕ, List, length, Bool, IsTrue, Option, None, Some, IfSome, MatchOption, Result, Ok, Err, option_map}
 use Rattle.rsp_script_io.specs.Feeds.{script_limit}
 use Rattle.rsp_cli_args.specs.declared.Request.{Request}
 use Rattle.rsp_cli_args.specs.declared.Request.TheVariants.{Run}
 use Rattle.rsp_cli_args.specs.declared.RunFiles.{RunFiles}
 use Rattle.rsp_cli_files.specs.declared.fault.Fault.{Fault}
-use Rattle.rsp_cli_files.specs.declared.fault.Fault.TheVariants.{CannotWrite, OutOfMemory, RunRead, RunWrite, ScriptTooLong, RunOutOfMemory}
+use Rattle.rsp_cli_files.specs.declared.fault.Fault.TheVariants.{CannotWrite, OutOfMemory, RunRead, RunWrite, ScriptTooLong, RunOutOfMemory, Replies}
 use Rattle.rsp_cli_files.specs.declared.files.FileFault.{FileFault}
 use Rattle.rsp_cli_files.specs.Files.{IsSavedAs, SameFiles}
 use Rattle.rsp_cli.specs.Faults.{NotedFaults, IsRefusal}
-use Rattle.rsp_cli.specs.Inputs.{default_image}
+use Rattle.rsp_cli.specs.Inputs.{default_image, IsScriptFault, IsImageFault}
 
 -- the bytes of a file, if the store tells them
 abbrev pub told_bytes : Option (Result (List ℕ) FileFault) → Option (List ℕ)
@@ -61,6 +61,31 @@ IsRunFault saved RunOutOfMemory = Unit {0}
 IsRunFault saved (CannotWrite name reason) = saved ≡ Some name.now
 IsRunFault saved OutOfMemory = Unit {0}
 IsRunFault saved fault = ⊥
+
+-- a strict run may end so after its image was saved: replies are faults, or there was no memory for the text of the first of them
+abbrev pub IsLate : Fault → Type 0
+IsLate (Replies count line first) = 0 < count
+IsLate OutOfMemory = Unit {0}
+IsLate fault = ⊥
+
+-- no file has changed after a run that ended with this fault, unless a strict run was refused after its image was saved
+abbrev pub LeavesFiles : Bool → (before after : List ℕ → Option (Result (List ℕ) FileFault)) → Fault → Type 0
+LeavesFiles is_strict before after fault = (IsTrue is_strict × IsLate fault) ⊎ SameFiles before after
+
+-- a fault of a run with these files, strict or not
+abbrev pub IsFaultOver : Option (List ℕ) → Bool → Fault → Type 0
+IsFaultOver saved is_strict fault = IsRunFault saved fault ⊎ (IsTrue is_strict × IsLate fault)
+
+-- why a run doesn't begin: its script, or the contents of RDRAM before it
+abbrev pub IsInputFault : Option (List ℕ) → Option (List ℕ) → (List ℕ → Option (Result (List ℕ) FileFault)) → Fault → Type 0
+IsInputFault script rdram content fault = MatchOption script ⊥ (λ name. IsScriptFault name (content name) fault)
+    ⊎ MatchOption rdram (fault ≡ OutOfMemory) (λ name. IsImageFault name (content name) fault)
+
+-- why a run fails whose script is in the file with this name, or the input: it doesn't begin, it ends early, its image isn't saved, or it is
+-- strict and has faults among its replies
+abbrev pub IsRequestFault : Option (List ℕ) → RunFiles → (List ℕ → Option (Result (List ℕ) FileFault)) → Fault → Type 0
+IsRequestFault script asked content fault = IsInputFault script (option_map (λ name. name.now) asked.rdram) content fault
+    ⊎ IsFaultOver (option_map (λ name. name.now) asked.save) asked.is_strict fault
 
 -- why a strict run fails: it fails as every run may, or replies are faults
 abbrev pub IsStrictFault : Option (List ℕ) → NotedFaults → Option ℕ → Fault → Type 0

@@ -1,9 +1,9 @@
-ghost use Rattle.std.specs.Prelude.{◌≡◌, [], true, IfOk, OnErr};
-ghost use Rattle.std.specs.Io.{WritesAtMost};
-ghost use Rattle.std.specs.Io.KnownBytes.{WriteAppends, Keeps};
+ghost use Rattle.std.specs.Prelude.{◌≡◌, ◌+◌, ◌-◌, ◌<◌, ◌≤◌, ◌^◌, [], true, length, IfOk, OnErr};
+ghost use Rattle.std.specs.Io.KnownBytes.{Appends};
+ghost use Rattle.rsp_script_io.specs.Ends.{write_failures, taken};
 ghost use Rattle.rsp_cli.specs.Faults.{after_reply, after_write, starts_line};
 
-use std::io::{self, Write};
+use rsp_script_io::{EndFault, Sink};
 use std::marker::Model;
 
 /// The most bytes of a fault that are kept. No fault of a reply has more.
@@ -73,42 +73,42 @@ impl Faults {
     }
 }
 
-/// A writer that passes replies on to another one, and counts the faults among them.
+/// A sink that passes replies on to another one, and counts the faults among them.
 ///
 /// The bench begins each reply with a write of its own, so a reply begins where a write begins a line.
 #[derive(Drop)]
-pub(crate) struct CountingWriter<W> {
-    writer: W,
+pub(crate) struct CountingSink<W> {
+    sink: W,
     faults: Faults,
     is_line_start: bool,
 }
 
-impl<W> CountingWriter<W> {
-    /// A writer that wrote nothing: no faults, and a reply may begin.
-    pub(crate) fn new(writer: W) -> CountingWriter<W>
+impl<W> CountingSink<W> {
+    /// A sink that took nothing: no faults, and a reply may begin.
+    pub(crate) fn new(sink: W) -> CountingSink<W>
         ensures faults { result.faults ≡ record { count = 0; first = [] } }
         ensures start { result.is_line_start ≡ true }
-        ensures writer { result.writer ≡ writer }
+        ensures sink { result.sink ≡ sink }
     {
-        CountingWriter {
-            writer,
+        CountingSink {
+            sink,
             faults: Faults::new(),
             is_line_start: true,
         }
     }
 
-    /// The other writer.
-    pub(crate) fn writer(&self) -> &W
-        ensures { result.now ≡ self.now.writer }
+    /// The other sink.
+    pub(crate) fn sink(&self) -> &W
+        ensures { result.now ≡ self.now.sink }
     {
-        &self.writer
+        &self.sink
     }
 
-    /// The other writer, when all is written.
-    pub(crate) fn into_writer(self) -> W
-        ensures { result ≡ self.writer }
+    /// The other sink, when all is written.
+    pub(crate) fn into_sink(self) -> W
+        ensures { result ≡ self.sink }
     {
-        self.writer
+        self.sink
     }
 
     /// The faults among the replies that were written.
@@ -119,32 +119,34 @@ impl<W> CountingWriter<W> {
     }
 }
 
-impl<W: Write> Write for CountingWriter<W> {
-    /// The bytes that the other writer holds.
-    ghost contents = { λ s. W.contents s.writer };
+impl<W: Sink> Sink for CountingSink<W> {
+    /// The bytes that the other sink has taken.
+    ghost written = { λ s. W.written s.sink };
 
-    /// Passes the bytes on in one write, and counts the reply if a line begins with them and any of them were taken.
-    fn write(&mut self, bytes: &[u8]) -> io::Result<usize>
-        ensures bound { WritesAtMost result bytes.now }
-        ensures bytes { WriteAppends (W.contents self.old.writer) (W.contents self.new.writer) result bytes.now }
-        ensures noted { IfOk result (λ n. self.new.faults ≡ after_write bytes.now n self.old.is_line_start self.old.faults) }
-        ensures start { IfOk result (λ n. self.new.is_line_start ≡ starts_line bytes.now n self.old.is_line_start) }
+    /// How many of its writes failed.
+    ghost fault_count = { λ s. W.fault_count s.sink };
+
+    /// Passes the piece on in one write, and counts the reply if a line begins with it and any of it was taken.
+    fn write(&mut self, piece: &[u8]) -> Result<usize, EndFault>
+        requires { W.fault_count self.old.sink < 2 ^ 64 - 1 }
+        ensures bound { IfOk result (λ n. n ≤ length piece.now) }
+        ensures told { Appends (W.written self.old.sink) (W.written self.new.sink) (taken result piece.now) }
+        ensures counted { W.fault_count self.new.sink ≡ W.fault_count self.old.sink + write_failures result piece.now }
+        ensures noted { IfOk result (λ n. self.new.faults ≡ after_write piece.now n self.old.is_line_start self.old.faults) }
+        ensures start { IfOk result (λ n. self.new.is_line_start ≡ starts_line piece.now n self.old.is_line_start) }
         ensures err { OnErr result ((self.new.faults ≡ self.old.faults) × (self.new.is_line_start ≡ self.old.is_line_start)) }
     {
-        let taken = self.writer.write(bytes)?;
+        let taken = self.sink.write(piece)?;
         if taken > 0 {
             if self.is_line_start {
-                self.faults.note(bytes);
+                self.faults.note(piece);
             }
-            self.is_line_start = bytes[taken - 1] == b'\n';
+            self.is_line_start = piece[taken - 1] == b'\n';
         }
         Ok(taken)
     }
 
-    fn flush(&mut self) -> io::Result<()>
-        ensures bytes { Keeps (W.contents self.old.writer) (W.contents self.new.writer) }
-        ensures noted { (self.new.faults ≡ self.old.faults) × (self.new.is_line_start ≡ self.old.is_line_start) }
-    {
-        self.writer.flush()
+    fn failures(&self) -> u64 {
+        self.sink.failures()
     }
 }

@@ -1,10 +1,10 @@
 use std::io::Write;
 
-/// The commands, in lines of at most 80 bytes.
+/// The commands and how to end, in lines of at most 80 bytes.
 const COMMANDS: &str = "\
 Commands: load asm end task; step run back break unbreak watch unwatch;
           regs vregs acc flags sp mem dis; pc read write
-Ctrl-D ends the script.
+'rsp help run' shows their operands. Ctrl-D ends the script.
 ";
 
 /// What helps if faults aren't explained.

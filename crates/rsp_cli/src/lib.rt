@@ -12,12 +12,11 @@ mod inputs;
 mod program;
 mod run;
 mod save;
-mod script;
 mod status;
 mod watch;
 mod wrapped;
 
 pub use program::{refuse_arguments, work};
 pub use rsp_cli_files::{FileFault, FileStore, SystemFiles, Terminals};
-pub use run::run_request;
+pub use run::{Ended, run_request};
 pub use status::Status;

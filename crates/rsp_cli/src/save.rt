@@ -2,6 +2,7 @@ ghost use Rattle.std.specs.Prelude.{◌≡◌, Ok, Err, IsOk, IfOk, IfErr, OnOk,
 ghost use Rattle.rsp_cli_files.specs.Files.{SameFiles};
 ghost use Rattle.rsp_cli.specs.Ends.{fault_of_run};
 ghost use Rattle.rsp_cli.specs.Runs.{IsRunFault, IsSaved};
+ghost use Rattle.rsp_cli.specs.Streams.{run_end, end_of};
 
 use rsp_cli_files::{Fault, FileStore, write_file};
 use rsp_memory::Rdram;
@@ -16,6 +17,7 @@ pub(crate) fn save_left<'a, F: FileStore>(
     ensures ok { OnOk result (IsOk ran) }
     ensures saved { OnOk result (IfOk ran (IsSaved (option_map (λ t. t.now) name.entry) (F.content files.old) (F.content files.new))) }
     ensures early { IfErr ran (λ fault. result ≡ Err (fault_of_run fault)) }
+    ensures end { run_end result ≡ end_of ran }
     ensures err { IfErr result (IsRunFault (option_map (λ t. t.now) name.entry)) }
     ensures same { OnErr result (SameFiles (F.content files.old) (F.content files.new)) }
 {
@@ -45,6 +47,7 @@ fn save_image<'a, F: FileStore>(
 ) -> Result<(), Fault<'a>>
     ensures ok { OnOk result (IsSaved (option_map (λ t. t.now) name.entry) (F.content files.old) (F.content files.new) image) }
     ensures err { IfErr result (IsRunFault (option_map (λ t. t.now) name.entry)) }
+    ensures end { run_end result ≡ Ok tt }
     ensures same { OnErr result (SameFiles (F.content files.old) (F.content files.new)) }
 {
     match name {

@@ -1,14 +1,16 @@
 // What a run says of its replies on standard error.
 
-ghost use Rattle.std.specs.Prelude.{◌≡◌, IfSome};
-ghost use Rattle.rsp_explain.specs.Places.{next_place};
+ghost use Rattle.std.specs.Prelude.{◌≡◌, IfSome, string_bytes};
+ghost use Rattle.rsp_explain.specs.Places.{next_place, answered_at};
+ghost use Rattle.rsp_explain.specs.Replies.{IsReplyExplained};
 ghost use Rattle.rsp_cli.specs.Watching.{whole_text, reply_at_work, first_line};
 
 use crate::explaining::Explainer;
 use rsp_explain::{Head, Place, Places, explain_reply};
+use rsp_script_io::{EndFault, Sink, Source};
 use std::alloc::Global;
 use std::cell::RefCell;
-use std::io::{self, Read, Write};
+use std::io::Write;
 
 /// The bytes of a script that were read so far.
 #[derive(Drop)]
@@ -32,32 +34,46 @@ impl Heard {
     }
 }
 
-/// A reader that passes on what another one gives, and keeps it.
+/// A source that passes on what another one gives, and keeps it.
 #[derive(Drop)]
 pub(crate) struct Listener<'a, R> {
-    reader: R,
+    source: R,
     heard: &'a RefCell<Heard>,
 }
 
 impl<'a, R> Listener<'a, R> {
-    /// A reader of what this reader gives.
-    pub(crate) fn new(reader: R, heard: &'a RefCell<Heard>) -> Listener<'a, R>
-        ensures { result.reader ≡ reader }
+    /// A source of what this source gives.
+    pub(crate) fn new(source: R, heard: &'a RefCell<Heard>) -> Listener<'a, R>
+        ensures { result.source ≡ source }
     {
-        Listener { reader, heard }
+        Listener { source, heard }
+    }
+
+    /// The other source.
+    pub(crate) fn into_source(self) -> R
+        ensures { result ≡ self.entry.source }
+    {
+        self.source
     }
 }
 
-impl<R: Read> Read for Listener<'_, R> {
-    /// The bytes that the other reader has left.
-    ghost remaining = { λ s. R.remaining s.reader };
+impl<R: Source> Source for Listener<'_, R> {
+    /// The bytes that the other source has left.
+    ghost rest = { λ s. R.rest s.source };
 
-    fn read(&mut self, buf: &mut [u8]) -> io::Result<usize> {
-        let count = self.reader.read(buf)?;
+    /// How many of its reads failed.
+    ghost fault_count = { λ s. R.fault_count s.source };
+
+    fn read(&mut self, buf: &mut [u8]) -> Result<usize, EndFault> {
+        let count = self.source.read(buf)?;
         if let Ok(mut heard) = self.heard.try_borrow_mut() {
             heard.hear(&buf[..count]);
         }
         Ok(count)
+    }
+
+    fn failures(&self) -> u64 {
+        self.source.failures()
     }
 }
 
@@ -75,9 +91,9 @@ const LONGEST: usize = 64;
 
 /// The replies to a script as they are written: which line each answers, and what is said of those that are faults.
 #[derive(Drop)]
-pub(crate) struct Watch<'a, E> {
+pub(crate) struct Watch<'t, 'n, E> {
     alloc: Global,
-    text: Text<'a>,
+    text: Text<'t>,
     places: Places,
     /// How the reply at work begins.
     reply: [u8; LONGEST],
@@ -87,21 +103,21 @@ pub(crate) struct Watch<'a, E> {
     /// The line of the first fault, if it is known.
     first: Option<usize>,
     /// How a line is named.
-    head: Head<'a>,
+    head: Head<'n>,
     /// What explains the faults, if something does.
     explainer: Option<Explainer<E>>,
     /// How many replies were to be explained.
     count: u64,
 }
 
-impl<'a, E: Write> Watch<'a, E> {
+impl<'t, 'n, E: Write> Watch<'t, 'n, E> {
     /// Before the first reply.
     pub(crate) fn new(
         alloc: Global,
-        text: Text<'a>,
-        head: Head<'a>,
+        text: Text<'t>,
+        head: Head<'n>,
         explainer: Option<Explainer<E>>,
-    ) -> Watch<'a, E> {
+    ) -> Watch<'t, 'n, E> {
         Watch {
             alloc,
             text,
@@ -188,12 +204,19 @@ impl<'a, E: Write> Watch<'a, E> {
         if style.more(self.count) > 0 {
             return;
         }
-        let Ok(said) = explain_reply(self.alloc, self.head, place, self.reply()) else {
+        let Some(said) = self.explanation(place) else {
             return;
         };
         if let Some(explainer) = &mut self.explainer {
             explainer.show(place, said.as_str());
         }
+    }
+
+    /// What explains the reply at work, which answers this place; None if there is no memory for it.
+    fn explanation(&self, place: Place<'_>) -> Option<String>
+        ensures { IfSome result (λ said. IsReplyExplained self.now.head (answered_at place.entry) (reply_at_work self.now) (string_bytes said)) }
+    {
+        explain_reply(self.alloc, self.head, place, self.reply()).ok()
     }
 
     /// Says how many replies aren't explained.
@@ -204,19 +227,19 @@ impl<'a, E: Write> Watch<'a, E> {
     }
 }
 
-/// A writer that passes replies on to another one, and watches them.
+/// A sink that passes replies on to another one, and watches them.
 #[derive(Drop)]
-pub(crate) struct Watcher<'a, W, E> {
-    writer: W,
-    watch: Watch<'a, E>,
+pub(crate) struct Watcher<'t, 'n, W, E> {
+    sink: W,
+    watch: Watch<'t, 'n, E>,
 }
 
-impl<'a, W: Write, E: Write> Watcher<'a, W, E> {
-    /// A writer before its first reply.
-    pub(crate) fn new(writer: W, watch: Watch<'a, E>) -> Watcher<'a, W, E>
-        ensures { result.writer ≡ writer }
+impl<'t, 'n, W: Sink, E: Write> Watcher<'t, 'n, W, E> {
+    /// A sink before its first reply.
+    pub(crate) fn new(sink: W, watch: Watch<'t, 'n, E>) -> Watcher<'t, 'n, W, E>
+        ensures { result.sink ≡ sink }
     {
-        Watcher { writer, watch }
+        Watcher { sink, watch }
     }
 
     /// The line of the first fault, if it is known.
@@ -228,36 +251,38 @@ impl<'a, W: Write, E: Write> Watcher<'a, W, E> {
 
     /// Says how many replies aren't explained, after the last one.
     pub(crate) fn end(&mut self)
-        ensures { self.new.writer ≡ self.old.writer }
+        ensures { self.new.sink ≡ self.old.sink }
     {
         self.watch.end();
     }
 }
 
-impl<'a, W, E: Drop> Watcher<'a, W, E> {
-    /// The other writer, when all is written.
-    pub(crate) fn into_writer(self) -> W
-        ensures { result ≡ self.entry.writer }
+impl<W, E: Drop> Watcher<'_, '_, W, E> {
+    /// The other sink, when all is written.
+    pub(crate) fn into_sink(self) -> W
+        ensures { result ≡ self.entry.sink }
     {
-        self.writer
+        self.sink
     }
 }
 
-impl<W: Write, E: Write> Write for Watcher<'_, W, E> {
-    /// The bytes that the other writer holds.
-    ghost contents = { λ s. W.contents s.writer };
+impl<W: Sink, E: Write> Sink for Watcher<'_, '_, W, E> {
+    /// The bytes that the other sink has taken.
+    ghost written = { λ s. W.written s.sink };
 
-    /// Passes the bytes on in one write. A reply is flushed before a fault is explained.
-    fn write(&mut self, bytes: &[u8]) -> io::Result<usize> {
-        let taken = self.writer.write(bytes)?;
-        if self.watch.note(bytes, taken) {
-            let _ = self.writer.flush();
+    /// How many of its writes failed.
+    ghost fault_count = { λ s. W.fault_count s.sink };
+
+    /// Passes the bytes on in one write. A fault is explained when its reply is written.
+    fn write(&mut self, piece: &[u8]) -> Result<usize, EndFault> {
+        let taken = self.sink.write(piece)?;
+        if self.watch.note(piece, taken) {
             self.watch.settle();
         }
         Ok(taken)
     }
 
-    fn flush(&mut self) -> io::Result<()> {
-        self.writer.flush()
+    fn failures(&self) -> u64 {
+        self.sink.failures()
     }
 }

@@ -1,14 +1,22 @@
 -- What `rsp asm` and `rsp dis` do with a file.
-use Rattle.std.specs.Prelude.{◌≡◌, ◌⊎◌, ◌+◌, ◌*◌, ◌/◌, ◌%◌, ◌<◌, ◌≤◌, ℕ, List, ◌++◌, length, map, drop, codes, decimal, Option, None, Some, MatchOption, Result, Err, MatchResult}
+use Rattle.std.specs.Prelude.{◌≡◌, ◌⊎◌, ◌+◌, ◌*◌, ◌/◌, ◌%◌, ◌<◌, ◌≤◌, ℕ, List, ◌++◌, length, map, drop, codes, decimal, false, Option, None, Some, option_map, MatchOption, Result, Err, MatchResult, string_bytes}
 use Rattle.std.specs.List.{range_with_len}
+use Rattle.std.specs.Io.KnownBytes.{Appends}
 use Rattle.std.specs.Str.{IsUtf8}
 use Rattle.byteorder.specs.Endian.{big_number}
 use Rattle.rsp_commands.specs.Operand.{instruction_address_of}
+use Rattle.rsp_memory.specs.Words.{words_bytes}
+use Rattle.rsp_syntax.specs.Disassembly.{listing}
+use Rattle.rsp_syntax.specs.SourceLine.{text_of_lines}
 use Rattle.rsp_syntax.specs.SourceText.{meaning_of_text}
+use Rattle.rsp_cli_args.specs.declared.AssembleFiles.{AssembleFiles}
+use Rattle.rsp_cli_args.specs.declared.DisassembleFiles.{DisassembleFiles}
+use Rattle.rsp_explain.specs.Said.{AreExplained, IsExplained, text_faults}
+use Rattle.rsp_explain.specs.declared.head.Head.{Head}
 use Rattle.rsp_cli_files.specs.declared.fault.Fault.{Fault}
 use Rattle.rsp_cli_files.specs.declared.fault.Fault.TheVariants.{NoAddress, NotText, ScriptTooLong, OutOfMemory, Source, Explained, WordsSize, RunWrite}
 use Rattle.rsp_cli_files.specs.declared.files.FileFault.{FileFault}
-use Rattle.rsp_cli_files.specs.Files.{IfHeld}
+use Rattle.rsp_cli_files.specs.Files.{IfHeld, IsSavedAs, SameFiles}
 use Rattle.rsp_cli_files.specs.Faults.{IsReadFault, IsWriteFault}
 
 -- the most bytes of a source text
@@ -43,10 +51,14 @@ IsTextFault bytes (NotText at) = (length bytes ≤ source_limit) × ¬ IsUtf8 by
 IsTextFault bytes ScriptTooLong = source_limit < length bytes
 IsTextFault bytes fault = ⊥
 
+-- what explains the faults of a source text: it begins with the one for which the assembler refuses the text, and names all as far as twenty
+abbrev pub IsTextExplained : List ℕ → ℕ → List ℕ → Type 0
+IsTextExplained text origin said = (head : Head) × IsExplained head 0 (meaning_of_text text origin) said × AreExplained head 0 (text_faults text origin) said
+
 -- why a source text isn't assembled: by its fault, which may be explained, or for want of memory
 abbrev pub IsSourceFault : List ℕ → ℕ → Fault → Type 0
 IsSourceFault text origin (Source fault) = meaning_of_text text origin ≡ Err fault
-IsSourceFault text origin (Explained said) = MatchResult (meaning_of_text text origin) (λ _. ⊥) (λ _. Unit {0})
+IsSourceFault text origin (Explained said) = MatchResult (meaning_of_text text origin) (λ _. ⊥) (λ _. IsTextExplained text origin (string_bytes said))
 IsSourceFault text origin OutOfMemory = Unit {0}
 IsSourceFault text origin fault = ⊥
 
@@ -57,6 +69,20 @@ words_of bytes = map (λ k. big_number 4 (drop (4 * k) bytes)) (range_with_len 0
 -- the file has whole words, and they fit from the address on to the end of IMEM
 abbrev pub FitsImem : ℕ → List ℕ → Type 0
 FitsImem origin bytes = (length bytes % 4 ≡ 0) × (origin + length bytes ≤ 4096)
+
+-- an assembly that is done: OUT holds the bytes of the words that the source text means, and without a listing their number is printed
+abbrev pub IsAssembled : AssembleFiles → (before after : List ℕ → Option (Result (List ℕ) FileFault)) → (output written : Option (List ℕ)) → Type 0
+IsAssembled asked before after output written = IfHeld (before asked.source.now) (λ text. MeansWords (option_map (λ t. t.now) asked.at) text (λ words.
+    IsSavedAs asked.out.now before after (words_bytes words)))
+    × (asked.with_listing ≡ false → IfHeld (before asked.source.now) (λ text. MeansWords (option_map (λ t. t.now) asked.at) text (λ words.
+    Appends output written (count_line (length words)))))
+
+-- a disassembly that is done: the words fit IMEM, and without a listing and labels the text of each is printed; no file has changed
+abbrev pub IsDisassembled : DisassembleFiles → (before after : List ℕ → Option (Result (List ℕ) FileFault)) → (output written : Option (List ℕ)) → Type 0
+IsDisassembled asked before after output written = IfHeld (before asked.words.now) (λ bytes. AtOrigin (option_map (λ t. t.now) asked.at) (λ origin. FitsImem origin bytes))
+    × (asked.with_labels ≡ false → asked.with_listing ≡ false → IfHeld (before asked.words.now) (λ bytes. AtOrigin (option_map (λ t. t.now) asked.at) (λ origin.
+    Appends output written (text_of_lines (listing origin (words_of bytes))))))
+    × SameFiles before after
 
 -- why `rsp asm` fails: the address, the file that is read, its text, the file that is written, or standard output
 abbrev pub IsAssembleFault : Option (List ℕ) → List ℕ → List ℕ → Option (Result (List ℕ) FileFault) → Fault → Type 0

@@ -1,10 +1,10 @@
-ghost use Rattle.std.specs.Prelude.{◌≡◌, ◌≤◌, ◌⊎◌, false, length, Ok, IfOk, OnOk, IfErr, OnErr, option_map};
+ghost use Rattle.std.specs.Prelude.{◌≡◌, ◌≤◌, ◌⊎◌, false, length, Ok, IfSome, IfOk, OnOk, IfErr, OnErr, option_map, string_bytes};
 ghost use Rattle.std.specs.Io.KnownBytes.{Appends};
 ghost use Rattle.rsp_memory.specs.Words.{words_bytes};
 ghost use Rattle.rsp_syntax.specs.SourceText.{meaning_of_text};
 ghost use Rattle.rsp_cli_files.specs.Files.{IfHeld, IsSavedAs, SameFiles};
 ghost use Rattle.rsp_cli_files.specs.Faults.{IsWriteFault};
-ghost use Rattle.rsp_cli_files.specs.Words.{MeansWords, count_line, source_limit, IsTextFault, IsSourceFault, IsAssembleFault};
+ghost use Rattle.rsp_cli_files.specs.Words.{MeansWords, count_line, source_limit, IsTextFault, IsTextExplained, IsSourceFault, IsAssembleFault};
 
 use crate::fault::{Fault, Position};
 use crate::files::{FileStore, read_file, write_file};
@@ -152,6 +152,7 @@ fn explanation(
     asked: &AssembleFiles<'_>,
 ) -> Result<Option<String>, AllocError>
     requires { origin ≤ 4092 }
+    ensures { IfOk result (λ explained. IfSome explained (λ said. IsTextExplained text.now origin (string_bytes said))) }
 {
     if !asked.with_explanation {
         return Ok(None);

@@ -1,7 +1,7 @@
 use crate::fault::{Fault, FileLength};
 use rsp_cli_args::Escaped;
 use std::fmt::{self, Display, Formatter, Write};
-use std::io::ErrorKind;
+use std::io::{Error, ErrorKind};
 
 /// What `--explain` says of a fault after its line: lines that begin with two spaces, or nothing.
 #[derive(Clone, Copy)]
@@ -36,9 +36,15 @@ fn put_reason<W: Write>(f: &mut Formatter<W>, reason: ErrorKind) -> fmt::Result 
         ErrorKind::IsADirectory => writeln!(f, "  note: it is a folder"),
         ErrorKind::NotADirectory => writeln!(f, "  note: what its path goes through is no folder"),
         ErrorKind::PermissionDenied => writeln!(f, "  note: you have no permission"),
-        ErrorKind::Other | ErrorKind::Uncategorized => Ok(()),
+        ErrorKind::Other => Ok(()),
+        other if other == kind_without_name() => Ok(()),
         other => writeln!(f, "  note: {other}"),
     }
+}
+
+/// The kind of the errors that have no other kind. Stable Rust has no name for it, but -1 is no system's error.
+fn kind_without_name() -> ErrorKind {
+    Error::from_raw_os_error(-1).kind()
 }
 
 /// The length of a file. No more bytes of a file are read than show that it is longer than any may be.

@@ -160,7 +160,7 @@ pub(crate) fn one_address(mut words: LineWords) -> Result<u16, LineFault>
 }
 
 /// The two operands, as words.
-pub(crate) fn two_words(mut words: LineWords) -> Result<(&[u8], &[u8]), LineFault>
+pub(crate) fn two_words(mut words: LineWords<'_>) -> Result<(&[u8], &[u8]), LineFault>
     ensures words { (command : List ℕ → List ℕ → Result Command LineFault) → MatchResult result
         (λ w. two_words command words.entry ≡ command w.0.now w.1.now)
         (λ fault. two_words command words.entry ≡ Err fault) }
@@ -173,7 +173,7 @@ pub(crate) fn two_words(mut words: LineWords) -> Result<(&[u8], &[u8]), LineFaul
 }
 
 /// A bank, and the two operands after it, as words.
-pub(crate) fn on_bank(mut words: LineWords) -> Result<(Bank, &[u8], &[u8]), LineFault>
+pub(crate) fn on_bank(mut words: LineWords<'_>) -> Result<(Bank, &[u8], &[u8]), LineFault>
     ensures words { (command : Bank → List ℕ → List ℕ → Result Command LineFault) → MatchResult result
         (λ w. on_bank command words.entry ≡ command w.0 w.1.now w.2.now)
         (λ fault. on_bank command words.entry ≡ Err fault) }

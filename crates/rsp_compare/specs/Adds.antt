@@ -1,5 +1,6 @@
 -- The add instructions, each by its rule for one lane. a is a lane of vs and b a lane of the selected vt, as unsigned
 -- values; s16 gives the signed ones. A flag that a rule doesn't name is kept.
+-- Sources: Nintendo's RSP Programmer's Guide, chapter on vector unit instructions; the N64brew Wiki's page "Reality Signal Processor/CPU Core".
 use Rattle.std.specs.Prelude.{ℕ, ℤ, pos, negsuc, ◌+◌, ◌%◌, ◌+ℤ◌, ◌-ℤ◌, false, not, ◌&&◌, int_lt, nat_lt, nat_eq, if◌then◌else◌}
 use Rattle.std.specs.Ordering.{int_eq}
 use Rattle.rsp_lanes.specs.Lanes.{bit}
@@ -13,9 +14,11 @@ use Rattle.rsp_compare.specs.declared.adds.AddOp.TheVariants.{Vadd, Vsub, Vabs, 
 abbrev pub clamped : ℤ → LaneFlags → Outcome
 clamped n f = record { result = sixteen_bits (clamp16 n); low = sixteen_bits n; flags = vco_cleared f }
 
+-- VADD: the sum of the signed values and carry
 abbrev pub vadd : Rule
 vadd a b f = clamped (s16 a +ℤ s16 b +ℤ pos (bit f.carry)) f
 
+-- VSUB: the difference of the signed values, less carry
 abbrev pub vsub : Rule
 vsub a b f = clamped (s16 a -ℤ s16 b -ℤ pos (bit f.carry)) f
 
@@ -32,9 +35,12 @@ vabs a b f =
     if int_lt (s16 a) (pos 0) && int_eq (s16 b) (negsuc 32767) then record { result = 32767; low = 32768; flags = f }
     else plain (with_sign_of a b) f
 
+-- VADDC: the sum of the unsigned values, modulo 65536; carry is set if it is above 65535, and differ is cleared
 abbrev pub vaddc : Rule
 vaddc a b f = plain ((a + b) % 65536) (record f { carry = nat_lt 65535 (a + b); differ = false })
 
+-- VSUBC: the difference of the unsigned values, modulo 65536; carry is set if a is below b, and differ if they aren't
+-- equal
 abbrev pub vsubc : Rule
 vsubc a b f = plain (sixteen_bits (pos a -ℤ pos b)) (record f { carry = nat_lt a b; differ = not (nat_eq a b) })
 

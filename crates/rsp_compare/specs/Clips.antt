@@ -1,5 +1,6 @@
 -- The clip instructions, each by its rule for one lane. a is a lane of vs and b a lane of the selected vt, as unsigned
 -- values; s16 gives the signed ones.
+-- Sources: Nintendo's RSP Programmer's Guide, chapter on vector unit instructions; the N64brew Wiki's page "Reality Signal Processor/CPU Core".
 use Rattle.std.specs.Prelude.{ℕ, pos, negsuc, ◌+◌, ◌%◌, ◌+ℤ◌, ◌-ℤ◌, Bool, true, false, not, ◌&&◌, ◌||◌, int_lt, int_le, nat_lt, nat_le, nat_eq, if◌then◌else◌}
 use Rattle.std.specs.Ordering.{int_eq}
 use Rattle.rsp_lanes.specs.Lanes.{bool_xor}

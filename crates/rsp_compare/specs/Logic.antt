@@ -1,4 +1,5 @@
 -- The logic instructions, each by its rule for one lane.
+-- Sources: Nintendo's RSP Programmer's Guide, chapter on vector unit instructions; the N64brew Wiki's page "Reality Signal Processor/CPU Core".
 use Rattle.std.specs.Prelude.{ℕ}
 use Rattle.std.specs.Int.Bits.{bit_and, bit_or, bit_xor}
 use Rattle.rsp_numbers.specs.Numbers.{complement}
@@ -6,6 +7,7 @@ use Rattle.rsp_lanes.specs.Outcome.{Rule, plain}
 use Rattle.rsp_compare.specs.declared.logic.LogicOp.{LogicOp}
 use Rattle.rsp_compare.specs.declared.logic.LogicOp.TheVariants.{Vand, Vnand, Vor, Vnor, Vxor, Vnxor}
 
+-- the result, bit by bit; complement inverts all sixteen bits
 abbrev pub bits_of : LogicOp → ℕ → ℕ → ℕ
 bits_of Vand a b = bit_and a b
 bits_of Vnand a b = complement (bit_and a b)

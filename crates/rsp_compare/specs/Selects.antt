@@ -1,4 +1,5 @@
 -- The compare and merge instructions, each by its rule for one lane. A flag that a rule doesn't name is kept.
+-- Sources: Nintendo's RSP Programmer's Guide, chapter on vector unit instructions; the N64brew Wiki's page "Reality Signal Processor/CPU Core".
 use Rattle.std.specs.Prelude.{ℕ, Bool, false, not, ◌&&◌, ◌||◌, int_lt, if◌then◌else◌}
 use Rattle.std.specs.Ordering.{int_eq}
 use Rattle.rsp_numbers.specs.Numbers.{s16}
@@ -9,16 +10,19 @@ use Rattle.rsp_compare.specs.declared.selects.SelectOp.TheVariants.{Vlt, Veq, Vn
 use Rattle.rsp_compare.specs.declared.selects.MergeOp.{MergeOp}
 use Rattle.rsp_compare.specs.declared.selects.MergeOp.TheVariants.{Vmrg}
 
--- whether the comparison of the signed values holds
+-- whether VLT's comparison holds: a is less than b as a signed value; if they are equal, carry and differ are both set
 abbrev pub vlt : ℕ → ℕ → LaneFlags → Bool
 vlt a b f = int_lt (s16 a) (s16 b) || (int_eq (s16 a) (s16 b) && (f.carry && f.differ))
 
+-- whether VEQ's holds: the signed values are equal, and differ is clear
 abbrev pub veq : ℕ → ℕ → LaneFlags → Bool
 veq a b f = int_eq (s16 a) (s16 b) && not f.differ
 
+-- whether VNE's holds: the signed values aren't equal, or differ is set
 abbrev pub vne : ℕ → ℕ → LaneFlags → Bool
 vne a b f = not (int_eq (s16 a) (s16 b)) || f.differ
 
+-- whether VGE's holds: a is greater than b as a signed value; if they are equal, carry and differ aren't both set
 abbrev pub vge : ℕ → ℕ → LaneFlags → Bool
 vge a b f = int_lt (s16 b) (s16 a) || (int_eq (s16 a) (s16 b) && not (f.carry && f.differ))
 

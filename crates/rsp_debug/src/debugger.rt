@@ -160,6 +160,7 @@ impl<A: Acc> Debugger<A> {
     /// Makes steps until there is a reason to stop, at most `n`. The reasons, in their order: the word at pc is reserved and the
     /// machine isn't halted; it is halted; the last step changed a byte of a watch (the stop has the lowest number of such a watch);
     /// the last step led to a breakpoint; `n` steps are made. CountFault unless `n` is 1 to 1000000.
+    #[inline(always)]
     pub fn run(&mut self, n: u32) -> Result<Stop, CountFault>
         ensures count { IsOk result ↔ ((1 ≤ n) × (n ≤ 1000000)) }
         ensures stop { IfOk result (λ stop. stop ≡ stop_in n self.old) }
@@ -183,6 +184,7 @@ impl<A: Acc> Debugger<A> {
     /// Runs as [`Debugger::run`] does, and also ends before an MFC0 or MTC0 of an SP register that `moves` names, which isn't executed, also before
     /// the first step. The reasons, in their order: the word at pc is reserved and the machine isn't halted; it is halted; the last step changed a
     /// byte of a watch; it led to a breakpoint; such a move is next; `n` steps are made. CountFault unless `n` is 1 to 1000000.
+    #[inline(always)]
     pub fn run_until_move(&mut self, n: u32, moves: Moves) -> Result<MoveEnd, CountFault>
         ensures count { IsOk result ↔ ((1 ≤ n) × (n ≤ 1000000)) }
         ensures end { IfOk result (λ end. end ≡ move_end_in n moves self.old) }

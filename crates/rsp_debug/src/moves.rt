@@ -111,6 +111,7 @@ impl Moves {
     }
 
     /// The end of a run that made no more steps than to the first of the moves.
+    #[inline(always)]
     #[tactic(auto, using(crate::proofs::Moving::moving))]
     pub(crate) fn end<A: Acc>(self, stop: Stop, machine: &Machine<A>) -> MoveEnd
         ensures { result ≡ end_by self stop machine.now }

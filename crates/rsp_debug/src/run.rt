@@ -19,6 +19,7 @@ use rsp_acc::Acc;
 use rsp_machine::{Machine, Never, Until};
 
 /// A stop at the machine's pc: it can't make a step, or there is another reason.
+#[inline(always)]
 pub(crate) fn stopped_here<A: Acc>(machine: &Machine<A>, otherwise: Reason, steps: u32) -> Stop
     ensures { result ≡ record { reason = unwrap_or (step_refusal machine.now) otherwise; steps = steps; pc = machine.now.pc } }
 {
@@ -86,7 +87,9 @@ fn run_watching<A: Acc>(
     run_to(machine, history, &conditions, &conditions, n)
 }
 
-/// Makes the least number of steps, at most `n`, after which there is a reason to stop or one of the moves is next.
+/// Makes the least number of steps, at most `n`, after which there is a reason to stop or one of the moves is next. It is inlined, as are
+/// the methods that call it and what they answer by, because a run of few steps costs as much as these calls.
+#[inline(always)]
 #[tactic(auto, unfolding(crate::specs::Snapshots::differs))]
 pub fn run<A: Acc>(
     machine: &mut Machine<A>,

@@ -1,4 +1,5 @@
 -- The divide instructions, VMOV, VNOP and VNULL: what each writes to vd, to the divider and to the accumulators.
+-- Sources: Nintendo's RSP Programmer's Guide, chapter on vector unit instructions; the N64brew Wiki's page "Reality Signal Processor/CPU Core".
 use Rattle.std.specs.Prelude.{ℕ, ℤ, ◌%◌, List, slice_set, slice_index, Bool, true, false, if◌then◌else◌}
 use Rattle.rsp_lanes.specs.Lanes.{selected}
 use Rattle.rsp_acc.specs.Planes.{with_low}

@@ -1,4 +1,5 @@
 -- The divider: `input` is DIV_IN, `output` is DIV_OUT, and `loaded` is the flag that DIV_IN is loaded.
+-- Sources: Nintendo's RSP Programmer's Guide, chapter on vector unit instructions; the N64brew Wiki's page "Reality Signal Processor/CPU Core".
 use Rattle.std.specs.Prelude.{ℕ, ℤ, ◌+◌, ◌*◌, true, false, if◌then◌else◌}
 use Rattle.rsp_numbers.specs.Numbers.{s16, s32, sixteen_bits, upper_bits}
 use Rattle.rsp_divide.specs.declared.divider.Divider.{Divider}

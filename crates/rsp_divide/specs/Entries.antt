@@ -1,4 +1,5 @@
 -- The entries of the divide tables.
+-- Sources: Nintendo's RSP Programmer's Guide, chapter on vector unit instructions; the N64brew Wiki's page "Reality Signal Processor/CPU Core".
 use Rattle.std.specs.Prelude.{ℕ, ◌+◌, ◌/◌, ◌%◌, ◌^◌, ◌<◌, ◌≡◌, ◌==◌, if◌then◌else◌}
 use Rattle.rsp_numbers.specs.Roots.{radicand, IsRoot, HasOne, the}
 use Rattle.rsp_numbers.proofs.Roots.{one_root}

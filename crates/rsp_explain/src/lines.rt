@@ -3,8 +3,9 @@
 use crate::allowed::{Allowed, kind_of};
 use rsp_advice::{
     Label, Labelled, Operands, Visible, is_instruction, lacks_comma, nearest_statement,
-    of_accumulator, of_apart, of_comment, of_extra, of_lanes, of_line, of_name, of_operand,
-    of_other, of_reshaped, respelled, respelled_in_range, respelled_label,
+    of_accumulator, of_apart, of_comment, of_extra, of_lanes, of_line, of_moved, of_name,
+    of_operand, of_other, of_reshaped, of_shortened, respelled, respelled_in_range,
+    respelled_label,
 };
 use rsp_asm::{
     AsmFaultKind, Expected, FaultyOperand, OperandFault, operand_fault, operand_text,
@@ -271,6 +272,29 @@ fn unread(
     if let Some(statement) = of_reshaped(name, &operands) {
         return labelled(alloc, statement.is_sure(), statement);
     }
+    match kind {
+        Operand::Vector(_) | Operand::VectorElement | Operand::VectorByte(..) => {
+            unread_vector(alloc, name, kind, &operands, text)
+        }
+        _ => labelled(alloc, false, of_operand(kind, text)),
+    }
+}
+
+/// The same of a vector register, or where one lacks.
+fn unread_vector(
+    alloc: Global,
+    name: &str,
+    kind: Operand,
+    operands: &Operands<'_>,
+    text: &str,
+) -> Result<(Label, String), AllocError> {
+    if let Operand::VectorByte(..) = kind {
+        if let Some(moved) = of_moved(name, text) {
+            return labelled(alloc, false, moved);
+        }
+    } else if let Some(shortened) = of_shortened(name, operands) {
+        return labelled(alloc, false, shortened);
+    }
     match of_accumulator(text) {
         "" => labelled(alloc, false, of_operand(kind, text)),
         operands => labelled(alloc, true, operands),
@@ -281,8 +305,11 @@ fn unread(
 fn extra(alloc: Global, line: &str, number: usize) -> Result<(Label, String), AllocError> {
     let text = operand(line, number);
     let before = operand(line, number.saturating_sub(1));
-    match of_extra(name_of(line), before, text) {
-        Some(readings) => labelled(alloc, false, readings),
+    if let Some(readings) = of_extra(name_of(line), before, text) {
+        return labelled(alloc, false, readings);
+    }
+    match of_reshaped(name_of(line), &operands_of(line)) {
+        Some(statement) => labelled(alloc, statement.is_sure(), statement),
         None => labelled(alloc, false, of_comment(text)),
     }
 }

@@ -162,11 +162,18 @@ fn said_of_line(
 /// What is wrong with a line that gets this fault.
 fn line_reason(alloc: Global, line: &str, reply: &[u8]) -> Result<String, AllocError> {
     let (words, _) = line.split_once('#').unwrap_or((line, ""));
-    match fault_number(reply) {
-        BAD_COMMAND => command_reason(alloc, words),
-        BAD_NUMBER => number_reason(alloc, words),
-        number => fault_reason(alloc, number, words),
+    let mut reason = match fault_number(reply) {
+        BAD_COMMAND => command_reason(alloc, words)?,
+        BAD_NUMBER => number_reason(alloc, words)?,
+        number => fault_reason(alloc, number, words)?,
+    };
+    if let Some((word, number)) = with_zeros(words) {
+        let help = format!(in alloc;
+            "\n  help: {word} is {number} in decimal; write 0x{word} if it is hexadecimal, as in replies"
+        )?;
+        reason.push_str(help.as_str())?;
     }
+    Ok(reason)
 }
 
 /// The number of a fault in its reply; 0 if it has none.
@@ -211,7 +218,9 @@ fn command_reason(alloc: Global, words: &str) -> Result<String, AllocError> {
 fn help_of(name: &str) -> Option<&'static str> {
     match name {
         "end" | "END" | "End" => Some("end comes only after asm ADDR and the lines of its block"),
-        "quit" | "exit" | "q" | "bye" => Some("Ctrl-D ends the script"),
+        "quit" | "exit" | "q" | "bye" => {
+            Some("Ctrl-D ends the script if you type it; from a file, leave the line out")
+        }
         _ => None,
     }
 }
@@ -275,15 +284,13 @@ fn all_names(alloc: Global, name: &str) -> Result<String, AllocError> {
     Ok(said)
 }
 
-/// What is wrong with a number: the range of the command's, and that a number with zeros before it isn't octal.
+/// What is wrong with a number: the range of the command's, and what helps unless a zero is before it.
 fn number_reason(alloc: Global, words: &str) -> Result<String, AllocError> {
     let Some(CommandForm { form, range, .. }) = command_named(first_word(words)) else {
         return Ok(String::new(alloc));
     };
-    if let Some((word, number)) = with_zeros(words) {
-        return format!(in alloc;
-            "\n  expected: {form}: {range}\n  help: {word} is {number} in decimal; hexadecimal numbers begin with 0x"
-        );
+    if with_zeros(words).is_some() {
+        return format!(in alloc; "\n  expected: {form}: {range}");
     }
     if let Some((command, register, number)) = with_register(words) {
         return format!(in alloc;
@@ -297,11 +304,16 @@ fn number_reason(alloc: Global, words: &str) -> Result<String, AllocError> {
     format!(in alloc; "\n  expected: {form}: {range}\n  help: {help}")
 }
 
-/// The first word that is a decimal number with a zero before it, and the number.
+/// The first word of a command that is a decimal number with a zero before it, and the number, if hexadecimal it would be another. (The
+/// fourth word of `load` is bytes.)
 fn with_zeros(words: &str) -> Option<(&str, u64)> {
-    for word in words.split_ascii_whitespace() {
-        if word.len() > 1 && word.starts_with('0') {
-            if let Ok(number) = word.parse::<u64>() {
+    let command = command_named(first_word(words))?;
+    for (index, word) in words.split_ascii_whitespace().enumerate() {
+        if command.name == "load" && index > 2 {
+            break;
+        }
+        if word.starts_with('0') {
+            if let Ok(number @ 10..) = word.parse::<u64>() {
                 return Some((word, number));
             }
         }

@@ -1,4 +1,5 @@
 -- The address of a vector load or store.
+-- Sources: Nintendo's RSP Programmer's Guide, chapter on vector unit instructions; the N64brew Wiki's page "Reality Signal Processor/CPU Core".
 use Rattle.std.specs.Prelude.{ℕ, ℤ, pos, ◌^◌, ◌+ℤ◌, ◌-ℤ◌, ◌*ℤ◌, nat_lt, if◌then◌else◌}
 use Rattle.rsp_numbers.specs.Numbers.{modulo}
 use Rattle.rsp_decode.specs.Table.{vector_load_scale, vector_store_scale}

@@ -1,4 +1,5 @@
 -- Moves between a scalar register and a control register of the vector unit.
+-- Sources: Nintendo's RSP Programmer's Guide, chapter on vector unit instructions; the N64brew Wiki's page "Reality Signal Processor/CPU Core".
 use Rattle.std.specs.Prelude.{ℕ, ◌/◌, ◌%◌, Bool, List}
 use Rattle.std.specs.Int.{w16}
 use Rattle.std.specs.Simd.Lanes.{mask_l}

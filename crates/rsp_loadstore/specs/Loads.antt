@@ -1,4 +1,6 @@
 -- Vector loads as lists of pairs: a byte or a lane of a register, and the address of the byte that it takes.
+-- Sources: Nintendo's RSP Programmer's Guide, chapter on vector unit instructions; the N64brew Wiki's page "Reality Signal Processor/CPU Core".
+-- That LTV's rule also holds for an odd element, and at an address that isn't a multiple of 16, is our choice.
 use Rattle.std.specs.Prelude.{ℕ, ◌≡◌, ◌⊎◌, ◌+◌, ◌-◌, ◌*◌, ◌/◌, ◌%◌, min, List, slice_set}
 use Rattle.std.specs.List.{fold}
 use Rattle.rsp_memory.specs.Memory.{byte_at}

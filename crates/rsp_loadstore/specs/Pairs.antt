@@ -7,10 +7,11 @@ use Rattle.std.specs.List.{range_with_len}
 unfoldable pub for_each : {P : Type 0} → ℕ → (ℕ → P) → List P
 for_each n f = map f (range_with_len 0 n)
 
--- the address of the quadword, and of the doubleword, that an address is in
+-- the address of the quadword that an address is in
 abbrev pub quadword_start : ℕ → ℕ
 quadword_start a = a - a % 16
 
+-- the address of the doubleword that an address is in
 abbrev pub doubleword_start : ℕ → ℕ
 doubleword_start a = a - a % 8
 

@@ -1,4 +1,6 @@
 -- Vector stores as lists of pairs: what is stored, and its address.
+-- Sources: Nintendo's RSP Programmer's Guide, chapter on vector unit instructions; the N64brew Wiki's page "Reality Signal Processor/CPU Core".
+-- That STV's rule also holds for an odd element, and at an address that isn't a multiple of 16, is our choice.
 use Rattle.std.specs.Prelude.{ℕ, ◌≡◌, ◌⊎◌, ◌+◌, ◌-◌, ◌*◌, ◌/◌, ◌%◌, List, if◌then◌else◌, nat_lt}
 use Rattle.std.specs.List.{fold}
 use Rattle.rsp_memory.specs.Memory.{with_byte}
@@ -25,17 +27,19 @@ stored file memory (from_bits_14_to_7 r i a) = with_byte memory a (bits_14_to_7 
 unfoldable pub after_store : List (List ℕ) → List ℕ → List Store → List ℕ
 after_store file memory ps = fold (stored file) memory ps
 
--- the high byte of a lane, and bits 14 to 7 of a lane
+-- the high byte of a lane goes to an address
 abbrev pub high_byte_pair : ℕ → ℕ → ℕ → Store
 high_byte_pair vt lane a = from_byte vt (2 * lane) a
 
+-- bits 14 to 7 of a lane go to an address
 abbrev pub bits_14_to_7_pair : ℕ → ℕ → ℕ → Store
 bits_14_to_7_pair vt lane a = from_bits_14_to_7 vt (2 * lane) a
 
--- SPV: for j below 8 the high byte of lane j, else bits 14 to 7 of lane j - 8; SUV exchanges the two cases
+-- SPV: for j below 8 the high byte of lane j, else bits 14 to 7 of lane j - 8
 abbrev pub spv_pair : ℕ → ℕ → ℕ → Store
 spv_pair vt j a = if nat_lt j 8 then high_byte_pair vt j a else bits_14_to_7_pair vt (j % 8) a
 
+-- SUV: for j below 8 bits 14 to 7 of lane j, else the high byte of lane j - 8
 abbrev pub suv_pair : ℕ → ℕ → ℕ → Store
 suv_pair vt j a = if nat_lt j 8 then bits_14_to_7_pair vt j a else high_byte_pair vt (j % 8) a
 

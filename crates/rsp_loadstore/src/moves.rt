@@ -1,17 +1,17 @@
 ghost use Rattle.std.specs.Prelude.{◌≡◌, ◌<◌};
 ghost use Rattle.rsp_decode.specs.Table.{IsInstruction};
 ghost use Rattle.rsp_loadstore.specs.File.{vector, with_vector};
-ghost use Rattle.rsp_loadstore.specs.Moves.{file_after_move, moved_value, with_register_half};
+ghost use Rattle.rsp_loadstore.specs.Moves.{file_after_move, moved_value, register_half, with_register_half};
 
 use crate::VFile;
 use byteorder::{BigEndian, ByteOrder};
 use rsp_decode::{Inst, MoveOp};
-use rsp_lanes::Bytes16;
+use rsp_lanes::{Bytes16, VReg};
 use rsp_numbers::sign_extend;
 
 /// What MFC2 reads: the sixteen bits at bytes `element` and `element + 1` modulo 16 of a vector register,
 /// sign-extended. For another instruction it is 0.
-#[tactic(auto, unfolding(crate::specs::Moves::moved_value, crate::specs::Moves::register_half))]
+#[tactic(auto, unfolding(crate::specs::Moves::moved_value))]
 pub fn move_from(inst: &Inst, file: &VFile) -> u32
     requires { IsInstruction inst.now }
     ensures { result ≡ moved_value inst.now file.now }
@@ -22,12 +22,22 @@ pub fn move_from(inst: &Inst, file: &VFile) -> u32
             vector,
             element,
             ..
-        } => {
-            let e = element as usize;
-            let v = file.reg(vector);
-            sign_extend(BigEndian::read_u16(&[v.byte(e), v.byte((e + 1) % 16)]))
-        }
+        } => sign_extend(half(&file.reg(vector), element as usize)),
         _ => 0,
+    }
+}
+
+/// The sixteen bits at bytes `e` and `e + 1` modulo 16 of a register: one lane from an even byte on, otherwise parts of two.
+#[inline(always)]
+fn half(v: &VReg, e: usize) -> u16
+    requires { e < 16 }
+    ensures { result ≡ register_half v.now e }
+{
+    let lane = v.lane(e / 2);
+    if e % 2 == 0 {
+        lane
+    } else {
+        lane % 256 * 256 + v.lane((e + 1) / 2 % 8) / 256
     }
 }
 

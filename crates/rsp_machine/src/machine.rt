@@ -203,7 +203,7 @@ impl<A: Acc> Machine<A> {
         self.imem.aligned_word(counters.pc.index())
     }
 
-    /// For the prover: reads what the ranges of the state follow from. LLVM removes the reads.
+    /// For the prover: reads what the ranges of the state follow from.
     #[inline(always)]
     pub(crate) fn in_range(&self)
         ensures { IsState self.now }
@@ -220,7 +220,7 @@ impl<A: Acc> Machine<A> {
         let _sp = self.sp.parts();
     }
 
-    /// For the prover: reads what the ranges of the vector registers, the accumulators and the flags follow from. LLVM removes the reads.
+    /// For the prover: reads what the ranges of the vector registers, the accumulators and the flags follow from.
     #[inline(always)]
     pub(crate) fn vector_ranges(&self)
         ensures { IsRanged self.now }

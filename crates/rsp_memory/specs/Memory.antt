@@ -15,10 +15,11 @@ empty_memory = replicate 4096 0
 unfoldable pub byte_at : List ℕ → ℕ → ℕ
 byte_at memory a = slice_index memory (a % 4096)
 
--- the halfword, and the word, at an address; the address of each byte is taken modulo 4096
+-- the halfword at an address; the address of each byte is taken modulo 4096
 unfoldable pub half_at : List ℕ → ℕ → ℕ
 half_at memory a = byte_at memory a * 256 + byte_at memory (a + 1)
 
+-- the word at an address; the address of each byte is taken modulo 4096
 unfoldable pub word_at : List ℕ → ℕ → ℕ
 word_at memory a =
     byte_at memory a * 16777216 + byte_at memory (a + 1) * 65536 + byte_at memory (a + 2) * 256 + byte_at memory (a + 3)
@@ -27,10 +28,11 @@ word_at memory a =
 unfoldable pub with_byte : List ℕ → ℕ → ℕ → List ℕ
 with_byte memory a b = slice_set memory (a % 4096) b
 
--- the memory after a write of a halfword, and of a word, at an address
+-- the memory after a write of a halfword at an address, whose high byte comes first
 unfoldable pub with_half : List ℕ → ℕ → ℕ → List ℕ
 with_half memory a h = with_byte (with_byte memory a (h / 256)) (a + 1) (h % 256)
 
+-- the memory after a write of a word at an address, whose highest byte comes first
 unfoldable pub with_word : List ℕ → ℕ → ℕ → List ℕ
 with_word memory a w =
     let first = with_byte memory a (w / 16777216) in

@@ -1,5 +1,7 @@
 -- The instructions for MPEG coefficients: VRNDP and VRNDN round the accumulator by its sign, VMULQ and VMACQ are
 -- multiplies.
+-- Sources: none. Neither Nintendo's RSP Programmer's Guide nor the N64brew Wiki settles what these four do, so their
+-- rules are our choice (conformance/README.md, "What they can't show").
 use Rattle.std.specs.Prelude.{ℕ, ℤ, pos, negsuc, ◌*◌, ◌/◌, ◌+ℤ◌, ◌*ℤ◌, Bool, not, List, slice_index, nat_eq, int_lt, if◌then◌else◌}
 use Rattle.rsp_lanes.specs.Lanes.{each_lane}
 use Rattle.rsp_numbers.specs.Numbers.{s16, s48, number, low, floor_div, modulo, sixteen_bits, clamp16}

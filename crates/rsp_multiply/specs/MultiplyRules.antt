@@ -1,4 +1,5 @@
 -- The twelve multiplies, each by its addend, whether it adds to the accumulator, and its clamp; and VSAR.
+-- Sources: Nintendo's RSP Programmer's Guide, chapter on vector unit instructions; the N64brew Wiki's page "Reality Signal Processor/CPU Core".
 use Rattle.std.specs.Prelude.{ℕ, ℤ, pos, ◌*◌, ◌/◌, ◌+ℤ◌, ◌*ℤ◌, Bool, true, false, List, slice_index, nat_eq, if◌then◌else◌}
 use Rattle.rsp_lanes.specs.Lanes.{each_lane}
 use Rattle.rsp_numbers.specs.Numbers.{s16, s48, number, high, middle, low}

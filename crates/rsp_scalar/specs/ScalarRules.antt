@@ -27,10 +27,11 @@ use Rattle.rsp_scalar.specs.Registers.{register, with_register}
 abbrev pub truth : Bool → ℕ
 truth b = if b then 1 else 0
 
--- t shifted by k bits to the left, and to the right
+-- t shifted by k bits to the left
 abbrev pub shifted_left : ℕ → ℕ → ℕ
 shifted_left t k = t * 2 ^ k % 2 ^ 32
 
+-- t shifted by k bits to the right, zeros coming in
 abbrev pub shifted_right : ℕ → ℕ → ℕ
 shifted_right t k = t / 2 ^ k
 
@@ -38,12 +39,13 @@ shifted_right t k = t / 2 ^ k
 abbrev pub shifted_signed : ℕ → ℕ → ℕ
 shifted_signed t k = modulo (floor_div (s32 t) (2 ^ k)) (2 ^ 32)
 
--- shifts by a constant, and by the low five bits of a register
+-- SLL, SRL and SRA: shifts by a constant
 abbrev pub shift_result : ShiftOp → ℕ → ℕ → ℕ
 shift_result Sll t k = shifted_left t k
 shift_result Srl t k = shifted_right t k
 shift_result Sra t k = shifted_signed t k
 
+-- SLLV, SRLV and SRAV: shifts by the low five bits of a register
 abbrev pub shift_by_result : ShiftVariableOp → ℕ → ℕ → ℕ
 shift_by_result Sllv t s = shifted_left t (s % 32)
 shift_by_result Srlv t s = shifted_right t (s % 32)

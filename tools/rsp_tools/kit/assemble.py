@@ -9,8 +9,8 @@ begins and ends; a run that was stopped continues there. Then the kit compiles, 
 assembly for each system, and the library to WebAssembly. Beside the proofs that takes some seven minutes of
 processor time. The same kit makes the same bytes of the same sources in any folder.
 
-tools/assemble also writes compiled/record: which kit proved what, and on which day. ./prove names each file
-that differs, and counts in its last line.
+tools/assemble also writes compiled/record, by what the proofs here have left and what the record said before
+(record.py), and the kit's name in NOTICE. ./prove names each file that differs, and counts in its last line.
 
 The status is 0 if all is made or the same, 1 if not, and 2 if the words are wrong. It is 3 if ./prove finds
 files that differ, but they are of these sources, and the marks name another kit than the one that is here.
@@ -20,6 +20,7 @@ This alone is no fault, because another kit may compile the same sources to othe
 import argparse
 import os
 import platform
+import re
 import signal
 import sys
 import tempfile
@@ -40,7 +41,7 @@ from .lowering import lowered, versions
 from .modules import LIBRARY, PROGRAM, WEB, Crate, Module, module
 from .objects import common, compiled, for_linux
 from .proof import prove_below
-from .record import made_of, record
+from .record import made_of, new_text
 from .rewriting import with_own_calls, with_unwind_tables, without_stack_probes
 from .toolchain import LOGIC, version
 
@@ -173,7 +174,21 @@ def check(made: Mapping[Crate, Files]) -> int:
     return 1 if wrong else 3 if others else 0
 
 
-def write(made: Mapping[Crate, Files], output: str) -> int:
+def with_kit(notice: str, mark: str) -> str:
+    """NOTICE with the name of the kit that a mark begins with."""
+    return re.sub(r"rattle-kit-\w+", mark.split()[0], notice)
+
+
+def renewed_record() -> Files:
+    """The record, except if nothing here says what became of a crate."""
+    try:
+        return {"record": new_text().encode()}
+    except Refused as reason:
+        say(f"compiled/record stays as it is, because {reason}")
+        return {}
+
+
+def write(made: Mapping[Crate, Files]) -> int:
     """Writes the files that are new, with the record, and names them. A mark of the same sources and files
     stays, whichever kit it names."""
     new: Files = {}
@@ -182,9 +197,12 @@ def write(made: Mapping[Crate, Files], output: str) -> int:
         if marked(crate)[1] != mark(crate, files).partition("\n")[2]:
             new[crate.made] = mark(crate, files).encode()
     new.update((name, listed()[name]) for name in differing(listed()))
+    if PROGRAM.made in new:
+        notice = (COMPILED / "NOTICE").read_text()
+        new["NOTICE"] = with_kit(notice, new[PROGRAM.made].decode()).encode()
     kept = COMPILED / "record"
-    if new or output or not kept.exists() or made_of(TOPS) not in kept.read_text():
-        new["record"] = record(TOPS, output).encode()
+    if new or not kept.exists() or made_of(TOPS) not in kept.read_text():
+        new.update(renewed_record())
     put(COMPILED, new)
     print(f"rsp: {', '.join(new) or 'nothing'} in compiled/ is new")
     return 0
@@ -241,7 +259,6 @@ def arguments() -> argparse.Namespace:
     kinds = parser.add_mutually_exclusive_group()
     kinds.add_argument("--check", action="store_true", help="compare, as ./prove does")
     kinds.add_argument("--here", metavar="CRATE", choices=TOPS, help="as tools/build does")
-    kinds.add_argument("--mutations", metavar="FILE", default="", help="what `rt ci` printed, for the record")
     proved = "prove nothing below the program and the library, because `rt ci` has just done it"
     parser.add_argument("--proved", action="store_true", help=proved)
     parser.add_argument("command", nargs="*", metavar="COMMAND", help="what --here then becomes")
@@ -280,7 +297,7 @@ def main() -> int:
             prove(ON_TOP)
         made = make()
         check_edits(since)
-        return check(made) if options.check else write(made, options.mutations)
+        return check(made) if options.check else write(made)
     except (Refused, OSError) as reason:
         fail(str(reason))
 

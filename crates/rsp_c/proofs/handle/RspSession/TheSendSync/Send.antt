@@ -11,13 +11,13 @@ use Rattle.std.specs.Global.{Global}
 use Rattle.std.proofs.Crossing.{frees}
 use Rattle.std_alloc.proofs.SendSync.{lies, quiet}
 use Rattle.std_heap.proofs.Global.TheSendSync as heap
-use Rattle.rsp_c.specs.Holding.{holding, bench_row}
-use Rattle.rsp_c.proofs.held_bench.HeldBench.TheSendSync as bench
+use Rattle.rsp_c.specs.Holding.{holding, session_row}
+use Rattle.rsp_c.proofs.held_session.HeldSession.TheSendSync as session
 use Rattle.rsp_c.specs.contracts.handle.RspSession.{the_row, the_type}
 
-held : (a : Global) (p : Ptr) (s : Option bench_row.Denot) → Keyless (holding bench_row a p s)
+held : (a : Global) (p : Ptr) (s : Option session_row.Denot) → Keyless (holding session_row a p s)
 held a p None = tt
-held a p (Some x) = (lies bench_row bench.the_send p x, frees.frees a (bare (lone bench_row.mir)) p)
+held a p (Some x) = (lies session_row session.the_send p x, frees.frees a (bare (lone session_row.mir)) p)
 
 pub send : IsSend the_row
 send =

@@ -5,7 +5,7 @@ use Rattle.std.proofs.alloc.Calls.{α}
 use Rattle.std.proofs.BoxSteps.Form.{D, B, word, box_typed}
 use Rattle.std.proofs.BoxSteps.Steps.{box_in}
 use Rattle.rsp_c.proofs.AsBox.{EB, parts_row}
-use Rattle.rsp_c.proofs.Holding.{pair, either, bench_out}
+use Rattle.rsp_c.proofs.Holding.{pair, either, session_out}
 use Rattle.rsp_c.specs.contracts.handle.RspSession as RspSession
 use Rattle.rsp_c.specs.contracts.handle.RspSession.into_parts as F
 use Rattle.rsp_c.specs.contracts.handle.RspSession.into_parts.Key.{name as #self}
@@ -20,7 +20,7 @@ into_parts_spec 𝓤 𝓛 𝓜 𝓡 wired =
     let d = z.0.3.0 in
     let Out = type_at F.signature.result tt in
     qed 𝓛 ((‵ ftrue ⊛ ‵ (fsep (RspSession.the_row.own_val d z.0.4.0) ftrue)) ∷ raw (emp 𝓤) ∷ []) ∵ split ! $ drop ! $ fsplit ! $
-    bench_out ! d z.0.4.0 (λ hv ws fa. move ! (2 ∷ 3 ∷ []) $ drop ! $ drop ! $
+    session_out ! d z.0.4.0 (λ hv ws fa. move ! (2 ∷ 3 ∷ []) $ drop ! $ drop ! $
     let Goes : List Val → SProp 𝓤 = λ us. WpFn 𝓤 𝓛.H 𝓣.C 𝓣.Λ code.function (us ++ []) (W.post z) in
     either EB.row ! d.alloc d.at d.bench
     (λ e ed.

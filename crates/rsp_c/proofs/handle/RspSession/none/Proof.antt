@@ -2,7 +2,7 @@
 use Rattle.rsp_c.proofs.Walks.{refl, sym, subst, List, [], ◌∷◌, ◌++◌, lit<, Val, vnull, has_ty, ent, emp, ftrue, fsep, tables, WpFn, Item, ‵, raw, ◌⊛◌, ◌$◌, ◌∵◌, !, qed, by, move, drop, split, join, fsplit, fjoin, feq_i, suffices, done, agg, lit, no_more, and_then, returns, enter, alloc_all, pass_all, free_all, look_at, get, sets, yes, Ptr, null_ptr, plain, type_at, nothing, says, Stays, stay_dropped, walk_of, ends_at, Goes-dropped, None, proved_at, and_tt}
 use Rattle.std.proofs.alloc.Calls.{α, handle_tells}
 use Rattle.rsp_c.proofs.AsBox.{EB}
-use Rattle.rsp_c.proofs.Holding.{pair, bench_in}
+use Rattle.rsp_c.proofs.Holding.{pair, session_in}
 use Rattle.rsp_c.specs.contracts.handle.RspSession.none as F
 use Rattle.rsp_c.specs.contracts.handle.RspSession.none.Key.{name as #self}
 use Rattle.rsp_c.proofs.handle.RspSession.none.Statement.{statement}
@@ -23,6 +23,6 @@ none_spec 𝓤 𝓛 𝓜 𝓡 wired =
     by ! (subst (λ (us : List Val). ent 𝓤 (types.Kit.⋆ 𝓛 Γ) (WpFn 𝓤 𝓛.H 𝓣.C 𝓣.Λ code.function (us ++ []) (W.post z))) (sym ws)
     (qed 𝓛 Γ ∵ enter ! 𝓣.C 𝓣.Λ code.function (hv ∷ []) _ $ alloc_all ! (λ ls. pass_all ! refl (fa, tt) $
     sets ! (agg ! (and_then ! (lit ! tt) (and_then ! (get ! refl) (no_more !)))) refl (and_tt (has_ty (α EB.al) hv) fa.0, (record { fits = lit< tt }, (fa.1, tt))) $ returns ! (look_at ! 0 refl) $ free_all ! refl $
-    feq_i ! Ptr null_ptr null_ptr refl $ bench_in ! made hv $
+    feq_i ! Ptr null_ptr null_ptr refl $ session_in ! made hv $
     suffices ! _ (ends_at 𝓛 F.ended st c z w made (tt, tt) (tt, tt)) $ says ! refl $
     nothing ! $ nothing ! $ fjoin ! $ join ! $ nothing ! $ join ! $ done !)))))
