@@ -63,7 +63,20 @@ static void print_operands(uint32_t word, const brsp_state *before, const brsp_p
     printf("; lane %u, a %04x, b %04x", lane, vs[lane], vt[e < 2 ? lane : e < 4 ? (lane & 6) + e - 2 : e < 8 ? (lane & 4) + e - 4 : e - 8]);
 }
 
-/* Runs the case that comes next, and takes it. Returns 1 if it differs, -1 if it isn't a case. */
+/* The first part in which the machine isn't as `before` and `expected` are, which it was given; NULL if there is none. */
+static const brsp_part *first_lost(brsp_machine *m, const brsp_state *before)
+{
+    static brsp_part parts[BRSP_PARTS];
+    brsp_state got;
+    size_t count = brsp_get(m, &got) == BRSP_OK ? brsp_structure_parts(BRSP_OF_STATE, before, &got, parts, BRSP_PARTS) : 0;
+    for (uint32_t bank = 0; bank < 3 && !count; bank++) {
+        brsp_memory(m, bank, 0, found + 4096 * bank, length_of(bank));
+        count = brsp_memory_parts(bank, expected + 4096 * bank, found + 4096 * bank, length_of(bank), parts, 1);
+    }
+    return count ? parts : NULL;
+}
+
+/* Runs the case that comes next, and takes it. Returns 1 if it differs, -1 if it isn't a case, -2 if the machine doesn't keep what it gets. */
 static int run(brsp_machine *m, rest *file)
 {
     static brsp_part parts[BRSP_PARTS + sizeof found / 16];
@@ -77,8 +90,12 @@ static int run(brsp_machine *m, rest *file)
     memset(text, 0, sizeof text);
     if (!put_pieces(r, h.pieces, 0)) return -1;
     for (uint32_t bank = 0; bank < 3; bank++) brsp_load(m, bank, 0, expected + 4096 * bank, length_of(bank));
+    static int is_checked;
+    int is_set = brsp_set(m, &before) == BRSP_OK;
+    const brsp_part *lost = is_set && !is_checked++ ? first_lost(m, &before) : NULL;
+    if (lost) return fprintf(stderr, "the machine doesn't keep what brsp_set and brsp_load gave it, before any step: %.23s\n", lost->name), -2;
     put_pieces(r, h.pieces, 1);
-    int is_made = brsp_set(m, &before) == BRSP_OK && brsp_step(m) == BRSP_OK && brsp_get(m, &got) == BRSP_OK;
+    int is_made = is_set && brsp_step(m) == BRSP_OK && brsp_get(m, &got) == BRSP_OK;
     size_t count = brsp_structure_parts(BRSP_OF_STATE, &after, &got, parts, BRSP_PARTS);
     for (uint32_t bank = 0; bank < 3; bank++) {
         const uint8_t *here = expected + 4096 * bank;
@@ -113,6 +130,7 @@ static int run_file(brsp_machine *m, const char *path, uint32_t *cases, uint32_t
         return fprintf(stderr, "%s has no flat vectors\n", shown(path, strlen(path))), 0;
     for (uint32_t k = 1; k <= number; k++, ++*cases) {
         int is_wrong = run(m, &r);
+        if (is_wrong == -2) return 0;
         if (is_wrong < 0) return fprintf(stderr, "%s: case %u of %u isn't whole, or has what no case has\n", shown(path, strlen(path)), k, number), 0;
         *failed += (uint32_t)is_wrong;
     }

@@ -29,9 +29,9 @@ LONGEST_SCRIPT = 1000000
 ALL_CLEAR = sum(1 << bit for bit in (0, 2, 3, 5, 7, *range(9, 24, 2)))
 
 # RDRAM contains what each case begins with: the setting program, its data, and zeros. A case's own bytes are
-# at WINDOW.
-PROGRAM, DATA, ZEROS, WINDOW = 0x0000, 0x1000, 0x2000, 0x10000
-WINDOW_LENGTH = 512
+# at WINDOW, and at LOW those that a DMA reads which passes 2^24.
+LOW, PROGRAM, DATA, ZEROS, WINDOW = 0x0000, 0x1000, 0x2000, 0x3000, 0x10000
+WINDOW_LENGTH, LOW_LENGTH = 512, 64
 
 # The data of the setting program, by their addresses in DMEM.
 VECTORS, HIGH, ONES, DIVISOR, CONTROLS, SCALARS = 0x000, 0x200, 0x230, 0x240, 0x250, 0x280
@@ -205,8 +205,13 @@ def set_state(script: Script, state: Texts, word: int, prelude_data: str = DEFAU
         script.assemble(LOADING, ["vrcph $v2[0], $v1[2]"])
     script.add("pc 0")
     script.add(f"run {SETTING_STEPS}")
+    if int(state["c4"], 16) & 2:  # only BREAK sets it
+        script.assemble(0, ["break"])
+        script.add("pc 0")
+        script.add("step")
     script.copy(ZEROS, "imem")
     script.copy(ZEROS, "dmem")
+    script.add(f"write 2 {int(state['c2'], 16) & ~4095}")  # zeros, with the skip that SP_RD_LEN shows
     for bank in ("dmem", "imem", "rdram"):
         for address, text in state.get(bank, {}).items():
             script.load(bank, int(address, 16), text)
@@ -234,7 +239,7 @@ def set_sp(script: Script, state: Texts) -> None:
     for number in (0, 1, *range(8, 16)):
         script.add(f"write {number} {int(state[f'c{number}'], 16)}")
     status = int(state["c4"], 16)
-    pairs = int(state["interrupt"]) << 4 | (status >> 5 & 1) << 6 | (status >> 6 & 1) << 8
+    pairs = 1 | int(state["interrupt"]) << 4 | (status >> 5 & 1) << 6 | (status >> 6 & 1) << 8
     for signal in range(8):
         pairs |= (status >> 7 + signal & 1) << 10 + 2 * signal
     script.add(f"write 4 {pairs}")
@@ -342,6 +347,7 @@ def script_of_case(row: Row, word: int, state: Texts) -> Script:
     query_state(script, banks, "after")
     if "rdram" in banks:
         script.load("rdram", WINDOW, "00" * WINDOW_LENGTH)
+        script.load("rdram", LOW, "00" * LOW_LENGTH)
     return script
 
 

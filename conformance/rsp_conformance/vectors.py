@@ -92,14 +92,16 @@ CASE = {"name": "[^\ud800-\udfff]{0,100}", "word": WORD, "text": TEXT, "choice":
 PROGRAM_CASE = {**CASE, "pc": ADDRESS, "at": ADDRESS, "layout": TEXT}
 
 
-def check_bytes(bank: str, pieces: Any) -> None:
-    """Refuses bytes that no runner compares."""
+def check_bytes(bank: str, pieces: Any, when: str) -> None:
+    """Refuses bytes that no runner compares, except those before a case that a DMA past 2^24 reads."""
     compared = MEMORIES[bank]
     for address, text in pieces.items():
         check_form(f"{bank} {address!r:.40}", text, "([0-9a-f]{2})*")
         check_form(f"an address of {bank}", address, "[0-9a-f]{1,6}")
         first = int(address, 16)
-        is_right = compared.start <= first and first + len(text) // 2 <= compared.stop
+        end = first + len(text) // 2
+        is_low = (bank, when) == ("rdram", "before") and end <= bench.LOW_LENGTH
+        is_right = is_low or compared.start <= first and end <= compared.stop
         require(is_right, f"{bank} {address!r} isn't in {compared.start:03x} to {compared.stop - 1:03x}")
 
 
@@ -115,7 +117,7 @@ def check_entry(name: str, entry: Any) -> None:
         registers = {key: text for key, text in entry[when].items() if key not in MEMORIES}
         check_form(when, registers, form)
         for bank in entry[when].keys() & MEMORIES:
-            check_bytes(bank, entry[when][bank])
+            check_bytes(bank, entry[when][bank], when)
 
 
 def reason_of(fault: Exception, data: bytes) -> str:

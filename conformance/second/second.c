@@ -44,10 +44,12 @@ static void set_accumulator(core *m, int i, int64_t n) {
 
 /* --- SP registers */
 static void dma(core *m, uint32_t word, int to_rdram) {
-    uint32_t *sp = m->s.sp, length = ((word & 0xFFF) | 7) + 1, rows = (word >> 12 & 255) + 1, skip = word >> 20 & 0xFF8, bank = sp[0] & 0x1000;
-    for (uint32_t row = 0; row < rows; row++)
+    uint32_t *sp = m->s.sp, length = ((word & 0xFFF) | 7) + 1, rows = (word >> 12 & (BUG(99) ? 3 : BUG(100) ? 127 : 255)) + 1, bank = sp[0] & 0x1000;
+    uint32_t skip = word >> 20 & (BUG(101) ? 0x0F8 : BUG(102) ? 0xFFF : 0xFF8);
+    for (uint32_t k = 0; k < rows; k++)
         for (uint32_t i = 0; i < length; i++) {
-            uint32_t at = (sp[0] + row * length + i) & 4095, from = (sp[1] + row * (length + skip) + i) & 0xFFFFFF;
+            uint32_t row = BUG(103) ? rows - 1 - k : k;
+            uint32_t at = (sp[0] + row * length + i) & 4095, from = (sp[1] + row * (length + skip) + i) & (BUG(104) ? 0xFFFFFFFF : 0xFFFFFF);
             uint8_t *here = m->memory + (BUG(1) ? (sp[0] + row * length + i) & 8191 : bank + at);
             if (BUG(2)) from %= m->rdram_length;
             if (!to_rdram) *here = from < m->rdram_length ? m->rdram[from] : 0;

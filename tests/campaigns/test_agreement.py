@@ -41,7 +41,7 @@ from campaigns.emulator import WrongShift as Mine
 with open(f"{os.path.basename(os.getcwd())}.starts", "ab", 0) as file:
     file.write(b"x")
     start = file.tell()
-campaign = os.getppid()
+campaign = int(open(f"/proc/{os.getppid()}/stat").read().rpartition(")")[2].split()[1])
 """
 STOP_IN_TASKS = "if start == 4: os.kill(campaign, {})\nif start in (3, 4): time.sleep(999)\n"
 # The signal, and the status and the errors of the campaign.
@@ -64,7 +64,7 @@ def test_results_after_a_stop(stop: str, folder: Path) -> None:
     while glob.glob(f"/proc/[0-9]*/cwd/{starts.name}"):
         time.sleep(0.1)
     for out in (["out"], ["--here", "whole"]):
-        assert campaign(*words, *out, cwd=folder).returncode == 0
+        assert campaign(*words, *out, cwd=folder).returncode == 1
     results, whole = results_of(folder / "out"), results_of(folder / "whole")
     assert results == whole and results["sra-0-40.json"]["differ"]
 
@@ -112,7 +112,7 @@ def test_file_that_has_changed(named: str, folder: Path) -> None:
     core_in(folder / "work", "Forgets")
     (folder / "more/below/file").write_text("of the emulator")
     ended = campaign(*words, cwd=folder / "work")
-    assert ended.returncode == 1 and "the emulator's files have changed since" in ended.stderr
+    assert ended.returncode == 2 and "the emulator's files have changed since" in ended.stderr
 
 
 def test_folder_of_another_campaign(folder: Path) -> None:
@@ -125,7 +125,7 @@ def test_folder_of_another_campaign(folder: Path) -> None:
         ended = campaign(*words, *other, "--here", folder)
         how = "take another folder for OUT, or delete this one"
         expected = f"campaign: {folder} holds another campaign: {why}; {how}\n"
-        assert (ended.returncode, ended.stderr) == (1, expected)
+        assert (ended.returncode, ended.stderr) == (2, expected)
     whole = results_of(folder)
     (folder / "beq-0-40.json").write_text("{")
     output_of(folder, *words)

@@ -91,10 +91,11 @@ def test_lanes_next_to_one_another() -> None:
 def test_addresses_of_choices() -> None:
     """A case of LTV is marked as a choice if its element is odd, or its address isn't a multiple of 16. The
     address is the offset if the base is $0."""
-    cases, are_choices = cases_of("ltv", "t", 0, 4096)
+    cases, choices = cases_of("ltv", "t", 0, 4096)
     word, each = cases["word"].astype(np.int64), np.arange(4096)
     address = cases["state"]["words"][each, word >> 21 & 31].astype(np.int64) + 16 * (word & 127)
-    assert (are_choices == ((address % 16 != 0) | (word & 128 != 0))).all()
+    assert (choices["address not a multiple of 16"] == (address % 16 != 0)).all()
+    assert (choices["odd element"] == (word & 128 != 0)).all()
 
 
 def test_transfers() -> None:

@@ -69,23 +69,23 @@ def test_cluster(cluster: Cluster, folder: Path) -> None:
     words: Tuple[object, ...] = (faulty(2), "--instructions", "vadd,lqv,vxor", "--cases", 3000, *PROGRAMS)
     output_of(folder / "here", *words, "--size", 2000)
     ended = campaign(*words, "--size", 2000, "--scheduler", cluster.address, folder / "out")
-    assert ended.returncode == 0, ended.stderr
+    assert ended.returncode == 1, ended.stderr
     assert len(results_of(folder / "here")) == 9
     assert results_of(folder / "out") == results_of(folder / "here")
     (folder / "mine.py").write_text(CHANGES)
     words = ("python:mine:Machine", "--instructions", "add", "--cases", 10)
     ended = campaign(*words, "--scheduler", cluster.address, "changed", cwd=folder)
     why = "the files of the emulator aren't those with which this campaign began"
-    assert (ended.returncode, ended.stderr) == (1, f"campaign: {socket.gethostname()}: {why}\n")
+    assert (ended.returncode, ended.stderr) == (2, f"campaign: {socket.gethostname()}: {why}\n")
     ended = campaign(*words, "--scheduler", "none://x", "none", cwd=folder)
-    assert ended.returncode == 1 and ended.stderr.startswith("campaign: no scheduler answers at none://x: ")
+    assert ended.returncode == 2 and ended.stderr.startswith("campaign: no scheduler answers at none://x: ")
     cluster.add_worker("other")
     with Client(cluster.address) as client:
         client.wait_for_workers(3)
     (folder / "mine.py").write_text("from campaigns.emulator import Machine\n")
     ended = campaign(*words, "--scheduler", cluster.address, "other", cwd=folder)
     why = r"campaign: tcp://[\d.]+:\d+ has distributed 0.1, and the campaign has .*\n"
-    assert ended.returncode == 1 and re.fullmatch(why, ended.stderr)
+    assert ended.returncode == 2 and re.fullmatch(why, ended.stderr)
 
 
 def started(out: Path, results: int, *words: str) -> "subprocess.Popen[str]":
@@ -102,7 +102,7 @@ def started(out: Path, results: int, *words: str) -> "subprocess.Popen[str]":
 def assert_ends(process: "subprocess.Popen[str]", out: Path) -> None:
     """Asserts that a campaign ends with all results, and that they are those of one process."""
     errors = process.communicate(timeout=600)[1]
-    assert process.returncode == 0, errors
+    assert process.returncode == 1, errors
     output_of(out.parent / "here", faulty(1), *WORDS)
     assert results_of(out) == results_of(out.parent / "here")
     assert len(results_of(out)) == TASKS + 1
@@ -120,7 +120,7 @@ def test_lost_workers(cluster: Cluster, folder: Path) -> None:
 GONE = " is gone: start it, and type the same line again, which continues the campaign\n"
 STOPPED = "campaign: stopped; started again, it continues\n"
 # What ends a campaign, its status, and the end of its errors.
-ENDS: List[Tuple[Any, int, str]] = [(signal.SIGKILL, -9, ""), (signal.SIGINT, 130, STOPPED), (None, 1, GONE)]
+ENDS: List[Tuple[Any, int, str]] = [(signal.SIGKILL, -9, ""), (signal.SIGINT, 130, STOPPED), (None, 2, GONE)]
 
 
 @LOST

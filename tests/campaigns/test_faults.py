@@ -1,6 +1,7 @@
 """Emulators that hang, die and answer garbage: each fault is named by its case, and all other cases are run.
 """
 
+import glob
 import re
 from pathlib import Path
 
@@ -86,6 +87,42 @@ def test_difference_that_depends_on_what_ran_before(name: str, number: int, step
     assert counts_of(folder) == {"program": (2, 1, 0)}
 
 
+def test_case_that_depends_on_what_ran_before(folder: Path) -> None:
+    """It is repeated on a new emulator, and said to agree there. One that differs there isn't."""
+    why = "it agrees on a new emulator, so it depends on what the emulator ran before"
+    for name, is_hidden in (("Stale", True), ("WrongShift", False)):
+        words = (f"python:emulator:{name}", "--instructions", "sra", "--cases", 100)
+        output = output_of(folder / name, *words)
+        assert re.search(r"(?m)^SRA .*: expected", output) and (f"; {why}\n" in output) == is_hidden, output
+
+
+# An emulator that leaves a process in its group, and one that has called setsid. Neither ends by itself.
+WRAPPED = f"sleep 1000 &\nsetsid sleep 1000 &\nexec {EMULATOR}\n"
+
+
+@pytest.mark.parametrize("how", ["", "die"])
+def test_processes_of_an_emulator(how: str, folder: Path) -> None:
+    """All are gone when a campaign ends, also one that a fault ends."""
+    (folder / "wrap.sh").write_text(f"{WRAPPED[:-1]} $*\n")
+    words = ("--instructions", "vadd", "--cases", 20, "--here", "out")
+    ended = campaign(f"sh {folder}/wrap.sh {how} {word_17()}", *words, cwd=folder)
+    left = [path for path in glob.glob("/proc/[0-9]*/cwd/wrap.sh") if Path(path).samefile(folder / "wrap.sh")]
+    assert (left, ended.returncode) == ([], int(how == "die")), ended.stdout + ended.stderr
+
+
+@pytest.mark.parametrize(
+    "emulator, why",
+    [
+        ("sh -c 'yes | tr -d \\\\n'", "the command's line has 1048576 bytes, and doesn't end"),
+        ("hex:yes", "the command has printed more than 16777216 bytes"),
+    ],
+)
+def test_output_without_an_end(emulator: str, why: str, folder: Path) -> None:
+    """It is a fault, and no process keeps more of it."""
+    output = output_of(folder, emulator, "--instructions", "vadd", "--cases", 1)
+    assert f"{name_of('vadd', '1', 0)}: {why}" in output, output
+
+
 def test_lost_register(folder: Path) -> None:
     output = campaign("python:emulator:Forgets", "--cases", 0, "--programs", 1, "--here", folder).stdout
     form = r"(?m)PROGRAM-g3-1-000000: step 0, .*: \$5: expected [0-9a-f]{8}, got 0{8}$"
@@ -97,7 +134,7 @@ def test_array_of_another_shape(folder: Path) -> None:
     words = ("python:emulator:Few", "--instructions", "vadd,vsub", "--cases", 3)
     ended = campaign(*words, "--here", folder)
     form = r"campaign: python:emulator:Few: `ends` returned an array .* and \(2,\), not END .*\n"
-    assert (ended.returncode, ended.stdout) == (1, "") and re.fullmatch(form, ended.stderr), ended.stderr
+    assert (ended.returncode, ended.stdout) == (2, "") and re.fullmatch(form, ended.stderr), ended.stderr
 
 
 def test_command_of_hexadecimal_lines(folder: Path) -> None:

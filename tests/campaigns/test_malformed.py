@@ -113,9 +113,9 @@ def test_file_without_room(folder: Path) -> None:
 def test_escaped_result() -> None:
     """Texts of a result become neither HTML nor control characters of a terminal."""
     text = "<script>\x1b]0;title\x07 and \x9b31m\u202e\n\ud800"
-    texts = {"unseen": [text], "shown": [text], "parts": {text: 1}, "given up": text}
+    texts = {"unseen": [text], "kinds": {text: [1, text]}, "given up": text}
     result = {**nothing(), "instruction": "vadd", "count": 20, **texts}
-    table, html = text_table([result]), html_table([result], "<script>")
+    table, html = text_table([result], {}), html_table([result], "<script>", {})
     escaped = r"\x1b]0;title\x07 and \x9b31m\u202e\n\ud800"
     assert (table.count(escaped), html.count(escaped)) == (3, 4)
     assert "<script" not in html and html.count("&lt;script&gt;") == 6

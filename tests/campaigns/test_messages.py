@@ -25,7 +25,7 @@ from rsp_conformance.table import ROWS, ignored_bits, row_of
 
 if is_here("python:numpy"):
     import numpy as np
-    from rsp_conformance.campaign.compare import named, parts_that_differ
+    from rsp_conformance.campaign.compare import kinds_of, named
     from rsp_conformance.campaign.generator import END, cases_of
     from rsp_conformance.campaign.operands_read import in_brief
     from rsp_conformance.campaign.worker_process import check_cases
@@ -50,13 +50,13 @@ def test_name_of_a_word(word: int, text: str) -> None:
 
 
 @pytest.mark.needs("git")
-@pytest.mark.parametrize("command", ["campaign mine.so out --here", "library"])
-def test_vectors_alone(command: str, folder: Path) -> None:
+@pytest.mark.parametrize("command, status", [("campaign mine.so out --here", 2), ("library", 1)])
+def test_vectors_alone(command: str, status: int, folder: Path) -> None:
     """What the README packs has no library. The message says where it is."""
     pack = block_with("conformance/README.md", "git archive").replace("-o ~/vectors.tar.gz", "").strip()
     succeeds("sh", "-c", f"{pack} | tar -x -C '{folder}'")
     ended = run("sh", "-c", f"conformance/{command}", cwd=folder)
-    assert ended.returncode == 1 and ended.stdout.startswith(f"{command.split()[0]}: {WITHOUT_LIBRARY}")
+    assert ended.returncode == status and ended.stdout.startswith(f"{command.split()[0]}: {WITHOUT_LIBRARY}")
 
 
 @pytest.mark.parametrize("name", ROWS)
@@ -71,7 +71,7 @@ def test_difference_of_a_word_with_ignored_bits(folder: Path) -> None:
     output = output_of(folder, *words, "--cases", 200, "--programs", 1)
     assert re.search(rf"SRA-g2-1-\d+ \({IGNORED} at \w+; ", output), output
     assert re.search(rf"PROGRAM-g3-1-000000: step \d+, {IGNORED}: \$\d+: expected", output), output
-    assert results_of(folder)["program-0-1.json"]["parts"] == {"sra": 1}
+    assert results_of(folder)["program-0-1.json"]["kinds"]["SRA"][0] == 1
     output = campaign(*words, "--case", "PROGRAM-g3-1-000000", folder).stdout
     pattern = rf"PROGRAM-g3-1-000000 is cut down to 1 step from address \w+:\n\w+: {IGNORED}\n"
     assert re.search(pattern, output), output
@@ -84,7 +84,7 @@ def test_operands_of_flags() -> None:
     assert in_brief("vch", word, state, "vcc: expected 0a00, got 0000") == "; lane 1, a 0011, b 0022"
     ends = np.zeros(2, END)
     ends[1]["state"]["flags"]["clip"] = 10
-    assert parts_that_differ(ends[:1], ends[1:]) == {"VCC": 1}
+    assert kinds_of(ends[:1], ends[1:], {}) == {"VCC": (1, 0)}
 
 
 def test_instruction_that_is_not_there(folder: Path) -> None:
@@ -115,7 +115,7 @@ def result_of(name: str, **more: object) -> Result:
 def test_instructions_that_are_not_there() -> None:
     """Those with the same count of missing cases are named together."""
     missing = {"lb": 20, "lh": 20, "vadd": 20, "sra": 7, "add": 0}
-    lines = text_table([result_of(name, missing=count) for name, count in missing.items()]).splitlines()
+    lines = text_table([result_of(name, missing=count) for name, count in missing.items()], {}).splitlines()
     assert "reserved: LB,LH,VADD (20 of 20 cases each), SRA (7 of 20 cases). " in lines[0]
     assert lines[-1].startswith("33 cases and 0 programs: 0 differ, 0 of them by faults, 67 not there; ")
 
@@ -123,9 +123,9 @@ def test_instructions_that_are_not_there() -> None:
 @pytest.mark.parametrize("first", ["ADD-g2-1-000000: boom", "ADD-g2-1-000000: $5: expected"])
 def test_fault_that_is_given_up(first: str) -> None:
     """The table says once why the emulator failed, whether or not its first difference is a fault."""
-    shown, faults = [first, "ADD-g2-1-000001: boom"], [[1, 1, "boom"]] * 8
-    result = result_of("add", shown=shown, faults=faults, **{"given up": "boom"})
-    (_, line, _) = text_table([result]).splitlines()
+    kinds, faults = {"pc": [1, first], "fault": [8, "ADD-g2-1-000001: boom"]}, [[1, 1, "boom"]] * 8
+    result = result_of("add", kinds=kinds, faults=faults, **{"given up": "boom"})
+    (_, line, _) = text_table([result], {}).splitlines()
     assert line.count("boom") == 1 and "(given up after 9 faults" in line
 
 

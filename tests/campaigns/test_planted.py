@@ -19,9 +19,8 @@ from typing import Any, Dict, Iterator, List, Tuple
 import pytest
 
 import rsp
-from lib.processes import STRICT, compiled
+from lib.campaigns import core_with
 from rsp_conformance import HERE as CONFORMANCE, bench, generate, library_states, states
-from rsp_conformance.campaign.hashes import SOURCES
 from rsp_conformance.campaign.supervise import check
 from rsp_conformance.cases import ENTRIES
 from rsp_conformance.steps import Entry
@@ -45,9 +44,9 @@ def table(name: str) -> Dict[int, List[str]]:
 
 BUGS = {0: [*ROWS], **{bug: names.split(",") for bug, (_, names, _) in table("bugs.tsv").items()}}
 MISSED = {
-    "cases": {2},
-    "programs": {4, 11, 24, 33, 64, 97},
-    "vectors": {2, 14, 25, 61, 64, 97, 98},
+    "cases": {2, 103, 104},
+    "programs": {4, 11, 24, 33, 64, 97, 104},
+    "vectors": {14, 25, 61, 97, 98},
 }
 
 
@@ -139,12 +138,6 @@ def generated(program: Path, folder: Path, numbers: range, *names: str) -> None:
     assert not [*generate.generate([ROWS[name.lower()] for name in names], write, folder)]
 
 
-def core_with(bug: int, folder: Path) -> Path:
-    """The core with a bug."""
-    words = ("-std=c11", *STRICT, "-march=x86-64-v2", "-shared", "-fPIC", f"-I{SOURCES}")
-    return compiled(folder / "second.so", *words, f"-DPLANTED={bug}", CORE)
-
-
 @pytest.mark.parametrize("cases", (0, 20), ids=("small set", "new cases"))
 def test_core_agrees_in_vectors(cases: int, program: Path, folder: Path) -> None:
     """A core that was written from the pages alone passes the vectors, and new ones, steps and programs."""
@@ -178,6 +171,14 @@ def test_lanes_written_one_after_the_other(bug: int, folder: Path) -> None:
     for name in BUGS[bug]:
         found = [vector for vector, is_same in vectors_of(name.upper(), lib) if not is_same]
         assert {bool(re.search(r"-\d{3}$", vector)) for vector in found} == {True, False}, (name, found)
+
+
+@pytest.mark.parametrize("bug", (2, 19, 64, *range(99, 105)))
+def test_sp_registers(bug: int, folder: Path) -> None:
+    """Faults in the semaphore, a DMA's fields, rows and ends, and single step are found by vectors."""
+    lib = ctypes.CDLL(str(core_with(bug, folder)))
+    vectors = (vector for name in ("MTC0", "MFC0") for vector in vectors_of(name, lib))
+    assert any(not is_same for _, is_same in vectors)
 
 
 @pytest.mark.parametrize("bug, name, entry", [(97, "VRCP", 300), (98, "VRSQ", 301)])

@@ -40,7 +40,7 @@ def test_fault_of_a_plugin(folder: Path) -> None:
 
 def test_plugin_takes_no_programs(folder: Path) -> None:
     ended = campaign(other_plugin(0), "--programs", 1, "--cases", 0, "--here", folder)
-    assert ended.returncode == 1 and "takes no programs" in ended.stderr
+    assert ended.returncode == 2 and "takes no programs" in ended.stderr
 
 
 @pytest.mark.needs(Z64)

@@ -73,5 +73,5 @@ def test_campaign(words: str, sentence: str, files: Path, library: Path) -> None
         words = words.replace(name, text)
     arguments = ["" if word == "NOTHING" else word for word in words.split()[1:]]
     ended = campaign(*arguments, *more)
-    assert ended.returncode in (1, 2) and "Traceback" not in ended.stderr, ended.stderr
+    assert ended.returncode == 2 and "Traceback" not in ended.stderr, ended.stderr
     assert sentence in ended.stderr.strip().split("\n")[-1]

@@ -52,14 +52,14 @@ def printed(folder: Path, commands: str, status: int = 0) -> str:
     return ended.stdout
 
 
-def typed(folder: Path, *starts: str, edit: str = "") -> str:
-    """What blocks of the page print, with hazards in the core."""
+def typed(folder: Path, *starts: str, edit: str = "", status: int = 0) -> str:
+    """What blocks of the page print, with hazards in the core. The last command ends with the status."""
     core = succeeds("sed", "-f", TESTS / "hdl/hazards.sed", "-e", edit, "examples/hdl/core.sv")
     (folder / "core.sv").write_text(core)
     assert core.count("\n") <= 220
     commands = "".join(block_with(PAGE, it) for it in starts)
     commands = commands.replace("hex/LW-1\n", "hex/LW-1 || :\n")  # a core with a hazard may fail
-    return printed(folder, commands.replace("examples/hdl/core.sv", f"{folder}/core.sv"))
+    return printed(folder, commands.replace("examples/hdl/core.sv", f"{folder}/core.sv"), status)
 
 
 @pytest.mark.needs("iverilog")
@@ -89,7 +89,7 @@ def test_hang(folder: Path) -> None:
         assert ended.returncode == 1 and not [it for it in texts if f"{it}: {reason}\n" not in ended.stdout]
         counts = len(entries_in(VECTORS, "VMRG")), len(entries)
         assert ": {} passed, {} failed, 0 skipped".format(*counts) in ended.stdout, ended.stdout
-    output = printed(folder, block_with(PAGE, "conformance/campaign").replace("vlt", "vmrg"))
+    output = printed(folder, block_with(PAGE, "conformance/campaign").replace("vlt", "vmrg"), 1)
     assert re.search(r"(?m)^VADD +50 +0 +50 +0 +0 .*: status: expected 0, got 1\b", output), output
     assert re.search(r"(?m)^VMRG +50 +0 +0 ", output), output
     typed(folder, "conformance/generate --hex", edit=UNKNOWN)
@@ -143,8 +143,8 @@ def test_ghdl(folder: Path) -> None:
 @pytest.mark.parametrize("hazard", range(5))
 def test_campaign(hazard: int, folder: Path) -> None:
     """The core agrees. A hazard shows in all programs, and the bench replays the one that was cut down."""
-    edit = f"s/hazard = 0; initial.*/hazard = {hazard};/"
-    output = typed(folder, "conformance/generate --hex", "verilator --cc", edit=edit)
+    edit, status = f"s/hazard = 0; initial.*/hazard = {hazard};/", int(hazard > 0)
+    output = typed(folder, "conformance/generate --hex", "verilator --cc", edit=edit, status=status)
     assert f"\n42000 cases and 50 programs: {50 * (hazard > 0)} differ" in output, output
     assert hazard != 2 or block_with(PAGE, "PROGRAM-g3") in output, output
     assert bool(programs := programs_in(folder / "programs")) == bool(hazard), output
@@ -167,7 +167,7 @@ def test_campaign(hazard: int, folder: Path) -> None:
 def test_hang_in_campaign(folder: Path) -> None:
     """A core that hangs differs, or says that an instruction isn't done."""
     edit = f"s/hazard = 0; initial.*/hazard = 0;/{HANGS}"
-    output = typed(folder, "conformance/generate --hex", "verilator --cc", edit=edit)
+    output = typed(folder, "conformance/generate --hex", "verilator --cc", edit=edit, status=1)
     assert re.search(
         r"(?m)^PROGRAM +(\d+) +0 +\1 .*: of 1 steps it returned that 0 are done ", output
     ), output

@@ -257,5 +257,7 @@ def test_campaign(stranger: User, home: Path) -> None:
     (home / "mine.c").write_text(block_with("docs/CAMPAIGN.md", '#include "cases.h"'))
     made = "cc -O2 -shared -fPIC -Ilibrary/c -Iconformance/campaigns ~/mine.c -o ~/mine.so"
     words = "conformance/campaign ~/mine.so ~/out --instructions vnop,vadd --cases 100 --here"
-    counts = re.findall(r"(?m)^(V\w+) +(\d+) +\d+ +(\d+)", prints(stranger, f"{made} && {words}"))
+    counts = re.findall(
+        r"(?m)^(V\w+) +(\d+) +\d+ +(\d+)", prints(stranger, f"{made} && {words} || [ $? = 1 ]")
+    )
     assert counts == [("VADD", "100", "100"), ("VNOP", "100", "0")]

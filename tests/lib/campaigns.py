@@ -8,8 +8,10 @@ from pathlib import Path
 from typing import Any, Dict, List, Tuple
 
 from lib import TESTS, TOP
-from lib.processes import Ended, run
+from lib.processes import STRICT, Ended, compiled, run
+from rsp_conformance import HERE
 from rsp_conformance.campaign.build import built
+from rsp_conformance.campaign.hashes import SOURCES as HEADERS
 
 CAMPAIGN, SOURCES = TOP / "conformance/campaign", TESTS / "campaigns"
 # The repository's path may have whitespace.
@@ -24,15 +26,22 @@ def campaign(*words: object, **how: Any) -> "Ended[str]":
 
 
 def output_of(out: Path, *words: object) -> str:
-    """The output of a campaign in one process, which has to end with status 0. Its results are in `out`."""
+    """The output of a campaign in one process. Its results are in `out`, and its status fits them."""
     ended = campaign(*words, "--here", out)
-    assert ended.returncode == 0, ended.stdout + ended.stderr
+    differs = any(result.get("differ") or result.get("missing") for result in results_of(out).values())
+    assert ended.returncode == int(differs), ended.stdout + ended.stderr
     return str(ended.stdout)
 
 
 def faulty(fault: int, *flags: str) -> str:
     """The library with a planted fault."""
     return built("faulty", [f"-DFAULT={fault}", *flags], SOURCES / "faulty.c")
+
+
+def core_with(bug: int, folder: Path) -> Path:
+    """The second core with a bug of its table, or with none for 0."""
+    words = ("-std=c11", *STRICT, "-march=x86-64-v2", "-shared", "-fPIC", f"-I{HEADERS}", f"-DPLANTED={bug}")
+    return compiled(folder / "second.so", *words, HERE / "second/second.c")
 
 
 def results_of(out: Path) -> Dict[str, Any]:

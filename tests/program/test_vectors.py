@@ -211,10 +211,12 @@ def test_runners_of_steps(name: str, program: Path, library: Path, folder: Path,
         spoilt = [*spoilt_entries(entry, random)]
         for false, found in zip(spoilt, run_entries(str(program), spoilt)):
             path.write_text(json.dumps(false))
+            if " no value of it" in str(ended_runner("steps", path)[1]):
+                continue  # it lacks a byte of a register
             output = output_of_runner("steps", path)
-            end = f"\n0 passed, 1 failed{' (1 with a choice)' * ('choice' in entry)}\n"
+            end = f"\n0 passed, 1 failed{' (1 with a choice)' * ('choice' in entry)}\nfailed: 1 of {name}\n"
             assert output.startswith(head_of(entry)) and output.endswith(end), false
-            assert_explained(entry, capsys.readouterr().err)
+            assert_explained(entry, capsys.readouterr().err.splitlines(keepends=True)[-1])
             assert found and all(complaint.startswith(f"{entry['name']} (") for complaint in found), false
 
 
@@ -310,7 +312,7 @@ def test_runner_for_an_emulator_that_lacks_an_instruction(library: Path, capsys:
     lines = [f"{head_of(it)}interrupt: expected 1, got 0" for it in wrong]
     counts = f"{len(tried) - len(wrong)} passed, {len(wrong)} failed ({len(wrong)} with a choice), "
     count = len(entries) - len(tried)
-    skipped = f"{count} skipped\nskipped: {count} of BREAK"
+    skipped = f"{count} skipped\nfailed: {len(wrong)} of BREAK\nskipped: {count} of BREAK"
     assert 0 < len(wrong) < len(tried) < len(entries) and "; choice: pc after BREAK), " in lines[0]
     assert output_of_runner("steps", path, Lacking) == "\n".join([*lines, counts + skipped, ""])
     hint = f"steps.py: in a clone, tools/define why {wrong[0]['name']} interrupt explains what is expected\n"
@@ -322,6 +324,71 @@ def test_runner_for_an_emulator_that_lacks_an_instruction(library: Path, capsys:
             output_of_runner(name, file, Lacking)
     names = f"steps.py: an exception in {first['name']} (break):\n", "programs.py: an exception in BREAK-1:\n"
     assert "".join(names) == capsys.readouterr().err
+
+
+# An emulator of NOP, in the form of mine.py.
+NOP = """class Rsp:
+    def __init__(self):
+        self.all = {}
+    def set(self, key, value):
+        self.all[key] = value
+    def get(self, key):
+        return self.all[key]
+    load, memory = set, get
+    def step(self):
+        if int.from_bytes(self.all["imem"][:4], "big"):
+            raise NotImplementedError
+        self.all.update(pc="004", npc="008")
+"""
+
+
+@pytest.mark.parametrize("words, status", [([], 0), (["--strict"], 1)])
+def test_skipped_cases(words: Sequence[str], status: int, folder: Path) -> None:
+    """With --strict they are a failure."""
+    (folder / "mine.py").write_text(NOP)
+    nop = {**ADD, "name": "SLL-000", "word": "00000000", "after": {"pc": "004", "npc": "008"}}
+    (folder / "cases").write_text("".join(f"{json.dumps(it)}\n" for it in (nop, ADD)))
+    ran = run(sys.executable, TOP / "conformance/steps.py", *words, "cases", cwd=folder)
+    assert (ran.stdout, ran.returncode) == ("1 passed, 0 failed, 1 skipped\nskipped: 1 of ADD\n", status)
+
+
+# Lines that are no cases, with what is said of them. None has a control character in the answer.
+A_CASE: Dict[str, Any] = {"name": "A", "word": "00000000", "text": "", "before": {}, "after": {}}
+NO_CASES = {
+    "[" * 100000: "RecursionError: ",
+    "5": "TypeError: ",
+    **{
+        json.dumps({**A_CASE, **more}): why
+        for why, more in {
+            "name is no text": {"name": 5},
+            "imem has no address": {"word": "0" * 8194},
+            "'r32' is no register": {"before": {"r32": "00000000"}},
+            "or '1' no value of it": {"after": {"r1": "1"}},
+            "dmem has no address 'fff'": {"before": {"dmem": {"fff": "0000"}}},
+            "non-hexadecimal number": {"before": {"dmem": {"0": "zz"}}},
+            r"'\x1b]0;a' is no register": {"before": {"\x1b]0;a": "0"}},
+        }.items()
+    },
+}
+
+
+@pytest.mark.parametrize("line", NO_CASES, ids=[*NO_CASES.values()])
+def test_runner_of_a_line_that_is_no_case(line: str, folder: Path) -> None:
+    """It is refused in a sentence, before any case is run."""
+    (folder / "mine.py").touch()
+    (folder / "cases").write_text(line)
+    ran = run(sys.executable, TOP / "conformance/steps.py", "cases", cwd=folder)
+    assert ran.returncode == 1 and ran.stdout.startswith("steps.py: can't read the cases of cases: ")
+    assert NO_CASES[line] in ran.stdout and ran.stdout.rstrip("\n").isprintable(), ran.stdout
+
+
+def test_names_that_control_a_terminal(folder: Path) -> None:
+    """They are printed as escapes."""
+    (folder / "mine.py").write_text(NOP.replace("raise NotImplementedError", "pass"))
+    (folder / "cases").write_text(json.dumps({**ADD, "name": "\x1b]0;a\x07", "text": "\x1b[31m"}))
+    ran = run(sys.executable, TOP / "conformance/steps.py", "cases", cwd=folder)
+    head = r"\x1b]0;a\x07 (\x1b[31m), r3: expected 0b0b0b0b, got 03030303"
+    assert head in ran.stdout.splitlines() and "\x1b" not in ran.stdout and ran.returncode == 1, ran.stdout
 
 
 def test_runners_of_a_memory_that_is_too_long(library: Path) -> None:
@@ -358,7 +425,12 @@ def test_runner_of_many_differences(folder: Path, library: Path) -> None:
 
     (folder / "cases").write_text(json.dumps({**ADD, "before": {}}))
     lines = [f"ADD-000 (add $3, $0, $11), dmem {at:03x}: expected 00, got 5a" for at in range(8)]
-    lines += ["ADD-000 (add $3, $0, $11): 4088 more differences", "0 passed, 1 failed", ""]
+    lines += [
+        "ADD-000 (add $3, $0, $11): 4088 more differences",
+        "0 passed, 1 failed",
+        "failed: 1 of ADD",
+        "",
+    ]
     assert output_of_runner("steps", folder / "cases", Filling) == "\n".join(lines)
 
 

@@ -5,7 +5,8 @@ is the campaign's folder: a file for each task, table.txt, table.html, and in pr
 differ, cut down. A campaign that was stopped continues when it is started again: tasks with a result in OUT
 aren't run again, as long as the emulator's files have the same contents. They are the files that EMULATOR
 names, and those of --files. With --case, OUT gives the instructions of a program. The last 20 lines that an
-emulator writes are shown with its fault. It fails if a task isn't done, or with a sentence if it can't begin.
+emulator writes are shown with its fault. The status is 0 if nothing differs except what the file of --known
+lists, 1 if something else differs, and 2, with a sentence, if a task isn't done or the campaign can't begin.
 """
 
 import argparse
@@ -13,6 +14,7 @@ import os
 import re
 import sys
 import time
+import traceback
 from pathlib import Path
 from typing import Any, Callable, List, NoReturn, Tuple
 
@@ -23,8 +25,9 @@ from rsp_conformance.table import ROWS as INSTRUCTIONS
 from . import CampaignFault
 from .hashes import library
 from .output_folder import MOST, OutputFolder, settings_in
-from .report import html_table, results_in, text_table
-from .protocol import PROGRAM, VERSION, VERSIONS, name_of, plural
+from .known import Known, gone, is_known, known_in, lines_for, write_known
+from .report import html_table, is_as_known, results_in, summary, task_of, text_table
+from .protocol import PROGRAM, VERSION, VERSIONS, Result, name_of, plural
 from .supervise import check
 from .workers import options_of, results
 
@@ -44,7 +47,10 @@ NUMBERS = {
 PROGRESS_SECONDS = 60  # between two lines of progress, if they go to a file
 
 
-def stop(sentence: object, status: int = 1) -> NoReturn:
+DIFFERS, CANNOT_RUN, STOPPED = 1, 2, 130  # the exit statuses other than 0
+
+
+def stop(sentence: object, status: int = CANNOT_RUN) -> NoReturn:
     """Ends the campaign at once, and with it the children of tasks that still run."""
     print(printable(f"campaign: {sentence}"), file=sys.stderr, flush=True)
     os._exit(status)
@@ -75,8 +81,11 @@ class Progress:
             print(file=sys.stderr)
 
 
-def run(args: argparse.Namespace) -> None:
-    """Runs the tasks of a campaign that are left, and prints how far it is."""
+def run(args: argparse.Namespace) -> bool:
+    """Runs the tasks of a campaign that are left, and prints how far it is.
+
+    Returns whether all differences are known.
+    """
     folder = OutputFolder(args)
     folder.open()
     todo = folder.tasks_left()
@@ -91,26 +100,50 @@ def run(args: argparse.Namespace) -> None:
         done, differ = done + result["count"], differ + result["differ"]
         progress.update(number, done, differ)
     progress.end()
-    report(args, folder)
+    found = results_in(args.out)
+    known = now_known(args, found)
+    report(args, found, known)
     if folder.earlier_results:
         write_output(f"{folder.note_on_earlier_results()}\n")
     if tasks_left := folder.tasks_left():
         why = lost or "-".join(map(str, tasks_left[0]))
         are = "isn't" if len(tasks_left) == 1 else "aren't"
         stop(f"{plural(len(tasks_left), 'task')} {are} done ({why}); start it again")
+    if ended := [result for result in found if "given up" in result and not result["faults"]]:
+        stop(f"{'-'.join(map(str, task_of(ended[0])))} is given up: {ended[0]['given up']}")
+    return is_as_known(found, known)
 
 
-def report(args: argparse.Namespace, folder: OutputFolder) -> None:
+def now_known(args: argparse.Namespace, found: List[Result]) -> Known:
+    """The differences that are known, with those that --write-known adds. Names those that don't occur."""
+    known, kinds = args.known, {name: line["kinds"] for name, line in summary(found, {}).items()}
+    for who, what in sorted(gone(known, kinds)):
+        write_output(f"Known, and doesn't occur: {who}, {what}.\n")
+    if args.write_known:
+        known = {line: reason for line, reason in known.items() if line not in gone(known, kinds)}
+        for name, its_kinds in kinds.items():
+            known.update(lines_for(name, its_kinds, known))
+        write_known(args.write_known, known)
+    return known
+
+
+def report(args: argparse.Namespace, found: List[Result], known: Known) -> None:
     """Prints and writes the table."""
-    if found := results_in(args.out):
-        text, title = text_table(found), f"{args.emulator.rpartition('/')[2]} against the proved library"
+    if found:
+        text, title = (
+            text_table(found, known),
+            f"{args.emulator.rpartition('/')[2]} against the proved library",
+        )
         write_output(text + "\n")
         write_file(args.out / "table.txt", text + "\n")
-        write_file(args.out / "table.html", html_table(found, title))
+        write_file(args.out / "table.html", html_table(found, title, known))
 
 
-def show(args: argparse.Namespace) -> None:
-    """Shows cases, or programs with the instructions and steps of OUT."""
+def show(args: argparse.Namespace) -> bool:
+    """Shows cases, or programs with the instructions and steps of OUT.
+
+    Returns whether all differences are known.
+    """
     name, seed, first, last = args.case
     if args.out:
         settings = settings_in(args.out)
@@ -118,7 +151,8 @@ def show(args: argparse.Namespace) -> None:
     options = {**options_of(args), "whole": first == last}
     result = check(args.emulator, name, seed, first, last - first + 1, options)
     if "given up" in result:
-        stop(f"{name_of(name, seed, first)}: {result['given up']}")
+        status = DIFFERS if result["faults"] else CANNOT_RUN
+        stop(f"{name_of(name, seed, first)}: {result['given up']}", status)
     missing = f", {result['missing']} not there" if result["missing"] else ""
     counts = f"{result['count']} done, {result['differ']} differ, {result['unshown']} not shown{missing}"
     write_output("".join(f"{line}\n" for line in (*result["shown"], counts)))
@@ -127,6 +161,7 @@ def show(args: argparse.Namespace) -> None:
         head = f"{program['name']} is cut down to {steps} from address {program['pc']:03x}:"
         differences = [f"  {difference}" for difference in program["differs"]]
         write_output("".join(f"{line}\n" for line in (head, *program["listing"], *differences)))
+    return all(is_known(kind, name, args.known) for kind in result["kinds"])
 
 
 def is_in(path: Path, folder: Path) -> bool:
@@ -167,6 +202,13 @@ def paths_of(text: str) -> List[str]:
     return paths
 
 
+def known_of(text: str) -> Known:
+    try:
+        return known_in(Path(text))
+    except (CampaignFault, FileFault) as fault:
+        raise argparse.ArgumentTypeError(str(fault)) from None
+
+
 def case_of(text: str) -> Tuple[str, str, int, int]:
     """The instruction, the seed, the first and the last number of a case's name."""
     found = re.fullmatch(r"(\w+?)(?:-g(\d+))?-([a-z0-9]+)-(\d+)(?:\.\.(\d+))?", text)
@@ -195,6 +237,14 @@ def arguments() -> argparse.Namespace:
     add("--files", type=paths_of, default=[], metavar="PATH,..", help=files)
     add("--seed", type=seed_of, default="1", help="letters a to z and digits (1)")
     add("--here", action="store_const", const=1, dest="workers", help="one task at a time, as --workers 1")
+    known = "a list of differences that are expected: the others decide the status (none)"
+    add("--known", type=known_of, default={}, metavar="FILE", help=known)
+    add(
+        "--write-known",
+        type=Path,
+        metavar="FILE",
+        help="writes such a list of all differences of this campaign",
+    )
     add("--scheduler", metavar="ADDRESS", help="runs the tasks on a cluster of Dask")
     case = name_of("vadd", "7", 123)
     names = f"{case}, {case}..000130, or {name_of(PROGRAM, '7', 5)}"
@@ -204,6 +254,10 @@ def arguments() -> argparse.Namespace:
     args: argparse.Namespace = parser.parse_intermixed_args()
     if not args.out and not args.case:
         stop("it needs a folder OUT")
+    if args.write_known and args.case:
+        stop("--case writes no list of known differences")
+    if args.write_known and args.write_known.exists() and not args.known:
+        stop(f"{args.write_known} is there already: name it by --known, too, and its reasons stay")
     args.instructions = [name for name in args.instructions if name not in args.without]
     if not args.instructions:
         stop("--without leaves no instruction")
@@ -216,7 +270,8 @@ def arguments() -> argparse.Namespace:
     return args
 
 
-def main() -> None:
+def main() -> int:
+    """Runs a campaign, or shows cases, and returns the exit status."""
     args = arguments()
     try:
         library()
@@ -228,7 +283,7 @@ def main() -> None:
             stop(f"{sys.executable} has no numpy: {how}")
         stop(fault)
     try:
-        show(args) if args.case else run(args)
+        return 0 if (show(args) if args.case else run(args)) else DIFFERS
     except (CampaignFault, FileFault) as fault:
         stop(fault)
     except OSError as fault:
@@ -237,7 +292,12 @@ def main() -> None:
 
 if __name__ == "__main__":
     try:
-        main()
+        ended = main()
     except KeyboardInterrupt:
-        stop("stopped; started again, it continues", 130)
-    os._exit(0)  # else Dask closes its connections first, and may write to stderr meanwhile
+        stop("stopped; started again, it continues", STOPPED)
+    except SystemExit as fault:
+        ended = 0 if fault.code in (None, 0) else stop(fault.code)
+    except Exception:
+        traceback.print_exc()
+        ended = CANNOT_RUN
+    os._exit(ended)  # else Dask closes its connections first, and may write to stderr meanwhile

@@ -1,6 +1,7 @@
 """Compiles the C of this folder with `cc`, if there is no shared object with the hash of all sources in out/.
 """
 
+import functools
 import os
 import subprocess
 from pathlib import Path
@@ -32,6 +33,12 @@ def built(name: str, flags: Sequence[str] = (), source: Optional[Path] = None) -
         raise CampaignFault(f"cc can't make {name}: {ended.stderr.strip().splitlines()[0]}")
     os.replace(temporary, path)
     return str(path)
+
+
+@functools.lru_cache(None)
+def library_object() -> str:
+    """The shared object of the library."""
+    return built("library")
 
 
 # The end of the setting program: it restores DMEM by a DMA, and sets $1, whose halves microcode.c puts in.

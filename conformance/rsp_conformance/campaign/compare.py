@@ -1,17 +1,20 @@
 """Runs the proved library and an emulator side by side, and describes the differences between them."""
 
-from typing import Dict, Iterable, Iterator, List, Optional, Union
+import itertools
+from typing import Dict, Iterable, Iterator, List, Optional, Tuple, Union
 
 import numpy as np
 import rsp
 from rsp_conformance.table import ignored_bits, row_of
 
-from .build import built
+from .build import library_object
 from .emulators import Object, emulator_of, memories_in, patched, word_of
 from .generator import BANKS, END, IMEM, MEMORIES, RDRAM, STATE, Array, bytes_of
+from .known import AND, CHOICE
+from .protocol import FIELDS
 
 QUADWORD = 16  # bytes
-# The parts of an end that can differ, by their bytes.
+# The parts of an end, by their bytes.
 PARTS = {
     "scalar registers": bytes_of("state.words"),
     "vector registers": bytes_of("state.vectors"),
@@ -26,6 +29,11 @@ PARTS = {
     "interrupt": bytes_of("state.interrupt"),
     "status": bytes_of("status"),
     "memories": bytes_of("changed"),
+}
+SP = PARTS["SP registers"][0]
+# What can differ: the same, with each SP register for itself.
+FIELD_BYTES = {
+    field: PARTS.get(field) or (SP + 4 * int(field[1:]), SP + 4 * int(field[1:]) + 4) for field in FIELDS
 }
 
 
@@ -64,7 +72,7 @@ class Sides:
 
     def __init__(self, spec: str, memories: bytes) -> None:
         self.spec = spec
-        self.library, self.emulator = Object(built("library"), memories), emulator_of(spec, memories)
+        self.library, self.emulator = Object(library_object(), memories), emulator_of(spec, memories)
         self.machine, hidden = rsp.Machine(bytes(MEMORIES - RDRAM)), ~self.emulator.seen
         self.unseen = [part for part, (low, high) in PARTS.items() if hidden[low:high].any()]
         hidden[slice(*bytes_of("state.zero"))] = 255  # no register
@@ -114,11 +122,16 @@ class Sides:
         return rsp.first_difference(self.machine, self.emulator.for_programs(self.machine), every, steps)
 
 
-def parts_that_differ(expected: Array, ends: Array) -> Dict[str, int]:
-    """The number of ends that differ in each part."""
+def kinds_of(expected: Array, ends: Array, choices: Dict[str, Array]) -> Dict[str, Tuple[int, int]]:
+    """The kinds of differences between ends, as known.py says: how many have each, and which is the first."""
+    if not len(ends):
+        return {}
     wrong = (expected.view(np.uint8) != ends.view(np.uint8)).reshape(-1, END.itemsize)
-    counts = {part: int(wrong[:, low:high].any(1).sum()) for part, (low, high) in PARTS.items()}
-    return {part: count for part, count in counts.items() if count}
+    items = {field: wrong[:, low:high].any(1) for field, (low, high) in FIELD_BYTES.items()}
+    items.update({CHOICE + choice: holds for choice, holds in choices.items()})
+    rows, *numbers = np.unique(np.stack([*items.values()], 1), return_index=True, return_counts=True, axis=0)
+    names = (AND.join(itertools.compress(items, row)) for row in rows.tolist())
+    return {name: (count, first) for name, first, count in zip(names, *(them.tolist() for them in numbers))}
 
 
 def in_words(parts: Iterable[rsp.Part]) -> List[str]:

@@ -18,6 +18,7 @@ import os
 import re
 import subprocess
 import sys
+import tempfile
 from typing import Any, Dict, Iterable, Optional, Tuple
 
 import numpy as np
@@ -25,14 +26,16 @@ import rsp
 from rsp_conformance.library_states import numbers_of, state_of
 
 from . import CampaignFault, Unusable, words_of
-from .build import built, microcode
+from .build import built, library_object, microcode
 from .generator import BANKS, END, IMEM, MEMORIES, RDRAM, STATE, Array
 from .hashes import find_module
 from .protocol import UNSHOWN
-from .supervise import end_with_parent
 
 Changed = Dict[int, int]  # the changed bytes of memories, by their addresses
 End = Tuple[Any, int, Changed]  # a state, the status, and the bytes
+# The bytes of an answer, in which each byte of all memories can have changed; and of those to a batch, with
+# what else the command prints.
+LONGEST_LINE, MOST_OUTPUT = 1 << 20, 1 << 24
 
 
 class Emulator:
@@ -171,7 +174,7 @@ def word_of(case: Array) -> Changed:
 @functools.lru_cache(1)
 def digest() -> Any:
     """The function cases_digest of cases.h."""
-    call = ctypes.CDLL(built("library")).cases_digest
+    call = ctypes.CDLL(library_object()).cases_digest
     call.restype = ctypes.c_uint64
     return call
 
@@ -263,7 +266,6 @@ class Command(Single):
             words_of(command),
             stdin=subprocess.PIPE,
             stdout=subprocess.PIPE,
-            preexec_fn=functools.partial(end_with_parent, os.getpid()),
             env=environment(),
         )
         self.memories = bytes(memories)
@@ -282,7 +284,9 @@ class Command(Single):
         """The state, the status and the changed bytes of an answer."""
         self.say(question)
         assert self.process.stdout
-        line = self.process.stdout.readline()
+        line = self.process.stdout.readline(LONGEST_LINE)
+        if len(line) == LONGEST_LINE:
+            raise CampaignFault(f"the command's line has {LONGEST_LINE} bytes, and doesn't end")
         if not line:
             raise CampaignFault(f"the command ended with status {self.process.wait()}")
         try:
@@ -334,16 +338,29 @@ class Hex(Emulator):
         hidden = (cases["word"] >> 31 == 1) | (cases["word"] & 0xFFE07000 == 0x40801000)
         shown, ends["changed"] = np.nonzero(~hidden)[0], 0
         lines = (f"{case['word']:08x} {case['state'].tobytes()[::-1].hex()}\n" for case in cases[shown])
-        how: Dict[str, Any] = {"input": "".join(lines), "stdout": subprocess.PIPE, "env": environment()}
-        ended = subprocess.run(self.words, text=True, errors="replace", **how)
-        answers = re.findall("(?m)^([0-9a-f]{1,8}) ([0-9a-f]{1544})$", ended.stdout)
-        for at, (status, state) in zip(shown, answers):
+        output, status = self.output_of("".join(lines))
+        answers = re.findall("(?m)^([0-9a-f]{1,8}) ([0-9a-f]{1544})$", output)
+        for at, (ended, state) in zip(shown, answers):
             ends["state"][at] = np.frombuffer(bytes.fromhex(state)[::-1], STATE)[0]
-            ends["status"][at] = int(status, 16)
+            ends["status"][at] = int(ended, 16)
         if len(answers) < len(shown):
-            print(re.sub("(?m)^[0-9a-f ]+$\n", "", ended.stdout), file=sys.stderr, flush=True)
-            raise CampaignFault(f"the command ended with status {ended.returncode}, without this answer")
+            print(re.sub("(?m)^[0-9a-f ]+$\n", "", output), file=sys.stderr, flush=True)
+            raise CampaignFault(f"the command ended with status {status}, without this answer")
         ends["status"][hidden] = UNSHOWN
+
+    def output_of(self, lines: str) -> Tuple[str, int]:
+        """What the command prints for these lines, and its status."""
+        with tempfile.TemporaryFile() as given:
+            given.write(lines.encode())
+            given.seek(0)
+            pipes: Dict[str, Any] = {"stdin": given, "stdout": subprocess.PIPE, "env": environment()}
+            process = subprocess.Popen(self.words, **pipes)
+            assert process.stdout
+            output = process.stdout.read(MOST_OUTPUT + 1)
+        if len(output) > MOST_OUTPUT:
+            process.kill()
+            raise CampaignFault(f"the command has printed more than {MOST_OUTPUT} bytes")
+        return output.decode(errors="replace"), process.wait()
 
 
 def emulator_of(spec: str, memories: bytes) -> Emulator:

@@ -299,8 +299,8 @@ def registers(d: Draw) -> Array:
     return cases
 
 
-def cases_of(name: str, seed: str, start: int, count: int) -> Tuple[Array, Array]:
-    """Cases of an instruction from `start` on, and which of them depend on a rule that we chose ourselves."""
+def cases_of(name: str, seed: str, start: int, count: int) -> Tuple[Array, Dict[str, Array]]:
+    """Cases of an instruction from `start` on, and which of them depend on each rule of our own choice."""
     row = INSTRUCTIONS[name]
     d = Draw(name, seed, start, count)
     fields: Fields = {}
@@ -310,4 +310,4 @@ def cases_of(name: str, seed: str, start: int, count: int) -> Tuple[Array, Array
     word = word_of(row, fields)
     cases["word"] = np.where(d.one_in(10), word | d.any() & ignored_bits(row), word)
     found = vectors.choices(row, fields, cases["state"]["pc"], cases["state"]["npc"], fields.get("at"))
-    return cases, functools.reduce(np.logical_or, (holds for _, holds in found), np.zeros(count, bool))
+    return cases, {choice: holds & np.ones(count, bool) for choice, holds in found}

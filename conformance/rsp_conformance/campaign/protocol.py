@@ -1,14 +1,22 @@
 """What the processes of a campaign share: types, names of cases, and the layout of a batch's ends."""
 
-from typing import Any, Dict, Tuple
+from typing import Any, Dict, List, Tuple
 
 Result = Dict[str, Any]  # of a task, of a batch of cases, or of a program: counts, and lines for the table
 Task = Tuple[str, int, int]  # of a campaign: the instruction, the first number, and how many
 Options = Dict[str, Any]  # of the campaign, for its tasks
+Kinds = Dict[str, List[Any]]  # by kinds of differences, as known.py says: how many, and the first in words
 
 VERSION = 2  # of the generator: another version gives the cases of the same numbers other names
 PROGRAM = "program"  # in place of an instruction, in a task of programs
 VERSIONS = {PROGRAM: 3, "mfc0": 3, "mtc0": 3}  # of the generators that have changed by themselves
+# What can differ in a case: the parts of an end, and what is no part of one.
+FIELDS = (
+    *("scalar registers", "vector registers", "accumulators", "VCO", "VCC", "VCE", "divider", "pc", "npc"),
+    *(f"c{number}" for number in range(16)),
+    *("interrupt", "status", "memories"),
+)
+FAULT, NOT_THERE = "fault", "not there"
 BATCH, SHOWN = 1024, 5  # the cases of a call, and the differences of a task that are shown
 # An end is a state, the status and a digest: the bytes of one, and where its status is.
 END_BYTES, STATUS_AT = 784, 772

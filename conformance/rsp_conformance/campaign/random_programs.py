@@ -109,7 +109,8 @@ def result_of(sides: Sides, name: str, program: Program, found: rsp.FirstDiffere
     more = NOT_CUT_DOWN if is_to_cut and not smaller else ""
     line = f"{name}: {place}: {in_brief(in_words(found.parts))}{more}"
     programs = [{"name": name, "shown": line, **smaller}] if smaller and not is_known else []
-    return {"count": 1, "differ": 1, "parts": {instruction: 1}, "shown": [line], "programs": programs}
+    kinds = {instruction.upper(): [1, line]}
+    return {"count": 1, "differ": 1, "kinds": kinds, "shown": [line], "programs": programs}
 
 
 def check_programs(
@@ -117,7 +118,7 @@ def check_programs(
 ) -> Iterator[Result]:
     """Yields an empty result when both sides have begun, and then the result of each program.
 
-    Its `parts` names the instruction after which the program differs.
+    Its `kinds` names the instruction after which the program differs.
     """
     sides, cut = Sides(spec, bytes(MEMORIES)), set()  # type: Tuple[Sides, Set[str]]
     names = [name for name in instructions if name not in NEVER]

@@ -8,6 +8,8 @@
  *   static void side_put(side_machine *m, uint32_t pc, uint32_t word);           a word of IMEM
  *   static void side_load(side_machine *m, const uint8_t *memories, size_t to);  the memories up to `to`, which is CASES_RDRAM or CASES_MEMORIES
  *   static void side_look(side_machine *m, uint8_t *memories, size_t to);
+ * `side_set`, `side_put` and `side_load` also have to make the core forget all that it keeps besides: words that it has decoded or recompiled, and
+ * what is in a pipeline. Otherwise a case can show what an earlier one left.
  * A core with a pipeline also defines SIDE_STEPS as the name of a function
  *   static uint32_t SIDE_STEPS(side_machine *m, uint32_t n);
  * which executes n instructions of a program without a pause, and returns how many are done. It stops after the first one that doesn't end as done.

@@ -12,6 +12,7 @@ result to its standard output.
 
 import contextlib
 import ctypes
+import functools
 import json
 import mmap
 import os
@@ -24,6 +25,7 @@ import threading
 import time
 from collections import deque
 from multiprocessing import Pipe
+from multiprocessing.reduction import sendfds
 from typing import Deque, Iterator, List, Optional, Tuple
 
 from rsp_conformance import TOP
@@ -32,7 +34,20 @@ from rsp_conformance.command_line import printable
 from . import CampaignFault
 from .hashes import hashes, other_hashes
 from .search import fewest
-from .protocol import BATCH, END_BYTES, SHOWN, STATUS_AT, UNDONE, Options, Result, name_of, plural
+from .protocol import (
+    BATCH,
+    END_BYTES,
+    FAULT,
+    NOT_THERE,
+    PROGRAM,
+    SHOWN,
+    STATUS_AT,
+    UNDONE,
+    Options,
+    Result,
+    name_of,
+    plural,
+)
 
 # The emulator, the instruction, the seed, the first number, and how many.
 Task = Tuple[str, str, str, int, int]
@@ -44,18 +59,22 @@ KEEP = {
     "OMP_NUM_THREADS": "1",
 }
 FAULTS, SEARCH_SECONDS, BEGIN_SECONDS = 8, 60, 60
+AGREES = "it agrees on a new emulator, so it depends on what the emulator ran before"
+DESCRIPTORS, STATUS_BYTES = 4, 4  # that a task gets, and that its end gives
+LOCK, LIBC = threading.Lock(), ctypes.CDLL(None)
 # The lines of an emulator's output that are shown with its fault, because a panic's message comes before a
 # long backtrace, but perhaps after a log; and the bytes after which a line is cut.
 FIRST_LINES, LAST_LINES, LINE_BYTES = 5, 20, 400
 PYTHON = TOP / "tools/python"
 NUMBERS = ("count", "unshown", "missing", "differ", "choices", "processor")
-COUNTS = ("parts", "met")  # of what differs, and of the dependences of programs
+COUNTS = ("met",)  # of the dependences of programs
 LISTS = ("shown", "faults", "programs", "unseen")
 
 
 def nothing() -> Result:
     """A result without cases, to which others are added."""
-    return {**dict.fromkeys(NUMBERS, 0), **{key: {} for key in COUNTS}, **{key: [] for key in LISTS}}
+    counts = {key: {} for key in (*COUNTS, "kinds")}  # type: Result
+    return {**dict.fromkeys(NUMBERS, 0), **counts, **{key: [] for key in LISTS}}
 
 
 def add(total: Result, result: Result) -> None:
@@ -65,13 +84,56 @@ def add(total: Result, result: Result) -> None:
     for key in COUNTS:
         more = result.get(key, {})
         total[key] = {name: total[key].get(name, 0) + more.get(name, 0) for name in {**total[key], **more}}
+    for kind, (count, first) in result.get("kinds", {}).items():
+        earlier, line = total["kinds"].get(kind, (0, first))
+        total["kinds"][kind] = [earlier + count, min(line, first, key=number_in)]
 
 
 def end_with_parent(parent: int) -> None:
     """Has the system kill this process when its parent ends, also if it has ended already."""
-    ctypes.CDLL(None).prctl(1, signal.SIGKILL)
+    LIBC.prctl(1, signal.SIGKILL)
     if os.getppid() != parent:
         sys.exit("the parent is gone")
+
+
+@functools.lru_cache(None)
+def starter() -> socket.socket:
+    """The socket of starter.py, which starts the processes of tasks."""
+    ours, its = socket.socketpair()
+    with contextlib.closing(its):
+        subprocess.Popen(
+            [PYTHON, "rsp_conformance.campaign.starter", str(its.fileno())],
+            stdin=subprocess.DEVNULL,
+            stdout=subprocess.DEVNULL,
+            pass_fds=[its.fileno()],
+            start_new_session=True,
+            env={**os.environ, **KEEP},
+        )
+    return ours
+
+
+class Process:
+    """The process of a task, which starter.py has forked."""
+
+    def __init__(self, *descriptors: int) -> None:
+        self.life, its = socket.socketpair()
+        self.status: Optional[int] = None
+        with LOCK, contextlib.closing(its):
+            sendfds(starter(), [*descriptors, its.fileno()])
+
+    def kill(self) -> None:
+        with contextlib.suppress(OSError):  # it has ended
+            self.life.shutdown(socket.SHUT_WR)
+
+    def wait(self) -> int:
+        """The status after the end of the process and of all that it has started: -N after signal N."""
+        if self.status is None:
+            data = self.life.recv(STATUS_BYTES)
+            self.life.close()
+            if not data:
+                raise CampaignFault("the process that starts the campaign's tasks is gone")
+            self.status = int.from_bytes(data, "little", signed=True)
+        return self.status
 
 
 class OutputReader(threading.Thread):
@@ -92,7 +154,7 @@ class OutputReader(threading.Thread):
 
     def lines(self) -> str:
         """The lines that are shown, after the end of the process."""
-        self.join(1)  # not for ever, because another process may still have the pipe
+        self.join()
         gap = [b".."] if self.count > FIRST_LINES + LAST_LINES else []
         lines = (line.decode(errors="backslashreplace").strip() for line in (*self.first, *gap, *self.last))
         return " / ".join(printable(line) for line in lines if line)
@@ -112,17 +174,9 @@ class Child:
         for at in range(BATCH):
             self.statuses[at] = UNDONE
         self.results, child_end = Pipe()
-        numbers = os.getpid(), shared, child_end.fileno()
         pipe, output = os.pipe()
         self.output = OutputReader(pipe)
-        self.process = subprocess.Popen(
-            [PYTHON, "rsp_conformance.campaign.worker_process", *map(str, numbers)],
-            stdout=output,  # to which Verilator writes the messages of assertions
-            stderr=output,
-            pass_fds=numbers[1:],
-            start_new_session=True,
-            env={**os.environ, **KEEP},
-        )
+        self.process = Process(shared, child_end.fileno(), output)
         for descriptor in shared, output:
             os.close(descriptor)
         child_end.close()
@@ -151,6 +205,7 @@ class Child:
             self.is_begun = True
             yield result
         self.process.kill()
+        self.process.wait()
         output, self.is_unusable = self.output.lines(), result.get("is_unusable", False)
         self.fault = printable(result["fault"]) + (f"; it wrote: {output}" if output else "")
 
@@ -181,7 +236,13 @@ def fault_of(task: Task, number: int, cause: Optional[int], why: str) -> Result:
     elif cause < number:
         why += f"; the shortest run that shows it begins with {name_of(*task[1:3], cause)}"
     line = f"{name_of(*task[1:3], number)}: {why}"
-    return {"count": 1, "differ": 1, "shown": [line], "faults": [[number, cause, why]]}
+    return {
+        "count": 1,
+        "differ": 1,
+        "kinds": {FAULT: [1, line]},
+        "shown": [line],
+        "faults": [[number, cause, why]],
+    }
 
 
 def run_in_children(task: Task, options: Options) -> Result:
@@ -206,6 +267,24 @@ def run_in_children(task: Task, options: Options) -> Result:
     return result
 
 
+def shown_anew(task: Task, line: str, options: Options) -> str:
+    """The line of a case that differs, with a sentence if the case alone agrees on a new emulator."""
+    number = number_in(line)
+    with contextlib.closing(Child((*task[:3], number, 1), options)) as child:
+        batches = [batch for batch in child if batch["count"]]
+    agrees = batches and not (batches[0]["differ"] or batches[0]["missing"])
+    return f"{line}; {AGREES}" if agrees else line
+
+
+def show_anew(task: Task, result: Result, options: Options) -> None:
+    """Repeats the first case of each kind of differences."""
+    firsts = [first for kind, (_, first) in result["kinds"].items() if kind not in (FAULT, NOT_THERE)]
+    lines = {line: shown_anew(task, line, options) for line in firsts}
+    result["shown"] = [lines.get(line, line) for line in result["shown"]]
+    for kind in result["kinds"].values():
+        kind[1] = lines.get(kind[1], kind[1])
+
+
 def number_in(line: str) -> int:
     """The number in the name at the beginning of a line."""
     found = re.match(r"\w+-\w+-\w+-(\d+)", line)
@@ -224,6 +303,8 @@ def check(spec: str, name: str, seed: str, start: int, count: int, options: Opti
     if "hashes" in options and (other := other_hashes(options["hashes"], hashes(spec, options["files"]))):
         raise CampaignFault(f"the files of the {other[0]} aren't those with which this campaign began")
     result["shown"] = sorted(result["shown"], key=number_in)[:SHOWN]
+    if name != PROGRAM and count > 1:
+        show_anew((spec, name, seed, start, count), result, options)
     result["unseen"] = [*dict.fromkeys(result["unseen"])]
     task = {"instruction": name, "seed": seed, "start": start, "size": count}
     return {**task, **result, "seconds": time.time() - began}

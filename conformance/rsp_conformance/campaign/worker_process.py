@@ -1,14 +1,12 @@
 """The work of a task's child process: runs batches of cases, or programs, on the library and on the emulator.
 
-It sends the result of each batch to its parent. Its arguments are the parent's process and two descriptors,
-from supervise.py.
+It sends the result of each batch to the campaign.
 """
 
 import mmap
-import sys
 import time
 from multiprocessing.connection import Connection
-from typing import Iterator, List
+from typing import Iterator, List, Set
 
 import numpy as np
 import rsp
@@ -16,12 +14,13 @@ import rsp
 from . import CampaignFault, Unusable, operands_read
 from .generator import END, Array, cases_of, memories_of
 from .random_programs import check_programs
-from .protocol import BATCH, PROGRAM, RESERVED, SHOWN, UNDONE, UNSHOWN, Result, name_of
+from .protocol import BATCH, NOT_THERE, PROGRAM, RESERVED, SHOWN, UNDONE, UNSHOWN, Kinds, Result, name_of
 from .explaining import command_for
-from .compare import Sides, differences, in_brief, named, parts_that_differ
-from .supervise import end_with_parent
+from .known import choices_of
+from .compare import Sides, differences, in_brief, kinds_of, named
 
-NOT_THERE = f"because the emulator answers that the word is reserved (status {RESERVED})"
+MOST_KINDS = 32  # of which a task shows the first case in words
+WHY_NOT_THERE = f"because the emulator answers that the word is reserved (status {RESERVED})"
 
 
 class Cases:
@@ -30,6 +29,7 @@ class Cases:
     def __init__(self, spec: str, name: str, seed: str) -> None:
         self.name, self.seed, self.memories = name, seed, memories_of(name, seed)
         self.sides, self.expected = Sides(spec, self.memories), np.zeros(BATCH, END)
+        self.kinds: Set[str] = set()  # those whose first case was shown
 
     def memories_after(self, case: Array, expected: Array, got: Array) -> List[str]:
         """The differences in memories, by address if the emulator executed the case and can show them."""
@@ -55,6 +55,12 @@ class Cases:
         why = [f"explained in a clone by {command}"] * bool(command)
         return "\n  ".join([f"{head})", *(f"before: {what} {value}" for what, value in before), *lines, *why])
 
+    def is_new(self, kind: str) -> bool:
+        """Whether a kind of differences is met for the first time, and is one of the first of a task."""
+        if is_new := kind not in self.kinds and len(self.kinds) < MOST_KINDS:
+            self.kinds.add(kind)
+        return is_new
+
     def batch(self, at: int, n: int, ends: Array, room: int, in_full: bool) -> Result:
         """The result of `n` cases, with at most `room` shown, because showing one takes milliseconds."""
         cases, choices = cases_of(self.name, self.seed, at, n)
@@ -65,20 +71,29 @@ class Cases:
             raise CampaignFault("it answered too few cases")
         unshown, missing = statuses == UNSHOWN, statuses == RESERVED
         missing &= (missing | unshown).all()  # some missing cases alone are a fault of the emulator's decoder
-        differ &= ~unshown & ~missing
-        found = np.nonzero(differ)[0]
-        shown = [
-            self.describe(at + i, cases[i], self.expected[i], ends[i], in_full) for i in found[:room].tolist()
-        ]
-        if in_full and missing.any():
-            shown = [f"{self.head(at, cases[0])}): not there, {NOT_THERE}"]
+        found = np.nonzero(differ & ~unshown & ~missing)[0]
+        depend = {choice: holds[found] for choice, holds in choices.items()}
+        counts = kinds_of(self.expected[found], ends[found], depend)
+        firsts = {kind: int(found[first]) for kind, (_, first) in counts.items()}
+        in_words = {*found[:room].tolist(), *(first for kind, first in firsts.items() if self.is_new(kind))}
+        lines = {
+            i: self.describe(at + i, cases[i], self.expected[i], ends[i], in_full)
+            if i in in_words
+            else f"{self.head(at + i, cases[i])})"
+            for i in {*in_words, *firsts.values()}
+        }
+        kinds: Kinds = {kind: [count, lines[firsts[kind]]] for kind, (count, _) in counts.items()}
+        shown = [lines[i] for i in found[:room].tolist()]
+        if missing.any():
+            line = f"{self.head(at, cases[0])}): {NOT_THERE}, {WHY_NOT_THERE}"
+            kinds[NOT_THERE], shown = [int(missing.sum()), line], [line] * in_full or shown
         return {
             "count": n,
             "unshown": int(unshown.sum()),
             "missing": int(missing.sum()),
             "differ": len(found),
-            "choices": int((differ & choices).sum()),
-            "parts": parts_that_differ(self.expected[found], ends[found]),
+            "choices": sum(count for kind, (count, _) in counts.items() if choices_of(kind)),
+            "kinds": kinds,
             "shown": shown,
         }
 
@@ -95,9 +110,8 @@ def check_cases(
         yield result
 
 
-def main(parent: int, shared: int, pipe: int) -> None:
+def main(shared: int, pipe: int) -> None:
     """The ends of the present batch are in shared memory, so the parent knows which cases are done."""
-    end_with_parent(parent)
     connection, used = Connection(pipe), 0.0
     (spec, name, seed, start, count), options = connection.recv()
     if name == PROGRAM:
@@ -112,7 +126,3 @@ def main(parent: int, shared: int, pipe: int) -> None:
     except Exception as fault:  # of an emulator in Python, too
         why = str(fault) if isinstance(fault, CampaignFault) else f"{type(fault).__name__}: {fault}"
         connection.send({"fault": why, "is_unusable": isinstance(fault, Unusable)})
-
-
-if __name__ == "__main__":
-    main(*map(int, sys.argv[1:]))
