@@ -1,8 +1,8 @@
 """EMULATOR `console:cen64`: an emulator of a whole console, without anybody's ROM.
 
 The console's CPU runs console/monitor.c in place of the PIF ROM, and a case is lines of a script for it
-(console_cases.py). The library answers the same lines. A case differs where the answers do, and all else of its end is
-the library's.
+(console_cases.py). The library answers the same lines. A case differs where the answers do, and all else of
+its end is the library's.
 """
 
 import contextlib
@@ -12,7 +12,7 @@ import shutil
 import struct
 import subprocess
 from pathlib import Path
-from typing import Callable, Dict, Iterator, List, Optional, Tuple
+from typing import Callable, Dict, Iterator, Optional
 
 import numpy as np
 import rsp
@@ -20,7 +20,16 @@ from rsp_conformance.table import Row, row_of
 
 from . import CampaignFault
 from .build import built
-from .console_cases import HIDDEN_STATUS, Answers, Changed, end_of, is_shown, prologue, script_of
+from .console_cases import (
+    HIDDEN_STATUS,
+    Answers,
+    Changed,
+    end_of,
+    is_shown,
+    is_single_step,
+    prologue,
+    script_of,
+)
 from .emulators import Emulator, Object, load_all, memories_in, patched, word_of
 from .generator import END, STATE, Array
 from .hashes import SOURCES
@@ -44,7 +53,9 @@ def program_of(name: str) -> str:
 
 
 def memory_file(data: bytes, least: int) -> int:
-    """A descriptor of a file in memory, which doesn't stay if this process is killed. Its size is a power of two."""
+    """A descriptor of a file in memory, which doesn't stay if this process is killed. Its size is a power of
+    two.
+    """
     descriptor = os.memfd_create("image")
     with open(descriptor, "wb", closefd=False) as file:
         file.write(data.ljust(max(least, 1 << (len(data) - 1).bit_length()), b"\0"))
@@ -108,12 +119,14 @@ class Console(Emulator):
 
     def expected(self, row: Row, case: Array, script: Script) -> Optional[Answers]:
         """The library's answers to a case; None if a console can't be given it."""
+        if not is_shown(row, case):
+            return None
         try:
             answers = answers_to(script, self.monitored.answer)
         except Endless:
             answers_to(self.prologue, self.monitored.answer)
             return None
-        return answers
+        return None if is_single_step(answers) else answers
 
     def fill(self, cases: Array, ends: Array) -> None:
         """Runs the cases that can be shown on one console, and takes the answers as they come."""
@@ -121,8 +134,8 @@ class Console(Emulator):
         assert row
         self.library.fill(cases, ours)
         for number, case in enumerate(cases):
-            script = script_of(row, case) if is_shown(row, case) else []
-            if script and (answers := self.expected(row, case, script)):
+            script = script_of(row, case)
+            if answers := self.expected(row, case, script):
                 scripts[number] = script, answers
         ours["status"] = [0 if number in scripts else UNSHOWN for number in range(len(cases))]
         lines = [line for script, _ in scripts.values() for line in script]
@@ -141,6 +154,18 @@ class Console(Emulator):
         state = np.frombuffer(end["state"].tobytes(), np.uint8)
         end["state"] = np.where(wrong[0] == wrong[1], state, wrong[1]).view(STATE)[0]
         if before != after:
-            end["changed"] ^= 1
-            words = {at for at in {*before, *after} if before.get(at) != after.get(at)}
-            self.patches[case.tobytes()] = {at: after.get(at, -1) for at in words}
+            end["changed"] = ~end["changed"]
+            at_words = [at for at in {*before, *after} if before.get(at) != after.get(at)]
+            kept = {at: int.from_bytes(self.memories[at : at + 4], "big") for at in at_words}
+            self.patches[case.tobytes()] = {at: after.get(at, word) for at, word in kept.items()}
+
+    def memories_after(self, case: Array, memories: bytes, compared: rsp.Machine) -> Optional[bytes]:
+        """All memories after a case that has run: the library's, with the words that differed."""
+        compared.set(rsp.State.from_buffer_copy(case["state"].tobytes()))
+        load_all(compared, patched(memories, word_of(case)))
+        compared.run(1)
+        patches = self.patches.get(case.tobytes(), {})
+        pairs = (
+            (at + i, byte) for at, word in patches.items() for i, byte in enumerate(word.to_bytes(4, "big"))
+        )
+        return patched(memories_in(compared), dict(pairs))

@@ -1,7 +1,7 @@
 """The lines of a case for a console's monitor (script.py), and what the answers to them show.
 
-They are SETTING, microcode that sets the registers from DMEM; the word, in an IMEM of BREAKs, with a NOP at its npc; and
-SAVING, microcode that leaves the registers in DMEM.
+They are SETTING, microcode that sets the registers from DMEM; the word, in an IMEM of BREAKs, with a NOP at
+its npc; and SAVING, microcode that leaves the registers in DMEM.
 """
 
 import functools
@@ -27,10 +27,10 @@ KEPT_SAVING = (KEPT + 0x3000, KEPT + 0x3800)
 BREAK, NOP, JUMP = 13, 0, 2 << 26
 CLEAR = bench.ALL_CLEAR & ~script.HALTED  # which would start the RSP
 STEPS, STEPS_OF_CASE, WORDS = 200, 5, 192
-# SP_STATUS: halted and broke, which BREAK sets, and single step, because nothing may stop the microcode
+# Of SP_STATUS: halted and broke, which BREAK sets; and single step, because nothing may stop the microcode.
 HIDDEN_STATUS, SINGLE_STEP = 0x23, 0x20
 BRANCHES = ("branch one", "branch two", "jump", "jump register", "link register")
-# What SAVING stores of the divider: DIV_OUT, or both halves that VRCPL leaves, which DIV_IN decides if it is loaded.
+# What SAVING stores of the divider: DIV_OUT, or what VRCPL leaves, which DIV_IN decides if it is loaded.
 DIVIDER = (("vrcph $v1[0], $v0[0]",),
            ("addiu $1, $0, 1", "mtc2 $1, $v0[0]", "vrcpl $v1[0], $v0[0]", "vrcph $v1[1], $v0[0]"))  # fmt: skip
 Answers = List[Words]
@@ -66,8 +66,9 @@ def prologue(memories: bytes) -> Script:
 
 def setting(state: rsp.State) -> Script:
     """Sets all registers except those of the SP. IMEM is full of BREAKs before and after it."""
-    texts, number = texts_of(numbers_of(state)), state.divider.output << 16 | state.divider.input
-    texts["divided"] = f"{number >> (number & 31):08x}"
+    texts, number = texts_of(numbers_of(state)), state.divider.output >> (state.divider.output & 15)
+    if number:  # any number, mostly a small one, because DIV_OUT is the high half of its reciprocal
+        texts["divided"] = f"{(number if state.divider.output & 16 else -number) & 0xFFFFFFFF:08x}"
     data = struct.unpack(f">{WORDS}I", bytes.fromhex(bench.data_of(texts)))
     loading, words, _ = microcode()
     return [
@@ -111,7 +112,9 @@ def is_dma(row: Row, word: int) -> bool:
 
 
 def memories_of(row: Row, word: int) -> List[Tuple[int, int, int, int]]:
-    """The memories that a case may change: where each is, where it is kept, its place in one array, and its words."""
+    """The memories that a case may change: where each is, where it is kept, its address in one array, and its
+    number of words.
+    """
     dmem, imem = (script.DMEM, KEPT_DMEM, 0, 1024), (script.IMEM, KEPT_BREAKS, IMEM, 1024)
     if is_dma(row, word):
         return [dmem, imem, (script.RDRAM, KEPT_RDRAM, RDRAM, (MEMORIES - RDRAM) // 4)]
@@ -139,11 +142,25 @@ def is_odd(case: Array) -> int:
 
 
 def is_shown(row: Row, case: Array) -> bool:
-    """Whether a console can be given a case: the jump to its npc leaves the word, and SP registers can be set."""
-    pc, npc, number = int(case["state"]["pc"]), int(case["state"]["npc"]), number_of_sp(row, int(case["word"]))
+    """Whether a console can be given a case.
+
+    It can't if its jump or its npc is at its word, if it moves one of the RDP's registers, if it reads a
+    length of a DMA, which no script can set, or if its DMA may pass the end of what is compared.
+    """
+    state, word = rsp.State.from_buffer_copy(case["state"].tobytes()), int(case["word"])
+    number = number_of_sp(row, word)
     if number is not None and (number >= 8 or row.name == "mfc0" and number in (2, 3)):
         return False
-    return npc not in (pc, (pc - 4) % 4096)
+    if is_dma(row, word):
+        skip, count, length = (state.words[word >> 16 & 31] >> low & 4095 for low in (20, 12, 0))
+        if state.sp[1] + (skip + length + 8) * ((count & 255) + 1) > MEMORIES - RDRAM:
+            return False
+    return state.npc not in (state.pc, (state.pc - 4) % 4096)
+
+
+def is_single_step(answers: Answers) -> bool:
+    """Whether a case sets single step, which stops the library before its BREAK."""
+    return bool(answers[4][4] & SINGLE_STEP)
 
 
 def end_of(row: Row, case: Array, answers: Answers) -> Tuple[Array, Changed]:
@@ -161,8 +178,14 @@ def end_of(row: Row, case: Array, answers: Answers) -> Tuple[Array, Changed]:
         state["npc"] = (pc - 4) % 4096
     if row.form in ("from sp", "to sp", "break"):
         state["pc"] = pc if row.form == "break" else 0
-        state["sp"][:8] = (*sp[:2], *(sp[2:4] if is_dma(row, word) else (0, 0)), sp[4] & ~HIDDEN_STATUS, *sp[5:])
+        state["sp"][:8] = (
+            *sp[:2],
+            *(sp[2:4] if is_dma(row, word) else (0, 0)),
+            sp[4] & ~HIDDEN_STATUS,
+            *sp[5:],
+        )
     starts = (start for _, _, start, _ in memories_of(row, word))
-    changed = {at + pairs[i]: pairs[i + 1] for at, pairs in zip(starts, memories) for i in range(0, len(pairs), 2)}
+    changed = {
+        at + pairs[i]: pairs[i + 1] for at, pairs in zip(starts, memories) for i in range(0, len(pairs), 2)
+    }
     return end, changed
-

@@ -1,6 +1,6 @@
 """Scripts for the monitor of a console (console/monitor.c), and a machine that answers to them as a console.
 
-A script is a list of lines, which are words on the cartridge: an operation with a count, and what it takes.
+A script is a list of lines, which are words on the cartridge: an operation with a length, and what it takes.
 
   write    an address, and the words that are written there
   copy     an address, and that of the words that are copied there
@@ -17,14 +17,15 @@ import rsp
 WRITE, COPY, RUN, READ, DIFFER, FLUSH = range(1, 7)
 END, HALTED = 0xFFFFFFFF, 1
 # The CPU's addresses, past its cache. RDRAM belongs to the script up to RDRAM_LENGTH.
-RDRAM, DMEM, IMEM, SP, PC, INTERRUPTS = 0xA0000000, 0xA4000000, 0xA4001000, 0xA4040000, 0xA4080000, 0xA4300008
+RDRAM, DMEM, IMEM = 0xA0000000, 0xA4000000, 0xA4001000
+SP, PC, INTERRUPTS = 0xA4040000, 0xA4080000, 0xA4300008
 SP_STATUS, SEMAPHORE, RDRAM_LENGTH = SP + 16, SP + 28, 0x40000
 Words = Sequence[int]
 
 
 class Line(NamedTuple):
     operation: int
-    count: int
+    length: int
     words: Words
 
 
@@ -53,7 +54,7 @@ def differ(address: int, other: int, count: int) -> Line:
 
 def words_of(script: Script) -> List[int]:
     """A script as the monitor reads it."""
-    return [word for line in script for word in (line.operation << 24 | line.count, *line.words)]
+    return [word for line in script for word in (line.operation << 24 | line.length, *line.words)]
 
 
 class Endless(Exception):
@@ -73,12 +74,14 @@ def answers_to(script: Script, answer: Callable[[Line], Optional[Words]]) -> Lis
 
 
 def answer_in(line: Line, take: Callable[[int], Words]) -> Optional[Words]:
-    """The answer to a line in a console's answers, of which `take` gives the next words; None if it has none."""
+    """The answer to a line, None if it has none. `take` gives the next words of what a console answers."""
+    if line.operation in (RUN, READ):
+        return take(line.length if line.operation == READ else 1)
     if line.operation != DIFFER:
-        return take(line.count if line.operation == READ else 1) if line.operation in (RUN, READ) else None
+        return None
     pairs: List[int] = []
     while (offset := take(1)[0]) != END:
-        pairs += offset, *take(1)
+        pairs.extend((offset, take(1)[0]))
     return pairs
 
 
@@ -89,7 +92,7 @@ class Monitored:
         self.machine = rsp.Machine(bytes(RDRAM_LENGTH))
 
     def answer(self, line: Line) -> Optional[Words]:
-        address, count = line.words[0], line.count
+        address, count = line.words[0], line.length
         if line.operation == RUN:
             return [self.run(address, count)]
         if line.operation == READ:
@@ -97,8 +100,10 @@ class Monitored:
         if line.operation == DIFFER:
             pairs = enumerate(zip(self.read(address, count), self.read(line.words[1], count)))
             return [value for at, (word, other) in pairs if word != other for value in (4 * at, word)]
-        if line.operation != FLUSH:
-            self.write(address, line.words[1:] if line.operation == WRITE else self.read(line.words[1], count))
+        if line.operation == WRITE:
+            self.write(address, line.words[1:])
+        elif line.operation == COPY:
+            self.write(address, self.read(line.words[1], count))
         return None
 
     def memory(self, address: int) -> Tuple[int, int]:
