@@ -30,9 +30,11 @@ STEPS, STEPS_OF_CASE, WORDS = 200, 5, 192
 # Of SP_STATUS: halted and broke, which BREAK sets; and single step, because nothing may stop the microcode.
 HIDDEN_STATUS, SINGLE_STEP = 0x23, 0x20
 BRANCHES = ("branch one", "branch two", "jump", "jump register", "link register")
-# What SAVING stores of the divider: DIV_OUT, or what VRCPL leaves, which DIV_IN decides if it is loaded.
-DIVIDER = (("vrcph $v1[0], $v0[0]",),
-           ("addiu $1, $0, 1", "mtc2 $1, $v0[0]", "vrcpl $v1[0], $v0[0]", "vrcph $v1[1], $v0[0]"))  # fmt: skip
+# What SAVING stores of the divider: DIV_OUT, or what VRCPL leaves, which shows DIV_IN if it is loaded.
+DIVIDER = (
+    ["vrcph $v1[0], $v0[0]"],
+    ["addiu $1, $0, 1", "mtc2 $1, $v0[0]", "vrcpl $v1[0], $v0[0]", "vrcph $v1[1], $v0[0]"],
+)
 Answers = List[Words]
 Changed = Dict[int, int]  # words of the three memories, by their addresses in one array
 
@@ -163,29 +165,35 @@ def is_single_step(answers: Answers) -> bool:
     return bool(answers[4][4] & SINGLE_STEP)
 
 
-def end_of(row: Row, case: Array, answers: Answers) -> Tuple[Array, Changed]:
-    """What the answers to a case show of its end, and the words that changed in memories."""
-    _, _, _, (pc,), sp, (interrupts,), *memories, _, words = answers
+def registers_in(words: Words, odd: int) -> Array:
+    """An end with the registers that SAVING left, and 0 in all others."""
     end, halves = np.zeros(1, END)[0], np.array(words, ">u4").view(">u2")
-    state, word = end["state"], int(case["word"])
+    state = end["state"]
     state["vectors"], state["words"][1:] = halves[:256].reshape(32, 8), words[bench.SCALARS // 4 + 1 :]
     for at, part in enumerate(("high", "middle", "low")):
         state["accumulators"][part] = halves[bench.HIGH // 2 + 8 * at :][:8]
     state["flags"] = (*halves[bench.CONTROLS // 2 :][:3].astype("<u2").view(np.uint8)[:5],)
-    state["divider"]["output" if not is_odd(case) else "input"] = halves[bench.DIVISOR // 2]
+    state["divider"]["input" if odd else "output"] = halves[bench.DIVISOR // 2]
+    return end
+
+
+def end_of(row: Row, case: Array, answers: Answers) -> Tuple[Array, Changed]:
+    """What the answers to a case show of its end, and the words that changed in memories."""
+    _, _, _, (pc,), sp, (interrupts,), *memories, _, words = answers
+    end, word = registers_in(words, is_odd(case)), int(case["word"])
+    state = end["state"]
     state["interrupt"] = interrupts & 1
-    if row.form in BRANCHES:
+    if row.form in BRANCHES:  # the BREAK after it is at its npc
         state["npc"] = (pc - 4) % 4096
+    if row.form == "break":
+        state["pc"] = pc
     if row.form in ("from sp", "to sp", "break"):
-        state["pc"] = pc if row.form == "break" else 0
-        state["sp"][:8] = (
-            *sp[:2],
-            *(sp[2:4] if is_dma(row, word) else (0, 0)),
-            sp[4] & ~HIDDEN_STATUS,
-            *sp[5:],
-        )
+        lengths = sp[2:4] if is_dma(row, word) else (0, 0)
+        state["sp"][:8] = *sp[:2], *lengths, sp[4] & ~HIDDEN_STATUS, *sp[5:]
     starts = (start for _, _, start, _ in memories_of(row, word))
-    changed = {
-        at + pairs[i]: pairs[i + 1] for at, pairs in zip(starts, memories) for i in range(0, len(pairs), 2)
-    }
-    return end, changed
+    return end, {at + offset: word for at, them in zip(starts, memories) for offset, word in pairs_in(them)}
+
+
+def pairs_in(answer: Words) -> Iterable[Tuple[int, int]]:
+    """The offsets and words that differ in two memories."""
+    return zip(answer[::2], answer[1::2])
