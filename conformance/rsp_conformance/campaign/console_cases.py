@@ -146,18 +146,21 @@ def is_odd(case: Array) -> int:
 def is_shown(row: Row, case: Array) -> bool:
     """Whether a console can be given a case.
 
-    It can't if its jump or its npc is at its word, if it moves one of the RDP's registers, if it reads a
-    length of a DMA, which no script can set, or if its DMA may pass the end of what is compared.
+    It can't if its npc is at its word or leads back to it, if it is a branch to the jump before it (counted from
+    the branch's own address), if it moves one of the RDP's registers, if it reads a length of a DMA, which no
+    script can set, or if its DMA may pass the end of what is compared.
     """
     state, word = rsp.State.from_buffer_copy(case["state"].tobytes()), int(case["word"])
-    number = number_of_sp(row, word)
+    number, distance = number_of_sp(row, word), (state.npc - state.pc) % 4096
     if number is not None and (number >= 8 or row.name == "mfc0" and number in (2, 3)):
         return False
     if is_dma(row, word):
         skip, count, length = (state.words[word >> 16 & 31] >> low & 4095 for low in (20, 12, 0))
         if state.sp[1] + (skip + length + 8) * ((count & 255) + 1) > MEMORIES - RDRAM:
             return False
-    return state.npc not in (state.pc, (state.pc - 4) % 4096)
+    if row.form.startswith("branch") and distance != 4 and (word + 2) & 0x3FF == 0:
+        return False
+    return distance not in (0, 4096 - 4, 4096 - 8)
 
 
 def is_single_step(answers: Answers) -> bool:
