@@ -218,7 +218,7 @@ def test_figures() -> None:
     (each,) = re.findall(r"(?m)^CASES = (\d+)$", page("tests/campaigns/test_planted.py"))
     agreed = f"in {len(ROWS) * int(each) // 100_000 / 10} million cases"
     bugs, routines = page("conformance/second/bugs.tsv").splitlines()[1:], len([*TOP.glob("microcode/*.s")])
-    z64 = json.loads(page("conformance/z64/campaign.json"))["instructions"].values()
+    z64 = json.loads(page("conformance/others/z64.json"))["instructions"].values()
     covered = {line.split("\t")[0] for line in page("conformance/coverage.tsv").splitlines()[1:]} - {"-"}
     bench, command = (page(f"examples/{it}").count("\n") for it in ("hdl/tb.sv", "js/cases.mjs"))
     figures = {

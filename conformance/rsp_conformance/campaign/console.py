@@ -26,7 +26,7 @@ from .console_cases import (
     Changed,
     end_of,
     is_shown,
-    is_single_step,
+    is_comparable,
     prologue,
     script_of,
 )
@@ -126,7 +126,7 @@ class Console(Emulator):
         except Endless:
             answers_to(self.prologue, self.monitored.answer)
             return None
-        return None if is_single_step(answers) else answers
+        return answers if is_comparable(case, answers) else None
 
     def fill(self, cases: Array, ends: Array) -> None:
         """Runs the cases that can be shown on one console, and takes the answers as they come."""

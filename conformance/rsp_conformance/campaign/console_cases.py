@@ -146,9 +146,9 @@ def is_odd(case: Array) -> int:
 def is_shown(row: Row, case: Array) -> bool:
     """Whether a console can be given a case.
 
-    It can't if its npc is at its word or leads back to it, if it is a branch to the jump before it (counted from
-    the branch's own address), if it moves one of the RDP's registers, if it reads a length of a DMA, which no
-    script can set, or if its DMA may pass the end of what is compared.
+    It can't if its npc is at its word or the jump before it; if it is a branch that, counted from its own
+    address, comes to this jump; if it moves one of the RDP's registers; if it reads a length of a DMA, which
+    no script can set; or if its DMA may pass the end of what is compared.
     """
     state, word = rsp.State.from_buffer_copy(case["state"].tobytes()), int(case["word"])
     number, distance = number_of_sp(row, word), (state.npc - state.pc) % 4096
@@ -160,12 +160,15 @@ def is_shown(row: Row, case: Array) -> bool:
             return False
     if row.form.startswith("branch") and distance != 4 and (word + 2) & 0x3FF == 0:
         return False
-    return distance not in (0, 4096 - 4, 4096 - 8)
+    return distance not in (0, 4096 - 4)
 
 
-def is_single_step(answers: Answers) -> bool:
-    """Whether a case sets single step, which stops the library before its BREAK."""
-    return bool(answers[4][4] & SINGLE_STEP)
+def is_comparable(case: Array, answers: Answers) -> bool:
+    """Whether a case ends where it can be compared: it sets no single step, which stops the library before
+    its BREAK; and others follow its BREAK, because cen64 executes two words more when it is started again.
+    """
+    (stop,), status, pc = answers[3], answers[4][4], int(case["state"]["pc"])
+    return not status & SINGLE_STEP and not {stop, (stop + 4) % 4096} & {pc, (pc - 4) % 4096}
 
 
 def registers_in(words: Words, odd: int) -> Array:
