@@ -46,7 +46,7 @@ def branches_in(program: Program) -> Tuple[Array, Array]:
 def without_branches_in_slots(program: Program) -> Program:
     """The program with NOP in place of a branch after a branch, because what that does is a choice."""
     words, are_branches = branches_in(program)
-    for at in range(1, len(words)):
+    for at in range(len(words)):  # the word before the first one is the last one
         if are_branches[at - 1] and are_branches[at]:
             words[at], are_branches[at] = 0, False
     return program
