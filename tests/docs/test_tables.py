@@ -29,7 +29,7 @@ from lib.processes import run
 from rsp_conformance import bench, flat, programs
 from rsp_conformance.table import ROWS, Row
 from rsp_conformance.vectors import VECTORS
-from rsp_tools import page_tables
+from rsp_tools import others, page_tables
 from rsp_tools.crates import LINES, uses
 
 Line = Dict[str, str]
@@ -225,6 +225,7 @@ def test_figures() -> None:
         "README.md": f"{sum(steps):,} [test vectors]; {agreed}; {routines} [proved routines]; "
         f"its {len(ROWS)} instructions; differs on [{sum(it['differ'] > 0 for it in z64)} of {len(ROWS)}]",
         GUARANTEES: f"{agreed}; [{len(bugs)} faults were planted in it]",
+        others.PAGE: others.figures(),
         OF_VECTORS: f"{sum(steps):,} test vectors; {min(steps)} to {max(steps)} of each of the {len(steps)}; "
         f"the {bench} lines of [tb.sv]; some {round(command, -1)} lines, such as [cases.mjs]; "
         f"each of the {len(covered)} instructions, both values; {programs} whole programs",

@@ -1,18 +1,18 @@
-"""The tables of conformance/OTHERS.md, of what is in conformance/others: how often other emulators differ from the
-library, and what they do.
+"""The tables of conformance/OTHERS.md: how often other emulators differ from the library, and what they do.
+They are made of conformance/others:
 
-  NAME.tsv    the differences that are known, as conformance/campaign --write-known writes them; the reasons are ours
+  NAME.tsv    the differences that are known, from conformance/campaign --write-known; the reasons are ours
   NAME.json   the counts of the campaign of which they are
   mame.tsv    the counts of an emulator that isn't run any more
 
-`tools/python rsp_tools.others NAME OUT` writes the counts of the campaign in OUT; rsp_tools.page_tables writes the
-page.
+`tools/python rsp_tools.others NAME OUT` writes the counts of the campaign in OUT, and rsp_tools.page_tables
+writes the page.
 """
 
 import argparse
 import json
 from pathlib import Path
-from typing import Any, Dict, Iterator, List, Tuple
+from typing import Any, Dict, List, Tuple
 
 from rsp_conformance.table import ROWS
 from rsp_tools import TOP
@@ -36,10 +36,11 @@ def lines_in(name: str) -> List[List[str]]:
 
 
 def percent(part: int, whole: int) -> str:
-    """A share, which is 0% and 100% only if it is exactly."""
+    """A share, which is 0% and 100% only if it is exactly that."""
     share = 100 * part / whole
-    text = f"{share:.0f}" if share >= 10 else f"{share:.1f}"
-    return "0%" if not part else ("99%" if text == "100" and part < whole else f"{'0.1' if text == '0.0' else text}%")
+    if part in (0, whole) or 99.5 > share >= 10:
+        return f"{share:.0f}%"
+    return "99%" if share > 99 else f"{max(share, 0.1):.1f}%"
 
 
 def shown(of: Counts) -> int:
@@ -58,7 +59,10 @@ def board() -> str:
     """The lines of all instructions."""
     tables = [counts_in(name) for name in NAMES]
     mame = {name: result for name, _, result in lines_in("mame")}
-    rows = ((name, *(cell(table[name]) for table in tables), mame.get(name.upper(), "agrees")) for name in sorted(ROWS))
+    rows = (
+        (name, *(cell(table[name]) for table in tables), mame.get(name.upper(), "agrees"))
+        for name in sorted(ROWS)
+    )
     return "".join(f"| {name.upper()} | {' | '.join(cells)} |\n" for name, *cells in rows)
 
 
@@ -94,17 +98,22 @@ def differences(name: str) -> str:
     return "".join(f"| {who} | {line[0]} | {it} |\n" for who, line, it in zip(names, lines, all_shares))
 
 
-def sums() -> Dict[str, Any]:
-    """The numbers that pages name."""
-    return {
-        name: {
-            "cases": sum(map(shown, counts_in(name).values())),
-            "differ": sum(of["differ"] > of["choices"] for of in counts_in(name).values()),
-            "choice": sum(of["differ"] == of["choices"] > 0 for of in counts_in(name).values()),
-            "agree": sum(not of["differ"] for of in counts_in(name).values()),
-        }
-        for name in NAMES
-    }
+def figures() -> str:
+    """The numbers that the page names, in its words."""
+    found = {name: [*counts_in(name).values()] for name in NAMES}
+    differ, choice = ({name: 0 for name in NAMES} for _ in range(2))
+    for name, them in found.items():
+        differ[name] = sum(of["differ"] > of["choices"] for of in them)
+        choice[name] = sum(of["differ"] == of["choices"] > 0 for of in them)
+    of_mame = {who.lower() for who, _, result in lines_in("mame") if result not in ("agrees", "choice")}
+    agree = {who for name in NAMES for who, of in counts_in(name).items() if of["differ"] == of["choices"]}
+    confirmed = len(agree | ROWS.keys() - of_mame)
+    return (
+        f"**z64 differs on {differ['z64']} of {len(ROWS)} instructions, and on {choice['z64']} more only in; "
+        f"cen64 differs on {differ['cen64']}, and on {choice['cen64']} more only in; "
+        f"{confirmed} of the {len(ROWS)}; on {confirmed - 4} of them; "
+        f"{sum(map(shown, found['cen64'])):,} cases"
+    )
 
 
 def tables() -> Dict[str, str]:
