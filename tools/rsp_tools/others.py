@@ -14,7 +14,7 @@ import json
 from pathlib import Path
 from typing import Any, Dict, List, Tuple
 
-from rsp_conformance.table import ROWS
+from rsp_conformance.table import MPEG, ROWS
 from rsp_tools import TOP
 
 PAGE, FOLDER = "conformance/OTHERS.md", TOP / "conformance/others"
@@ -98,22 +98,29 @@ def differences(name: str) -> str:
     return "".join(f"| {who} | {line[0]} | {it} |\n" for who, line, it in zip(names, lines, all_shares))
 
 
-def figures() -> str:
-    """The numbers that the page names, in its words."""
-    found = {name: [*counts_in(name).values()] for name in NAMES}
-    differ, choice = ({name: 0 for name in NAMES} for _ in range(2))
-    for name, them in found.items():
-        differ[name] = sum(of["differ"] > of["choices"] for of in them)
-        choice[name] = sum(of["differ"] == of["choices"] > 0 for of in them)
+def confirmed() -> int:
+    """The instructions on which an emulator agrees, or differs only in choices."""
     of_mame = {who.lower() for who, _, result in lines_in("mame") if result not in ("agrees", "choice")}
     agree = {who for name in NAMES for who, of in counts_in(name).items() if of["differ"] == of["choices"]}
-    confirmed = len(agree | ROWS.keys() - of_mame)
-    return (
-        f"**z64 differs on {differ['z64']} of {len(ROWS)} instructions, and on {choice['z64']} more only in; "
-        f"cen64 differs on {differ['cen64']}, and on {choice['cen64']} more only in; "
-        f"{confirmed} of the {len(ROWS)}; on {confirmed - 4} of them; "
-        f"{sum(map(shown, found['cen64'])):,} cases"
-    )
+    return len(agree | ROWS.keys() - of_mame)
+
+
+def figures() -> Dict[str, str]:
+    """The figures of each page, in its words."""
+    found = {name: [*counts_in(name).values()] for name in NAMES}
+    differ = [sum(of["differ"] > of["choices"] for of in found[name]) for name in NAMES]
+    choice = [sum(of["differ"] == of["choices"] > 0 for of in found[name]) for name in NAMES]
+    z64, cen64 = (sum(them) for them in zip(differ, choice))
+    cases, count = f"{sum(map(shown, found['cen64'])):,} cases", len(ROWS)
+    return {
+        PAGE: f"z64 differs on {differ[0]} of {count} instructions, and on {choice[0]} more; "
+        f"cen64 differs on {differ[1]}, and on {choice[1]} more; {confirmed()} of the {count}; "
+        f"on {confirmed() - len(MPEG)} of them; {cases}",
+        "README.md": f"differs on [{z64} of {count}]; cen64 on {cen64}",
+        "docs/GUARANTEES.md": f"in {cases}; differ on {z64} and {cen64} of the {count}",
+        "docs/PLUGIN.md": f"[{differ[0]} of {count} instructions]; on {choice[0]} more where",
+        "conformance/README.md": f"in {cases}",
+    }
 
 
 def tables() -> Dict[str, str]:
