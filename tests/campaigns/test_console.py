@@ -4,25 +4,31 @@ It fails if the monitor's image isn't that of its source, if a fault isn't named
 a hang costs more than its case, or if cen64 differs otherwise than conformance/others/cen64.tsv says.
 """
 
+import json
 import shlex
 from pathlib import Path
+from typing import Iterator, Optional
 
 import pytest
 
+import programs
 from lib import TOP
 from lib.campaigns import campaign, counts_of, output_of
 from lib.packages import is_here
+from lib.pages import sentences
 from lib.processes import run
 from rsp_conformance.campaign import CampaignFault
 from rsp_conformance.campaign.hashes import SOURCES as CAMPAIGN
 from rsp_conformance.campaign.known import is_known, known_in
 from rsp_conformance.campaign.protocol import UNSHOWN
 from rsp_conformance.table import ROWS
+from rsp_conformance.vectors import VECTORS
 
 if is_here("python:numpy"):
     import numpy as np
     from rsp_conformance.campaign.compare import Sides, kinds_of
-    from rsp_conformance.campaign.console import program_of
+    from rsp_conformance.campaign.console import program_path
+    from rsp_conformance.campaign.console_programs import Rsp
     from rsp_conformance.campaign.generator import END, cases_of, memories_of
 
 pytestmark = [pytest.mark.needs("cc", "python:numpy"), pytest.mark.usefixtures("library")]
@@ -71,7 +77,7 @@ def test_no_cen64(folder: Path, monkeypatch: pytest.MonkeyPatch) -> None:
     assert ended.returncode == 2 and "no console is called 'x'" in ended.stderr, ended.stderr
     monkeypatch.setenv("PATH", str(folder))
     with pytest.raises(CampaignFault, match="there is no cen64: apt-get install cen64"):
-        program_of("cen64")
+        program_path("cen64")
 
 
 @pytest.mark.needs("cen64")
@@ -87,3 +93,33 @@ def test_cen64(name: str) -> None:
         expected[differ], ends[differ], {choice: holds[differ] for choice, holds in choices.items()}
     )
     assert not [kind for kind in kinds if not is_known(kind, name, known)]
+
+
+@pytest.mark.needs("cen64")
+def test_stored_programs() -> None:
+    """As many stored programs pass on cen64 as OTHERS says. The others are of instructions on which it
+    differs, or move SP registers: those of BREAK and MFC0.
+    """
+    found = {path: [*failed_in(path)] for path in sorted(VECTORS.glob("programs/*.json"))}
+    passed = sum(it is None for them in found.values() for it in them)
+    every = sum(map(len, found.values()))
+    assert f"{passed} of the {every} stored programs" in sentences("conformance/OTHERS.md")
+    known = {who for who, _ in known_in(TOP / "conformance/others/cen64.tsv")}
+    assert {path.stem for path, them in found.items() if any(them)} <= known | {"BREAK", "MFC0"}
+
+
+def failed_in(manifest: Path) -> Iterator[Optional[str]]:
+    """The first difference of each program of a manifest."""
+    for program in json.loads(manifest.read_text())["programs"]:
+        yield next(programs.check(Rsp(), program, manifest.parent), None)
+
+
+@pytest.mark.needs("cen64")
+def test_programs(folder: Path) -> None:
+    """Programs agree on instructions on which cen64 agrees, and LWU, which does nothing there, is named."""
+    words = ("console:cen64", "--cases", 0, "--programs", 20)
+    output_of(folder / "agrees", *words, "--instructions", "vmadh,vmudn,vch,vrcpl,sqv,ldv,lb,sb,addu,beq,j")
+    assert counts_of(folder / "agrees") == {"program": (20, 0, 0)}
+    output = output_of(folder / "differs", *words, "--instructions", "lwu,addu,vadd,ori", "--steps", 60)
+    assert counts_of(folder / "differs") == {"program": (20, 20, 0)}
+    assert "step" in output and ", lwu $" in output

@@ -43,7 +43,7 @@ PIF_BYTES, CARTRIDGE_BYTES, LONGEST = 2048, 1 << 20, 1 << 21
 HEADER = bytes.fromhex("80371240").ljust(0xFFC, b"\0") + bytes.fromhex("892679fb")
 
 
-def program_of(name: str) -> str:
+def program_path(name: str) -> str:
     """The emulator's program."""
     if name != "cen64":
         raise CampaignFault(f"no console is called {name!r}: it has to be console:cen64")
@@ -108,7 +108,7 @@ class Console(Emulator):
     """A console whose RSP is compared."""
 
     def __init__(self, name: str, memories: bytes) -> None:
-        self.program, self.memories, self.monitored = program_of(name), bytes(memories), Monitored()
+        self.program, self.memories, self.monitored = program_path(name), bytes(memories), Monitored()
         self.library = Object(built("library"), memories)
         self.prologue = prologue(self.memories)
         answers_to(self.prologue, self.monitored.answer)

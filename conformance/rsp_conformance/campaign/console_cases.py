@@ -18,7 +18,7 @@ from rsp_conformance.table import Row, uses_memory
 from . import script
 from .build import saving
 from .generator import END, IMEM, MEMORIES, RDRAM, Array
-from .script import Line, Script, Words, copy, differ, read, run, write
+from .script import Script, Words, copy, differ, flush, read, run, write
 
 # Where RDRAM keeps what is copied to DMEM, IMEM and the RDRAM that a case may change.
 KEPT = script.RDRAM + 0x10000
@@ -92,7 +92,7 @@ def saved(is_odd: int) -> Script:
         run(0, STEPS),
         copy(script.IMEM, KEPT_BREAKS, count),
         read(script.DMEM, WORDS),
-        Line(script.FLUSH, 0, (0,)),
+        flush(),
     ]
 
 

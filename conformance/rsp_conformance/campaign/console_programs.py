@@ -3,17 +3,18 @@ first time after its steps, and there both are compared.
 """
 
 import struct
-from typing import Iterator, List, Tuple
+from typing import Dict, Iterator, List, Tuple
 
 import numpy as np
 from rsp_conformance.table import ROWS
 
 from . import script
 from .compare import Program, Sides, differences, in_brief
-from .console import Console, running
+from .console import Console, program_path, running
 from .console_cases import (
     BRANCHES,
     BREAK,
+    CLEAR,
     KEPT_BREAKS,
     KEPT_DMEM,
     Answers,
@@ -26,13 +27,14 @@ from .dependences import met
 from .generator import IMEM, MEMORIES, RDRAM, Array
 from .protocol import Result, name_of
 from .random_programs import name_in, program_of
-from .script import Endless, Script, answers_to, copy, differ, run, write
+from .script import Endless, Script, answers_to, copy, differ, flush, read, run, write
 from .search import fewest
 from .shrink import settable
 
 # BREAK, and what moves SP registers: a console has others than a program sets, and a DMA may hit the monitor.
 NEVER = ("break", "mfc0", "mtc0")
 BATCH, MORE, NAMED, ROOM = 16, 2, 8, 3  # programs of a console; how many times its steps one may make
+STORED_STEPS = 100000  # more than any stored program makes
 Stop = Tuple[int, int]  # the steps before a BREAK, and its address
 
 
@@ -132,6 +134,26 @@ class Programs:
         found = self.differs(program, stops[number - 1]) or ["it agrees when it runs again"]
         line = f"{name}: step {steps}, {texts[-1]}{after}: {in_brief(found)}"
         return {"count": 1, "differ": 1, "kinds": {name_in(texts[-1]).upper(): [1, line]}, "shown": [line]}
+
+
+class Rsp:
+    """The RSP of cen64 for conformance/programs.py, which runs stored programs."""
+
+    def __init__(self) -> None:
+        self.memories: Dict[str, bytes] = {}
+
+    def load(self, bank: str, data: bytes) -> None:
+        self.memories[bank] = data
+
+    def memory(self, bank: str) -> bytes:
+        return self.memories[bank]
+
+    def run(self) -> None:
+        imem, dmem = (struct.unpack(">1024I", self.memories[bank]) for bank in ("imem", "dmem"))
+        lines = [write(script.SP_STATUS, CLEAR), write(script.SEMAPHORE, 0), write(script.IMEM, *imem)]
+        lines += [write(script.DMEM, *dmem), run(0, STORED_STEPS), read(script.DMEM, 1024), flush()]
+        with running(program_path("cen64"), lines) as answer:
+            self.memories["dmem"] = struct.pack(">1024I", *answers_to(lines, answer)[-1])
 
 
 def check_programs(

@@ -52,6 +52,10 @@ def differ(address: int, other: int, count: int) -> Line:
     return Line(DIFFER, count, (address, other))
 
 
+def flush() -> Line:
+    return Line(FLUSH, 0, (0,))
+
+
 def words_of(script: Script) -> List[int]:
     """A script as the monitor reads it."""
     return [word for line in script for word in (line.operation << 24 | line.length, *line.words)]
