@@ -98,11 +98,11 @@ def differences(name: str) -> str:
     return "".join(f"| {who} | {line[0]} | {it} |\n" for who, line, it in zip(names, lines, all_shares))
 
 
-def confirmed() -> int:
-    """The instructions on which an emulator agrees, or differs only in choices."""
+def unconfirmed() -> List[str]:
+    """The instructions on which no emulator agrees, or differs only in choices."""
     of_mame = {who.lower() for who, _, result in lines_in("mame") if result not in ("agrees", "choice")}
     agree = {who for name in NAMES for who, of in counts_in(name).items() if of["differ"] == of["choices"]}
-    return len(agree | ROWS.keys() - of_mame)
+    return sorted(who.upper() for who in of_mame - agree)
 
 
 def figures() -> Dict[str, str]:
@@ -112,10 +112,12 @@ def figures() -> Dict[str, str]:
     choice = [sum(of["differ"] == of["choices"] > 0 for of in found[name]) for name in NAMES]
     z64, cen64 = (sum(them) for them in zip(differ, choice))
     cases, count = f"{sum(map(shown, found['cen64'])):,} cases", len(ROWS)
+    *names, last = unconfirmed()
+    agree = count - len(names) - 1
     return {
         PAGE: f"z64 differs on {differ[0]} of {count} instructions, and on {choice[0]} more; "
-        f"cen64 differs on {differ[1]}, and on {choice[1]} more; {confirmed()} of the {count}; "
-        f"on {confirmed() - len(MPEG)} of them; {cases}",
+        f"cen64 differs on {differ[1]}, and on {choice[1]} more; {agree} of the {count}; "
+        f"on {agree - len(MPEG)} of them; the whole of {', '.join(names)} and {last}; {cases}",
         "README.md": f"differs on [{z64} of {count}]; cen64 on {cen64}",
         "docs/GUARANTEES.md": f"in {cases}; differ on {z64} and {cen64} of the {count}",
         "docs/PLUGIN.md": f"[{differ[0]} of {count} instructions]; on {choice[0]} more where",
