@@ -238,12 +238,16 @@ def set_sp(script: Script, state: Texts) -> None:
     """Sets the SP registers except 2 and 3, and those bits of the status that a write can set."""
     for number in (0, 1, *range(8, 16)):
         script.add(f"write {number} {int(state[f'c{number}'], 16)}")
-    status = int(state["c4"], 16)
-    pairs = 1 | int(state["interrupt"]) << 4 | (status >> 5 & 1) << 6 | (status >> 6 & 1) << 8
+    script.add(f"write 4 {1 | pairs_of(int(state['c4'], 16), int(state['interrupt']))}")
+    script.add("read 7" if state["c7"] == "00000001" else "write 7 0")
+
+
+def pairs_of(status: int, interrupt: int) -> int:
+    """The bits that a write of SP_STATUS has to have, to set the interrupt and what is set in a status."""
+    pairs = interrupt << 4 | (status >> 5 & 1) << 6 | (status >> 6 & 1) << 8
     for signal in range(8):
         pairs |= (status >> 7 + signal & 1) << 10 + 2 * signal
-    script.add(f"write 4 {pairs}")
-    script.add("read 7" if state["c7"] == "00000001" else "write 7 0")
+    return pairs
 
 
 def query_state(script: Script, banks: Sequence[str], label: str) -> None:

@@ -52,8 +52,8 @@ def test_memories_of_a_case() -> None:
 
 @pytest.mark.needs(Z64)
 def test_table_of_z64(folder: Path) -> None:
-    """No case differs of the instructions on which z64 agrees by Z64.md, but BLTZAL does nothing."""
-    known = json.loads((TOP / "conformance/z64/campaign.json").read_text())["instructions"]
+    """No case differs of the instructions on which z64 agrees by OTHERS.md, but BLTZAL does nothing."""
+    known = json.loads((TOP / "conformance/others/z64.json").read_text())["instructions"]
     agree = ",".join(name for name, result in known.items() if not result["differ"])
     output = output_of(folder, f"plugin:{Z64}", "--instructions", f"{agree},bltzal", "--cases", 500)
     counts = counts_of(folder)

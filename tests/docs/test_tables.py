@@ -12,7 +12,6 @@ It fails if the program does something else than a line of a table says, or if a
 It also fails if a page counts something else than the repository has, or names other crates.
 """
 
-import json
 import re
 from difflib import unified_diff
 from itertools import chain
@@ -29,7 +28,7 @@ from lib.processes import run
 from rsp_conformance import bench, flat, programs
 from rsp_conformance.table import ROWS, Row
 from rsp_conformance.vectors import VECTORS
-from rsp_tools import page_tables
+from rsp_tools import others, page_tables
 from rsp_tools.crates import LINES, uses
 
 Line = Dict[str, str]
@@ -237,18 +236,18 @@ def test_figures() -> None:
     (each,) = re.findall(r"(?m)^CASES = (\d+)$", page("tests/campaigns/test_planted.py"))
     agreed = f"in {len(ROWS) * int(each) // 100_000 / 10} million cases"
     bugs, routines = page("conformance/second/bugs.tsv").splitlines()[1:], len([*TOP.glob("microcode/*.s")])
-    z64 = json.loads(page("conformance/z64/campaign.json"))["instructions"].values()
     covered = {line.split("\t")[0] for line in page("conformance/coverage.tsv").splitlines()[1:]} - {"-"}
     bench, command = (page(f"examples/{it}").count("\n") for it in ("hdl/tb.sv", "js/cases.mjs"))
     figures = {
         "README.md": f"{sum(steps):,} [test vectors]; {agreed}; {routines} [proved routines]; "
-        f"its {len(ROWS)} instructions; differs on [{sum(it['differ'] > 0 for it in z64)} of {len(ROWS)}]",
+        f"its {len(ROWS)} instructions",
         GUARANTEES: f"{agreed}; [{len(bugs)} faults were planted in it]",
         OF_VECTORS: f"{sum(steps):,} test vectors; {min(steps)} to {max(steps)} of each of the {len(steps)}; "
         f"the {bench} lines of [tb.sv]; some {round(command, -1)} lines, such as [cases.mjs]; "
         f"each of the {len(covered)} instructions, both values; {programs} whole programs",
     }
-    assert not [it for name in figures for it in figures[name].split("; ") if it not in sentences(name)]
+    pairs = [*figures.items(), *others.figures().items()]
+    assert not [it for name, them in pairs for it in them.split("; ") if it not in sentences(name)]
 
 
 def test_messages() -> None:

@@ -13,7 +13,7 @@ from lib.plugin import HERE, Z64, Bench, assert_plays, check_tasks, start_lines,
 
 pytestmark = [pytest.mark.needs("cc"), pytest.mark.xdist_group("plugin")]
 
-# What z64 executes differently, by conformance/Z64.md: an instruction for calls/showing.s, and what is named.
+# What z64 executes differently, by OTHERS.md: an instruction for calls/showing.s, and what is named.
 Z64_DIFFERS = {
     "lwu $4, 0($0)": "$4 is",
     "vrsq $v4[0], $v2[0]": "$v4 is",

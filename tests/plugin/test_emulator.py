@@ -21,7 +21,7 @@ LAST = "task-12.script"  # how the last line of check mode about the ROM ends
 MODES = {"interpreter": 0, "cached interpreter": 1, "recompiler": 2}
 RESULTS = 79  # calls of `check` in rom/cpu.c, with those in loops
 # The semaphore, what the DMA registers hold after a DMA, and a DMA round the end of DMEM:
-# conformance/Z64.md, at MFC0 and MTC0.
+# conformance/OTHERS.md, at MFC0 and MTC0.
 Z64_WRONG = {0x602, 0x604, 0x605, 0x606, 0x609, 0x60A, 0x60B, 0x610, 0x611}
 HUNT = page("tests/plugin/HUNT.md")
 MESSAGES = re.findall(r"^(RSP\D*: check: .*)", HUNT, re.M)  # what check mode says, by the page

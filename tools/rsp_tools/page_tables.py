@@ -7,6 +7,7 @@
   crates/rsp_advice/src/tables.rt  what `--explain` says, from the same tables
   crates/rsp_advice/specs/Tables.antt  the names and the numbers in them
   docs/ARCHITECTURE.md             the list of crates, from crates.txt
+  conformance/OTHERS.md            the tables of other emulators, from conformance/others: others.py
   docs/SYSTEMS.md                  the table of systems, from the records in targets.py, and that of last runs
   tools/packaging/share            what shells complete, and the options in the man page, from docs/help
 
@@ -19,7 +20,7 @@ import json
 import re
 from typing import Any, Dict, List, Sequence, Tuple
 
-from rsp_tools import TOP, completions
+from rsp_tools import TOP, completions, others
 from rsp_tools.targets import CROSS, NATIVE
 
 DATA = TOP / "docs/data"
@@ -157,6 +158,13 @@ def systems() -> str:
     return "".join(f"| {it.tier} | {it.title} | {it.tested} | {it.command} |\n" for it in rows)
 
 
+def with_others(text: str) -> str:
+    """The page with the tables of other emulators."""
+    for head, lines in others.tables().items():
+        text = with_group(text, re.escape(head) + r"\n\|[-|]+\|\n((?:\|.*\n)+)", lines)
+    return text
+
+
 def made() -> Dict[str, str]:
     """Each file as this module writes it, by its name."""
     layers = "".join(f"{name:19} {comment}\n" for name, (comment, _) in reversed(crates().items()))
@@ -166,6 +174,7 @@ def made() -> Dict[str, str]:
         LAYERS: with_group(page(LAYERS), r"(?ms)^## Layers\n.*?^```text\n(.*?)^```$", layers),
         SYSTEMS: with_table(with_group(page(SYSTEMS), head_of_systems, systems()), "last_runs"),
         SPEED: with_table(with_table(page(SPEED), "speed"), "speed_single"),
+        others.PAGE: with_others(page(others.PAGE)),
         ADVICE: advice(),
         KNOWN: known(),
         **completions.files(),

@@ -6,6 +6,7 @@
                        `ends(cases)` -> an array of END, and, for programs, the methods that
                        rsp.first_difference calls of an emulator, with `steps(n)` or otherwise `run(n)`
   hex:COMMAND          a command that answers lines `word state` by lines `status state`
+  console:cen64        Debian's cen64, as a whole console
   anything else        a command that answers each line of JSON by a line: conformance/FORMS.md describes them
 """
 
@@ -374,6 +375,10 @@ def emulator_of(spec: str, memories: bytes) -> Emulator:
         return Python(rest, memories)
     if kind == "hex":
         return Hex(rest)
+    if kind == "console":
+        from .console import Console  # here, because it is an emulator of this module
+
+        return Console(rest, memories)
     if kind != "plugin":
         return Object(spec, memories) if spec.endswith(".so") else Command(spec, memories)
     with contextlib.suppress(CampaignFault):

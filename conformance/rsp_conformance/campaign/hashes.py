@@ -71,6 +71,8 @@ def named_by(spec: str) -> List[str]:
     if kind == "python":
         module = find_module(rest.partition(":")[0])
         return [module.origin] if module and module.origin else []
+    if kind == "console":
+        return [str(SOURCES / "console/monitor.bin"), *filter(None, [shutil.which(rest)])]
     if kind == "plugin" or spec.endswith(".so"):
         return [rest or spec]
     words = words_of(rest if kind == "hex" else spec)

@@ -11,7 +11,7 @@ from typing import Iterator, List, Set
 import numpy as np
 import rsp
 
-from . import CampaignFault, Unusable, operands_read
+from . import CampaignFault, Unusable, console_programs, operands_read
 from .generator import END, Array, cases_of, memories_of
 from .random_programs import check_programs
 from .protocol import BATCH, NOT_THERE, PROGRAM, RESERVED, SHOWN, UNDONE, UNSHOWN, Kinds, Result, name_of
@@ -115,7 +115,8 @@ def main(shared: int, pipe: int) -> None:
     connection, used = Connection(pipe), 0.0
     (spec, name, seed, start, count), options = connection.recv()
     if name == PROGRAM:
-        results = check_programs(spec, seed, start, count, options["instructions"], options["steps"])
+        check = console_programs.check_programs if spec.startswith("console:") else check_programs
+        results = check(spec, seed, start, count, options["instructions"], options["steps"])
     else:
         ends = np.frombuffer(mmap.mmap(shared, 0), END)
         results = check_cases(spec, name, seed, start, count, ends, options["whole"])
