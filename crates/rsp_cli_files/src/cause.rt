@@ -36,7 +36,7 @@ fn put_reason<W: Write>(f: &mut Formatter<W>, reason: ErrorKind) -> fmt::Result 
         ErrorKind::IsADirectory => writeln!(f, "  note: it is a folder"),
         ErrorKind::NotADirectory => writeln!(f, "  note: what its path goes through is no folder"),
         ErrorKind::PermissionDenied => writeln!(f, "  note: you have no permission"),
-        ErrorKind::Other | ErrorKind::Uncategorized => Ok(()),
+        ErrorKind::Other => Ok(()),
         other => writeln!(f, "  note: {other}"),
     }
 }
