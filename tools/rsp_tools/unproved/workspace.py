@@ -19,18 +19,16 @@ PROFILES = """
 inherits = "dev"
 opt-level = 1
 debug = "line-tables-only"
-panic = "abort"
 
 [profile.checked]
-inherits = "release"
+inherits = "quick"
+opt-level = 2
 overflow-checks = true
 debug-assertions = true
-panic = "abort"
 
 [profile.release]
 lto = "fat"
 codegen-units = 1
-panic = "abort"
 """
 # The program begins without Rust's runtime, which opens closed streams, and allocates. Each says what it is.
 ENDS = {
