@@ -10,7 +10,7 @@ crate             writes library/rsp-core, the emulator as one crate for Rust
 --debian    the few crates that it needs are those of Debian's packages librust-*-dev, and cargo uses no network
 
 It erases the contracts of crates/, and cargo builds what is left. Nothing of that is proved, and all that it makes says
-UNPROVED. It needs Rust 1.85 or later, and writes nothing outside out/unproved (except `crate`). The status is 0 if all
+UNPROVED. It needs Rust 1.88 or later, and writes nothing outside out/unproved (except `crate`). The status is 0 if all
 is made, 1 if not, 2 if the words are wrong.
 """
 

@@ -12,8 +12,8 @@ from rsp_tools import TOP
 from rsp_tools.unproved import OUT, stop
 from rsp_tools.unproved.workspace import VERSIONS
 
-OLDEST = (1, 85)  # the first with the edition of 2024
-RUST = "Rust 1.85 or later: rustup.rs has it, and Debian's packages cargo-web and rustc-web"
+OLDEST = (1, 88)  # the first in which `if` takes `let` among its conditions
+RUST = "Rust 1.88 or later: rustup.rs has it, and Debian's packages cargo-web and rustc-web"
 DEBIAN = Path("/usr/share/cargo/registry")
 PACKAGES = " ".join(f"librust-{it}-dev" for it in sorted([*VERSIONS, "strsim"]))
 # What cargo says if it can't get a crate.
