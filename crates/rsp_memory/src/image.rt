@@ -23,7 +23,7 @@ impl Model for Rdram {
 }
 
 /// Fault 7, SizeFault: no image has this length. It returns the bytes to the caller.
-#[derive(Drop)]
+#[derive(Drop, Debug)]
 pub struct SizeFault {
     /// The bytes, unchanged.
     pub bytes: Vec<u8>,
