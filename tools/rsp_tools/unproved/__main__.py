@@ -20,7 +20,7 @@ import shutil
 import sys
 from typing import List
 
-from rsp_tools.unproved import OUT, workspace
+from rsp_tools.unproved import OUT, crate, workspace
 from rsp_tools.unproved.cargo import Cargo
 from rsp_tools.unproved.link import link_library
 
@@ -63,7 +63,7 @@ def main(words: List[str]) -> None:
         print(__doc__, end="", file=sys.stdout if wanted else sys.stderr)
         sys.exit(0 if wanted else 2)
     if command == "crate":
-        return
+        return crate.write()
     profile = next((OPTIONS[it] for it in options if OPTIONS[it]), "quick")
     OUT.mkdir(parents=True, exist_ok=True)
     with open(OUT / "lock", "w") as lock:  # two runs at once take turns; what `run` becomes holds no lock

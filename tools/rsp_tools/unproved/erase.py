@@ -29,7 +29,6 @@ RENAMED = {
     "expect": r"\(&?rt,",
     "read_to_end": r"\(",
     "repeat": r"\(rt\.alloc",
-    "swizzle_dyn": r"\(",
     "to_ascii_lowercase": r"\((self\.)?alloc",
     "to_string": r"\(rt\.alloc",
 }

@@ -197,7 +197,8 @@ impl<'a> Command<'a> {
             text += &format!("\nArguments:\n{}", table(&files));
         }
         let indent = if self.subcommands.is_empty() { "    " } else { "" };
-        let mut rows: Vec<_> = self.arguments.iter().filter(|a| a.long.is_some()).map(|a| (format!("{indent}{}", a.shown()), a.help)).collect();
+        let mut rows: Vec<_> =
+            self.arguments.iter().filter(|a| a.long.is_some()).map(|a| (format!("{indent}{}", a.shown()), a.help)).collect();
         rows.push(("-h, --help".into(), "Print help"));
         if self.version.is_some() {
             rows.push(("-V, --version".into(), "Print version"));
@@ -213,7 +214,8 @@ impl<'a> Command<'a> {
         let words: Vec<&'a str> = words.iter().skip(1).map(|word| word.as_str()).collect();
         let Some((first, rest)) = words.split_first() else {
             let names: Vec<_> = self.subcommands.iter().map(|it| it.name).chain(["help"]).collect();
-            let message = format!("'{}' requires a subcommand but one was not provided\n  [subcommands: {}]\n", self.name, names.join(", "));
+            let message =
+                format!("'{}' requires a subcommand but one was not provided\n  [subcommands: {}]\n", self.name, names.join(", "));
             return Err(self.fault(ErrorKind::MissingSubcommand, &message, &[]));
         };
         match *first {
@@ -289,9 +291,11 @@ impl<'a> Command<'a> {
                 }
                 given.flags.push(name);
             } else {
-                let value = match joined.or_else(|| words.clone().next().copied().filter(|it| !it.starts_with('-') || *it == "-").inspect(|_| {
-                    words.next();
-                })) {
+                let value = match joined.or_else(|| {
+                    words.clone().next().copied().filter(|it| !it.starts_with('-') || *it == "-").inspect(|_| {
+                        words.next();
+                    })
+                }) {
                     Some(value) if !value.is_empty() => value,
                     _ => return Err(self.lacking(argument)),
                 };
@@ -326,5 +330,8 @@ impl<'a> Command<'a> {
 }
 /// The names are literals of the program.
 fn name_of(argument: &Arg<'_>) -> &'static str {
-    ["SCRIPT", "SRC", "OUT", "FILE", "rdram", "save", "strict", "explain", "at", "listing", "labels"].into_iter().find(|it| *it == argument.name).unwrap()
+    ["SCRIPT", "SRC", "OUT", "FILE", "rdram", "save", "strict", "explain", "at", "listing", "labels"]
+        .into_iter()
+        .find(|it| *it == argument.name)
+        .unwrap()
 }

@@ -1,6 +1,9 @@
 //! What the kit's `std` has and Rust's hasn't: allocation that can fail, and handles. The rest is Rust's own.
 
-pub use std::{array, borrow, cell, char, clone, cmp, convert, default, error, hash, hint, iter, marker as rust_marker, mem, num, ops, option, ptr, result, slice, str, time};
+pub use std::{
+    array, borrow, cell, char, clone, cmp, convert, default, error, hash, hint, iter, marker as rust_marker, mem, num, ops, option, ptr,
+    result, slice, str, time,
+};
 
 mod boxed;
 mod containers;
@@ -69,9 +72,9 @@ pub trait Ended {}
 pub mod prelude {
     pub mod rattle {
         pub use crate::boxed::Box;
+        pub use crate::containers::{ExpectIn, ReadIn, TextIn};
         pub use crate::containers::{String, Vec};
         pub use crate::rt::HostRuntime;
-        pub use crate::containers::{ExpectIn, TextIn, ReadIn};
         pub use crate::{Ended, Ends, format, println, vec};
         pub use core::{assert, assert_eq, debug_assert, matches, panic, todo, unreachable, write, writeln};
         pub use std::prelude::rust_2024::*;
