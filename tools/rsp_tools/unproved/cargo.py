@@ -15,7 +15,7 @@ from rsp_tools.unproved.workspace import VERSIONS
 OLDEST = (1, 88)  # the first in which `if` takes `let` among its conditions
 RUST = "Rust 1.88 or later: rustup.rs has it, and Debian's packages cargo-web and rustc-web"
 DEBIAN = Path("/usr/share/cargo/registry")
-PACKAGES = " ".join(f"librust-{it}-dev" for it in sorted([*VERSIONS, "strsim"]))
+PACKAGES = " ".join(f"librust-{it}-dev" for it in VERSIONS)
 # What cargo says if it can't get a crate.
 MISSING = re.compile(
     r"no matching package named|failed to select a version|[fF]ailed to (download|get|fetch|load source|query)"
