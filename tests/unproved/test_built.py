@@ -1,5 +1,5 @@
-"""What tools/unproved builds of the crates as they are: the program, the library and rsp-core, compared with the
-proved ones. Overflows are checked, and end the program.
+"""What tools/unproved builds of the crates as they are: the program, the library and rsp-core, compared with
+the proved ones. Overflows are checked, and end the program.
 
 They fail if the assembly in compiled/ and the sources behave differently, in vectors, scripts, cases of each
 instruction, or random programs; or if something unproved could be taken for the proved program or library.
@@ -104,7 +104,9 @@ def test_core_is_written(folder: Path) -> None:
     """The modules of rsp-core are those that the crates give."""
     core = shutil.copytree(crate.CORE, folder / "core", ignore=shutil.ignore_patterns("target"))
     crate.write(core)
-    shown = subprocess.run(["diff", "-r", "-x", "target", "-x", "Cargo.lock", crate.CORE, core], stdout=subprocess.PIPE)
+    shown = subprocess.run(
+        ["diff", "-r", "-x", "target", "-x", "Cargo.lock", crate.CORE, core], stdout=subprocess.PIPE
+    )
     assert shown.returncode == 0, f"run tools/unproved crate\n{shown.stdout.decode()[:2000]}"
 
 
@@ -125,11 +127,23 @@ def test_core(cargo: Any, folder: Path) -> None:
 def test_core_in_a_campaign(cargo: Any, folder: Path) -> None:
     made = shutil.copytree(TESTS / "unproved/core_cases", folder / "cases")
     (made / "Cargo.toml").write_text((made / "Cargo.toml").read_text().replace("../../..", str(TOP)))
-    cargo(made, "build", "--release", "--config", f'build.target-dir="{folder}/target"', "--target-dir", folder / "target")
-    assert_agrees(folder / "target/release/libcore_cases.so", folder / "out", "--cases", 256, "--programs", 100)
+    cargo(
+        made,
+        "build",
+        "--release",
+        "--config",
+        f'build.target-dir="{folder}/target"',
+        "--target-dir",
+        folder / "target",
+    )
+    assert_agrees(
+        folder / "target/release/libcore_cases.so", folder / "out", "--cases", 256, "--programs", 100
+    )
 
 
-@pytest.mark.parametrize("version, said", [("", "there is no cargo: install Rust 1.88"), ("1.65.0", "too old")])
+@pytest.mark.parametrize(
+    "version, said", [("", "there is no cargo: install Rust 1.88"), ("1.65.0", "too old")]
+)
 def test_other_cargo(version: str, said: str, folder: Path) -> None:
     """A machine without cargo, or with one of other days."""
     for tool in "sh", "dirname", "readlink", "python3", "git":

@@ -1,4 +1,4 @@
-"""The eraser of tools/unproved: what it erases, and that it refuses each form that it doesn't know, by its line.
+"""The eraser of tools/unproved: what it erases, and that it refuses each form that it doesn't know.
 
 These fail if it guesses: if a form that it doesn't know gets into the erased text, or an erased text has
 another number of lines.
@@ -12,10 +12,10 @@ import pytest
 
 from lib import TOP
 from lib.processes import run, succeeds
+from rsp_tools.crates import LINES
 from rsp_tools.unproved.erase import erase
 from rsp_tools.unproved.tokens import Refused
 from rsp_tools.unproved.workspace import sources
-from rsp_tools.crates import LINES
 
 # Forms that the crates don't have: the text, and what is said of it. Each is at the second line.
 UNKNOWN: Dict[str, Tuple[str, str]] = {
@@ -26,11 +26,17 @@ UNKNOWN: Dict[str, Tuple[str, str]] = {
     "term": ("fn f()\n    ensures { a ≡ (λ { b)\n", "a term without an end"),
     "symbol": ("fn f() {\n    let x = λ;\n}", "'\\u03bb;' in the code"),
     "comment": ("fn f() {}\n/* a comment\n*/", "'/*' in the code"),
-    "macro": ("fn f(rt: &HostRuntime) {\n    debug_assert!(rt; true);\n}", "the macro `debug_assert!` with a handle"),
+    "macro": (
+        "fn f(rt: &HostRuntime) {\n    debug_assert!(rt; true);\n}",
+        "the macro `debug_assert!` with a handle",
+    ),
     "drop": ("struct S;\nimpl<T> Drop for Box<T> {\n    fn drop(self) {}\n}", "this form of `Drop`"),
     "formatter": ("\nfn f<W: Write, T>(f: &mut Formatter<W>, t: T) {}", "this form of `Formatter`"),
     "for C": ('\nextern "C" fn brsp_f(text: &str) -> u32 { 0 }', "a parameter of this function for C"),
-    "error": ('\n#[derive(Debug, Error)]\n#[error(transparent)]\npub struct S(u8);', "this form of the derive of `Error`"),
+    "error": (
+        "\n#[derive(Debug, Error)]\n#[error(transparent)]\npub struct S(u8);",
+        "this form of the derive of `Error`",
+    ),
     "root": ("\n#![feature(portable_simd)]\n", "the attribute `feature`"),
 }
 
@@ -54,11 +60,14 @@ def test_all_crates() -> None:
 
 def test_erased() -> None:
     """A contract, a field and a bound of contracts go; an exported slice becomes two arguments."""
-    text = 'pub extern "C" fn brsp_f(m: &mut M, bytes: &[u8], alloc: Global) -> u32\n    ensures { result ≡ 0 }\n{\n    0\n}\n'
+    text = 'extern "C" fn brsp_f(m: &mut M, bytes: &[u8], alloc: Global) -> u32\n    ensures { result ≡ 0 }\n{\n}\n'
     head, clause, body, *_ = erase(text).split("\n")
     assert "(m: &mut M, bytes: *const u8, bytes_len: usize," in head and not clause.strip()
     assert "from_raw_parts(bytes, bytes_len)" in body and "let alloc = Global;" in body
-    assert erase("struct S {\n    /// seen\n    pub ghost a: { ℕ },\n    b: u8,\n}").split("\n")[3] == "    b: u8,"
+    assert (
+        erase("struct S {\n    /// seen\n    pub ghost a: { ℕ },\n    b: u8,\n}").split("\n")[3]
+        == "    b: u8,"
+    )
 
 
 @pytest.mark.needs("cargo", "/usr/share/cargo/registry/memchr-*")

@@ -1,5 +1,5 @@
-"""What tools/unproved is made of: it erases the contracts of the crates, and builds what is left by Rust's own
-compiler. Nothing that it makes is proved, and all of it says so."""
+"""What tools/unproved is made of: it erases the contracts of the crates, and builds what is left by Rust's
+own compiler. Nothing that it makes is proved, and all of it says so."""
 
 import sys
 from typing import NoReturn

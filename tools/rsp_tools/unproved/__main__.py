@@ -7,11 +7,11 @@ crate             writes library/rsp-core, the emulator as one crate for Rust
 
 --checked   optimized, and each overflow ends the program
 --release   as fast as it gets; the build takes minutes
---debian    the few crates that it needs are those of Debian's packages librust-*-dev, and cargo uses no network
+--debian    the few crates that it needs are Debian's packages librust-*-dev, and cargo uses no network
 
-It erases the contracts of crates/, and cargo builds what is left. Nothing of that is proved, and all that it makes says
-UNPROVED. It needs Rust 1.88 or later, and writes nothing outside out/unproved (except `crate`). The status is 0 if all
-is made, 1 if not, 2 if the words are wrong.
+It erases the contracts of crates/, and cargo builds what is left. Nothing of that is proved, and all that it
+makes says UNPROVED. It needs Rust 1.88 or later, and only `crate` writes outside out/unproved. The status is 0
+if all is made, 1 if not, 2 if the words are wrong.
 """
 
 import fcntl

@@ -6,20 +6,20 @@ import shutil
 import subprocess
 import sys
 from pathlib import Path
-from typing import Dict, List, Sequence
+from typing import Dict, List
 
 from rsp_tools import TOP
 from rsp_tools.unproved import OUT, stop
 from rsp_tools.unproved.workspace import VERSIONS
 
-OLDEST = (1, 88)  # the first in which `if` takes `let` among its conditions
+OLDEST = (1, 88)  # the first whose `if` takes `let` among conditions
 RUST = "Rust 1.88 or later: rustup.rs has it, and Debian's packages cargo-web and rustc-web"
 DEBIAN = Path("/usr/share/cargo/registry")
 PACKAGES = " ".join(f"librust-{it}-dev" for it in VERSIONS)
 # What cargo says if it can't get a crate.
 MISSING = re.compile(
-    r"no matching package named|failed to select a version|[fF]ailed to (download|get|fetch|load source|query)"
-    r"|[uU]nable to update|can't (update|checkout)"
+    r"no matching package named|failed to select a version|[uU]nable to update|can't (update|checkout)"
+    r"|[fF]ailed to (download|get|fetch|load source|query)"
 )
 
 
@@ -86,7 +86,13 @@ class Cargo:
         call = ["cargo", command, *color, *profile, *self.words, *words]
         printed: List[str] = []
         with subprocess.Popen(
-            call, cwd=OUT, env=self.env, stdout=subprocess.PIPE, stderr=subprocess.STDOUT, text=True, errors="replace"
+            call,
+            cwd=OUT,
+            env=self.env,
+            stdout=subprocess.PIPE,
+            stderr=subprocess.STDOUT,
+            text=True,
+            errors="replace",
         ) as ran:
             assert ran.stdout
             for line in ran.stdout:

@@ -1,8 +1,8 @@
 """tests/all --unproved [WORD..]: all tests, on the program and the library that tools/unproved builds.
 
-They run in out/unproved/clone, a copy of this clone as it is, in which what tools/unproved has built lies where the
-proved program and library would. So nothing unproved gets into the clone, and nothing there has a mark. The tests in
-tests/unproved.tsv are skipped, with the reason that is there. tests/all gets the WORDs.
+They run in out/unproved/clone, a copy of this clone as it is, in which what tools/unproved has built lies where
+the proved program and library would. So nothing unproved gets into the clone, and nothing there has a mark. The
+tests in tests/unproved.tsv are skipped, with the reason that is there. tests/all gets the WORDs.
 """
 
 import os
@@ -34,7 +34,10 @@ def names(*words: str) -> List[str]:
 def copy_clone() -> None:
     """The clone as it is, with what isn't committed."""
     shutil.rmtree(COPY, ignore_errors=True)
-    if not (TOP / ".git").exists() or subprocess.run(["git", "clone", "-q", "--shared", TOP, COPY]).returncode:
+    if (
+        not (TOP / ".git").exists()
+        or subprocess.run(["git", "clone", "-q", "--shared", TOP, COPY]).returncode
+    ):
         stop("`tests/all --unproved` copies a clone by git, and here it can't")
     for name in names("-d"):
         (COPY / name).unlink()

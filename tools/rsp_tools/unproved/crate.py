@@ -28,7 +28,8 @@ LEFT = {"decode/laws", "dis/laws", "machine/laws"}
 # What is cut off with its braces, where it begins.
 CUT = re.compile(r"#\[cfg\(test\)\]\s*mod tests\b|\bimpl(<[^{]*?>)? Model for |\bunsafe impl Send\b")
 OF_THE_KIT = re.compile(
-    r"[Cc]ontracts?\b|\bprover\b|\bproofs?\b|\bproved\b|\bspecs/|\bdefinitions?\b|\blaws?\b|docs/|\bRattle\b|\bthe kit\b"
+    r"[Cc]ontracts?\b|\bprover\b|\bproofs?\b|\bproved\b|\bspecs/|\bdefinitions?\b|\blaws?\b|docs/"
+    r"|\bRattle\b|\bthe kit\b"
 )
 PARAGRAPH = re.compile(r"(?m)^(?P<indent>[ \t]*)(?P<mark>//[/!]?) .*\n(?:(?P=indent)(?P=mark) (?!- ).*\n)*")
 # A line of a comment without text that no longer parts two paragraphs.
@@ -96,8 +97,8 @@ def modules() -> Iterator[Tuple[Path, str]]:
 
 def write(core: Path = CORE) -> None:
     """Writes the modules anew, laid out by rustfmt."""
-    for name in MODULES:
-        shutil.rmtree(core / "src" / name, ignore_errors=True)
+    for module in MODULES:
+        shutil.rmtree(core / "src" / module, ignore_errors=True)
     made = []
     for name, text in modules():
         made.append(core / "src" / name)

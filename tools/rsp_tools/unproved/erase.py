@@ -217,8 +217,8 @@ class Eraser:
         return False
 
     def change_function_for_c(self) -> None:
-        """The kit passes a slice to a function for C as two arguments, and an allocator as none. Rust passes a
-        slice as one struct of two, which is elsewhere if one of them has no register left."""
+        """The kit passes a slice to a function for C as two arguments, and an allocator as none. Rust passes
+        a slice as one struct of two, which is elsewhere if one of them has no register left."""
         named = FOR_C.match(self.text, self.at) or refuse(self.text, self.at, "this function for C")
         to = end_of_brackets(self.text, named.end())
         given = self.text[named.end() : to]

@@ -61,9 +61,17 @@ def link_static(archive: Path, calls: List[str], new: Path) -> None:
     call(*compiler(), "-c", "-o", new / "hide.o", new / "hide.s")
     wanted = [word for it in calls for word in ("-u", it)]
     call("ld", "-r", "--gc-sections", *wanted, "-o", new / "all.o", new / "hide.o", archive)
-    bitcode = [word for it in (".llvmbc", ".llvmcmd") for word in ("-R", it)]  # of Rust's std, at which `ar` aborts
+    bitcode = [
+        word for it in (".llvmbc", ".llvmcmd") for word in ("-R", it)
+    ]  # of Rust's std, at which `ar` aborts
     call("objcopy", f"--keep-global-symbols={new / 'names'}", *bitcode, new / "all.o", new / "rsp.o")
-    call("ar", "rcsD", new / "libbrsp-unproved.a", new / "rsp.o", *helpers(new / "hidden", "-fvisibility=hidden"))
+    call(
+        "ar",
+        "rcsD",
+        new / "libbrsp-unproved.a",
+        new / "rsp.o",
+        *helpers(new / "hidden", "-fvisibility=hidden"),
+    )
 
 
 def link_library(archive: Path) -> None:

@@ -34,7 +34,7 @@ def token_at(text: str, at: int) -> Match[str]:
 
 
 def end_of_term(text: str, at: int) -> int:
-    """After the braces that open at an index: a term of a contract, of which only braces and texts are read."""
+    """After the braces that open at an index: a term of a contract. Only its braces and texts are read."""
     depth = 0
     for it in TERM.finditer(text, at):
         depth += {"{": 1, "}": -1}.get(it[0], 0)

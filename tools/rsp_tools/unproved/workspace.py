@@ -1,6 +1,5 @@
 """Writes the erased crates as a workspace of cargo, over crates in place of the kit's."""
 
-import re
 from pathlib import Path
 from typing import Dict, Iterator
 
@@ -81,9 +80,14 @@ def manifest(crate: str) -> str:
 
 def files() -> Dict[str, str]:
     """The text of each file of the workspace, by its name."""
-    shims = {it.name: it.parent for it in SHIMS.glob("*/Cargo.toml")}
-    members = [f"crates/{it.parent.name}" for it in SHIMS.glob("*/Cargo.toml")] + [f"crates/{it}" for it in LINES]
-    texts = {"Cargo.toml": f'[workspace]\nresolver = "2"\nmembers = {sorted(members)}\n{PROFILES}'.replace("'", '"')}
+    members = [f"crates/{it.parent.name}" for it in SHIMS.glob("*/Cargo.toml")] + [
+        f"crates/{it}" for it in LINES
+    ]
+    texts = {
+        "Cargo.toml": f'[workspace]\nresolver = "2"\nmembers = {sorted(members)}\n{PROFILES}'.replace(
+            "'", '"'
+        )
+    }
     for path in SHIMS.rglob("*.*"):
         texts[f"crates/{path.relative_to(SHIMS)}"] = path.read_text()
     for crate in LINES:
@@ -95,7 +99,7 @@ def files() -> Dict[str, str]:
 
 
 def write(folder: Path) -> None:
-    """Writes what has changed, so that cargo builds no more than that, and deletes what isn't there any more."""
+    """Writes what has changed, so that cargo builds no more than that, and deletes what is gone."""
     texts = files()
     for path in (folder / "crates").rglob("*.*"):
         if str(path.relative_to(folder)) not in texts:
