@@ -10,8 +10,8 @@ crate             writes library/rsp-core, the emulator as one crate for Rust
 --debian    the few crates that it needs are Debian's packages librust-*-dev, and cargo uses no network
 
 It erases the contracts of crates/, and cargo builds what is left. Nothing of that is proved, and all that it
-makes says UNPROVED. It needs Rust 1.88 or later, and only `crate` writes outside out/unproved. The status is 0
-if all is made, 1 if not, 2 if the words are wrong.
+makes says UNPROVED. It needs Rust 1.88 or later, and only `crate` writes outside out/unproved. The status is
+0 if all is made, 1 if not, 2 if the words are wrong.
 """
 
 import fcntl

@@ -1,8 +1,8 @@
 """tests/all --unproved [WORD..]: all tests, on the program and the library that tools/unproved builds.
 
-They run in out/unproved/clone, a copy of this clone as it is, in which what tools/unproved has built lies where
-the proved program and library would. So nothing unproved gets into the clone, and nothing there has a mark. The
-tests in tests/unproved.tsv are skipped, with the reason that is there. tests/all gets the WORDs.
+They run in out/unproved/clone, a copy of this clone as it is, in which what tools/unproved has built lies
+where the proved program and library would. So nothing unproved gets into the clone, and nothing there has a
+mark. The tests in tests/unproved.tsv are skipped, with the reason that is there. tests/all gets the WORDs.
 """
 
 import os
