@@ -60,9 +60,9 @@ def test_all_crates() -> None:
 
 def test_erased() -> None:
     """A contract, a field and a bound of contracts go; an exported slice becomes two arguments."""
-    text = 'extern "C" fn f(m: &mut M, bytes: &[u8], alloc: Global) -> u32\n    ensures { result ≡ 0 }\n{\n}\n'
+    text = 'extern "C" fn f(m: &M, bytes: &[u8], alloc: Global) -> u32\n    ensures { result ≡ 0 }\n{\n}\n'
     head, clause, body, *_ = erase(text).split("\n")
-    assert "(m: &mut M, bytes: *const u8, bytes_len: usize," in head and not clause.strip()
+    assert "(m: &M, bytes: *const u8, bytes_len: usize," in head and not clause.strip()
     assert "from_raw_parts(bytes, bytes_len)" in body and "let alloc = Global;" in body
     assert (
         erase("struct S {\n    /// seen\n    pub ghost a: { ℕ },\n    b: u8,\n}").split("\n")[3]
