@@ -39,7 +39,7 @@ def test_program(stranger: User) -> None:
     """It is made once, without Python."""
     prints(stranger, "mkdir ~/no && printf '#!/bin/sh\\nexit 9\\n' >~/no/python3 && chmod +x ~/no/python3")
     assert prints(stranger, f'PATH="$HOME/no:$PATH" {FIRST}') == REPLIES
-    assert "\nrecorded as proved and built by rattle-kit-" in prints(stranger, "./rsp --version")
+    assert "\nits mark says: proved and built by rattle-kit-" in prints(stranger, "./rsp --version")
     assert prints(stranger, f"CC=false {FIRST}") == REPLIES
     refuses(stranger, "RSP_OUT=out tools/link rsp_main", "RSP_OUT isn't a whole path: out")
 

@@ -45,6 +45,7 @@ NEEDED = {
     "conformance/campaign": ("/usr/lib/python3/dist-packages/numpy",),
     r"lib\.plugin": ("/usr/include/mupen64plus", "/usr/games/mupen64plus", "/usr/bin/mips-linux-gnu-gcc"),
     "console:cen64": ("/usr/bin/cen64",),
+    "tools/unproved": ("/usr/bin/cargo", "/usr/share/cargo/registry/memchr-*"),
     "rsp-z64": ("/usr/lib/x86_64-linux-gnu/mupen64plus/mupen64plus-rsp-z64.so",),
 }
 

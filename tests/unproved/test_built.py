@@ -1,0 +1,156 @@
+"""What tools/unproved builds of the crates as they are: the program, the library and rsp-core, compared with
+the proved ones. Overflows are checked, and end the program.
+
+They fail if the assembly in compiled/ and the sources behave differently, in vectors, scripts, cases of each
+instruction, or random programs; or if something unproved could be taken for the proved program or library.
+"""
+
+import ctypes
+import os
+import re
+import shutil
+import subprocess
+import sys
+import tempfile
+from pathlib import Path
+from typing import Any, Iterator, List, Tuple
+
+import pytest
+
+from lib import TESTS, TOP
+from lib.campaigns import CAMPAIGN, counts_of
+from lib.packages import need
+from lib.processes import run, succeeds
+from rsp_tools.unproved import OUT, crate
+
+pytestmark = [pytest.mark.xdist_group("unproved"), pytest.mark.timeout(1500)]
+UNPROVED = TOP / "tools/unproved"
+HOW = ("--checked", "--debian")
+NEEDED = ("cargo", "cc", "ar", "/usr/share/cargo/registry/memchr-*")
+CAMPAIGNS = TOP / "conformance/rsp_conformance/campaign"
+PLACES = "crates/rsp_main/out", "crates/rsp_c/out", "library/c", "compiled"
+
+
+def proved_files() -> List[Tuple[str, int]]:
+    """The files where the proved program and library lie, with the times of their last changes."""
+    paths = (path for place in PLACES for path in (TOP / place).rglob("*"))
+    return sorted((str(path), path.stat().st_mtime_ns) for path in paths if path.is_file())
+
+
+@pytest.fixture(scope="module")
+def built() -> Path:
+    need(*NEEDED)
+    before = proved_files()
+    succeeds(UNPROVED, "build", *HOW, timeout=1400)
+    assert proved_files() == before
+    return OUT
+
+
+def test_says_unproved(built: Path) -> None:
+    """Program and library say the same, and the library has a name of its own."""
+    said = succeeds(built / "rsp-unproved", "--version").rstrip("\n")
+    assert re.match(r"UNPROVED rsp \d+\.\d+\.\d+(, commit \w+( with changes)?)?: ", said)
+    assert said.endswith(f"compiled by {succeeds('rustc', '--version').strip()}")
+    library = ctypes.CDLL(str(built / "libbrsp-unproved.so"))
+    assert ctypes.string_at(ctypes.addressof(ctypes.c_char.in_dll(library, "brsp_unproved"))).decode() == said
+    assert "[libbrsp-unproved.so.1]" in succeeds("readelf", "-d", built / "libbrsp-unproved.so")
+
+
+def test_tests_of_crates(built: Path) -> None:
+    output = succeeds(UNPROVED, "test", *HOW, timeout=1400)
+    counts = re.findall(r"test result: ok\. (\d+) passed; 0 failed", output)
+    written = [path.read_text().count("#[test]") for path in (TOP / "crates").glob("*/src/**/*.rt")]
+    assert sum(map(int, counts)) == sum(written) > 0
+
+
+def test_vectors(built: Path) -> None:
+    output = succeeds("conformance/run", "--program", built / "rsp-unproved", timeout=600)
+    assert re.search(r"(?m)^[1-9]\d* passed, 0 failed$", output)
+
+
+def test_scripts(built: Path) -> None:
+    words = ("-m", "pytest", "-q", "-p", "no:xdist", "tests/program/test_scripts.py", "--program")
+    succeeds(sys.executable, "-B", *words, built / "rsp-unproved", timeout=900)
+
+
+def assert_agrees(emulator: Path, out: Path, *words: object) -> None:
+    """A campaign's cases and programs show no difference to the proved library."""
+    succeeds(CAMPAIGN, emulator, out, "--here", *words, timeout=900)
+    counts = counts_of(out)
+    assert len(counts) > 100 and all(it[0] and it[1:] == (0, 0) for it in counts.values()), counts
+
+
+@pytest.mark.needs("python:numpy")
+def test_library(built: Path, library: Path, folder: Path) -> None:
+    """Cases of each instruction, and 200 programs of up to 100,000 steps."""
+    flags = ("-O2", "-shared", "-fPIC", f"-I{library}", f"-I{CAMPAIGNS}")
+    made = folder / "unproved.so"
+    succeeds("cc", *flags, "-o", made, CAMPAIGNS / "library.c", built / "libbrsp-unproved.a")
+    assert_agrees(made, folder / "out", "--cases", 512, "--programs", 200, "--steps", 100_000)
+
+
+@pytest.fixture(scope="module")
+def cargo(library: Path) -> Iterator[Any]:
+    """Runs cargo in a folder, with a home that has no crates, and one folder for what it makes."""
+    need("cargo")
+    with tempfile.TemporaryDirectory() as home:
+        given = {"CARGO_HOME": home, "CARGO_TARGET_DIR": f"{home}/target", "RSP_LIB_DIR": str(library)}
+        env = {**os.environ, **given, "RUSTDOCFLAGS": "-D warnings"}
+        yield lambda at, *words: succeeds("cargo", *words, "--offline", "-q", cwd=at, env=env, timeout=900)
+
+
+@pytest.mark.needs("rustfmt")
+def test_core_is_written(folder: Path) -> None:
+    """The modules of rsp-core are those that the crates give."""
+    core = shutil.copytree(crate.CORE, folder / "core", ignore=shutil.ignore_patterns("target"))
+    crate.write(core)
+    shown = subprocess.run(
+        ["diff", "-r", "-x", "target", "-x", "Cargo.lock", crate.CORE, core], stdout=subprocess.PIPE
+    )
+    assert shown.returncode == 0, f"run tools/unproved crate\n{shown.stdout.decode()[:2000]}"
+
+
+def test_core(cargo: Any, folder: Path) -> None:
+    """README's first words, in another crate."""
+    text = (crate.CORE / "README.md").read_text()
+    lines, program = re.findall(r"```(?:toml|rust)\n(.*?)```", text, re.S)
+    cargo(folder, "init", "--vcs", "none", "--name", "uses")
+    manifest = (folder / "Cargo.toml").read_text().partition("[dependencies]")[0]
+    (folder / "Cargo.toml").write_text(manifest + lines.replace("../rsp/library/rsp-core", str(crate.CORE)))
+    (folder / "src/main.rs").write_text(program)
+    assert cargo(folder, "run") == "1234\n" and "It prints `1234`." in text
+    cargo(crate.CORE, "doc")
+    assert cargo(crate.CORE, "run", "--example", "first").endswith("[2, 0, 6, 7fff, 8000, 0, 30, c8]\n")
+
+
+@pytest.mark.needs("cc", "python:numpy")
+def test_core_in_a_campaign(cargo: Any, folder: Path) -> None:
+    made = shutil.copytree(TESTS / "unproved/core_cases", folder / "cases")
+    (made / "Cargo.toml").write_text((made / "Cargo.toml").read_text().replace("../../..", str(TOP)))
+    cargo(
+        made,
+        "build",
+        "--release",
+        "--config",
+        f'build.target-dir="{folder}/target"',
+        "--target-dir",
+        folder / "target",
+    )
+    assert_agrees(
+        folder / "target/release/libcore_cases.so", folder / "out", "--cases", 256, "--programs", 100
+    )
+
+
+@pytest.mark.parametrize(
+    "version, said", [("", "there is no cargo: install Rust 1.88"), ("1.65.0", "too old")]
+)
+def test_other_cargo(version: str, said: str, folder: Path) -> None:
+    """A machine without cargo, or with one of other days."""
+    for tool in "sh", "dirname", "readlink", "python3", "git":
+        (folder / tool).symlink_to(str(shutil.which(tool, path="/usr/bin:/bin")))
+    if version:
+        (folder / "cargo").write_text(f"#!/bin/sh\necho cargo {version}\n")
+        (folder / "cargo").chmod(0o755)
+    ended = run(UNPROVED, env={**os.environ, "PATH": str(folder)})
+    assert ended.returncode == 1 and said in ended.stdout and "cargo-web" in ended.stdout
+    assert ended.stdout.count("\n") == 1
