@@ -29,7 +29,8 @@ from lib.library.module import loaded
 from lib.overlay import link
 from lib.pages import block_with, page
 from lib.processes import run, succeeds
-from rsp.gdb import Stub, Wire, after_script
+from rsp.gdb import Stub, after_script
+from rsp.gdb_wire import Wire
 
 STUB = (sys.executable, "-m", "rsp.gdb")
 ENV = {**module.ENV, "TERM": "dumb", "LC_ALL": "C"}
@@ -88,9 +89,9 @@ reverse-continue; reverse-continue; reverse-continue; monitor goto 0; p *(char[2
 """,
     "a halt and a reserved word": """
 break 10; continue; stepi; stepi; monitor waits; reverse-continue
-    10\t | halted after 88 steps | machine is halted | SIGSTOP | halted, so nothing follows | 10\t
+    10\t | halted after 88 steps | SIGSTOP | machine is halted | halted, so nothing follows | 10\t
 monitor goto 99; p $sp_status; set var *(int*)0x04001028 = -1; monitor write 4 5; continue; reverse-stepi
-    step 88, the last one | [ halted broke ] | ok | word at pc is reserved | SIGILL | 10\t
+    step 88, the last one | [ halted broke ] | ok | SIGILL | word at pc is reserved | 10\t
 p $sp_status; set $acc[7] = -5; set $v31.b[3] = 9; set $r9 = $pc; stepi; p $acc[7]; p $v31.s[1]; p/x $r9
     [ ] | halted after 88 | = -5 | = 9 | = 0x4001024
 """,
@@ -371,7 +372,7 @@ mfc0 $5, $c7\nvaddc $v5, $v1, $v1\nlui $6, 0x8123\nmtc0 $6, $c1\njr $6\naddiu $7
 
 
 def stub() -> Stub:
-    return Stub(rsp.Timeline(loaded(SCALE)), lambda: False, lambda text: None)
+    return Stub(rsp.Timeline(loaded(SCALE)), lambda: False)
 
 
 def test_packets() -> None:
@@ -417,7 +418,7 @@ def test_wrote(monkeypatch: pytest.MonkeyPatch) -> None:
     command, reply = block_with("docs/COOKBOOK.md", begin, 1).strip().split("\n")
     line = rsp.Timeline(loaded(block_with("docs/COOKBOOK.md", begin)), 4)
     line.run_to(18)
-    asked = Stub(line, lambda: False, lambda text: None)
+    asked = Stub(line, lambda: False)
     assert asked._monitor(*command.split()[2:]) == f"{reply}\n" and line.step == 17
     line.goto(18)
     assert asked._monitor("wrote", "$r9") == "no step from 0 to 18 has changed $r9\n" and line.step == 18
@@ -458,7 +459,7 @@ EXPLAINED = (
 @pytest.mark.parametrize("step, name, parts", EXPLAINED)
 def test_why(step: int, name: str, parts: List[str]) -> None:
     """`monitor why` explains what the last step put there."""
-    asked = Stub(rsp.Timeline(loaded(WRITES)), lambda: False, lambda text: None)
+    asked = Stub(rsp.Timeline(loaded(WRITES)), lambda: False)
     asked.line.goto(step)
     reply = asked._monitor("why", name)
     while asked._more:
@@ -469,7 +470,7 @@ def test_why(step: int, name: str, parts: List[str]) -> None:
 
 def test_why_of_the_writing_step() -> None:
     """After `monitor wrote`, `monitor why` explains the step that it has found; alone it tells refusals."""
-    asked = Stub(rsp.Timeline(loaded(WRITES)), lambda: False, lambda text: None)
+    asked = Stub(rsp.Timeline(loaded(WRITES)), lambda: False)
     asked.line.goto(5)
     assert asked._monitor("wrote", "$v3[2]").startswith("step 3: ")
     reply = asked._monitor("why", "$v3.2")
