@@ -231,14 +231,14 @@ class Stub:
     def _query(self, rest: str) -> bytes:
         name, _, more = rest.partition(":")
         if name == "Supported":
-            libraries = b"qXfer:libraries:read+;" if self._overlays else b""
+            libraries = b"qXfer:libraries-svr4:read+;" if self._overlays else b""
             return b"PacketSize=%x;QStartNoAckMode+;qXfer:features:read+;%sReverseStep+;ReverseContinue+" % (
                 PACKET,
                 libraries,
             )
         if name == "Xfer" and more.startswith("features:read:target.xml:"):
             return _part(_XML, more.split(":")[-1])
-        if name == "Xfer" and more.startswith("libraries:read:"):
+        if name == "Xfer" and more.startswith("libraries-svr4:read:"):
             self._known = self._loaded()
             return _part(library_list(self._known), more.split(":")[-1])
         if name.startswith("Rcmd,"):

@@ -283,7 +283,6 @@ def start() -> None:
         gdb.execute("tui new-layout rsp regs 2 {-horizontal src 1 asm 1} 2 status 0 cmd 1")
     gdb.execute("set architecture mips:3000")
     gdb.execute("set endian big")
-    gdb.execute("set osabi none")  # so that GDB asks rsp-gdb for its libraries, which are overlays
     gdb.execute("set remotetimeout 60")  # GDB gives up after a few seconds otherwise, on a busy computer
     define(gdb.Command, monitored, "monitor", gdb.COMMAND_OBSCURE)
     hooks = {"-stop": refresh, "post-load": changed}

@@ -146,8 +146,8 @@ monitor goto -1; monitor load imem 0x20 zz; monitor load disk 0 00; monitor load
     monitor when | fault: | fault: BANK | ok | c4 00000000 | interrupt 0
 monitor mem dmem 0x80 6; monitor mem dmem 4000 0x61; monitor dis 0x10 1; monitor pc 8; monitor regs
     000080: 00c800000a0b | fault: memory | 010 0411000d bgezal $0, 0x048 | ok | pc 008 npc 00c | r08 00000001
-watch *(int*)0x80000000; continue; monitor why; monitor vregs; monitor flags; monitor write 7 1 2
-    Could not insert | only bytes of DMEM can be watched | v01 0000 | vco 0000 vcc 0000 | monitor when
+watch *(int*)0x80800000; continue; monitor why; monitor vregs; monitor flags; monitor write 7 1 2
+    Could not insert | only bytes of DMEM, IMEM and RDRAM can | v01 0000 | vco 0000 vcc 0000 | monitor when
 """,
 }
 
