@@ -1,6 +1,6 @@
 """Overlays for GDB: code that a DMA brings to IMEM, which GDB takes for a shared library while it is there.
 
-An overlay is loaded if all its bytes are in IMEM. Its ELF, which must be linked for that address, only GDB reads.
+An overlay is loaded if all its bytes are in IMEM. Only GDB reads its ELF, which is linked for this address.
 """
 
 import os
@@ -47,7 +47,7 @@ def library_list(overlays: List[Overlay]) -> bytes:
     """What GDB reads as the list of shared libraries on Linux. They aren't moved, so they have the ELF's
     addresses."""
     rows = (
-        f'<library name={quoteattr(it.elf)} lm="{n}" l_addr="0" l_ld="0"/>'
+        f'<library name={quoteattr(it.elf)} lm="{n}" l_addr="0" l_ld="0" lmid="0"/>'
         for n, it in enumerate(overlays, 1)
     )
     return f'<library-list-svr4 version="1.0">{"".join(rows)}</library-list-svr4>'.encode()

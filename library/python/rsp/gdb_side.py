@@ -3,6 +3,7 @@
 import importlib
 import re
 import struct
+import sys
 import time
 from contextlib import suppress
 from functools import lru_cache
@@ -210,6 +211,8 @@ def overlays(connection: int) -> str:
     found = asked("qrsp.overlays")
     if found:
         gdb.execute("set breakpoint pending on")
+        if gdb.parameter("sysroot") == "target:":  # GDB warns of it
+            gdb.execute("set sysroot", to_string=True)
     return found
 
 
@@ -229,14 +232,21 @@ def fixed(_: object, *numbers: Any) -> Any:
 
 
 class Lanes:
-    """A vector register in one line, as front ends show it in a list of registers, or as a watch."""
+    """A vector register in one line, which unfolds in the windows of front ends."""
 
     def __init__(self, value: Any) -> None:
-        self.value = value
+        self.value, self.is_shown = value, False
 
     def to_string(self) -> str:
         """The lanes in hexadecimal."""
+        self.is_shown = True
         return " ".join(f"{int(self.value['u'][n]):04x}" for n in range(8))
+
+    def children(self) -> List[Tuple[str, Any]]:
+        """What it unfolds to. If GDB prints it, it has asked for the line before, and the line is enough. For a
+        window of a front end it asks for this alone, and for DAP in Python."""
+        is_printed = self.is_shown and sys._getframe().f_back is None
+        return [] if is_printed else [(it, self.value[it]) for it in "sub"]
 
 
 def show(_: object, words: str, __: bool) -> None:
