@@ -243,8 +243,8 @@ class Lanes:
         return " ".join(f"{int(self.value['u'][n]):04x}" for n in range(8))
 
     def children(self) -> List[Tuple[str, Any]]:
-        """What it unfolds to. If GDB prints it, it has asked for the line before, and the line is enough. For a
-        window of a front end it asks for this alone, and for DAP in Python."""
+        """What it unfolds to. If GDB prints it, it has asked for the line before, and the line is enough. For
+        a window of a front end it asks for this alone, and for DAP in Python."""
         is_printed = self.is_shown and sys._getframe().f_back is None
         return [] if is_printed else [(it, self.value[it]) for it in "sub"]
 

@@ -9,7 +9,7 @@ from collections import deque
 from typing import Callable, Deque, Generator, Optional
 
 PACKET = 0x4000  # the most bytes of a packet
-_TOKEN = re.compile(rb"[-+\3]|\$([^#]*)#(..)", re.S)
+_TOKEN = re.compile(rb"[-+\3]|\$([^#]{0,%d})#(..)" % PACKET, re.S)
 
 
 class Wire:
@@ -22,7 +22,7 @@ class Wire:
     def __init__(self, source: int, sink: Callable[[bytes], object]) -> None:
         self._source, self._sink = source, sink
         self._held = self._last = b""
-        self._packets: Deque[bytes] = deque()  # with their sums, as far as they have come
+        self._packets: Deque[bytes] = deque()  # with their sums; and `-`, which wants the last reply again
         self._open, self._asked = (True, False)  # Ctrl-C before a run: GDB may make thousands of short ones
 
     def _fill(self, wait: Optional[float]) -> None:
@@ -35,9 +35,7 @@ class Wire:
         while token := _TOKEN.match(self._held, at):
             at = token.end()
             self._asked = self._asked or token[0] == b"\3"
-            if token[0] == b"-" and self._last:
-                self._sink(self._last)
-            elif token[2]:
+            if token[0] == b"-" or token[2]:
                 self._packets.append(token[0])
         self._held = self._held[at:]
         queued = sum(map(len, self._packets))
@@ -63,6 +61,9 @@ class Wire:
                 self._fill(None)
                 continue
             raw = self._packets.popleft()
+            if raw == b"-":
+                self._sink(self._last)
+                continue
             body, digits = raw[1:-3], raw[-2:]
             is_right = digits.lower() == b"%02x" % (sum(body) & 255)
             if acks():

@@ -16,7 +16,7 @@ import subprocess
 import sys
 import termios
 import time
-from contextlib import contextmanager
+from contextlib import contextmanager, suppress
 from pathlib import Path
 from typing import Any, Callable, Dict, Iterator, List, Union
 
@@ -305,34 +305,48 @@ def assert_received(link: socket.socket, sent: bytes, expected: bytes) -> None:
         result += link.recv(65536) or pytest.fail(f"it ends after {result!r}")
 
 
+# What a web page can have a browser send, with packets that write DMEM, detach, and end the stub.
+POST = b"POST / HTTP/1.1\r\nHost: localhost\r\n\r\n$M4000000,4:deadbeef#b3$D#44$k#6b"
+WRONG_BYTES = POST, b"\x16\3\1$k#6b", b"$" + 1000000 * b"a" + b"$k#6b", 1000 * b"$m0,4#00" + b"\0$k#6b"
+
+
 def test_port(folder: Path) -> None:
-    """One client at a time, at 127.0.0.1. After one that is gone or detached the next has the history; `kill`
-    ends the stub. A million wrong bytes leave it as it is."""
+    """One client at a time, at 127.0.0.1, whose port nobody else gets. After one that is gone or detached the
+    next has the history; `kill` ends the stub. A client that isn't a GDB changes nothing."""
     task = bytes(8) + b"\0\0\1\0\0\0\0\x10" + bytes(48)
     (folder / "image").write_bytes(bytes(64) + task + bytes(128) + 4 * b"\x24\2\0\7")
     words = [*STUB, "--port", "0", "--rdram", "image", "--task", "0x40"]
     with subprocess.Popen(words, stderr=subprocess.PIPE, text=True, env=ENV, cwd=folder) as stub:
-        assert stub.stderr
-        first = stub.stderr.readline()
-        here = "127.0.0.1", int(first.rpartition(":")[2])
-        assert "in use" in run(*STUB, "--port", here[1], env=ENV).stdout
-        pytest.raises(ConnectionRefusedError, socket.create_connection, ("127.0.0.2", here[1]))
-        with socket.create_connection(here) as link:
-            assert_received(link, b"$m4001000,4#22", b"$24020007#")
-            pytest.raises(ConnectionRefusedError, socket.create_connection, here)
-            assert_received(link, b"+$Z0,4001000,4#0f+$s#73", b"25:04001004")
-        random_bytes = random.Random(2).randbytes(1000000).replace(b"-", b"")
-        assert stub.stderr.readline() == first
-        with socket.create_connection(here) as link:
-            for wrong in random_bytes, b"$" + 1000000 * b"a", 1000000 * b"$", 1000 * b"$m0,4#00":
-                link.sendall(wrong + b"#00")
-            for sent, expected in (b"$?#3f", b"$T05"), (b"+$c#63\3", b"$T02"), (b"+$D#44", b"$OK#"):
-                assert_received(link, sent, expected)
-        assert stub.stderr.readline() == first
-        with socket.create_connection(here) as link:
-            assert_received(link, b"$bc#c5", b"replaylog:begin;25:04001000")
-            link.sendall(b"+$k#6b")
-            assert stub.wait() == 0
+        try:
+            assert stub.stderr
+            first = stub.stderr.readline()
+            here = "127.0.0.1", int(first.rpartition(":")[2])
+            assert "in use" in run(*STUB, "--port", here[1], env=ENV).stdout
+            pytest.raises(ConnectionRefusedError, socket.create_connection, ("127.0.0.2", here[1]))
+            with socket.create_connection(here) as link:
+                assert_received(link, b"$m4001000,4#22", b"$24020007#")
+                pytest.raises(ConnectionRefusedError, socket.create_connection, here)
+                assert "in use" in run(*STUB, "--port", here[1], env=ENV).stdout
+                assert_received(link, b"+$Z0,4001000,4#0f+$s#73", b"25:04001004")
+            assert stub.stderr.readline() == first
+            for sent in WRONG_BYTES:
+                with socket.create_connection(here) as link:
+                    with suppress(ConnectionError):
+                        link.sendall(sent)
+                        while link.recv(65536):  # up to the end of the connection
+                            pass
+                assert stub.stderr.readline() == first, sent[:20]
+            with socket.create_connection(here) as link:
+                assert_received(link, b"$m4000000,4#21", b"$00000000#")
+                for sent, expected in (b"$?#3f", b"$T05"), (b"+$c#63\3", b"$T02"), (b"+$D#44", b"$OK#"):
+                    assert_received(link, sent, expected)
+            assert stub.stderr.readline() == first
+            with socket.create_connection(here) as link:
+                assert_received(link, b"$bc#c5", b"replaylog:begin;25:04001000")
+                link.sendall(b"+$k#6b")
+                assert stub.wait() == 0
+        finally:
+            stub.kill()
 
 
 FAULTS = {
@@ -407,8 +421,16 @@ def test_packets() -> None:
     asked.asked = lambda: True  # Ctrl-C
     replies = [(asked.reply(it) or b"")[:3] for it in (b"Z2,0,4", b"bc", b"bs", b"c", b"s")]
     assert replies == [b"OK", *4 * [b"T02"]]
-    assert b"on the way".hex().encode() in (asked.reply(b"qRcmd," + b"goto 999999".hex().encode()) or b"")
-    assert asked.reply(b"qRcmd," + b"when".hex().encode()) and asked.reply(b"qrsp.goto") == b""
+
+
+def replied(asked: Stub, *words: str) -> List[str]:
+    """Where a command of `monitor` was, again and again, and its reply."""
+    done, reply = asked.monitor.begin(*words)
+    replies = [reply]
+    while not done:
+        done, reply = asked.monitor.more()
+        replies.append(reply)
+    return replies
 
 
 def test_wrote(monkeypatch: pytest.MonkeyPatch) -> None:
@@ -419,16 +441,14 @@ def test_wrote(monkeypatch: pytest.MonkeyPatch) -> None:
     line = rsp.Timeline(loaded(block_with("docs/COOKBOOK.md", begin)), 4)
     line.run_to(18)
     asked = Stub(line, lambda: False)
-    assert asked._monitor(*command.split()[2:]) == f"{reply}\n" and line.step == 17
+    assert replied(asked, *command.split()[2:]) == [f"{reply}\n"] and line.step == 17
     line.goto(18)
-    assert asked._monitor("wrote", "$r9") == "no step from 0 to 18 has changed $r9\n" and line.step == 18
-    monkeypatch.setattr(rsp.gdb, "_SLICE", -1)  # each search has taken too long at once
-    parts = [asked._monitor("wrote", "$v02")]
-    while asked._more:
-        parts.append(asked._more())
-    assert len(parts) > 2 and parts[-1] == "no step from 0 to 18 has changed $v02" and line.step == 18
+    assert replied(asked, "wrote", "$r9") == ["no step from 0 to 18 has changed $r9\n"] and line.step == 18
+    monkeypatch.setattr(rsp.gdb_monitor, "SLICE", -1)  # each search has taken too long at once
+    parts = replied(asked, "wrote", "$v02")
+    assert len(parts) > 2 and parts[-1] == "no step from 0 to 18 has changed $v02\n" and line.step == 18
     line.goto(5)
-    assert asked._monitor("wrote", "$v32").startswith("fault: $v32 isn't a register")
+    assert replied(asked, "wrote", "$v32")[0].startswith("fault: $v32 isn't a register")
     assert (asked.reply(b"s") or b"").startswith(b"T05") and line.step == 6
 
 
@@ -461,10 +481,7 @@ def test_why(step: int, name: str, parts: List[str]) -> None:
     """`monitor why` explains what the last step put there."""
     asked = Stub(rsp.Timeline(loaded(WRITES)), lambda: False)
     asked.line.goto(step)
-    reply = asked._monitor("why", name)
-    while asked._more:
-        reply = asked._more()
-    assert_parts(reply, parts)
+    assert_parts(replied(asked, "why", name)[-1], parts)
     assert asked.line.step == step
 
 
@@ -472,12 +489,9 @@ def test_why_of_the_writing_step() -> None:
     """After `monitor wrote`, `monitor why` explains the step that it has found; alone it tells refusals."""
     asked = Stub(rsp.Timeline(loaded(WRITES)), lambda: False)
     asked.line.goto(5)
-    assert asked._monitor("wrote", "$v3[2]").startswith("step 3: ")
-    reply = asked._monitor("why", "$v3.2")
-    while asked._more:
-        reply = asked._more()
-    assert_parts(reply, ["vadd $v3, $v3, $v3: v3.2 is 000a after it"])
-    assert asked._monitor("why") == "nothing was refused\n"
+    assert replied(asked, "wrote", "$v3[2]")[0].startswith("step 3: ")
+    assert_parts(replied(asked, "why", "$v3.2")[-1], ["vadd $v3, $v3, $v3: v3.2 is 000a after it"])
+    assert replied(asked, "why") == ["nothing was refused\n"]
 
 
 NAMES = """at a0 a1 a2 a3 t0 t1 t2 t3 t4 t5 t6 t7 s0 s1 s2 s3 s4 s5 s6 s7
@@ -507,7 +521,8 @@ def test_semaphore() -> None:
 
 
 def test_wire() -> None:
-    """A wrong sum, a packet in parts, one that is sent again, one that is too long, and Ctrl-C."""
+    """A wrong sum, a packet in parts, one that is sent again, one that is too long, and Ctrl-C, whose byte is
+    data in a packet."""
     source, to = os.pipe()
     sent: List[bytes] = []
     wire = Wire(source, sent.append)
@@ -518,8 +533,11 @@ def test_wire() -> None:
     assert wire.interrupted() and not wire.interrupted()
     os.write(to, b"\3$s#73")  # Ctrl-C before a run is for this run
     assert wire.packet(lambda: False) == b"s" and wire.interrupted() and not wire.interrupted()
-    os.write(to, b"$" + 0x5000 * b"a" + b"#00$m#6d")
-    assert wire.packet(lambda: False) == b"m"
+    os.write(to, b"$c#63$X0,1:\3#22")
+    assert wire.packet(lambda: False) == b"c" and not wire.interrupted()
+    assert wire.packet(lambda: False) == b"X0,1:\3" and not wire.interrupted()
+    os.write(to, b"$" + 0x5000 * b"a" + b"$m#6d")
+    assert wire.packet(lambda: False) is None
     os.close(to)
     assert wire.packet(lambda: True) is None and wire.interrupted()
     os.close(source)
