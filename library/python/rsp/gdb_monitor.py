@@ -92,16 +92,16 @@ class Monitor:
         told: Callable[[], str],
         refusal: Callable[[], str],
     ) -> None:
-        self.line, self._changed, self._told, self._refusal = (line, changed, told, refusal)
+        self.line, self._changed, self._told, self._refusal = line, changed, told, refusal
         self._job: Optional[Job] = None
-        self._end, self._last, self._cut = math.inf, math.inf, False
+        self._end, self._last, self._cut, self._is_first = math.inf, math.inf, False, True
         self._writing: Optional[int] = None  # the step that `wrote` has found
 
     def begin(self, name: str, *operands: str) -> Tuple[bool, str]:
         """Whether a command is done, and its reply, or where it is."""
         self._job, commands = None, self._commands()
         if name not in commands:
-            return (True, HELP if name == "help" else f"fault: {name[:80]} isn't a command\n{HELP}")
+            return True, HELP if name == "help" else f"fault: {name[:80]} isn't a command\n{HELP}"
         try:
             made = commands[name](*operands)
         except TypeError:  # too many operands, or too few
@@ -130,7 +130,8 @@ class Monitor:
     @contextmanager
     def _slice(self) -> Iterator[None]:
         """Gives a job half a second. No later packet has this limit, also if the command is refused."""
-        before, self._cut, self._end = (self.line.is_interrupted, False, time.monotonic() + SLICE)
+        before, self._end = self.line.is_interrupted, time.monotonic() + SLICE
+        self._cut, self._is_first = False, True
         self.line.is_interrupted = self._is_over
         try:
             yield
@@ -138,7 +139,8 @@ class Monitor:
             self.line.is_interrupted = before
 
     def _is_over(self) -> bool:
-        self._cut = time.monotonic() > self._end
+        """Whether the half second is over. It never is at first, so that each one makes some progress."""
+        self._cut, self._is_first = not self._is_first and time.monotonic() > self._end, False
         return self._cut
 
     def _goto(self, goal: int) -> Job:
