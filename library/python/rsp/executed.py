@@ -5,8 +5,9 @@ from typing import Counter as CounterOf
 from typing import NamedTuple, Tuple
 
 from .machine import Machine
+from .texts import text
 
-__all__ = ["Executed", "Place", "direction", "is_branch", "nothing"]
+__all__ = ["Executed", "Place", "direction", "is_branch", "nothing", "text_of"]
 
 Place = Tuple[int, int]  # an address of IMEM, and the word that was there
 _BRANCHES = (1, 4, 5, 6, 7)  # by the six high bits of a word: BLTZ and others, BEQ, BNE, BLEZ, BGTZ
@@ -32,6 +33,11 @@ class Executed(NamedTuple):
 def is_branch(word: int) -> bool:
     """Whether a word is a branch or a jump, whether it is taken or not."""
     return word >> 26 in _BRANCHES + (2, 3) or word >> 26 == 0 and word & 63 in (8, 9)
+
+
+def text_of(word: int, at: int) -> str:
+    """The disassembly. A linker's jumps have bits that the machine ignores, and the assembler refuses."""
+    return text(word & 0xFC0003FF if word >> 27 == 1 else word, at)
 
 
 def nothing() -> Executed:

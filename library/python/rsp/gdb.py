@@ -18,7 +18,8 @@ from typing import Callable, Dict, List, NamedTuple, Optional, Set, Tuple, Union
 
 import rsp
 from rsp.dmas import DmaWatch
-from rsp.gdb_monitor import Monitor, number, text_of
+from rsp.executed import text_of
+from rsp.gdb_monitor import Monitor, number
 from rsp.gdb_overlays import IMEM, Overlay, library_list, loaded, overlay
 from rsp.gdb_wire import PACKET, Wire, links
 from rsp.script import ACCUMULATORS as _ACCUMULATORS

@@ -14,7 +14,7 @@ from typing import Any, Callable, Dict, Generator, Iterator, List, Optional, Tup
 import rsp
 import rsp.checks
 import rsp.waits
-from rsp.executed import direction, nothing
+from rsp.executed import direction, nothing, text_of
 from rsp.writes import byte_of, place
 
 SLICE = 0.5  # how many seconds of a job a packet may take
@@ -46,11 +46,6 @@ def number(text: str) -> int:
     if not re.fullmatch("[0-9]{1,16}|0x[0-9a-fA-F]{1,16}", text):
         raise ValueError(f"{text[:80]} isn't a number")
     return int(text, 16 if "x" in text else 10)
-
-
-def text_of(word: int, at: int) -> str:
-    """The disassembly. A linker's jumps have bits that the machine ignores, and the assembler refuses."""
-    return rsp.text(word & 0xFC0003FF if word >> 27 == 1 else word, at)
 
 
 def _bank(text: str) -> rsp.Bank:
