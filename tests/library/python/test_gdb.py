@@ -175,7 +175,14 @@ def check_page(name: str, command: str, begin: str, folder: Path, before: str = 
 
 
 @with_gdb
-@pytest.mark.parametrize("text, begin", (("scale.s scale", "| rsp-gdb --script"), ("names.s", "| rsp-gdb\n")))
+@pytest.mark.parametrize(
+    "text, begin",
+    (
+        ("python3 examples/python/make_elf.py scale.s scale", "| rsp-gdb --script"),
+        ("python3 examples/python/make_elf.py names.s", "| rsp-gdb\n"),
+        ("for name in double clear", "| rsp-gdb --rdram image --overlay"),
+    ),
+)
 def test_page(text: str, begin: str, folder: Path) -> None:
     """The sessions of the page, typed as they stand."""
     made(folder)
@@ -184,8 +191,15 @@ def test_page(text: str, begin: str, folder: Path) -> None:
     (folder / "names.s").write_text("start: ori $17, $0, limit\nbreak\n")
     (folder / "data.s").write_text(block_with(name, "# DMEM: the samples"))
     (folder / "data.rsp").write_text(re.findall("`(load dmem .*?)`", page(name))[0])
+    for written, first in (
+        ("main", "# Calls two overlays"),
+        ("double", "double: lqv"),
+        ("clear", "clear:  lqv"),
+    ):
+        (folder / f"{written}.s").write_text(block_with(name, first))
     (folder / "examples").symlink_to(TOP / "examples")
-    check_page(name, f"python3 examples/python/make_elf.py {text}", f"target remote {begin}", folder)
+    (folder / "rsp").symlink_to(TOP / "rsp")
+    check_page(name, text, f"target remote {begin}", folder)
 
 
 @with_gdb
@@ -269,6 +283,51 @@ def test_refused_search(folder: Path) -> None:
         shown = typed("stepi\ncontinue\nmonitor wrote $s1\noutput 40+2\n", "42(gdb) ")
         assert "SIGINT" not in shown
         assert_parts(shown, ["2\tori $17, $0, 0x80", "halted after 88 steps", "step 1: 004 34110080 ori"])
+
+
+MI = """-interpreter-exec console "monitor when"
+monitor goto 20
+-exec-continue
+-interpreter-exec console "monitor wrote $r16"
+-enable-pretty-printing
+-data-evaluate-expression $v04
+-var-create v * $v04
+-var-list-children v
+monitor goto 60
+"""
+# What a front end reads, in this order: `~` is the console, and a stop moves its arrow.
+SHOWN = [
+    '~"step 0 (text.s:1)', '~"step 20', '*stopped,reason="end-stepping-range"', 'line="15"',
+    '~"[rsp] halted after 88 steps', '*stopped,reason="signal-received"',
+    '26100010 addiu $16, $16, 16 (text.s:16)', '*stopped,reason="end-stepping-range"', 'line="16"',
+    'value="0000 0000 0000 0000 0000 0000 0000 0000"', 'numchild="3"', 'exp="s",numchild="8"', '*stopped',
+]  # fmt: skip
+
+
+def read_until(at: int, end: str) -> str:
+    """What a front end reads, up to a text."""
+    shown = ""
+    while end not in shown:
+        assert select.select([at], [], [], 60)[0], shown
+        shown += os.read(at, 4096).decode()
+    return shown
+
+
+@with_gdb
+def test_front_end(folder: Path) -> None:
+    """GDB/MI alone, as Emacs has it, and beside a console in a terminal, as vim has it."""
+    output = run(*made(folder), "-i=mi", cwd=folder, env=ENV, input=MI).stdout
+    assert_parts(output, SHOWN)
+    assert '@"' not in output  # GDB's stream for the target's output, which front ends drop
+    at, inside = pty.openpty()
+    with terminal(folder) as typed:
+        typed(f"new-ui mi {os.ttyname(inside)}\nmonitor goto 20\n", "15\t")
+        assert 'line="15"' in read_until(at, '*stopped,reason="end-stepping-range"')
+        assert "[rsp] halted after 88 steps" in typed("continue\n", "text.s:11")
+        os.write(at, b'-interpreter-exec console "monitor when"\n')
+        read_until(at, '~"step 88 (text.s:11)')
+    os.close(at)
+    os.close(inside)
 
 
 # What only Ctrl-C ends. Before the last two GDB is at work between short runs for most of the time.

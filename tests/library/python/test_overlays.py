@@ -21,14 +21,11 @@ STUB = (sys.executable, "-m", "rsp.gdb")
 ENV = {**module.ENV, "LC_ALL": "C"}
 # Brings 16 bytes to 400 from 100, 200, and 100 again, and at last overwrites the eight bytes at 408.
 MAIN = """jal 0x040; ori $4, $0, 0x100; jal 0x400; nop; jal 0x040; ori $4, $0, 0x200; jal 0x400; nop
-jal 0x040; ori $4, $0, 0x100; ori $5, $0, 0x1408; mtc0 $5, $c0; ori $6, $0, 7; mtc0 $0, $c1; mtc0 $6, $c2; break
+jal 0x040; ori $4, $0, 0x100; ori $5, $0, 0x1408; mtc0 $5, $c0; ori $6, $0, 7; mtc0 $0, $c1
+mtc0 $6, $c2; break
 ori $5, $0, 0x1400; mtc0 $5, $c0; mtc0 $4, $c1; ori $6, $0, 15; mtc0 $6, $c2; jr $31; nop"""
-DMAS = {
-    6: "one",
-    21: "two",
-    36: "one",
-    43: "",
-}  # their steps, counted by hand, and which overlay is then there
+# The steps of its DMAs, counted by hand, and which overlay is there then.
+DMAS = {6: "one", 21: "two", 36: "one", 43: ""}
 FIRST, SECOND = "nop; addiu $9, $9, 1; jr $31; nop", "nop; addiu $9, $9, 2; jr $31; nop"
 
 
@@ -77,8 +74,8 @@ def test_swaps(folder: Path) -> None:
 
 
 def test_breakpoints(folder: Path) -> None:
-    """One in an overlay, which GDB sets while the overlay is loaded, stops there alone. Nothing runs past one at
-    the instruction after the DMA, and single steps back are made once each."""
+    """Nothing runs past a breakpoint at the instruction after the DMA, and single steps are made once each,
+    forwards and backwards."""
     asked = stub(folder)
     assert asked.reply(b"Z0,4001054,4") == b"OK"  # after each DMA
     at = []

@@ -1,7 +1,7 @@
 """RDRAM in `rsp.Timeline` and `rsp.gdb`: which DMA wrote a byte, which step made it, and watches.
 
-They fail if a search names another DMA, another address or another step than a walk through the steps of a plain
-machine, which sees what a DMA does by other bytes before it.
+They fail if a search names another DMA, another address or another step than a walk through the steps of a
+plain machine, which sees what a DMA does by other bytes before it.
 """
 
 import random
@@ -45,8 +45,8 @@ def walked(seed: int) -> Walk:
 
 
 def source(before: rsp.Machine, address: int) -> Optional[Tuple[rsp.Bank, int]]:
-    """Where a step takes a byte of RDRAM from, or None if it doesn't write it: what is there afterwards if each
-    byte of DMEM and IMEM is a part of its address."""
+    """Where a step takes a byte of RDRAM from, or None if it doesn't write it: what is there afterwards if
+    each byte of DMEM and IMEM is a part of its address."""
     parts = []
     for n, fill in (0, 1), (0, 2), (8, 1):
         copy, place = before.copy(), before.regs().pc
