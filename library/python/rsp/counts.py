@@ -6,8 +6,8 @@ It carries out the script as `rsp run` does, with its loads, blocks and tasks, a
 refused on standard error. Each line that it prints has the executions of an instruction, their share of all
 steps, its address and its text, and after a conditional branch how often it was taken. Labels are those of
 the script's blocks, or those of TABLE with the lines of the source, as `rsp.lines` has it. Instructions of
-blocks and of `load imem` that were never executed are at the end, and with --fail-unexecuted the status is
-then 1. Where a DMA brings code, this can't know all of it, and says so.
+blocks and of `load imem` that were never executed are at the end (of the latter no nops, because linkers pad
+with them), and with --fail-unexecuted the status is then 1. Where a DMA brings code, this can't know all of it, and says so.
 """
 
 import argparse
@@ -84,9 +84,10 @@ def _note(found: Counted, at: int, text: str) -> None:
 
 
 def _loaded(at: int, raw: bytes) -> Iterator[Place]:
-    """The words of a line `load imem`. Bytes before the first whole word or after the last belong to none."""
+    """The whole words of a line `load imem`, except zeros, with which linkers pad."""
     for n in range(-at % 4, len(raw) - 3, 4):
-        yield at + n, int.from_bytes(raw[n : n + 4], "big")
+        if any(raw[n : n + 4]):
+            yield at + n, int.from_bytes(raw[n : n + 4], "big")
 
 
 def _lines(found: Counted, place: Place, count: str, lines: Lines) -> Iterator[str]:

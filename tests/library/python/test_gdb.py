@@ -330,26 +330,38 @@ def test_front_end(folder: Path) -> None:
     os.close(inside)
 
 
-# What only Ctrl-C ends. Before the last two GDB is at work between short runs for most of the time.
+# A loop whose every read may find its transfer under way, for ever: `waits` looks at each way.
+DMAS = b"".join(it.to_bytes(4, "big") for it in rsp.assemble("""ori $1, $0, 7
+loop: mtc0 $0, $c0
+mtc0 $0, $c1
+mtc0 $1, $c2
+mfc0 $2, $c6
+mfc0 $2, $c5
+mfc0 $2, $c4
+sw $2, 0x100($0)
+j loop
+nop""")).hex()  # fmt: skip
+# What only Ctrl-C ends. Before the last three GDB is at work between short runs for most of the time.
 ENDLESS = {
     "condition": ("break *0x04001000 if $r20 == 5", "continue"),
     "register": ("watch $r20", "continue"),
     "steps back": ("monitor goto 1000000", "reverse-stepi 100000"),
     "goto": ("", "monitor goto 9999999999999"),
     "run": ("", "continue"),
+    "waits": (f"monitor load imem 0 {DMAS}", "monitor waits"),
 }
 
 
 @with_gdb
 @pytest.mark.parametrize("name", ENDLESS)
 def test_interrupts(name: str, folder: Path) -> None:
-    """Each Ctrl-C counts, whenever it comes."""
+    """Each Ctrl-C counts, whenever it comes, and ends neither GDB's connection nor what it has found."""
     first, endless = ENDLESS[name]
     chance = random.Random(name)
     with terminal(folder) as typed:
         typed(f"set confirm off\nset var *(int*)0x04001000 = 0x08000000\n{first}\n", "(gdb)")  # j 0x000
         typed(f"define endless\necho begun\\n\n{endless}\nend\noutput 40+2\n", "42(gdb) ")
-        for _ in range(20):
+        for _ in range(3 if name == "waits" else 20):
             typed("endless\n", "begun\r\n")
             time.sleep(chance.uniform(0, 0.4))
             assert "Traceback" not in typed("\3", "(gdb) ")
