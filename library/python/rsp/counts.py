@@ -7,7 +7,8 @@ refused on standard error. Each line that it prints has the executions of an ins
 steps, its address and its text, and after a conditional branch how often it was taken. Labels are those of
 the script's blocks, or those of TABLE with the lines of the source, as `rsp.lines` has it. Instructions of
 blocks and of `load imem` that were never executed are at the end (of the latter no nops, because linkers pad
-with them), and with --fail-unexecuted the status is then 1. Where a DMA brings code, this can't know all of it, and says so.
+with them), and with --fail-unexecuted the status is then 1. Where a DMA brings code, this can't know all of
+it, and says so.
 """
 
 import argparse
