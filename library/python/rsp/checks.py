@@ -13,7 +13,7 @@ from pathlib import Path
 from typing import Iterator, NamedTuple, Optional, Set, Tuple, Union
 
 from . import Machine, Move, Reason, RspError
-from .executed import is_branch
+from .executed import is_branch, text_of
 from .lines import Lines, read
 from .script import runs
 from .waits import causes
@@ -78,7 +78,7 @@ def search(machine: Machine, limit: int = 1000000) -> Iterator[Union[Check, int]
         _, entries = copy.trace(min(limit - made, _PIECE))
         for it in entries:
             if branch is not None and is_branch(it.word):
-                text = machine.listing(it.pc, 1)[0].text
+                text = text_of(it.word, it.pc)
                 yield Check(it.pc, text, f"a branch in the delay slot of the branch at {branch:03x}")
             branch = it.pc if is_branch(it.word) else None
         yield from _bits(machine, len(entries))

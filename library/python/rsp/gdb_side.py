@@ -153,6 +153,10 @@ def monitored(_: object, words: str, __: bool) -> None:
     name, before = words.partition(" ")[0], position()
     flush()
     reply = awaited(asked("qrsp.monitor," + words.encode().hex()))
+    if name in ("goto", "wrote"):
+        flush()
+        update_libraries()  # lines are those of the overlays that are there
+        refresh()
     gdb.write(with_lines(name, reply))
     if name in ("goto", "wrote") and position() != before:
         # GDB believes that it is where it was, and tells front ends nothing. rsp-gdb stays where it is at the
@@ -199,10 +203,11 @@ def with_lines(name: str, reply: str) -> str:
 
 
 def line_of(address: int, sentence: str = "") -> str:
-    """The file and the line of an address, in parentheses, if GDB knows them."""
+    """The file and the line of an address, in parentheses, if GDB knows them. A sentence about an instruction
+    that isn't there, such as one of another overlay, gets none."""
     found = gdb.find_pc_line(address)
-    has_other = sentence.endswith("(another word is there)")
-    return f" ({found.symtab.filename}:{found.line})" if found.symtab and not has_other else ""
+    is_there = not sentence or TEXTS.get(address & 0xFFC, (b"", "nop"))[1] in sentence
+    return f" ({found.symtab.filename}:{found.line})" if found.symtab and is_there else ""
 
 
 @lru_cache(1)
