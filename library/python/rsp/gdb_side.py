@@ -3,6 +3,8 @@
 import importlib
 import re
 import struct
+import sys
+import time
 from contextlib import suppress
 from functools import lru_cache
 from types import SimpleNamespace
@@ -44,7 +46,9 @@ def refresh(*_: object) -> None:
     """At a stop, and after a change. There may be no frame, or one of another target."""
     with suppress(gdb.error, ValueError):
         changes = gdb.selected_frame().read_register("imem_changes")
+        overlays(gdb.selected_inferior().connection_num)
         read_texts(gdb.selected_inferior().connection_num, int(changes))
+        gdb.write(asked("qrsp.news"))  # GDB shows a stub's own output on a stream that front ends drop
 
 
 def text(_: object, info: Any) -> Any:
@@ -131,6 +135,7 @@ def loaded(*_: object) -> None:
     """At the first prompt after `load`. GDB doesn't run the hook after `load` if the user has typed it."""
     gdb.events.before_prompt.disconnect(loaded)
     changed()
+    update_libraries()
 
 
 def before_load(*_: object) -> None:
@@ -138,18 +143,88 @@ def before_load(*_: object) -> None:
     gdb.events.before_prompt.connect(loaded)
 
 
-def arrive(*_: object) -> None:
-    """After `monitor`. GDB sends no Ctrl-C while it waits for a reply, so the stub goes to a step in parts,
-    and between them Ctrl-C ends this."""
-    reply = ""
-    try:
-        more = asked("qrsp.goto")
-        while more:
-            reply, more = more, asked("qrsp.goto")
-    except KeyboardInterrupt:
-        reply = asked("qRcmd," + b"when".hex())
-    gdb.write(reply)
-    changed()
+def monitored(_: object, words: str, __: bool) -> None:
+    """Send a command to rsp-gdb: `monitor help` lists them.
+
+    GDB's own `monitor` writes the reply to a stream that front ends drop (vim's termdebug, Emacs).
+    """
+    if not isinstance(gdb.selected_inferior().connection, gdb.RemoteTargetConnection):
+        raise gdb.GdbError('"monitor" command not supported by this target.')
+    name, before = words.partition(" ")[0], position()
+    flush()
+    reply = awaited(asked("qrsp.monitor," + words.encode().hex()))
+    if name in ("goto", "wrote"):
+        flush()
+        update_libraries()  # lines are those of the overlays that are there
+        refresh()
+    gdb.write(with_lines(name, reply))
+    if name in ("goto", "wrote") and position() != before:
+        # GDB believes that it is where it was, and tells front ends nothing. rsp-gdb stays where it is at the
+        # next step back, so GDB shows the source line, and front ends follow.
+        asked("qrsp.stay")
+        flush()
+        gdb.execute("reverse-stepi")
+    else:
+        changed()
+    update_libraries()
+
+
+def position() -> str:
+    """The number of the present step."""
+    return asked("qrsp.monitor," + b"when".hex()).split("\n")[0]
+
+
+def awaited(reply: str) -> str:
+    """The reply of a command that may take long. Between its parts Ctrl-C ends it."""
+    begin = told = time.monotonic()
+    while reply[:1] == ".":
+        now = time.monotonic()
+        if now > told + (2 if told == begin else 10):
+            told = now
+            gdb.write(f"[rsp] {reply[1:]} (Ctrl-C ends this)\n")
+            gdb.flush()
+        try:
+            reply = asked("qrsp.more")
+        except KeyboardInterrupt:
+            reply = asked("qrsp.end")
+    return reply[1:]
+
+
+SAID = re.compile(r"(?m)^((?: *\d+ |step \d+: |)([0-9a-f]{3}):? .*?)(, which took.*)?$")
+
+
+def with_lines(name: str, reply: str) -> str:
+    """The reply of a command with the file and the line of each instruction in it, where GDB knows them."""
+    if name == "when":
+        return f"{reply.strip()}{line_of(int(gdb.selected_frame().pc()))}\n"
+    if name not in ("counts", "waits", "wrote", "checks"):
+        return reply
+    return SAID.sub(lambda it: f"{it[1]}{line_of(IMEM + int(it[2], 16), it[1])}{it[3] or ''}", reply)
+
+
+def line_of(address: int, sentence: str = "") -> str:
+    """The file and the line of an address, in parentheses, if GDB knows them. A sentence about an instruction
+    that isn't there, such as one of another overlay, gets none."""
+    found = gdb.find_pc_line(address)
+    is_there = not sentence or TEXTS.get(address & 0xFFC, (b"", "nop"))[1] in sentence
+    return f" ({found.symtab.filename}:{found.line})" if found.symtab and is_there else ""
+
+
+@lru_cache(1)
+def overlays(connection: int) -> str:
+    """The ELFs of the overlays that rsp-gdb knows. With them breakpoints may wait for one."""
+    found = asked("qrsp.overlays")
+    if found:
+        gdb.execute("set breakpoint pending on")
+        if gdb.parameter("sysroot") == "target:":  # GDB warns of it
+            gdb.execute("set sysroot", to_string=True)
+    return found
+
+
+def update_libraries() -> None:
+    """Makes GDB read again which overlays are there."""
+    if overlays(gdb.selected_inferior().connection_num):
+        gdb.execute("sharedlibrary", to_string=True)
 
 
 def fixed(_: object, *numbers: Any) -> Any:
@@ -159,6 +234,24 @@ def fixed(_: object, *numbers: Any) -> Any:
     high, low = (gdb.selected_frame().read_register(f"v{int(it):02}") for it in numbers)
     values = [int(high["s"][n]) + int(low["u"][n]) / 65536 for n in range(8)]
     return gdb.Value(struct.pack(">8d", *values), gdb.lookup_type("double").array(7))
+
+
+class Lanes:
+    """A vector register in one line, which unfolds in the windows of front ends."""
+
+    def __init__(self, value: Any) -> None:
+        self.value, self.is_shown = value, False
+
+    def to_string(self) -> str:
+        """The lanes in hexadecimal."""
+        self.is_shown = True
+        return " ".join(f"{int(self.value['u'][n]):04x}" for n in range(8))
+
+    def children(self) -> List[Tuple[str, Any]]:
+        """What it unfolds to. If GDB prints it, it has asked for the line before, and the line is enough. For
+        a window of a front end it asks for this alone, and for DAP in Python."""
+        is_printed = self.is_shown and sys._getframe().f_back is None
+        return [] if is_printed else [(it, self.value[it]) for it in "sub"]
 
 
 def show(_: object, words: str, __: bool) -> None:
@@ -190,6 +283,7 @@ def start() -> None:
     """Tells GDB of all this."""
     define(gdb.Command, show, "info registers", gdb.COMMAND_DATA)
     define(gdb.Function, fixed, "fix")
+    gdb.pretty_printers.append(lambda value: Lanes(value) if value.type.name == "lanes" else None)
     kind: Any = type("Text", (gdb.disassembler.Disassembler,), {"__call__": text})
     gdb.disassembler.register_disassembler(kind("rsp"), None)
     gdb.unwinder.register_unwinder(None, Caller(), replace=True)
@@ -205,7 +299,8 @@ def start() -> None:
     gdb.execute("set architecture mips:3000")
     gdb.execute("set endian big")
     gdb.execute("set remotetimeout 60")  # GDB gives up after a few seconds otherwise, on a busy computer
-    hooks = {"-stop": refresh, "-monitor": flush, "post-monitor": arrive, "post-load": changed}
+    define(gdb.Command, monitored, "monitor", gdb.COMMAND_OBSCURE)
+    hooks = {"-stop": refresh, "post-load": changed}
     for words, call in {**hooks, "-load": before_load, "post-restore": changed}.items():
         define(gdb.Command, call, f"maintenance rsp{words}", gdb.COMMAND_DATA)
         gdb.execute(f"define hook{words}\nmaintenance rsp{words}\nend", to_string=True)

@@ -6,13 +6,16 @@ import operator
 from bisect import bisect
 from contextlib import contextmanager, suppress
 from functools import partial
-from typing import Callable, Counter, Iterator, List, NamedTuple, Optional, Set, Tuple
+from typing import Callable, Counter, Iterator, List, NamedTuple, Optional, Set, Tuple, Union
 
+from .dmas import Carried, DmaWatch, carriers, may_change
 from .errors import RspError, check_type
+from .executed import Executed, nothing
 from .machine import DMEM, IMEM, RDRAM, Machine
-from .shapes import Reason
+from .shapes import Bank, Reason
 from .state import State
-from .writes import Register
+from .stops import Stop
+from .writes import Register, byte_of
 
 _PIECE = 1 << 16  # RDRAM is kept in pieces, which marks share as long as they are equal
 _KEPT = 40 << 20  # the most bytes of RDRAM that marks keep, so that a process stays below 100 MB
@@ -24,16 +27,21 @@ _HISTORY = 256  # steps that the machine undoes by itself; more would not fit in
 Watch = Tuple[int, int]
 
 
-class Found(NamedTuple):
+class _FoundParts(NamedTuple):
+    reason: Reason
+    step: int
+    watch: Union[Watch, DmaWatch, None] = None
+
+
+class Found(_FoundParts):
     """Where a search ended: the `reason`, the number of the `step`, and after Reason.WATCH the `watch` whose
     bytes the step before it has changed.
 
     The reason is LIMIT if nothing was found, or if the search was interrupted: `step` is where it was then.
+    One more attribute isn't an item of the tuple: `dma`, the DMA that wrote a byte of RDRAM, or None.
     """
 
-    reason: Reason
-    step: int
-    watch: Optional[Watch] = None
+    dma: Optional[Carried] = None
 
 
 class _Mark(NamedTuple):
@@ -58,7 +66,8 @@ class Timeline:
 
     `machine` may be looked at as you like. After a change by its other calls, such as `load`, call `changed`.
     `breaks` holds up to sixteen addresses of IMEM, and `watches` up to eight ranges of DMEM: pairs of an
-    address and a length of up to 64 bytes. Both may be changed at any time. `goto`, `run_to` and `back` ask
+    address and a length of up to 64 bytes. `dma_watches` holds ranges of IMEM and RDRAM, which only DMAs
+    change: a bank, an address and a length. All may be changed at any time. `goto`, `run_to` and `back` ask
     `is_interrupted` after at most a million steps each time, and end where they are if it returns true.
     """
 
@@ -72,6 +81,7 @@ class Timeline:
         self.step = 0
         self.breaks: Set[int] = set()
         self.watches: Set[Watch] = set()
+        self.dma_watches: Set[DmaWatch] = set()
         self.is_interrupted: Callable[[], bool] = lambda: False
         self._marks: List[_Mark] = []
         self._rdram: Tuple[bytes, ...] = ()
@@ -123,7 +133,7 @@ class Timeline:
         """
         start, least = self.step, max(0, min(least, self.step))
         found = Found(Reason.LIMIT, least)
-        for begin, end in self._windows(least) if self.breaks or self.watches else ():
+        for begin, end in self._windows(least) if self.breaks or self.watches or self.dma_watches else ():
             if self.goto(begin) != begin:
                 return Found(Reason.LIMIT, self.step)
             with self._armed():
@@ -144,12 +154,18 @@ class Timeline:
     def wrote(self, register: str, least: int = 0) -> Found:
         """Goes back to the last step that changed a register, so that pc is at its instruction, with
         Reason.WATCH. Names are `$r8`, `$8` or `$t0`, `$v18`, `$v18[3]`, `$acc`, `$acc[3]`, `$vco`, `$vcc`,
-        `$vce`, `$vcc[3]`, `$div_in`, `$div_out` and `$div_loaded`; others raise ValueError.
+        `$vce`, `$vcc[3]`, `$div_in`, `$div_out` and `$div_loaded`; others raise ValueError. A byte's name is
+        its address for the CPU: `0x04000010` is in DMEM, `0x04001010` in IMEM, and `0x80030002` in RDRAM. For
+        a byte of RDRAM this goes to the last DMA that wrote it, which is then `dma`, and on to the step that
+        changed the byte in DMEM before; if there is none it stays at the DMA.
 
         The reason is LIMIT if no step from the one where this ends has changed it: that is `least`, or where
         you did, or as far as this came before it was interrupted, for which it asks at each mark.
         """
         check_type("wrote", "register", register, str)
+        byte = byte_of(register, self.machine.image_length)
+        if byte:
+            return self._wrote_byte(*byte, least)
         sought, found = Register(register, self.machine), Found(Reason.LIMIT, self.step)
         for begin, end in self._windows(least):
             copy, found = self._copy_at(begin), Found(Reason.LIMIT, begin)
@@ -162,13 +178,67 @@ class Timeline:
         self._goto(found.step)
         return found
 
+    def _wrote_byte(self, bank: Bank, address: int, least: int) -> Found:
+        if bank is not RDRAM:
+            return self.last_change(bank, address, least)
+        found = self.last_dma(address, least)
+        if found.dma:
+            change = self.last_change(found.dma.bank, found.dma.address, least)
+            if change.reason is Reason.LIMIT and not self.is_interrupted():
+                change = Found(Reason.LIMIT, self._goto(found.step))
+            change.dma, found = found.dma, change
+        return found
+
+    def last_dma(self, address: int, least: int = 0) -> Found:
+        """Goes back to the last DMA that wrote a byte of RDRAM, so that pc is at its MTC0, with `dma`. If
+        there is none, it ends as `wrote` does."""
+        last, here = None, self.step
+        for here, end in self._windows(least):
+            *_, last = [None, *carriers(self._copy_at(here), here, end, address)]
+            if last or self.is_interrupted():
+                break
+        if last:
+            found = Found(Reason.WATCH, last.step, DmaWatch(RDRAM, address, 1))
+            found.dma = last
+        else:
+            found = Found(Reason.LIMIT, here)
+        self._goto(found.step)
+        return found
+
+    def last_change(self, bank: Bank, address: int, least: int = 0) -> Found:
+        """Goes back to the last step that changed a byte of DMEM or IMEM, so that pc is at its instruction.
+        If there is none, it ends as `wrote` does."""
+        kept = self.breaks, self.watches, self.dma_watches
+        of_dmem, byte = bank is DMEM, DmaWatch(bank, address, 1)
+        self.breaks, self.watches = set(), {(address, 1)} if of_dmem else set()
+        self.dma_watches = set() if of_dmem else {byte}
+        try:
+            found = self.back(least)
+        finally:
+            self.breaks, self.watches, self.dma_watches = kept
+        if found.reason is Reason.WATCH:
+            found = Found(Reason.WATCH, self._goto(found.step - 1), found.watch)
+        return found
+
     def counts(self, least: int = 0) -> Counter[int]:
         """How often the instruction at each address was executed from the step `least` to the present one."""
-        here, counted = self.step, collections.Counter()  # type: int, Counter[int]
-        for begin, end in self._windows(least):
-            counted.update(it.pc for it in self._copy_at(begin).iter_trace(end - begin))
-        self._goto(here)
+        counted, executed = collections.Counter(), nothing()  # type: Counter[int], Executed
+        for executed in self.executed(least):
+            pass
+        for (place, _), count in executed.steps.items():
+            counted[place] += count
         return counted
+
+    def executed(self, least: int = 0) -> Iterator[Executed]:
+        """As `counts`, but for each address and word, because a DMA may bring others, and with the directions
+        of branches. Yields the same counts again and again, as they grow."""
+        here, found = self.step, nothing()
+        for begin, end in self._windows(least):
+            copy = self._copy_at(begin)
+            self._goto(here)
+            while begin < end:
+                begin += found.add(copy, end - begin) or end
+                yield found
 
     def copy_at(self, step: int) -> Machine:
         """A copy of the machine at a step up to the present one. The timeline stays where it is."""
@@ -256,23 +326,15 @@ class Timeline:
         end = self._marks[-1].step + self._gap if is_last else self._marks[after].step
         most = min(steps, max(end - self.step, 1), _RUN)
         before = self.machine.memory(DMEM, 0, 4096)
-        stop = self.machine.run_until_move(most, 0, 0 if self._rdram_moved else _TO_RDRAM)
-        reason, made = stop.reason, stop.steps
-        if reason is Reason.MOVE:
-            reason = Reason.LIMIT
-            if made < most:
-                self._rdram_moved = True
-                last = self.machine.run(1)
-                reason, made = last.reason, made + last.steps
+        reason, made, watch = self._run(most)
         self.step += made
         self.last = max(self.last, self.step)
-        watch = None
         if self.watches and made and reason in (Reason.WATCH, Reason.HALT, Reason.RESERVED):
             # A halt or a reserved word after a watched change is reported in its place.
             now = self.machine.memory(DMEM, 0, 4096)
             ranges = ((at, length, slice(at, at + length)) for at, length in sorted(self.watches))
-            watch = next(((at, length) for at, length, it in ranges if before[it] != now[it]), None)
-            reason = Reason.WATCH if watch else reason
+            watch = next(((at, length) for at, length, it in ranges if before[it] != now[it]), watch)
+        reason = Reason.WATCH if watch else reason
         if self.step >= end and is_last:
             self._mark(False)
         elif self.step == end and self._marks[after].changed:
@@ -280,3 +342,33 @@ class Timeline:
             if not watch:
                 reason = Reason.BREAK if self._is_at_break() else Reason.LIMIT
         return Found(reason, self.step, watch)
+
+    def _run(self, steps: int) -> Tuple[Reason, int, Union[Watch, DmaWatch, None]]:
+        """Runs as `_advance` does: the reason, how many steps it made, and which of `dma_watches` the last
+        one has changed. Only DMAs change IMEM and RDRAM, so with such watches this stops before each DMA."""
+        made = 0
+        while True:
+            if self.dma_watches:
+                stop = self.machine.event(steps - made)
+            else:
+                orders = 0 if self._rdram_moved else _TO_RDRAM
+                stop = self.machine.run_until_move(steps - made, 0, orders)
+            made += stop.steps
+            if stop.reason not in (Reason.MOVE, Reason.DMA):
+                return stop.reason, made, None
+            if made == steps:
+                return Reason.LIMIT, made, None
+            last, watch = self._dma(stop)
+            made += last.steps
+            if watch or last.reason is not Reason.LIMIT or not self.dma_watches or made == steps:
+                return last.reason, made, watch
+
+    def _dma(self, stop: Stop) -> Tuple[Stop, Optional[DmaWatch]]:
+        """Makes the step of a DMA: its stop, and the shortest of `dma_watches` that it has changed."""
+        dma = stop.dma
+        self._rdram_moved = self._rdram_moved or not dma or dma.to_rdram
+        watches = [it for it in self.dma_watches if dma and may_change(dma, it)]
+        before = [self.machine.memory(*it) for it in watches]
+        last = self.machine.run(1)
+        changed = [it for it, old in zip(watches, before) if self.machine.memory(*it) != old]
+        return last, min(changed, key=lambda it: it[2]) if changed else None

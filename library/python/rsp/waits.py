@@ -32,13 +32,13 @@ Transfers that the CPU orders are left out, and so are waits that give up after 
 is under way when the program ends is reported only if you ask for that, because the CPU may wait for it.
 """
 
-from typing import Iterator, List, Mapping, NamedTuple, Optional, Sequence, Set, Tuple
+from typing import Iterator, List, Mapping, NamedTuple, Optional, Sequence, Set, Tuple, Union
 
 from . import DMEM, IMEM, Move, Reason, Machine, Status
 from . import errors as _errors
 from .helpers import quadwords
 
-__all__ = ["AHEAD", "Missing", "Transfer", "causes", "missing"]
+__all__ = ["AHEAD", "Missing", "Transfer", "causes", "missing", "search"]
 
 AHEAD = 10000  # steps after an answer that isn't the machine's
 READS, ORDERS, _WRITES = 0b1110000, 0b1100, 0b1111  # of SP registers, as masks
@@ -90,6 +90,11 @@ class Missing(NamedTuple):
     text: str
     what: str
     read: Optional[int] = None
+
+    @property
+    def cause(self) -> Tuple[int, str]:
+        """What all instructions have in common that do the same before the end of this transfer."""
+        return self.transfer.place, self.what
 
     def __str__(self) -> str:
         return self.told({})
@@ -238,9 +243,8 @@ def causes(machine: Machine, limit: int = 1000000, at_end: bool = False) -> Iter
     """As `missing`, but only the first of all instructions that do the same before a transfer's end."""
     known: Set[Tuple[int, str]] = set()
     for found in missing(machine, limit, at_end):
-        cause = found.transfer.place, found.what
-        if cause not in known:
-            known.add(cause)
+        if found.cause not in known:
+            known.add(found.cause)
             yield found
 
 
@@ -251,10 +255,16 @@ def missing(machine: Machine, limit: int = 1000000, at_end: bool = False) -> Ite
 
     The end is a halt, or a reserved word; breakpoints and watches don't count. If the limit comes first, this
     ends without an error: `machine.peek(4) & 1` is 1 only if the program has halted. A step takes some
-    microseconds while a transfer is under way.
+    microseconds while a transfer is under way, and a read of SP_STATUS, SP_DMA_FULL or SP_DMA_BUSY up to a
+    second: `search` can be left in between.
     """
-    (left,) = _errors.integers("missing", (limit,))
-    twin = Machine()
+    return (it for it in search(machine, limit, at_end) if isinstance(it, Missing))
+
+
+def search(machine: Machine, limit: int = 1000000, at_end: bool = False) -> Iterator[Union[Missing, int]]:
+    """As `missing`, but also yields how many steps were made, again and again."""
+    (limit,) = _errors.integers("missing", (limit,))
+    twin, left = Machine(), limit
     reported: Set[Tuple[int, int, str]] = set()
     while left > 0:
         stop = machine.run_until_move(min(left, 1000000), 0, ORDERS)
@@ -271,3 +281,4 @@ def missing(machine: Machine, limit: int = 1000000, at_end: bool = False) -> Ite
                     reported.add(key)
                     yield missed
             continues = continues and bool(walk.transfers)
+            yield limit - left

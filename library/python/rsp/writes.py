@@ -6,8 +6,8 @@ from typing import Callable, Iterable, List, Optional, Sequence, Tuple
 
 from .machine import Machine
 from .native import lib
+from .shapes import Bank, Stop
 from .state import Traced
-from .shapes import Stop
 
 # Where the bytes of a register are in a State, how many they are, and where an entry of a trace has them: it
 # has the scalar and the vector register that its step wrote, and the flags.
@@ -20,6 +20,35 @@ _SCALAR, _VECTOR, _ENTRY = 17, 18, 36  # of an entry: the numbers of these regis
 _NAMES = "zero at r2 r3 a0 a1 a2 a3 t0 t1 t2 t3 t4 t5 t6 t7 s0 s1 s2 s3 s4 s5 s6 s7 t8 t9 k0 k1 gp sp fp ra"
 _SCALARS = {"s8": "30", **{name: str(n) for n, name in enumerate(_NAMES.split())}}
 _FORM = re.compile(r"\$?(?:([rv]?)(\d\d?)|(acc|vc[oce]|div_(?:in|out|loaded)))(?:\[([0-7])\])?")
+
+
+def place(address: int) -> Tuple[Bank, int]:
+    """The memory of an address, and the address there. RDRAM is in KSEG0 and KSEG1, as for the CPU, and the
+    SP's memories are there and at 0x04000000. Below 0x4000 are DMEM and IMEM too, as microcode has them. GDB
+    extends the sign of an address of a MIPS to 64 bits."""
+    if address >> 32 not in (0, 0xFFFFFFFF):
+        raise ValueError
+    address &= 0xFFFFFFFF
+    physical = address & 0x1FFFFFFF if address >> 30 == 2 else address
+    if physical >> 18 == 0x04000000 >> 18 or address < 0x4000:
+        return (Bank.IMEM if physical & 0x1000 else Bank.DMEM), physical & 0xFFF
+    if physical == address:
+        raise ValueError
+    return Bank.RDRAM, physical
+
+
+def byte_of(name: str, image_length: int) -> Optional[Tuple[Bank, int]]:
+    """The memory and the address of a byte whose name is an address, as for `Timeline.wrote`, or None for the
+    name of a register."""
+    if not name.startswith("0x"):
+        return None
+    try:
+        bank, address = place(int(name, 16))
+    except ValueError:
+        raise ValueError(f"{name[:80]} isn't an address such as 0x04000010 or 0x80030002") from None
+    if bank is Bank.RDRAM and address >= image_length:
+        raise ValueError(f"{name[:80]} is past RDRAM, which ends at 0x{0x80000000 + image_length - 1:x}")
+    return bank, address
 
 
 def _found(raw: bytes, at: int, numbers: Iterable[int]) -> List[int]:

@@ -16,7 +16,7 @@ import subprocess
 import sys
 import termios
 import time
-from contextlib import contextmanager
+from contextlib import contextmanager, suppress
 from pathlib import Path
 from typing import Any, Callable, Dict, Iterator, List, Union
 
@@ -29,7 +29,8 @@ from lib.library.module import loaded
 from lib.overlay import link
 from lib.pages import block_with, page
 from lib.processes import run, succeeds
-from rsp.gdb import Stub, Wire, after_script
+from rsp.gdb import Stub, after_script
+from rsp.gdb_wire import Wire
 
 STUB = (sys.executable, "-m", "rsp.gdb")
 ENV = {**module.ENV, "TERM": "dumb", "LC_ALL": "C"}
@@ -88,9 +89,9 @@ reverse-continue; reverse-continue; reverse-continue; monitor goto 0; p *(char[2
 """,
     "a halt and a reserved word": """
 break 10; continue; stepi; stepi; monitor waits; reverse-continue
-    10\t | halted after 88 steps | machine is halted | SIGSTOP | halted, so nothing follows | 10\t
+    10\t | halted after 88 steps | SIGSTOP | machine is halted | halted, so nothing follows | 10\t
 monitor goto 99; p $sp_status; set var *(int*)0x04001028 = -1; monitor write 4 5; continue; reverse-stepi
-    step 88, the last one | [ halted broke ] | ok | word at pc is reserved | SIGILL | 10\t
+    step 88, the last one | [ halted broke ] | ok | SIGILL | word at pc is reserved | 10\t
 p $sp_status; set $acc[7] = -5; set $v31.b[3] = 9; set $r9 = $pc; stepi; p $acc[7]; p $v31.s[1]; p/x $r9
     [ ] | halted after 88 | = -5 | = 9 | = 0x4001024
 """,
@@ -145,8 +146,8 @@ monitor goto -1; monitor load imem 0x20 zz; monitor load disk 0 00; monitor load
     monitor when | fault: | fault: BANK | ok | c4 00000000 | interrupt 0
 monitor mem dmem 0x80 6; monitor mem dmem 4000 0x61; monitor dis 0x10 1; monitor pc 8; monitor regs
     000080: 00c800000a0b | fault: memory | 010 0411000d bgezal $0, 0x048 | ok | pc 008 npc 00c | r08 00000001
-watch *(int*)0x80000000; continue; monitor why; monitor vregs; monitor flags; monitor write 7 1 2
-    Could not insert | only bytes of DMEM can be watched | v01 0000 | vco 0000 vcc 0000 | monitor when
+watch *(int*)0x80800000; continue; monitor why; monitor vregs; monitor flags; monitor write 7 1 2
+    Could not insert | only bytes of DMEM, IMEM and RDRAM can | v01 0000 | vco 0000 vcc 0000 | monitor when
 """,
 }
 
@@ -174,7 +175,14 @@ def check_page(name: str, command: str, begin: str, folder: Path, before: str = 
 
 
 @with_gdb
-@pytest.mark.parametrize("text, begin", (("scale.s scale", "| rsp-gdb --script"), ("names.s", "| rsp-gdb\n")))
+@pytest.mark.parametrize(
+    "text, begin",
+    (
+        ("python3 examples/python/make_elf.py scale.s scale", "| rsp-gdb --script"),
+        ("python3 examples/python/make_elf.py names.s", "| rsp-gdb\n"),
+        ("for name in double clear", "| rsp-gdb --rdram image --overlay"),
+    ),
+)
 def test_page(text: str, begin: str, folder: Path) -> None:
     """The sessions of the page, typed as they stand."""
     made(folder)
@@ -183,8 +191,15 @@ def test_page(text: str, begin: str, folder: Path) -> None:
     (folder / "names.s").write_text("start: ori $17, $0, limit\nbreak\n")
     (folder / "data.s").write_text(block_with(name, "# DMEM: the samples"))
     (folder / "data.rsp").write_text(re.findall("`(load dmem .*?)`", page(name))[0])
+    for written, first in (
+        ("main", "# Calls two overlays"),
+        ("double", "double: lqv"),
+        ("clear", "clear:  lqv"),
+    ):
+        (folder / f"{written}.s").write_text(block_with(name, first))
     (folder / "examples").symlink_to(TOP / "examples")
-    check_page(name, f"python3 examples/python/make_elf.py {text}", f"target remote {begin}", folder)
+    (folder / "rsp").symlink_to(TOP / "rsp")
+    check_page(name, text, f"target remote {begin}", folder)
 
 
 @with_gdb
@@ -270,26 +285,83 @@ def test_refused_search(folder: Path) -> None:
         assert_parts(shown, ["2\tori $17, $0, 0x80", "halted after 88 steps", "step 1: 004 34110080 ori"])
 
 
-# What only Ctrl-C ends. Before the last two GDB is at work between short runs for most of the time.
+MI = """-interpreter-exec console "monitor when"
+monitor goto 20
+-exec-continue
+-interpreter-exec console "monitor wrote $r16"
+-enable-pretty-printing
+-data-evaluate-expression $v04
+-var-create v * $v04
+-var-list-children v
+monitor goto 60
+"""
+# What a front end reads, in this order: `~` is the console, and a stop moves its arrow.
+SHOWN = [
+    '~"step 0 (text.s:1)', '~"step 20', '*stopped,reason="end-stepping-range"', 'line="15"',
+    '~"[rsp] halted after 88 steps', '*stopped,reason="signal-received"',
+    '26100010 addiu $16, $16, 16 (text.s:16)', '*stopped,reason="end-stepping-range"', 'line="16"',
+    'value="0000 0000 0000 0000 0000 0000 0000 0000"', 'numchild="3"', 'exp="s",numchild="8"', '*stopped',
+]  # fmt: skip
+
+
+def read_until(at: int, end: str) -> str:
+    """What a front end reads, up to a text."""
+    shown = ""
+    while end not in shown:
+        assert select.select([at], [], [], 60)[0], shown
+        shown += os.read(at, 4096).decode()
+    return shown
+
+
+@with_gdb
+def test_front_end(folder: Path) -> None:
+    """GDB/MI alone, as Emacs has it, and beside a console in a terminal, as vim has it."""
+    output = run(*made(folder), "-i=mi", cwd=folder, env=ENV, input=MI).stdout
+    assert_parts(output, SHOWN)
+    assert '@"' not in output  # GDB's stream for the target's output, which front ends drop
+    at, inside = pty.openpty()
+    with terminal(folder) as typed:
+        typed(f"new-ui mi {os.ttyname(inside)}\nmonitor goto 20\n", "15\t")
+        assert 'line="15"' in read_until(at, '*stopped,reason="end-stepping-range"')
+        assert "[rsp] halted after 88 steps" in typed("continue\n", "text.s:11")
+        os.write(at, b'-interpreter-exec console "monitor when"\n')
+        read_until(at, '~"step 88 (text.s:11)')
+    os.close(at)
+    os.close(inside)
+
+
+# A loop whose every read may find its transfer under way, for ever: `waits` looks at each way.
+DMAS = b"".join(it.to_bytes(4, "big") for it in rsp.assemble("""ori $1, $0, 7
+loop: mtc0 $0, $c0
+mtc0 $0, $c1
+mtc0 $1, $c2
+mfc0 $2, $c6
+mfc0 $2, $c5
+mfc0 $2, $c4
+sw $2, 0x100($0)
+j loop
+nop""")).hex()  # fmt: skip
+# What only Ctrl-C ends. Before the last three GDB is at work between short runs for most of the time.
 ENDLESS = {
     "condition": ("break *0x04001000 if $r20 == 5", "continue"),
     "register": ("watch $r20", "continue"),
     "steps back": ("monitor goto 1000000", "reverse-stepi 100000"),
     "goto": ("", "monitor goto 9999999999999"),
     "run": ("", "continue"),
+    "waits": (f"monitor load imem 0 {DMAS}", "monitor waits"),
 }
 
 
 @with_gdb
 @pytest.mark.parametrize("name", ENDLESS)
 def test_interrupts(name: str, folder: Path) -> None:
-    """Each Ctrl-C counts, whenever it comes."""
+    """Each Ctrl-C counts, whenever it comes, and ends neither GDB's connection nor what it has found."""
     first, endless = ENDLESS[name]
     chance = random.Random(name)
     with terminal(folder) as typed:
         typed(f"set confirm off\nset var *(int*)0x04001000 = 0x08000000\n{first}\n", "(gdb)")  # j 0x000
         typed(f"define endless\necho begun\\n\n{endless}\nend\noutput 40+2\n", "42(gdb) ")
-        for _ in range(20):
+        for _ in range(3 if name == "waits" else 20):
             typed("endless\n", "begun\r\n")
             time.sleep(chance.uniform(0, 0.4))
             assert "Traceback" not in typed("\3", "(gdb) ")
@@ -304,34 +376,48 @@ def assert_received(link: socket.socket, sent: bytes, expected: bytes) -> None:
         result += link.recv(65536) or pytest.fail(f"it ends after {result!r}")
 
 
+# What a web page can have a browser send, with packets that write DMEM, detach, and end the stub.
+POST = b"POST / HTTP/1.1\r\nHost: localhost\r\n\r\n$M4000000,4:deadbeef#b3$D#44$k#6b"
+WRONG_BYTES = POST, b"\x16\3\1$k#6b", b"$" + 1000000 * b"a" + b"$k#6b", 1000 * b"$m0,4#00" + b"\0$k#6b"
+
+
 def test_port(folder: Path) -> None:
-    """One client at a time, at 127.0.0.1. After one that is gone or detached the next has the history; `kill`
-    ends the stub. A million wrong bytes leave it as it is."""
+    """One client at a time, at 127.0.0.1, whose port nobody else gets. After one that is gone or detached the
+    next has the history; `kill` ends the stub. A client that isn't a GDB changes nothing."""
     task = bytes(8) + b"\0\0\1\0\0\0\0\x10" + bytes(48)
     (folder / "image").write_bytes(bytes(64) + task + bytes(128) + 4 * b"\x24\2\0\7")
     words = [*STUB, "--port", "0", "--rdram", "image", "--task", "0x40"]
     with subprocess.Popen(words, stderr=subprocess.PIPE, text=True, env=ENV, cwd=folder) as stub:
-        assert stub.stderr
-        first = stub.stderr.readline()
-        here = "127.0.0.1", int(first.rpartition(":")[2])
-        assert "in use" in run(*STUB, "--port", here[1], env=ENV).stdout
-        pytest.raises(ConnectionRefusedError, socket.create_connection, ("127.0.0.2", here[1]))
-        with socket.create_connection(here) as link:
-            assert_received(link, b"$m4001000,4#22", b"$24020007#")
-            pytest.raises(ConnectionRefusedError, socket.create_connection, here)
-            assert_received(link, b"+$Z0,4001000,4#0f+$s#73", b"25:04001004")
-        random_bytes = random.Random(2).randbytes(1000000).replace(b"-", b"")
-        assert stub.stderr.readline() == first
-        with socket.create_connection(here) as link:
-            for wrong in random_bytes, b"$" + 1000000 * b"a", 1000000 * b"$", 1000 * b"$m0,4#00":
-                link.sendall(wrong + b"#00")
-            for sent, expected in (b"$?#3f", b"$T05"), (b"+$c#63\3", b"$T02"), (b"+$D#44", b"$OK#"):
-                assert_received(link, sent, expected)
-        assert stub.stderr.readline() == first
-        with socket.create_connection(here) as link:
-            assert_received(link, b"$bc#c5", b"replaylog:begin;25:04001000")
-            link.sendall(b"+$k#6b")
-            assert stub.wait() == 0
+        try:
+            assert stub.stderr
+            first = stub.stderr.readline()
+            here = "127.0.0.1", int(first.rpartition(":")[2])
+            assert "in use" in run(*STUB, "--port", here[1], env=ENV).stdout
+            pytest.raises(ConnectionRefusedError, socket.create_connection, ("127.0.0.2", here[1]))
+            with socket.create_connection(here) as link:
+                assert_received(link, b"$m4001000,4#22", b"$24020007#")
+                pytest.raises(ConnectionRefusedError, socket.create_connection, here)
+                assert "in use" in run(*STUB, "--port", here[1], env=ENV).stdout
+                assert_received(link, b"+$Z0,4001000,4#0f+$s#73", b"25:04001004")
+            assert stub.stderr.readline() == first
+            for sent in WRONG_BYTES:
+                with socket.create_connection(here) as link:
+                    with suppress(ConnectionError):
+                        link.sendall(sent)
+                        while link.recv(65536):  # up to the end of the connection
+                            pass
+                assert stub.stderr.readline() == first, sent[:20]
+            with socket.create_connection(here) as link:
+                assert_received(link, b"$m4000000,4#21", b"$00000000#")
+                for sent, expected in (b"$?#3f", b"$T05"), (b"+$c#63\3", b"$T02"), (b"+$D#44", b"$OK#"):
+                    assert_received(link, sent, expected)
+            assert stub.stderr.readline() == first
+            with socket.create_connection(here) as link:
+                assert_received(link, b"$bc#c5", b"replaylog:begin;25:04001000")
+                link.sendall(b"+$k#6b")
+                assert stub.wait() == 0
+        finally:
+            stub.kill()
 
 
 FAULTS = {
@@ -371,7 +457,7 @@ mfc0 $5, $c7\nvaddc $v5, $v1, $v1\nlui $6, 0x8123\nmtc0 $6, $c1\njr $6\naddiu $7
 
 
 def stub() -> Stub:
-    return Stub(rsp.Timeline(loaded(SCALE)), lambda: False, lambda text: None)
+    return Stub(rsp.Timeline(loaded(SCALE)), lambda: False)
 
 
 def test_packets() -> None:
@@ -406,8 +492,16 @@ def test_packets() -> None:
     asked.asked = lambda: True  # Ctrl-C
     replies = [(asked.reply(it) or b"")[:3] for it in (b"Z2,0,4", b"bc", b"bs", b"c", b"s")]
     assert replies == [b"OK", *4 * [b"T02"]]
-    assert b"on the way".hex().encode() in (asked.reply(b"qRcmd," + b"goto 999999".hex().encode()) or b"")
-    assert asked.reply(b"qRcmd," + b"when".hex().encode()) and asked.reply(b"qrsp.goto") == b""
+
+
+def replied(asked: Stub, *words: str) -> List[str]:
+    """Where a command of `monitor` was, again and again, and its reply."""
+    done, reply = asked.monitor.begin(*words)
+    replies = [reply]
+    while not done:
+        done, reply = asked.monitor.more()
+        replies.append(reply)
+    return replies
 
 
 def test_wrote(monkeypatch: pytest.MonkeyPatch) -> None:
@@ -417,17 +511,15 @@ def test_wrote(monkeypatch: pytest.MonkeyPatch) -> None:
     command, reply = block_with("docs/COOKBOOK.md", begin, 1).strip().split("\n")
     line = rsp.Timeline(loaded(block_with("docs/COOKBOOK.md", begin)), 4)
     line.run_to(18)
-    asked = Stub(line, lambda: False, lambda text: None)
-    assert asked._monitor(*command.split()[2:]) == f"{reply}\n" and line.step == 17
+    asked = Stub(line, lambda: False)
+    assert replied(asked, *command.split()[2:]) == [f"{reply}\n"] and line.step == 17
     line.goto(18)
-    assert asked._monitor("wrote", "$r9") == "no step from 0 to 18 has changed $r9\n" and line.step == 18
-    monkeypatch.setattr(rsp.gdb, "_SLICE", -1)  # each search has taken too long at once
-    parts = [asked._monitor("wrote", "$v02")]
-    while asked._more:
-        parts.append(asked._more())
-    assert len(parts) > 2 and parts[-1] == "no step from 0 to 18 has changed $v02" and line.step == 18
+    assert replied(asked, "wrote", "$r9") == ["no step from 0 to 18 has changed $r9\n"] and line.step == 18
+    monkeypatch.setattr(rsp.gdb_monitor, "SLICE", -1)  # each search has taken too long at once
+    parts = replied(asked, "wrote", "$v02")
+    assert len(parts) > 2 and parts[-1] == "no step from 0 to 18 has changed $v02\n" and line.step == 18
     line.goto(5)
-    assert asked._monitor("wrote", "$v32").startswith("fault: $v32 isn't a register")
+    assert replied(asked, "wrote", "$v32")[0].startswith("fault: $v32 isn't a register")
     assert (asked.reply(b"s") or b"").startswith(b"T05") and line.step == 6
 
 
@@ -458,25 +550,19 @@ EXPLAINED = (
 @pytest.mark.parametrize("step, name, parts", EXPLAINED)
 def test_why(step: int, name: str, parts: List[str]) -> None:
     """`monitor why` explains what the last step put there."""
-    asked = Stub(rsp.Timeline(loaded(WRITES)), lambda: False, lambda text: None)
+    asked = Stub(rsp.Timeline(loaded(WRITES)), lambda: False)
     asked.line.goto(step)
-    reply = asked._monitor("why", name)
-    while asked._more:
-        reply = asked._more()
-    assert_parts(reply, parts)
+    assert_parts(replied(asked, "why", name)[-1], parts)
     assert asked.line.step == step
 
 
 def test_why_of_the_writing_step() -> None:
     """After `monitor wrote`, `monitor why` explains the step that it has found; alone it tells refusals."""
-    asked = Stub(rsp.Timeline(loaded(WRITES)), lambda: False, lambda text: None)
+    asked = Stub(rsp.Timeline(loaded(WRITES)), lambda: False)
     asked.line.goto(5)
-    assert asked._monitor("wrote", "$v3[2]").startswith("step 3: ")
-    reply = asked._monitor("why", "$v3.2")
-    while asked._more:
-        reply = asked._more()
-    assert_parts(reply, ["vadd $v3, $v3, $v3: v3.2 is 000a after it"])
-    assert asked._monitor("why") == "nothing was refused\n"
+    assert replied(asked, "wrote", "$v3[2]")[0].startswith("step 3: ")
+    assert_parts(replied(asked, "why", "$v3.2")[-1], ["vadd $v3, $v3, $v3: v3.2 is 000a after it"])
+    assert replied(asked, "why") == ["nothing was refused\n"]
 
 
 NAMES = """at a0 a1 a2 a3 t0 t1 t2 t3 t4 t5 t6 t7 s0 s1 s2 s3 s4 s5 s6 s7
@@ -506,7 +592,8 @@ def test_semaphore() -> None:
 
 
 def test_wire() -> None:
-    """A wrong sum, a packet in parts, one that is sent again, one that is too long, and Ctrl-C."""
+    """A wrong sum, a packet in parts, one that is sent again, one that is too long, and Ctrl-C, whose byte is
+    data in a packet."""
     source, to = os.pipe()
     sent: List[bytes] = []
     wire = Wire(source, sent.append)
@@ -517,8 +604,11 @@ def test_wire() -> None:
     assert wire.interrupted() and not wire.interrupted()
     os.write(to, b"\3$s#73")  # Ctrl-C before a run is for this run
     assert wire.packet(lambda: False) == b"s" and wire.interrupted() and not wire.interrupted()
-    os.write(to, b"$" + 0x5000 * b"a" + b"#00$m#6d")
-    assert wire.packet(lambda: False) == b"m"
+    os.write(to, b"$c#63$X0,1:\3#22")
+    assert wire.packet(lambda: False) == b"c" and not wire.interrupted()
+    assert wire.packet(lambda: False) == b"X0,1:\3" and not wire.interrupted()
+    os.write(to, b"$" + 0x5000 * b"a" + b"$m#6d")
+    assert wire.packet(lambda: False) is None
     os.close(to)
     assert wire.packet(lambda: True) is None and wire.interrupted()
     os.close(source)
