@@ -30,10 +30,10 @@ pub struct VectorMemoryFields {
 /// The fields of `$t, offset($base)`.
 #[derive(Clone, Copy)]
 pub struct ScalarMemoryFields {
-    /// The scalar register that is loaded or stored, below 32.
-    pub rt: u8,
     /// The word's 16 bits, not sign-extended: the offset in bytes is their signed value.
     pub offset: u16,
+    /// The scalar register that is loaded or stored, below 32.
+    pub rt: u8,
     /// The scalar register with the base address, below 32.
     pub base: u8,
 }

@@ -71,12 +71,16 @@ impl VReg {
         self.lanes[i]
     }
 
-    /// Writes lane `i`, from 0 to 7. The others are kept.
+    /// Writes lane `i`, from 0 to 7. The others are kept. The merge stays in vector registers: a
+    /// write of one lane in memory would be read back as a vector, and the processor waits for
+    /// that.
     #[inline(always)]
     pub fn set_lane(&mut self, i: usize, value: u16) {
-        let mut lanes = self.to_array();
-        lanes[i] = value;
-        self.lanes = u16x8::from_array(lanes);
+        let places = VReg::from_array([0, 1, 2, 3, 4, 5, 6, 7]);
+        let old = VReg::from_simd(self.to_simd());
+        *self = places
+            .is_equal(&VReg::splat(i as u16))
+            .merge(&VReg::splat(value), &old);
     }
 
     /// Byte `i`, from 0 to 15: byte 0 is the high byte of lane 0, byte 15 the low byte of lane 7.

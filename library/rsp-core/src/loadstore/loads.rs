@@ -137,8 +137,8 @@ fn set_diagonal(vt: u8, e: usize, bytes: &[u8; 16], a: u32, file: &mut VFile) {
 fn set_diagonal_lanes(first: usize, half: usize, lanes: VReg, file: &mut VFile) {
     for l in 0..8 {
         let i = (l + 8 - half) % 8;
-        let mut v = file.at(first + l);
-        v.set_lane(i, lanes.lane(i));
-        file.put(first + l, v);
+        let mut v = file.at(first + l).to_array();
+        v[i] = lanes.lane(i);
+        file.put(first + l, VReg::from_array(v));
     }
 }

@@ -1,5 +1,5 @@
 use crate::decode::{Inst, MoveOp};
-use crate::lanes::Bytes16;
+use crate::lanes::{Bytes16, VReg};
 use crate::loadstore::VFile;
 use crate::numbers::sign_extend;
 use crate::support::{BigEndian, ByteOrder};
@@ -13,12 +13,20 @@ pub fn move_from(inst: &Inst, file: &VFile) -> u32 {
             vector,
             element,
             ..
-        } => {
-            let e = element as usize;
-            let v = file.reg(vector);
-            sign_extend(BigEndian::read_u16(&[v.byte(e), v.byte((e + 1) % 16)]))
-        }
+        } => sign_extend(half(&file.reg(vector), element as usize)),
         _ => 0,
+    }
+}
+
+/// The sixteen bits at bytes `e` and `e + 1` modulo 16 of a register: one lane from an even byte
+/// on, otherwise parts of two.
+#[inline(always)]
+fn half(v: &VReg, e: usize) -> u16 {
+    let lane = v.lane(e / 2);
+    if e % 2 == 0 {
+        lane
+    } else {
+        lane % 256 * 256 + v.lane((e + 1) / 2 % 8) / 256
     }
 }
 
