@@ -52,9 +52,10 @@ def test_store_under_a_watch(caller: Path) -> None:
 
 def test_write(folder: Path, monkeypatch: pytest.MonkeyPatch) -> None:
     """--write writes the rows into the tables as they are, with their commit at the end."""
+    rows = {name: [[*row.values()][:-1] for row in data(name)] for name in COLUMNS}
     monkeypatch.setattr(page_tables, "DATA", folder)
     monkeypatch.setattr(page_tables, "write", lambda: None)
-    write_tables({name: [[*row.values()][:-1] for row in data(name)] for name in COLUMNS})
+    write_tables(rows)
     for name in COLUMNS:
         lines = [(folder / f"{name}.tsv").read_text(), page(f"docs/data/{name}.tsv")]
         before, after = ([line.rpartition("\t")[0] for line in text.splitlines()] for text in lines)
