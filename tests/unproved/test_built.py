@@ -76,8 +76,10 @@ def test_scripts(built: Path) -> None:
 
 
 def assert_agrees(emulator: Path, out: Path, *words: object) -> None:
-    """A campaign's cases and programs show no difference to the proved library. The Python that runs the tests
-    has numpy, and other ones may lack it."""
+    """A campaign's cases and programs show no difference to the proved library.
+
+    It runs by the Python that runs the tests, because other ones may lack numpy.
+    """
     env = {**os.environ, "PATH": f"{Path(sys.executable).parent}:{os.environ['PATH']}"}
     succeeds(CAMPAIGN, emulator, out, "--here", *words, env=env, timeout=900)
     counts = counts_of(out)
