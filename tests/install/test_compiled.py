@@ -113,7 +113,7 @@ def test_tree_that_cannot_be_written(out: str, stranger: User) -> None:
     prints(stranger, f"rm -rf {OUT} && mkdir -p {folders} && chmod a-w {folders} library/c")
     try:
         assert prints(stranger, FIRST) == prints(stranger, f"CC=false {FIRST}") == REPLIES
-        assert "\nrecorded as proved and built by rattle-kit-" in prints(stranger, "./rsp --version")
+        assert "\nits mark says: proved and built by rattle-kit-" in prints(stranger, "./rsp --version")
         cache = prints(stranger, "library/c/build --folder && CC=false library/c/build")
         assert cache.startswith(f"{stranger.env['HOME']}/.cache/rsp/")
         assert stranger.types(IMPORT).stderr == ""

@@ -22,8 +22,12 @@ HEEDS = partial(signal.signal, signal.SIGINT, signal.SIG_DFL)
 # A python3 that has Ctrl-C typed when a module reads its arguments.
 PYTHON = f"""#!/bin/sh
 shift 2
-exec {sys.executable} -B -c "import argparse, os, signal
-argparse.ArgumentParser.parse_known_args = lambda *_: os.kill(os.getpid(), signal.SIGINT)
+exec {sys.executable} -B -c "import os, signal, sys
+class Arguments(list):
+    def __getitem__(self, at):
+        os.kill(os.getpid(), signal.SIGINT)
+        return list.__getitem__(self, at)
+sys.argv = Arguments(sys.argv)
 $@"
 """
 

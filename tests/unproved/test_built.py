@@ -69,13 +69,19 @@ def test_vectors(built: Path) -> None:
 
 
 def test_scripts(built: Path) -> None:
+    """All but what tests/unproved.tsv has."""
     words = ("-m", "pytest", "-q", "-p", "no:xdist", "tests/program/test_scripts.py", "--program")
-    succeeds(sys.executable, "-B", *words, built / "rsp-unproved", timeout=900)
+    env = {**os.environ, "RSP_UNPROVED": str(built)}
+    succeeds(sys.executable, "-B", *words, built / "rsp-unproved", env=env, timeout=900)
 
 
 def assert_agrees(emulator: Path, out: Path, *words: object) -> None:
-    """A campaign's cases and programs show no difference to the proved library."""
-    succeeds(CAMPAIGN, emulator, out, "--here", *words, timeout=900)
+    """A campaign's cases and programs show no difference to the proved library.
+
+    It runs by the Python that runs the tests, because other ones may lack numpy.
+    """
+    env = {**os.environ, "PATH": f"{Path(sys.executable).parent}:{os.environ['PATH']}"}
+    succeeds(CAMPAIGN, emulator, out, "--here", *words, env=env, timeout=900)
     counts = counts_of(out)
     assert len(counts) > 100 and all(it[0] and it[1:] == (0, 0) for it in counts.values()), counts
 
