@@ -352,23 +352,22 @@ def test_skipped_cases(words: Sequence[str], status: int, folder: Path) -> None:
     assert (ran.stdout, ran.returncode) == ("1 passed, 0 failed, 1 skipped\nskipped: 1 of ADD\n", status)
 
 
-# Lines that are no cases, with what is said of them. None has a control character in the answer.
 A_CASE: Dict[str, Any] = {"name": "A", "word": "00000000", "text": "", "before": {}, "after": {}}
+# What makes it no case, by what is said of it.
+CHANGES: Dict[str, Dict[str, Any]] = {
+    "name is no text": {"name": 5},
+    "imem has no address": {"word": "0" * 8194},
+    "'r32' is no register": {"before": {"r32": "00000000"}},
+    "or '1' no value of it": {"after": {"r1": "1"}},
+    "dmem has no address 'fff'": {"before": {"dmem": {"fff": "0000"}}},
+    "non-hexadecimal number": {"before": {"dmem": {"0": "zz"}}},
+    r"'\x1b]0;a' is no register": {"before": {"\x1b]0;a": "0"}},
+}
+# Lines that are no cases, with what is said of them. None has a control character in the answer.
 NO_CASES = {
     "[" * 100000: "RecursionError: ",
     "5": "TypeError: ",
-    **{
-        json.dumps({**A_CASE, **more}): why
-        for why, more in {
-            "name is no text": {"name": 5},
-            "imem has no address": {"word": "0" * 8194},
-            "'r32' is no register": {"before": {"r32": "00000000"}},
-            "or '1' no value of it": {"after": {"r1": "1"}},
-            "dmem has no address 'fff'": {"before": {"dmem": {"fff": "0000"}}},
-            "non-hexadecimal number": {"before": {"dmem": {"0": "zz"}}},
-            r"'\x1b]0;a' is no register": {"before": {"\x1b]0;a": "0"}},
-        }.items()
-    },
+    **{json.dumps({**A_CASE, **change}): why for why, change in CHANGES.items()},
 }
 
 

@@ -28,8 +28,9 @@ ALONE = ("rsp_conformance", "definitions")
 # What may import rsp_tools.kit beside itself: fuzz, and the tests of what needs the kit.
 KIT = "rsp_tools.kit"
 OWNERS = (
-    *("tools/rsp_tools/fuzz/", "tests/install/test_assembled.py", "tests/mathematics/test_theorems.py"),
-    *("tests/program/test_second_compiler.py", "tests/systems/test_refusals.py"),
+    *("tools/rsp_tools/fuzz/", "tests/install/test_assembled.py", "tests/install/test_record.py"),
+    *("tests/mathematics/test_theorems.py", "tests/program/test_second_compiler.py"),
+    *("tests/systems/test_refusals.py",),
     *("tests/systems/test_wasm.py", "tests/lib/systems/browser.py"),
 )
 

@@ -1,8 +1,8 @@
 """The stored mutations fit the files as they are: those of what isn't proved, which tests/mutations/run
 tries, and those of crates, most of which the gate rarely tries.
 
-They fail if a changed line leaves its mutation behind, or if one has no known form or names no test; and if the
-gate overlooks that a crate was changed, or takes a new comment for a change.
+They fail if a changed line leaves its mutation behind, or if one has no known form or names no test; and if
+the gate overlooks that a crate was changed, or takes a new comment for a change.
 """
 
 import os

@@ -21,21 +21,22 @@ FOLDERS = ("-Ilibrary/c", "-Iplugin", "-Iconformance/rsp_conformance/campaign", 
 # What the scripts that compile these files define: a planted fault, words of microcode.
 DEFINED = ("-DFAULT=1", "-DSETTING=0", "-DSAVING=0", "-DLOADING=0")
 # The compilers, and their options for the files that aren't for this system: a program over the headers of
-# mupen64plus, one for the VR4300, those for Windows, and those for macOS and WebAssembly, which gcc hasn't.
+# mupen64plus, two for the VR4300, those for Windows, and those for macOS and WebAssembly, which gcc hasn't.
 WINDOWS = "x86_64-w64-mingw32-gcc"
-FRONT, ROM = "tests/plugin/front.c", "tests/plugin/rom/cpu.c"
+FRONT, VR4300 = "tests/plugin/front.c", ("tests/plugin/rom/cpu.c", "/campaign/console/monitor.c")
 FREE = ("-ffreestanding", "-fno-builtin")
+MIPS = ("mips-linux-gnu-gcc", "-march=vr4300", "-mabi=32", "-mno-abicalls", "-fno-pic", "-G0", *FREE)
 MACOS = ("clang", "--target=arm64-apple-macosx11.0.0", "-ffreestanding")
 WASM = ("clang", "--target=wasm64", "-mbulk-memory", *FREE)
 COMPILERS = {
     "gcc": {
-        ROM: ("mips-linux-gnu-gcc", "-march=vr4300", "-mabi=32", "-mno-abicalls", "-fno-pic", "-G0", *FREE),
+        **dict.fromkeys(VR4300, MIPS),
         "windows.c": (WINDOWS,),
         "_wasm.c": WASM,
         "_macos.c": MACOS,
     },
     "clang": {
-        ROM: ("clang", "--target=mips-linux-gnu", "-ffreestanding"),
+        **dict.fromkeys(VR4300, ("clang", "--target=mips-linux-gnu", "-ffreestanding")),
         "windows.c": ("clang", "--target=x86_64-w64-windows-gnu"),
         "_wasm.c": WASM,
         "_macos.c": MACOS,

@@ -28,8 +28,8 @@ from .texts import Line
 
 STATUS_WRITES = 1 << 16  # a bit of the mask `writes` of Machine.event
 DMEM, IMEM, RDRAM = Bank.DMEM, Bank.IMEM, Bank.RDRAM
-# So many steps don't let another thread run meanwhile, because that takes longer than they do. Even if each is a
-# DMA of 1 MiB, they take less time than Python leaves a thread before it lets another one run.
+# So many steps don't let another thread run meanwhile, because that takes longer than they do. Even if each
+# is a DMA of 1 MiB, they take less time than Python leaves a thread before it lets another one run.
 _FEW_STEPS = 32
 _HALTED = (Status.HALTED,)
 _STEP_ENDS = {status.value: status for status in (Status.OK, Status.HALTED, Status.RESERVED)}

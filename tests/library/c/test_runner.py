@@ -16,8 +16,8 @@ import pytest
 
 from lib import TOP, devices
 from lib.packages import need
-from lib.pages import blocks, page
-from lib.processes import compiled, run, succeeds
+from lib.pages import block_with, blocks, page
+from lib.processes import Ended, compiled, run, succeeds
 from lib.sanitizers import sanitizers
 
 pytestmark = [pytest.mark.needs("cc"), pytest.mark.xdist_group("runner")]
@@ -146,27 +146,51 @@ def test_line_of_page(runner: Path, program: Path, folder: Path) -> None:
     assert run(runner, folder / "changed").stdout == f"{exchanged}19 passed, 1 failed\n"
 
 
+MINE = block_with("conformance/README.md", '#include "brsp.h"')  # the page's emulator, which executes nothing
+
+
+def run_linked(source: Path, compiler: str, library: Path, vectors: bytes) -> "Ended[str]":
+    """Runs the vectors on an emulator that is linked as the page says."""
+    folder = source.parent
+    runner = TOP / "conformance/runner.c", TOP / "library/c/helpers/texts.c"
+    succeeds("cc", "-O2", "-c", f"-I{library}", *runner, cwd=folder)
+    words = ("-O2", f"-I{library}", source.name, "runner.o", "texts.o", "-o", "mine")
+    succeeds(compiler, *words, cwd=folder)
+    (folder / "SW.bin").write_bytes(vectors)
+    return run(folder / "mine", folder / "SW.bin")
+
+
 @pytest.mark.parametrize("compiler, end", [("cc", "c"), ("c++", "cpp")])
 def test_emulator_of_page(compiler: str, end: str, folder: Path, vectors: bytes, library: Path) -> None:
-    """The functions that the page names are all that it takes, in C and in C++: an emulator with these is
-    linked, and named if it executes nothing."""
+    """The functions that the page names are all that it takes, in C and in C++."""
     need(compiler)
     text = " ".join(page("conformance/README.md").split())
     (sentence,) = re.findall(r"`mine\.c` defines (.*?), with", text)
     names = re.findall(r"`(brsp_\w+)`", sentence)
-    header = (library / "brsp.h").read_text()
-    calls = [re.search(rf"(?m)^\w+ {name}\(.*\);$", header) for name in names]
-    assert len(calls) == 7 and all(calls)
-    bodies = [f"{it[0][:-1]} {{ {'' if it[0].startswith('void') else 'return 0; '}}}\n" for it in calls if it]
-    (folder / f"mine.{end}").write_text("".join(['#include "brsp.h"\n', *bodies]))
-    sources = TOP / "conformance/runner.c", TOP / "library/c/helpers/texts.c"
-    succeeds("cc", "-O2", "-c", f"-I{library}", *sources, cwd=folder)
-    words = ("-O2", f"-I{library}", f"mine.{end}", "runner.o", "texts.o", "-o", "mine")
-    succeeds(compiler, *words, cwd=folder)
-    (folder / "SW.bin").write_bytes(vectors)
-    ran = run(folder / "mine", folder / "SW.bin")
+    assert len(names) == 7 and sorted(names) == sorted(re.findall(r"(?m)^\w+ (brsp_\w+)\(", MINE))
+    (folder / f"mine.{end}").write_text(MINE)
+    ran = run_linked(folder / f"mine.{end}", compiler, library, vectors)
     assert ran.returncode == 1 and ran.stdout.startswith("SW-000 (sw ")
     assert ran.stdout.endswith("\n0 passed, 20 failed\n")
+
+
+# Lines of it, and what makes them lose what they get, by what the runner names.
+LOSSES = {
+    "pc": ("state = *from;", "state.pc ^= 4;"),
+    "DMEM 000": ("memcpy(to, memories[bank] + address, len);", "*to ^= 1;"),
+    "IMEM ff0": ("memcpy(memories[bank] + address, from, len);", "if (bank == 1) memories[1][4095] ^= 1;"),
+}
+
+
+@pytest.mark.parametrize("name", LOSSES)
+def test_lost_state(name: str, folder: Path, vectors: bytes, library: Path) -> None:
+    """An emulator that loses what it gets is refused before any step, because all its cases would differ."""
+    line, more = LOSSES[name]
+    assert MINE.count(line) == 1
+    (folder / "mine.c").write_text(MINE.replace(line, f"{line} {more}"))
+    ran = run_linked(folder / "mine.c", "cc", library, vectors)
+    said = "the machine doesn't keep what brsp_set and brsp_load gave it, before any step"
+    assert (ran.returncode, ran.stdout) == (2, f"{said}: {name}\n")
 
 
 def changed(vectors: bytes, name: bytes) -> bytes:

@@ -47,7 +47,7 @@ def walked(seed: int) -> Walk:
 def source(before: rsp.Machine, address: int) -> Optional[Tuple[rsp.Bank, int]]:
     """Where a step takes a byte of RDRAM from, or None if it doesn't write it: what is there afterwards if
     each byte of DMEM and IMEM is a part of its address."""
-    parts = []
+    parts: List[int] = []
     for n, fill in (0, 1), (0, 2), (8, 1):
         copy, place = before.copy(), before.regs().pc
         word = copy.memory(rsp.IMEM, place, 4)

@@ -194,7 +194,8 @@ def mutations(record: Record) -> str:
     total = sum(line.number for line in record.tried.values())
     others = len([crate for crate in LINES if edits(crate) and crate not in record.tried])
     return (
-        f"{total} of {len(stored)} were tried, and all were refused; those of {others} crates have no line here; "
+        f"{total} of {len(stored)} were tried, and all were refused; "
+        f"those of {others} crates have no line here; "
         f"each run of the gate tries {each_time}, and draws others"
     )
 

@@ -20,7 +20,7 @@ size_t iconv(iconv_t conversion, char **from, size_t *from_length, char **to, si
 {
     (void)conversion, (void)to, (void)to_length;
     const unsigned char *bytes = (const unsigned char *)*from;
-    size_t length = (size_t)bytes[0] << 24 | bytes[1] << 16 | bytes[2] << 8 | bytes[3];
+    size_t length = (size_t)bytes[0] << 24 | (size_t)bytes[1] << 16 | (size_t)bytes[2] << 8 | bytes[3];
     const char *descriptor = getenv("CEN64_ANSWERS");
     for (size_t at = 0; at < length;) {
         ssize_t written = write(descriptor ? atoi(descriptor) : 1, bytes + 4 + at, length - at);
