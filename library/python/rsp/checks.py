@@ -42,7 +42,7 @@ class Check(NamedTuple):
 
 
 def _dropped(move: Move) -> Iterator[str]:
-    """What an MTC0 of an SP register for DMAs asks for, and doesn't get."""
+    """A sentence for each number in an MTC0 of an SP register whose low bits a DMA drops."""
     value = move.value
     if move.number < _READ_LENGTH:
         if value & 7:

@@ -114,7 +114,7 @@ def _pair(numbers: str) -> Tuple[int, int]:
 
 
 def _part(text: bytes, numbers: str) -> bytes:
-    """The part of a text that a packet asks for, by its first byte and its length."""
+    """The part of a text that a packet requests, by its first byte and its length."""
     at, length = _pair(numbers)
     return (b"m" if at + length < len(text) else b"l") + text[at : at + length]
 

@@ -1,6 +1,6 @@
 """`rsp.checks`, `rsp.lines` and `rsp.counts`, with a table of addr2line, and the same commands of `monitor`.
 
-They fail if a sentence is missing, has another number, or stands without its label and line, or if the status
+They fail if a sentence is missing, has another number, or lacks its label and line, or if the status
 doesn't fail CI.
 """
 

@@ -1,4 +1,4 @@
-"""Overlays in `rsp.gdb`: which of them GDB is told to be loaded, at which stop, and what it may then set.
+"""Overlays in `rsp.gdb`: which of them it reports to GDB as loaded, at which stop, and what it may then set.
 
 They fail if a breakpoint of one overlay stops in another, if a run or a step loses or doubles a step where an
 overlay comes or goes, or if a wrong `--overlay` isn't refused by a sentence.
