@@ -1,6 +1,7 @@
 """What GDB itself needs for the RSP, with its Python: gdb-multiarch -x "$(rsp-gdb --side)"."""
 
 import importlib
+import os
 import re
 import struct
 import sys
@@ -190,24 +191,34 @@ def awaited(reply: str) -> str:
     return reply[1:]
 
 
-SAID = re.compile(r"(?m)^((?: *\d+ |step \d+: |)([0-9a-f]{3}):? .*?)(, which took.*)?$")
+# A sentence about an instruction, up to its address, to its end, the ELF of its overlay, and what follows.
+SAID = re.compile(r"(?m)^((?: *\d+ |step \d+: |)([0-9a-f]{3}):? .*?)(?: \((/.*)\))?(, which took.*)?$")
 
 
 def with_lines(name: str, reply: str) -> str:
     """The reply of a command with the file and the line of each instruction in it, where GDB knows them."""
     if name == "when":
-        return f"{reply.strip()}{line_of(int(gdb.selected_frame().pc()))}\n"
+        return f"{reply.strip()}{shown_line(int(gdb.selected_frame().pc()))}\n"
     if name not in ("counts", "waits", "wrote", "checks"):
         return reply
-    return SAID.sub(lambda it: f"{it[1]}{line_of(IMEM + int(it[2], 16), it[1])}{it[3] or ''}", reply)
+    return SAID.sub(lambda it: f"{it[1]}{line_of(it[2], it[1], it[3] or '')}{it[4] or ''}", reply)
 
 
-def line_of(address: int, sentence: str = "") -> str:
-    """The file and the line of an address, in parentheses, if GDB knows them. A sentence about an instruction
-    that isn't there, such as one of another overlay, gets none."""
+def shown_line(address: int) -> str:
+    """The file and the line of an address, in parentheses, if GDB knows them."""
     found = gdb.find_pc_line(address)
-    is_there = not sentence or TEXTS.get(address & 0xFFC, (b"", "nop"))[1] in sentence
-    return f" ({found.symtab.filename}:{found.line})" if found.symtab and is_there else ""
+    return f" ({found.symtab.filename}:{found.line})" if found.symtab else ""
+
+
+def line_of(digits: str, sentence: str, elf: str) -> str:
+    """The file and the line of the instruction in a sentence, by the digits of its address and the ELF of its
+    overlay. If the instruction isn't there now, the name of the overlay."""
+    address = IMEM + int(digits, 16)
+    loaded = gdb.solib_name(address) or ""
+    is_loaded = os.path.realpath(loaded) == os.path.realpath(elf) if elf else not loaded
+    is_there = TEXTS.get(int(digits, 16), (b"", "nop"))[1] in sentence
+    line = shown_line(address) if is_loaded and is_there else ""
+    return line or (f" ({os.path.basename(elf)})" if elf else "")
 
 
 @lru_cache(1)
