@@ -265,6 +265,20 @@ class Lanes:
         return [] if is_printed else [(it, self.value[it]) for it in "sub"]
 
 
+class Hint:
+    """At a prompt: what to type in place of `$v4.u`, for which GDB has only an error."""
+
+    def __init__(self) -> None:
+        self.last = ""
+
+    def __call__(self) -> None:
+        line = str(gdb.execute("show commands", to_string=True)).rpartition("\n  ")[2]
+        wrong = re.search(r"^ *\d+  (?!mon).*\$v([2-9](?!\d)|[01](?=\.))(\.[sub])?", line)
+        if wrong and line != self.last:
+            gdb.write(f"[rsp] vector registers have two digits: $v0{wrong[1]}{wrong[2] or ''}\n")
+        self.last = line
+
+
 def show(_: object, words: str, __: bool) -> None:
     """`info registers`. GDB's own shows a vector of a MIPS as one number."""
     if not gdb.selected_inferior().pid:
@@ -303,6 +317,7 @@ def start() -> None:
     gdb.frame_filters["rsp"] = same
     for event in gdb.events.stop, gdb.events.before_prompt:  # if the user has a hook-stop, or after a `Quit`
         event.connect(refresh)
+    gdb.events.before_prompt.connect(Hint())
     for event in gdb.events.memory_changed, gdb.events.register_changed:
         event.connect(changed)
     with suppress(gdb.error):  # of a GDB without full screen
