@@ -8,7 +8,7 @@ from contextlib import contextmanager, suppress
 from functools import partial
 from typing import Callable, Counter, Iterator, List, NamedTuple, Optional, Set, Tuple, Union
 
-from .dmas import Carried, DmaWatch, carriers, may_change
+from .dmas import Carried, DmaWatch, carriers, run_until_dma
 from .errors import RspError, check_type
 from .executed import Executed, nothing
 from .machine import DMEM, IMEM, RDRAM, Machine
@@ -19,8 +19,8 @@ from .writes import Register, byte_of
 
 _PIECE = 1 << 16  # RDRAM is kept in pieces, which marks share as long as they are equal
 _KEPT = 40 << 20  # the most bytes of RDRAM that marks keep, so that a process stays below 100 MB
-_TO_RDRAM = 1 << 3  # SP_WR_LEN, as a mask of SP registers
 _RUN = 1000000  # the most steps of a run
+_DMAS = 10000  # and the most DMAs that write watched bytes, so that Ctrl-C ends it soon
 _TRACED = 1 << 16  # and of a trace, whose entries are then 2 MiB
 _HISTORY = 256  # steps that the machine undoes by itself; more would not fit into the cache of the processor
 
@@ -319,8 +319,8 @@ class Timeline:
                 self.machine.drop_watch(number)
 
     def _advance(self, steps: int) -> Found:
-        """Makes at most this many steps, up to a reason to stop, a change of the caller's, or the end of the
-        first DMA to RDRAM since a mark. Leaves a mark where one is due."""
+        """Makes at most this many steps, up to a reason to stop, or a change of the caller's. Leaves a mark
+        where one is due."""
         after = self._after(self.step)
         is_last = after == len(self._marks)
         end = self._marks[-1].step + self._gap if is_last else self._marks[after].step
@@ -345,30 +345,26 @@ class Timeline:
 
     def _run(self, steps: int) -> Tuple[Reason, int, Union[Watch, DmaWatch, None]]:
         """Runs as `_advance` does: the reason, how many steps it made, and which of `dma_watches` the last
-        one has changed. Only DMAs change IMEM and RDRAM, so with such watches this stops before each DMA."""
+        one has changed. Only DMAs change IMEM and RDRAM, so this stops before those that may."""
         made = 0
-        while True:
-            if self.dma_watches:
-                stop = self.machine.event(steps - made)
-            else:
-                orders = 0 if self._rdram_moved else _TO_RDRAM
-                stop = self.machine.run_until_move(steps - made, 0, orders)
+        for _ in range(_DMAS):
+            ranges = [*self.dma_watches]
+            if not self._rdram_moved:
+                ranges.append(DmaWatch(RDRAM, 0, self.machine.image_length))
+            stop = run_until_dma(self.machine, steps - made, ranges)
             made += stop.steps
-            if stop.reason not in (Reason.MOVE, Reason.DMA):
+            if not stop.dma:
                 return stop.reason, made, None
-            if made == steps:
-                return Reason.LIMIT, made, None
-            last, watch = self._dma(stop)
+            self._rdram_moved = self._rdram_moved or stop.dma.to_rdram
+            last, watch = self._dma()
             made += last.steps
-            if watch or last.reason is not Reason.LIMIT or not self.dma_watches or made == steps:
+            if watch or last.reason is not Reason.LIMIT or made == steps:
                 return last.reason, made, watch
+        return Reason.LIMIT, made, None
 
-    def _dma(self, stop: Stop) -> Tuple[Stop, Optional[DmaWatch]]:
+    def _dma(self) -> Tuple[Stop, Optional[DmaWatch]]:
         """Makes the step of a DMA: its stop, and the shortest of `dma_watches` that it has changed."""
-        dma = stop.dma
-        self._rdram_moved = self._rdram_moved or not dma or dma.to_rdram
-        watches = [it for it in self.dma_watches if dma and may_change(dma, it)]
-        before = [self.machine.memory(*it) for it in watches]
+        before = [(it, self.machine.memory(*it)) for it in self.dma_watches]
         last = self.machine.run(1)
-        changed = [it for it, old in zip(watches, before) if self.machine.memory(*it) != old]
+        changed = [it for it, old in before if self.machine.memory(*it) != old]
         return last, min(changed, key=lambda it: it[2]) if changed else None

@@ -105,6 +105,14 @@ def test_watches(seed: int) -> None:
         assert line.back() == (Reason.LIMIT, 0, None)
 
 
+def test_breakpoint() -> None:
+    """Just after a DMA that writes no watched byte."""
+    line = rsp.Timeline(loaded("mtc0 $0, $c0\nmtc0 $0, $c1\nmtc0 $0, $c2\nmtc0 $0, $c3\nnop\nbreak"))
+    line.dma_watches, line.breaks = {DmaWatch(rsp.RDRAM, 64, 8)}, {12, 16}
+    found = [line.run_to(ANY)[:2] for _ in range(3)]
+    assert found == [(Reason.BREAK, 3), (Reason.BREAK, 4), (Reason.HALT, 6)]
+
+
 SENT = """ori $1, $0, 0x1234
 ori $2, $0, 0x300
 sh $1, 2($0)
