@@ -210,13 +210,13 @@ class Monitor:
 
     def _waits(self) -> Job:
         """Which waits are missing, and where this has looked."""
-        return self._listed(lambda it: rsp.waits.search(it, at_end=True), _NOT_LOOKED_AT)
+        return self._listed(lambda it: rsp.waits.search(it, at_end=True), "none is missing", _NOT_LOOKED_AT)
 
     def _checks(self) -> Job:
         """Which branches are in delay slots, and which DMAs drop bits."""
-        return self._listed(rsp.checks.search, "not looked at: other data")
+        return self._listed(rsp.checks.search, "nothing found", "not looked at: other data")
 
-    def _listed(self, search: Callable[[rsp.Machine], Iterator[Any]], without: str) -> Job:
+    def _listed(self, search: Callable[[rsp.Machine], Iterator[Any]], none: str, without: str) -> Job:
         """What a search on a copy finds, each cause once, and where it has looked."""
         machine, found, steps = (self.line.machine.copy(), {}, 0)  # type: rsp.Machine, Dict[Any, str], int
         if machine.peek(4) & 1:
@@ -234,7 +234,7 @@ class Monitor:
                 break
         end = end or _ENDS.get(machine.step(), f"in {steps} steps, without a halt")
         looked = f"looked at: what this data does from here on, {end}"
-        return "\n".join([*(found.values() or ["none is missing"]), looked, without])
+        return "\n".join([*(found.values() or [none]), looked, without])
 
     def _explained(self, name: str = "") -> Union[str, Job]:
         """Why the last breakpoint was refused, or why a value is what it is after the last step, or after the

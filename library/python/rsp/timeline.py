@@ -85,6 +85,7 @@ class Timeline:
         self.is_interrupted: Callable[[], bool] = lambda: False
         self._marks: List[_Mark] = []
         self._rdram: Tuple[bytes, ...] = ()
+        self._searched, self._window = -1, 4096  # where the last search came to, and its next window
         self.changed()
 
     def changed(self) -> None:
@@ -252,11 +253,15 @@ class Timeline:
         return self.machine.copy()
 
     def _windows(self, least: int) -> Iterator[Tuple[int, int]]:
-        """The steps from `least` to the present one in windows between marks, the last window first."""
-        end, window = self.step, 4096
+        """The steps from `least` to the present one in windows between marks, the last window first. Windows
+        grow, also from one search to the next one if that continues it, because each costs a run from a mark.
+        """
+        end = self.step
+        window = self._window if end == self._searched else 4096
         while end > max(0, least):
             mark = self._marks[self._after(end - 1) - 1]
             begin, window = max(mark.step, least, end - window), 64 * window
+            self._searched, self._window = begin, window
             yield begin, end
             end = begin
 

@@ -106,6 +106,8 @@ def test_sentences(folder: Path) -> None:
     assert f"{BRANCH} ({folder}/two.elf)\n" in asked.monitor.begin("checks")[1]
     fetched = "400: nop: is fetched before the end of the transfer of 050, to IMEM 400 to 40f"
     assert f"{fetched} ({folder}/one.elf)\n" in asked.monitor.begin("waits")[1]
+    asked.line.goto(40)
+    assert asked.monitor.begin("checks")[1].startswith("nothing found\nlooked at: ")
     asked.line.goto(1000)
     rows = asked.monitor.begin("counts")[1].splitlines()
     ends = {"000 jal": "jal 0x040", "404 jr": f"({folder}/one.elf)", "408 jr": f"({folder}/two.elf)"}

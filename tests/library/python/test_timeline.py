@@ -196,6 +196,15 @@ def test_interrupted(way: str) -> None:
     assert line.machine.reg(1) == (line.step + 2) // 3
 
 
+def test_continued_search() -> None:
+    """One that is ended after its first window each time comes to the first step after a few of them."""
+    line = rsp.Timeline(loaded("loop: j loop\nnop"))
+    line.goto(1000000)
+    line.is_interrupted = lambda: True
+    steps = [line.wrote("0x80000010").step for _ in range(3)]
+    assert steps == [1000000 - 4096, 1000000 - 65 * 4096, 0]
+
+
 def test_runs_with_dmas(monkeypatch: pytest.MonkeyPatch) -> None:
     """After the first DMA to RDRAM none that writes no watched byte stops a run: if each did, a watch would
     make it many times slower. Of those that do, 10,000 are made before it asks whether to end."""
