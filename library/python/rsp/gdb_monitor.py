@@ -13,6 +13,7 @@ from typing import Any, Callable, Dict, Generator, Iterator, List, Optional, Seq
 import rsp
 import rsp.checks
 import rsp.waits
+from rsp.dmas import carriers
 from rsp.executed import direction, nothing, text_of
 from rsp.gdb_overlays import Overlay, loaded, owner
 from rsp.script import number
@@ -152,15 +153,20 @@ class Monitor:
         return self._went(lambda: self.line.wrote(name), name)
 
     def _wrote_byte(self, bank: rsp.Bank, address: int) -> Job:
-        """Goes back to the DMA that wrote a byte of RDRAM, and to the step that made the byte it took."""
-        told = ""
+        """Goes back to the DMA that wrote a byte of RDRAM, and to the step that made the byte it took. The
+        DMA may be the next step, because `reverse-continue` stops there at a watch."""
+        told, step = "", self.line.step
         if bank is rsp.RDRAM:
-            found, told = yield from self._search(
-                lambda: self.line.last_dma(address), f"no DMA from %s to %s has written RDRAM {address:06x}"
-            )
-            if not found.dma:
+            dma = next(carriers(self.line.copy_at(step), step, step + 1, address), None)
+            if not dma:
+                found, told = yield from self._search(
+                    lambda: self.line.last_dma(address),
+                    f"no DMA from %s to %s has written RDRAM {address:06x}",
+                )
+                dma = found.dma
+            if not dma:
                 return told
-            bank, address = found.dma.bank, found.dma.address
+            bank, address = dma.bank, dma.address
             told = f"{self._here()}, which took the byte from {bank.name} {address:03x}\n"
         change = yield from self._went(
             lambda: self.line.last_change(bank, address), f"{bank.name} {address:03x}"
