@@ -82,6 +82,7 @@ class Timeline:
         self.breaks: Set[int] = set()
         self.watches: Set[Watch] = set()
         self.dma_watches: Set[DmaWatch] = set()
+        self._ranges: List[DmaWatch] = []  # those of `dma_watches` while a search may stop at them
         self.is_interrupted: Callable[[], bool] = lambda: False
         self._marks: List[_Mark] = []
         self._rdram: Tuple[bytes, ...] = ()
@@ -312,11 +313,13 @@ class Timeline:
         """The machine has breakpoints and watches only while a search may stop at them."""
         numbers: List[int] = []
         try:
+            self._ranges = [*self.dma_watches]
             for place in self.breaks:
                 self.machine.add_break(place)
             numbers += [self.machine.add_watch(*it) for it in self.watches]
             yield
         finally:
+            self._ranges = []
             for place in self.breaks:
                 with suppress(RspError):  # if it couldn't be set
                     self.machine.drop_break(place)
@@ -350,10 +353,11 @@ class Timeline:
 
     def _run(self, steps: int) -> Tuple[Reason, int, Union[Watch, DmaWatch, None]]:
         """Runs as `_advance` does: the reason, how many steps it made, and which of `dma_watches` the last
-        one has changed. Only DMAs change IMEM and RDRAM, so this stops before those that may."""
+        one has changed, if a search may stop there. Only DMAs change IMEM and RDRAM, so this stops before
+        those that may."""
         made = 0
         for _ in range(_DMAS):
-            ranges = [*self.dma_watches]
+            ranges = [*self._ranges]
             if not self._rdram_moved:
                 ranges.append(DmaWatch(RDRAM, 0, self.machine.image_length))
             stop = run_until_dma(self.machine, steps - made, ranges)
@@ -368,8 +372,8 @@ class Timeline:
         return Reason.LIMIT, made, None
 
     def _dma(self) -> Tuple[Stop, Optional[DmaWatch]]:
-        """Makes the step of a DMA: its stop, and the shortest of `dma_watches` that it has changed."""
-        before = [(it, self.machine.memory(*it)) for it in self.dma_watches]
+        """Makes the step of a DMA: its stop, and the shortest watch that it has changed."""
+        before = [(it, self.machine.memory(*it)) for it in self._ranges]
         last = self.machine.run(1)
         changed = [it for it, old in before if self.machine.memory(*it) != old]
         return last, min(changed, key=lambda it: it[2]) if changed else None

@@ -207,7 +207,8 @@ def test_continued_search() -> None:
 
 def test_runs_with_dmas(monkeypatch: pytest.MonkeyPatch) -> None:
     """After the first DMA to RDRAM none that writes no watched byte stops a run: if each did, a watch would
-    make it many times slower. Of those that do, 10,000 are made before it asks whether to end."""
+    make it many times slower. Of those that do, 10,000 are made before it asks whether to end, and `goto`
+    stops at none."""
     line = rsp.Timeline(loaded("turn: mtc0 $0, $c0\nmtc0 $0, $c1\nmtc0 $0, $c3\nj turn\nnop\n"))
     line.dma_watches = {DmaWatch(rsp.RDRAM, 8, 8), DmaWatch(rsp.IMEM, 0, 4096)}
     runs: List[int] = []
@@ -222,6 +223,7 @@ def test_runs_with_dmas(monkeypatch: pytest.MonkeyPatch) -> None:
     asked: List[int] = []
     line.is_interrupted = lambda: asked.append(line.step) is not None  # type: ignore[func-returns-value]
     assert line.run_to(200000) == (Reason.LIMIT, 200000, None) and asked == [100000, 149998, 199998]
+    assert line.goto(300000) == 300000 and asked[3:] == [200000]
 
 
 # Changes eight bytes in each 64 KiB of RDRAM, over and over, so that no two marks have a piece in common.
