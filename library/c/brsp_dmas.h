@@ -1,6 +1,6 @@
 /* brsp_dmas.h: tested, not proved. Runs up to the DMAs that concern the caller, such as a debugger that
- * watches bytes of RDRAM, and over all others. rsp.Timeline of Python uses this, because of a program's steps
- * only DMAs change RDRAM and IMEM.
+ * watches bytes of RDRAM, and over all others. rsp.Timeline of Python uses this, because a program changes
+ * RDRAM and IMEM only by DMAs.
  *
  * What brsp.h says of handles, pointers and buffers also holds here, and a call has BRSP_STACK bytes of
  * stack. The function is part of the library for Linux, Windows and macOS, and not of that for JavaScript. */
