@@ -1,6 +1,7 @@
 /* calls: sequences of calls on three machines and two sessions. Each status is a documented one, a refused call changes and fills nothing, numbers out of
  * their range are refused and no others, what is set is what is got, a copy is equal, and what is undone is as it was. texts.c has the calls on texts. */
 #include "fuzz.h"
+#include "brsp_dmas.h"
 #include "brsp_savestate.h"
 
 enum { MACHINES = 3, AT_DMEM = 784, SESSIONS = 2, MOST_CALLS = 64, MOST_STEPS = 20000, SEEN = 8192, FRESH = 0xa5 };
@@ -256,6 +257,20 @@ static uint32_t event(attempt *a)
     return status;
 }
 
+static uint32_t run_until_dma(attempt *a)
+{
+    brsp_stop *stop = fills(a, sizeof *stop);
+    brsp_dma *dma = fills(a, sizeof *dma);
+    static const brsp_dma none;
+    size_t count = take_number(a->in, 1) % 3;
+    const brsp_range *ranges = reads(a, count * sizeof *ranges);
+    uint32_t n = take_steps(a), status = ranged(a, is_count(n), brsp_run_until_dma(a->m, n, ranges, count, stop, dma));
+    if (status != BRSP_OK) return status;
+    see_stop(stop, n, BRSP_AT_DMA);
+    MUST(stop->reason == BRSP_AT_DMA ? dma->rows && count && stop->steps < n : !memcmp(dma, &none, sizeof none));
+    return status;
+}
+
 static uint32_t trace(attempt *a)
 {
     uint32_t n = take_steps(a);
@@ -459,7 +474,8 @@ static const struct {
     { session_end, S(NO_MACHINE) | S(NO_MEMORY) | S(NO_ROOM) | S(ENDED) | S(TOO_LONG), APART },
     { session_memory, S(NO_MACHINE) | S(OUT_OF_RANGE), APART }, { session_free, 0, APART },
     { event, S(OUT_OF_RANGE), CHANGES }, { history, 0, LOOKS }, { pass_dma, S(HALTED) | S(OTHER_WORD), CHANGES }, { image_length, 0, LOOKS },
-    { write_dma, 0, CHANGES }, { save_state, S(NO_ROOM), LOOKS }, { load_state, S(OUT_OF_RANGE), CHANGES }
+    { write_dma, 0, CHANGES }, { save_state, S(NO_ROOM), LOOKS }, { load_state, S(OUT_OF_RANGE), CHANGES },
+    { run_until_dma, S(OUT_OF_RANGE), CHANGES }
 };
 
 static brsp_machine machines[MACHINES];

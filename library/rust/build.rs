@@ -61,7 +61,7 @@ fn built(target: &str) -> PathBuf {
     for name in mark.lines().nth(1).unwrap_or("").split(' ') {
         ["src", "specs", "proofs"].iter().for_each(|part| println!("cargo:rerun-if-changed=../../crates/{name}/{part}"));
     }
-    [MARK, "../../crates.txt", "../c/brsp.h", "../c/brsp_helpers.h", "../c/helpers"]
+    [MARK, "../../crates.txt", "../c/brsp.h", "../c/brsp_helpers.h", "../c/brsp_dmas.h", "../c/helpers"]
         .iter()
         .for_each(|name| println!("cargo:rerun-if-changed={name}"));
     println!("cargo:rerun-if-env-changed={variable}");

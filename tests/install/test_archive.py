@@ -28,7 +28,8 @@ pytestmark = pytest.mark.timeout(900)
 HELD = {
     "windows-x86_64": """
 bin/rsp.exe bin/brsp.dll lib/libbrsp.dll.a lib/libbrsp.a lib/brsp.lib lib/brsp_static.lib include/brsp.hpp
-include/brsp_compare.h include/brsp_helpers.h include/brsp_savestate.h lib/pkgconfig/brsp.pc
+include/brsp_compare.h include/brsp_dmas.h include/brsp_helpers.h include/brsp_savestate.h
+lib/pkgconfig/brsp.pc
 lib/cmake/brsp/brspConfig.cmake lib/cmake/brsp/brspConfigVersion.cmake share/man/man1/rsp.1
 library/python/rsp/__init__.py
 library/rust/Cargo.toml library/rust/build.rs library/rust/src/lib.rs library/c/brsp.h docs/README.md

@@ -13,7 +13,8 @@ from rsp_tools.systems import header
 PROJECT = TESTS / "install/installation/CMakeLists.txt"
 EXAMPLE = TOP / "examples/c/lockstep.c"
 INSTALLED = f"""
-include/brsp.h include/brsp.hpp include/brsp_compare.h include/brsp_helpers.h include/brsp_savestate.h
+include/brsp.h include/brsp.hpp include/brsp_compare.h include/brsp_dmas.h include/brsp_helpers.h
+include/brsp_savestate.h
 lib/libbrsp.a lib/libbrsp.so lib/libbrsp.so.{header.interface()} lib/pkgconfig/brsp.pc
 lib/cmake/brsp/brspConfig.cmake lib/cmake/brsp/brspConfig-noconfig.cmake
 lib/cmake/brsp/brspConfigVersion.cmake share/man/man1/rsp.1

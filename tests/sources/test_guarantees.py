@@ -174,9 +174,9 @@ def linked() -> Set[str]:
     trees = [ast.parse(path.read_text()) for folder in folders for path in TOP.glob(f"{folder}/*.py")]
     texts = [it.value for tree in trees for it in ast.walk(tree) if isinstance(it, ast.Constant)]
     named = {str(text).rpartition("/")[2] for text in texts if re.fullmatch(r"[\w/]+\.c", str(text))}
-    named.update(path.name for path in helpers.SOURCES)
-    starts = {name for kernel in ("linux", "windows", "darwin") for name in recipe.words(kernel, "start")}
-    return named | starts
+    kernels = "linux", "windows", "darwin"
+    named.update(path.name for kernel in kernels for path in helpers.sources(kernel))
+    return named | {name for kernel in kernels for name in recipe.words(kernel, "start")}
 
 
 def headers() -> Set[str]:

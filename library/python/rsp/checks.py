@@ -71,17 +71,20 @@ def _bits(machine: Machine, steps: int) -> Iterator[Check]:
 
 
 def search(machine: Machine, limit: int = 1000000) -> Iterator[Union[Check, int]]:
-    """As `found`, but repeats what is found again, and also yields how many steps were made."""
+    """As `found`, but repeats what is found again, and also yields how many steps were made. At a check the
+    machine is before its step."""
     made, branch = 0, None  # type: int, Optional[int]
     while made < limit:
-        copy = machine.copy()
-        _, entries = copy.trace(min(limit - made, _PIECE))
-        for it in entries:
+        _, entries = machine.copy().trace(min(limit - made, _PIECE))
+        done = 0
+        for n, it in enumerate(entries):
             if branch is not None and is_branch(it.word):
+                yield from _bits(machine, n - done)
+                done = n
                 text = text_of(it.word, it.pc)
                 yield Check(it.pc, text, f"a branch in the delay slot of the branch at {branch:03x}")
             branch = it.pc if is_branch(it.word) else None
-        yield from _bits(machine, len(entries))
+        yield from _bits(machine, len(entries) - done)
         made += len(entries)
         yield made
         if not entries:

@@ -1,10 +1,13 @@
-"""Which bytes a DMA may change, and where a byte came from, for `rsp.Timeline`."""
+"""Runs up to a DMA that may change some bytes, and where a byte came from, for `rsp.Timeline`."""
 
-from typing import Iterator, NamedTuple, Optional
+from ctypes import byref
+from typing import Iterator, NamedTuple, Optional, Sequence
 
+from . import shapes
 from .machine import RDRAM, Machine
+from .native import lib
 from .shapes import Bank, Reason
-from .stops import Dma
+from .stops import Dma, Stop, dma_of, stop_of
 
 _RDRAM_SIDE = 1 << 24  # addresses of RDRAM wrap there
 
@@ -25,14 +28,19 @@ class Carried(NamedTuple):
     address: int
 
 
-def may_change(dma: Dma, watch: DmaWatch) -> bool:
-    """Whether a DMA may write to a range. It may if the range is in a gap between its rows, too."""
-    bank, at, length = watch
-    if dma.to_rdram or bank is RDRAM:
-        span = dma.rows * (dma.length + dma.skip)
-        meets = (at - dma.rdram) % _RDRAM_SIDE < span or (dma.rdram - at) % _RDRAM_SIDE < length
-        return dma.to_rdram and bank is RDRAM and meets
-    return dma.bank is bank
+def run_until_dma(machine: Machine, steps: int, ranges: Sequence[DmaWatch]) -> Stop:
+    """As `machine.run`, but also stops before each DMA that may write to one of these ranges, with Reason.DMA
+    and `dma`, if a step is left."""
+    if not ranges:
+        return machine.run(steps)
+    stop, dma = shapes.Stop(), shapes.Dma()
+    given = (shapes.Range * len(ranges))(*(shapes.Range(*it) for it in ranges))
+    more = steps, given, len(given), byref(stop), byref(dma)
+    status = machine._call_alone("run_until_dma", lib.brsp_run_until_dma, *more)
+    machine._check_done(status, "run_until_dma", [steps])
+    found = stop_of(stop)
+    found.dma = dma_of(dma)
+    return found
 
 
 def _source(dma: Dma, address: int) -> Optional[int]:
@@ -49,10 +57,10 @@ def carriers(machine: Machine, begin: int, end: int, address: int) -> Iterator[C
     """Makes the steps from `begin` to `end`, and yields each DMA that writes a byte of RDRAM."""
     at = begin
     while at < end:
-        stop = machine.event(min(end - at, 1000000))
+        stop = run_until_dma(machine, min(end - at, 1000000), [DmaWatch(RDRAM, address, 1)])
         at += stop.steps
-        if stop.dma and at < end:
-            source = _source(stop.dma, address) if stop.dma.to_rdram else None
+        if stop.dma:
+            source = _source(stop.dma, address)
             if source is not None:
                 yield Carried(at, stop.dma.bank, source)
             machine.step()

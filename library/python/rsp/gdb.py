@@ -19,11 +19,11 @@ from typing import Callable, Dict, List, NamedTuple, Optional, Set, Tuple, Union
 import rsp
 from rsp.dmas import DmaWatch
 from rsp.executed import text_of
-from rsp.gdb_monitor import Monitor, number
+from rsp.gdb_monitor import Monitor
 from rsp.gdb_overlays import IMEM, Overlay, library_list, loaded, overlay
 from rsp.gdb_wire import PACKET, Wire, links
 from rsp.script import ACCUMULATORS as _ACCUMULATORS
-from rsp.script import ASKED, machine_of
+from rsp.script import ASKED, machine_of, number
 from rsp.script import PC as _PC
 from rsp.script import STATE as _STATE
 from rsp.timeline import Watch
@@ -135,7 +135,7 @@ class Stub:
         line.is_interrupted = self._interrupted
         self._was_interrupted = False
         self._refusal, self._news = "nothing was refused", ""
-        self.monitor = Monitor(line, self._changed, self._told, lambda: self._refusal)
+        self.monitor = Monitor(line, self._changed, self._told, lambda: self._refusal, self._overlays)
         self._swaps: Set[DmaWatch] = {DmaWatch(rsp.IMEM, it.address, len(it.code)) for it in self._overlays}
         self._known: List[Overlay] = []  # the overlays that GDB believes to be loaded
         self._held: Optional[Tuple[int, bytes]] = None  # a step, and its reply, for which GDB has to resume

@@ -5,16 +5,18 @@ is a job, which runs for half a second at a time: gdb_side.py asks for the next 
 """
 
 import math
-import re
 import threading
 import time
 from contextlib import contextmanager, suppress
-from typing import Any, Callable, Dict, Generator, Iterator, List, Optional, Tuple, Union
+from typing import Any, Callable, Dict, Generator, Iterator, List, Optional, Sequence, Tuple, Union
 
 import rsp
 import rsp.checks
 import rsp.waits
+from rsp.dmas import carriers
 from rsp.executed import direction, nothing, text_of
+from rsp.gdb_overlays import Overlay, loaded, owner
+from rsp.script import number
 from rsp.writes import byte_of, place
 
 SLICE = 0.5  # how many seconds of a job a packet may take
@@ -39,13 +41,6 @@ monitor task ADDR | pc ADDR | load BANK ADDR HEX | write N VALUE | read N
 monitor regs | vregs | acc | flags | sp | mem BANK ADDR LEN | dis ADDR N
 """
 Job = Generator[str, Optional[bool], str]  # yields where it is, gets whether it has to end, returns the reply
-
-
-def number(text: str) -> int:
-    """The number that a text is, as in scripts."""
-    if not re.fullmatch("[0-9]{1,16}|0x[0-9a-fA-F]{1,16}", text):
-        raise ValueError(f"{text[:80]} isn't a number")
-    return int(text, 16 if "x" in text else 10)
 
 
 def _bank(text: str) -> rsp.Bank:
@@ -78,7 +73,10 @@ def _why(machine: rsp.Machine, pc: int, name: str) -> str:
 
 class Monitor:
     """Carries out commands on a timeline. `changed` is called after a change of the machine, `told` returns
-    what else the user should know, and `refusal` why a breakpoint was refused last."""
+    what else the user should know, and `refusal` why a breakpoint was refused last.
+
+    A sentence about an instruction of one of the `overlays` ends in the overlay's ELF, in parentheses.
+    """
 
     def __init__(
         self,
@@ -86,8 +84,10 @@ class Monitor:
         changed: Callable[[], None],
         told: Callable[[], str],
         refusal: Callable[[], str],
+        overlays: Sequence[Overlay] = (),
     ) -> None:
         self.line, self._changed, self._told, self._refusal = line, changed, told, refusal
+        self._overlays = overlays
         self._job: Optional[Job] = None
         self._end, self._last, self._cut, self._is_first = math.inf, math.inf, False, True
         self._writing: Optional[int] = None  # the step that `wrote` has found
@@ -153,15 +153,20 @@ class Monitor:
         return self._went(lambda: self.line.wrote(name), name)
 
     def _wrote_byte(self, bank: rsp.Bank, address: int) -> Job:
-        """Goes back to the DMA that wrote a byte of RDRAM, and to the step that made the byte it took."""
-        told = ""
+        """Goes back to the DMA that wrote a byte of RDRAM, and to the step that made the byte it took. The
+        DMA may be the next step, because `reverse-continue` stops there at a watch."""
+        told, step = "", self.line.step
         if bank is rsp.RDRAM:
-            found, told = yield from self._search(
-                lambda: self.line.last_dma(address), f"no DMA from %s to %s has written RDRAM {address:06x}"
-            )
-            if not found.dma:
+            dma = next(carriers(self.line.copy_at(step), step, step + 1, address), None)
+            if not dma:
+                found, told = yield from self._search(
+                    lambda: self.line.last_dma(address),
+                    f"no DMA from %s to %s has written RDRAM {address:06x}",
+                )
+                dma = found.dma
+            if not dma:
                 return told
-            bank, address = found.dma.bank, found.dma.address
+            bank, address = dma.bank, dma.address
             told = f"{self._here()}, which took the byte from {bank.name} {address:03x}\n"
         change = yield from self._went(
             lambda: self.line.last_change(bank, address), f"{bank.name} {address:03x}"
@@ -191,7 +196,9 @@ class Monitor:
         return found, without % (found.step, start)
 
     def _here(self) -> str:
-        return f"step {self.line.step}: {self.line.machine.listing(self.line.machine.regs().pc, 1)[0]}"
+        (row,) = self.line.machine.listing(self.line.machine.regs().pc, 1)
+        there = loaded(self._overlays, self.line.machine.memory(rsp.IMEM, 0, 4096))
+        return f"step {self.line.step}: {row}{owner(there, row.address)}"
 
     def _counts(self, first: str = "0") -> Job:
         least, found, end = number(first), nothing(), ""
@@ -203,18 +210,19 @@ class Monitor:
         rows = []
         for (at, word), count in sorted(found.steps.items()):
             other = "" if words[at // 4] == word else "  (another word is there)"
-            rows.append(f"{count:9} {at:03x} {text_of(word, at)}{direction(found, (at, word))}{other}")
+            it = f"{text_of(word, at)}{direction(found, (at, word))}{other}"
+            rows.append(f"{count:9} {at:03x} {it}{owner(self._overlays, at, word)}")
         return "\n".join(rows) + end
 
     def _waits(self) -> Job:
         """Which waits are missing, and where this has looked."""
-        return self._listed(lambda it: rsp.waits.search(it, at_end=True), _NOT_LOOKED_AT)
+        return self._listed(lambda it: rsp.waits.search(it, at_end=True), "none is missing", _NOT_LOOKED_AT)
 
     def _checks(self) -> Job:
         """Which branches are in delay slots, and which DMAs drop bits."""
-        return self._listed(rsp.checks.search, "not looked at: other data")
+        return self._listed(rsp.checks.search, "nothing found", "not looked at: other data")
 
-    def _listed(self, search: Callable[[rsp.Machine], Iterator[Any]], without: str) -> Job:
+    def _listed(self, search: Callable[[rsp.Machine], Iterator[Any]], none: str, without: str) -> Job:
         """What a search on a copy finds, each cause once, and where it has looked."""
         machine, found, steps = (self.line.machine.copy(), {}, 0)  # type: rsp.Machine, Dict[Any, str], int
         if machine.peek(4) & 1:
@@ -222,7 +230,9 @@ class Monitor:
         end = ""
         for it in search(machine):
             if not isinstance(it, int):
-                found.setdefault(it.cause, str(it))
+                code = it.code if isinstance(it, rsp.waits.Missing) else machine.memory(rsp.IMEM, 0, 4096)
+                elf = owner(loaded(self._overlays, code), it.place)
+                found.setdefault((it.cause, elf), f"{it}{elf}")
                 continue
             steps = it
             if self._is_over() and (yield f"{steps} steps looked at, {len(found)} found"):
@@ -230,7 +240,7 @@ class Monitor:
                 break
         end = end or _ENDS.get(machine.step(), f"in {steps} steps, without a halt")
         looked = f"looked at: what this data does from here on, {end}"
-        return "\n".join([*(found.values() or ["none is missing"]), looked, without])
+        return "\n".join([*(found.values() or [none]), looked, without])
 
     def _explained(self, name: str = "") -> Union[str, Job]:
         """Why the last breakpoint was refused, or why a value is what it is after the last step, or after the

@@ -4,11 +4,11 @@ An overlay is loaded if all its bytes are in IMEM. Only GDB reads its ELF, which
 """
 
 import os
-from typing import List, NamedTuple
+from typing import List, NamedTuple, Optional, Sequence
 from xml.sax.saxutils import quoteattr
 
 from rsp.errors import printable
-from rsp.gdb_monitor import number
+from rsp.script import number
 
 IMEM = 0x04001000  # GDB's address of IMEM
 
@@ -36,11 +36,21 @@ def overlay(address: str, elf: str, binary: str) -> Overlay:
     return Overlay(os.path.abspath(elf), at, code)
 
 
-def loaded(overlays: List[Overlay], imem: bytes) -> List[Overlay]:
+def loaded(overlays: Sequence[Overlay], imem: bytes) -> List[Overlay]:
     """The overlays that are in IMEM: of those that begin at one address the longest."""
     found = [it for it in overlays if imem.startswith(it.code, it.address)]
     longest = {it.address: it for it in sorted(found, key=lambda it: len(it.code))}
     return [*longest.values()]
+
+
+def owner(overlays: Sequence[Overlay], at: int, word: Optional[int] = None) -> str:
+    """What a sentence about an instruction ends in: the ELF of the overlay, of these, that has bytes at its
+    address, or this word there. gdb_side.py puts the line in its place if the overlay is loaded.
+    """
+    having = [it for it in overlays if 0 <= at - it.address < len(it.code)]
+    if word is not None:
+        having = [it for it in having if it.code.startswith(word.to_bytes(4, "big"), at - it.address)]
+    return f" ({having[0].elf if len(having) == 1 else 'in several overlays'})" if having else ""
 
 
 def library_list(overlays: List[Overlay]) -> bytes:

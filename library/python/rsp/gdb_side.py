@@ -1,6 +1,7 @@
 """What GDB itself needs for the RSP, with its Python: gdb-multiarch -x "$(rsp-gdb --side)"."""
 
 import importlib
+import os
 import re
 import struct
 import sys
@@ -190,24 +191,34 @@ def awaited(reply: str) -> str:
     return reply[1:]
 
 
-SAID = re.compile(r"(?m)^((?: *\d+ |step \d+: |)([0-9a-f]{3}):? .*?)(, which took.*)?$")
+# A sentence about an instruction, up to its address, to its end, the ELF of its overlay, and what follows.
+SAID = re.compile(r"(?m)^((?: *\d+ |step \d+: |)([0-9a-f]{3}):? .*?)(?: \((/.*)\))?(, which took.*)?$")
 
 
 def with_lines(name: str, reply: str) -> str:
     """The reply of a command with the file and the line of each instruction in it, where GDB knows them."""
     if name == "when":
-        return f"{reply.strip()}{line_of(int(gdb.selected_frame().pc()))}\n"
+        return f"{reply.strip()}{shown_line(int(gdb.selected_frame().pc()))}\n"
     if name not in ("counts", "waits", "wrote", "checks"):
         return reply
-    return SAID.sub(lambda it: f"{it[1]}{line_of(IMEM + int(it[2], 16), it[1])}{it[3] or ''}", reply)
+    return SAID.sub(lambda it: f"{it[1]}{line_of(it[2], it[1], it[3] or '')}{it[4] or ''}", reply)
 
 
-def line_of(address: int, sentence: str = "") -> str:
-    """The file and the line of an address, in parentheses, if GDB knows them. A sentence about an instruction
-    that isn't there, such as one of another overlay, gets none."""
+def shown_line(address: int) -> str:
+    """The file and the line of an address, in parentheses, if GDB knows them."""
     found = gdb.find_pc_line(address)
-    is_there = not sentence or TEXTS.get(address & 0xFFC, (b"", "nop"))[1] in sentence
-    return f" ({found.symtab.filename}:{found.line})" if found.symtab and is_there else ""
+    return f" ({found.symtab.filename}:{found.line})" if found.symtab else ""
+
+
+def line_of(digits: str, sentence: str, elf: str) -> str:
+    """The file and the line of the instruction in a sentence, by the digits of its address and the ELF of its
+    overlay. If the instruction isn't there now, the name of the overlay."""
+    address = IMEM + int(digits, 16)
+    loaded = gdb.solib_name(address) or ""
+    is_loaded = os.path.realpath(loaded) == os.path.realpath(elf) if elf else not loaded
+    is_there = TEXTS.get(int(digits, 16), (b"", "nop"))[1] in sentence
+    line = shown_line(address) if is_loaded and is_there else ""
+    return line or (f" ({os.path.basename(elf)})" if elf else "")
 
 
 @lru_cache(1)
@@ -254,6 +265,20 @@ class Lanes:
         return [] if is_printed else [(it, self.value[it]) for it in "sub"]
 
 
+class Hint:
+    """At a prompt: what to type in place of `$v4.u`, for which GDB has only an error."""
+
+    def __init__(self) -> None:
+        self.last = ""
+
+    def __call__(self) -> None:
+        line = str(gdb.execute("show commands", to_string=True)).rpartition("\n  ")[2]
+        wrong = re.search(r"^ *\d+  (?!mon).*\$v([2-9](?!\d)|[01](?=\.))(\.[sub])?", line)
+        if wrong and line != self.last:
+            gdb.write(f"[rsp] vector registers have two digits: $v0{wrong[1]}{wrong[2] or ''}\n")
+        self.last = line
+
+
 def show(_: object, words: str, __: bool) -> None:
     """`info registers`. GDB's own shows a vector of a MIPS as one number."""
     if not gdb.selected_inferior().pid:
@@ -292,6 +317,7 @@ def start() -> None:
     gdb.frame_filters["rsp"] = same
     for event in gdb.events.stop, gdb.events.before_prompt:  # if the user has a hook-stop, or after a `Quit`
         event.connect(refresh)
+    gdb.events.before_prompt.connect(Hint())
     for event in gdb.events.memory_changed, gdb.events.register_changed:
         event.connect(changed)
     with suppress(gdb.error):  # of a GDB without full screen

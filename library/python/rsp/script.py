@@ -18,6 +18,13 @@ _FAULT = b"fault "
 _EXCERPT = 80  # how many characters of a line a message shows
 
 
+def number(text: str) -> int:
+    """The number that a text is, as scripts have it."""
+    if not re.fullmatch("[0-9]{1,16}|0x[0-9a-fA-F]{1,16}", text):
+        raise ValueError(f"{text[:80]} isn't a number")
+    return int(text, 16 if "x" in text else 10)
+
+
 class ScriptError(Exception):
     """A reply is a fault. `line` is the number of the line in the script, from 1, `text` is that line,
     `fault` the number of the fault, `reply` the whole reply, and `replies` all replies up to it, with it.

@@ -254,6 +254,16 @@ class Difference(ctypes.Structure):
     ]
 
 
+class Range(ctypes.Structure):
+    """`brsp_range` of C."""
+
+    _fields_ = [
+        ("bank", c_uint32),
+        ("address", c_uint32),
+        ("length", c_uint32),
+    ]
+
+
 REPLIES = 16384
 SAVESTATE_VERSION = 1
 SAVESTATE_BYTES = 8976
@@ -304,6 +314,10 @@ CALLS: Dict[str, Tuple[Any, List[Any]]] = {
     "brsp_reg": (c_uint32, [c_void_p, c_uint32, c_void_p]),
     "brsp_regs": (c_uint32, [c_void_p, POINTER(Scalars)]),
     "brsp_run": (c_uint32, [c_void_p, c_uint32, POINTER(Stop)]),
+    "brsp_run_until_dma": (
+        c_uint32,
+        [c_void_p, c_uint32, POINTER(Range), c_size_t, POINTER(Stop), POINTER(Dma)],
+    ),
     "brsp_run_until_move": (c_uint32, [c_void_p, c_uint32, c_uint32, c_uint32, POINTER(Move)]),
     "brsp_save_state": (c_uint32, [c_void_p, c_void_p, c_size_t, c_void_p]),
     "brsp_savestate_check": (c_uint32, [c_void_p, c_void_p, c_size_t, c_void_p]),

@@ -8,7 +8,7 @@ from contextlib import contextmanager, suppress
 from functools import partial
 from typing import Callable, Counter, Iterator, List, NamedTuple, Optional, Set, Tuple, Union
 
-from .dmas import Carried, DmaWatch, carriers, may_change
+from .dmas import Carried, DmaWatch, carriers, run_until_dma
 from .errors import RspError, check_type
 from .executed import Executed, nothing
 from .machine import DMEM, IMEM, RDRAM, Machine
@@ -19,8 +19,8 @@ from .writes import Register, byte_of
 
 _PIECE = 1 << 16  # RDRAM is kept in pieces, which marks share as long as they are equal
 _KEPT = 40 << 20  # the most bytes of RDRAM that marks keep, so that a process stays below 100 MB
-_TO_RDRAM = 1 << 3  # SP_WR_LEN, as a mask of SP registers
 _RUN = 1000000  # the most steps of a run
+_DMAS = 10000  # and the most DMAs that write watched bytes, so that Ctrl-C ends it soon
 _TRACED = 1 << 16  # and of a trace, whose entries are then 2 MiB
 _HISTORY = 256  # steps that the machine undoes by itself; more would not fit into the cache of the processor
 
@@ -82,9 +82,11 @@ class Timeline:
         self.breaks: Set[int] = set()
         self.watches: Set[Watch] = set()
         self.dma_watches: Set[DmaWatch] = set()
+        self._ranges: List[DmaWatch] = []  # those of `dma_watches` while a search may stop at them
         self.is_interrupted: Callable[[], bool] = lambda: False
         self._marks: List[_Mark] = []
         self._rdram: Tuple[bytes, ...] = ()
+        self._searched, self._window = -1, 4096  # where the last search came to, and its next window
         self.changed()
 
     def changed(self) -> None:
@@ -252,11 +254,15 @@ class Timeline:
         return self.machine.copy()
 
     def _windows(self, least: int) -> Iterator[Tuple[int, int]]:
-        """The steps from `least` to the present one in windows between marks, the last window first."""
-        end, window = self.step, 4096
+        """The steps from `least` to the present one in windows between marks, the last window first. Windows
+        grow, also from one search to the next one if that continues it, because each costs a run from a mark.
+        """
+        end = self.step
+        window = self._window if end == self._searched else 4096
         while end > max(0, least):
             mark = self._marks[self._after(end - 1) - 1]
             begin, window = max(mark.step, least, end - window), 64 * window
+            self._searched, self._window = begin, window
             yield begin, end
             end = begin
 
@@ -307,11 +313,13 @@ class Timeline:
         """The machine has breakpoints and watches only while a search may stop at them."""
         numbers: List[int] = []
         try:
+            self._ranges = [*self.dma_watches]
             for place in self.breaks:
                 self.machine.add_break(place)
             numbers += [self.machine.add_watch(*it) for it in self.watches]
             yield
         finally:
+            self._ranges = []
             for place in self.breaks:
                 with suppress(RspError):  # if it couldn't be set
                     self.machine.drop_break(place)
@@ -319,8 +327,8 @@ class Timeline:
                 self.machine.drop_watch(number)
 
     def _advance(self, steps: int) -> Found:
-        """Makes at most this many steps, up to a reason to stop, a change of the caller's, or the end of the
-        first DMA to RDRAM since a mark. Leaves a mark where one is due."""
+        """Makes at most this many steps, up to a reason to stop, or a change of the caller's. Leaves a mark
+        where one is due."""
         after = self._after(self.step)
         is_last = after == len(self._marks)
         end = self._marks[-1].step + self._gap if is_last else self._marks[after].step
@@ -345,30 +353,27 @@ class Timeline:
 
     def _run(self, steps: int) -> Tuple[Reason, int, Union[Watch, DmaWatch, None]]:
         """Runs as `_advance` does: the reason, how many steps it made, and which of `dma_watches` the last
-        one has changed. Only DMAs change IMEM and RDRAM, so with such watches this stops before each DMA."""
+        one has changed, if a search may stop there. Only DMAs change IMEM and RDRAM, so this stops before
+        those that may."""
         made = 0
-        while True:
-            if self.dma_watches:
-                stop = self.machine.event(steps - made)
-            else:
-                orders = 0 if self._rdram_moved else _TO_RDRAM
-                stop = self.machine.run_until_move(steps - made, 0, orders)
+        for _ in range(_DMAS):
+            ranges = [*self._ranges]
+            if not self._rdram_moved:
+                ranges.append(DmaWatch(RDRAM, 0, self.machine.image_length))
+            stop = run_until_dma(self.machine, steps - made, ranges)
             made += stop.steps
-            if stop.reason not in (Reason.MOVE, Reason.DMA):
+            if not stop.dma:
                 return stop.reason, made, None
-            if made == steps:
-                return Reason.LIMIT, made, None
-            last, watch = self._dma(stop)
+            self._rdram_moved = self._rdram_moved or stop.dma.to_rdram
+            last, watch = self._dma()
             made += last.steps
-            if watch or last.reason is not Reason.LIMIT or not self.dma_watches or made == steps:
+            if watch or last.reason is not Reason.LIMIT or made == steps:
                 return last.reason, made, watch
+        return Reason.LIMIT, made, None
 
-    def _dma(self, stop: Stop) -> Tuple[Stop, Optional[DmaWatch]]:
-        """Makes the step of a DMA: its stop, and the shortest of `dma_watches` that it has changed."""
-        dma = stop.dma
-        self._rdram_moved = self._rdram_moved or not dma or dma.to_rdram
-        watches = [it for it in self.dma_watches if dma and may_change(dma, it)]
-        before = [self.machine.memory(*it) for it in watches]
+    def _dma(self) -> Tuple[Stop, Optional[DmaWatch]]:
+        """Makes the step of a DMA: its stop, and the shortest watch that it has changed."""
+        before = [(it, self.machine.memory(*it)) for it in self._ranges]
         last = self.machine.run(1)
-        changed = [it for it, old in zip(watches, before) if self.machine.memory(*it) != old]
+        changed = [it for it, old in before if self.machine.memory(*it) != old]
         return last, min(changed, key=lambda it: it[2]) if changed else None

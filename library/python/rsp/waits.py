@@ -75,7 +75,15 @@ class Transfer(NamedTuple):
         return made[back:] + made[:back]
 
 
-class Missing(NamedTuple):
+class _MissingParts(NamedTuple):
+    transfer: Transfer
+    place: int
+    text: str
+    what: str
+    read: Optional[int] = None
+
+
+class Missing(_MissingParts):
     """An instruction before which a wait is missing: the `transfer`, the instruction's address `place` and
     its `text`, and `what` it does: `loads`, `stores`, `is fetched`, `writes a DMA register` or `ends`. Or the
     instruction is a read in a wait, and `what` is `changes $18 if it repeats`, for the first
@@ -83,13 +91,11 @@ class Missing(NamedTuple):
 
     `read` is None, or the address of the last read of an SP register before the instruction, if the fault
     depends on that read: it happens only if the transfer is still under way there.
+
+    One more attribute isn't an item of the tuple: `code`, the bytes of IMEM there, which tell overlays apart.
     """
 
-    transfer: Transfer
-    place: int
-    text: str
-    what: str
-    read: Optional[int] = None
+    code: bytes = b""
 
     @property
     def cause(self) -> Tuple[int, str]:
@@ -152,7 +158,11 @@ class _Walk:
         return found + more, continues
 
     def _missing(self, transfer: Transfer, pc: int, what: str) -> Missing:
-        return Missing(transfer, pc, self.machine.listing(pc, 1)[0].text, what, self._read)
+        return self._with_code(Missing(transfer, pc, self.machine.listing(pc, 1)[0].text, what, self._read))
+
+    def _with_code(self, found: Missing) -> Missing:
+        found.code = self.machine.memory(IMEM, 0, 4096)
+        return found
 
     def _fetch(self, pc: int) -> List[Missing]:
         brought = [it for it in self.transfers if it.bank == IMEM and not it.to_rdram]
@@ -224,7 +234,8 @@ class _Walk:
         mine, its = ([it.memory(DMEM, 0, 4096)] for it in (turned, out))
         parts = [*turned.get().diff(out.get()), *quadwords(mine, its)][:1]
         whats = (f"changes {it.name} if it repeats" for it in parts)
-        return [Missing(copy.transfers[-1], read.address, read.text, it) for it in whats]
+        found = (Missing(copy.transfers[-1], read.address, read.text, it) for it in whats)
+        return [copy._with_code(it) for it in found]
 
     def _write(self, pc: int, move: Move) -> List[Missing]:
         full = self.transfers[1:]

@@ -99,8 +99,9 @@ class ToyRepository:
         self.root, self.results, self.go = folder / "repository", dict[str, Result](), folder / "go"
         for name in "tools", "runtime":
             shutil.copytree(TOP / name, self.root / name)
-        texts = {"crates.txt": CRATES, "library/c/brsp.h": HEADER, "library/c/brsp_helpers.h": ""}
-        for name in recipe.words("all", "helpers"):
+        texts = {"crates.txt": CRATES, "library/c/brsp.h": HEADER}
+        texts.update({f"library/c/brsp_{name}.h": "" for name in ("helpers", "dmas")})
+        for name in recipe.words("linux", "helpers"):
             texts[f"library/c/helpers/{name}.c"] = f"int brsp_no_{name};\n"
         texts.update({f"compiled/Linux-{PROCESSOR}-{kind}.s": "" for kind in ("rsp", "lib")})
         texts.update({f"crates/{name}": text for name, text in SOURCES.items()})

@@ -37,7 +37,8 @@ def output_of(folder: Path, text: str, compiler: str = "cc") -> str:
 
 def main_of(lines: str) -> str:
     """The text of a program with these lines in its main."""
-    return f'#include "brsp_savestate.h"\n#include <stdio.h>\nint main(void)\n{{\n{lines}\nreturn 0;\n}}\n'
+    headers = '#include "brsp_savestate.h"\n#include "brsp_dmas.h"\n#include <stdio.h>\n'
+    return f"{headers}int main(void)\n{{\n{lines}\nreturn 0;\n}}\n"
 
 
 def assert_passes(program: Path, *words: object, **how: Any) -> None:

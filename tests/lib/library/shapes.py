@@ -4,7 +4,7 @@ import ctypes
 from typing import Any, Dict, List, Tuple
 from typing import Type as Class
 
-from rsp_tools.shapes import crate, library
+from rsp_tools.shapes import crate, native
 from rsp_tools.shapes.interface import Call, Type, c_name
 
 KINDS = {
@@ -16,7 +16,7 @@ KINDS = {
     "usize": ctypes.c_size_t,
     "char": ctypes.c_char,
 }
-PROVED, INTERFACE = crate.interface(), library()
+PROVED, INTERFACE = crate.interface(), native()
 CALLS = [call.name for call in INTERFACE.calls]
 Structure = Class[ctypes.Structure]
 Layout = Tuple[int, List[Tuple[str, int, int]]]  # its size, and name, offset and size of each field

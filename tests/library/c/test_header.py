@@ -86,7 +86,7 @@ def test_layouts(library: Path, folder: Path) -> None:
             lines.append(f'printf("{name}.{field} %zu %zu\\n", {numbers});')
             expected.append(f"{name}.{field} {offset} {width}")
     assert output_of(folder, main_of("\n".join(lines))).splitlines() == expected
-    assert len(layouts) == 20
+    assert len(layouts) == 21
 
 
 @pytest.mark.needs("cc")

@@ -6,6 +6,8 @@
 #include "brsp_compare.h"
 #include "brsp_savestate.h"
 #include "brsp_savestate.h"
+#include "brsp_dmas.h"
+#include "brsp_dmas.h"
 
 static void run(void *self, uint32_t steps)
 {

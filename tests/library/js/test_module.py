@@ -49,7 +49,7 @@ def runner(request: pytest.FixtureRequest) -> Iterator[Runner]:
 def test_names(runner: Any) -> None:
     names = json.loads(runner.test("module.js"))
     assert names["imports"] == []
-    assert {*names["exports"]} == {*header.calls(), "malloc", "free", "memory"}
+    assert {*names["exports"]} == {*header.web_calls(), "malloc", "free", "memory"}
     text = re.sub(r"/\*.*?\*/", "", (wasm.SCRIPTS / "rsp.d.ts").read_text(), flags=re.S)
     declared = re.findall(r"(?m)^export (?:enum|class|const|function) (\w+)", text)
     assert {*names["names"]} == {*declared}

@@ -47,7 +47,9 @@ def test_layouts(folder: Path) -> None:
     need("node")
     (folder / "layouts.mjs").write_text(LAYOUTS)
     output = succeeds("node", folder / "layouts.mjs")
-    assert json.loads(output) == json.loads(json.dumps(shapes.layouts()))
+    layouts = json.loads(json.dumps(shapes.layouts()))
+    del layouts["brsp_range"]  # which only other languages have
+    assert json.loads(output) == layouts
 
 
 def body(head: str) -> str:

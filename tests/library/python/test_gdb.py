@@ -285,6 +285,17 @@ def test_refused_search(folder: Path) -> None:
         assert_parts(shown, ["2\tori $17, $0, 0x80", "halted after 88 steps", "step 1: 004 34110080 ori"])
 
 
+@with_gdb
+def test_hint(folder: Path) -> None:
+    """Of one digit in the name of a vector register, once, and not of the names of `monitor wrote`."""
+    with terminal(folder) as typed:
+        hint = "[rsp] vector registers have two digits: "
+        typed("print $v4.u[1]\n", f"not a structure.\r\n{hint}$v04.u\r\n(gdb)")
+        shown = typed("print $v1\nprint $v04.u[1]\nmonitor wrote $v4\noutput 40+2\n", "42(gdb) ")
+        assert "digits" not in shown
+        typed("print $v1.s\n", f"{hint}$v01.s\r\n(gdb)")
+
+
 MI = """-interpreter-exec console "monitor when"
 monitor goto 20
 -exec-continue

@@ -4,6 +4,7 @@ They fail if a breakpoint of one overlay stops in another, if a run or a step lo
 overlay comes or goes, or if a wrong `--overlay` isn't refused by a sentence.
 """
 
+import re
 import sys
 from pathlib import Path
 from typing import List
@@ -11,9 +12,10 @@ from typing import List
 import pytest
 
 import rsp
+from lib import TOP
 from lib.library import module
 from lib.library.module import loaded
-from lib.processes import run
+from lib.processes import run, succeeds
 from rsp.gdb import Stub
 from rsp.gdb_overlays import overlay
 
@@ -33,11 +35,11 @@ def code(text: str) -> bytes:
     return b"".join(it.to_bytes(4, "big") for it in rsp.assemble(text.replace("; ", "\n")))
 
 
-def stub(folder: Path) -> Stub:
+def stub(folder: Path, first: str = FIRST, second: str = SECOND) -> Stub:
     """The stub of MAIN, whose image has the overlays, as GDB finds it when it connects."""
     machine = loaded(MAIN.replace("; ", "\n"))
     overlays = []
-    for name, at, text in ("one", 0x100, FIRST), ("two", 0x200, SECOND):
+    for name, at, text in ("one", 0x100, first), ("two", 0x200, second):
         machine.load(rsp.RDRAM, at, code(text))
         (folder / f"{name}.bin").write_bytes(code(text))
         (folder / f"{name}.elf").touch()
@@ -89,6 +91,47 @@ def test_breakpoints(folder: Path) -> None:
     assert libraries(asked) == "one"
     for n in range(2, -1, -1):
         assert stops(asked, b"s")[-1].startswith("T05") and asked.line.step == at[1] - n
+
+
+# The same word is at 40c in both, but in the second one alone it is in a delay slot.
+SAME = "nop; jr $31; nop; bne $0, $0, 0"
+SLOT = "nop; nop; jr $31; bne $0, $0, 0"
+BRANCH = "40c: bne $0, $0, 0x400: a branch in the delay slot of the branch at 408"
+
+
+def test_sentences(folder: Path) -> None:
+    """`waits` and `checks` name the overlay that is there when it happens, not the one that is there before,
+    or at the end. `counts` names the one that has the word."""
+    asked = stub(folder, SAME, SLOT)
+    assert f"{BRANCH} ({folder}/two.elf)\n" in asked.monitor.begin("checks")[1]
+    fetched = "400: nop: is fetched before the end of the transfer of 050, to IMEM 400 to 40f"
+    assert f"{fetched} ({folder}/one.elf)\n" in asked.monitor.begin("waits")[1]
+    asked.line.goto(40)
+    assert asked.monitor.begin("checks")[1].startswith("nothing found\nlooked at: ")
+    asked.line.goto(1000)
+    rows = asked.monitor.begin("counts")[1].splitlines()
+    ends = {"000 jal": "jal 0x040", "404 jr": f"({folder}/one.elf)", "408 jr": f"({folder}/two.elf)"}
+    for begin, end in {**ends, "40c bne": "(in several overlays)"}.items():
+        assert [it.endswith(end) for it in rows if it[10:].startswith(begin)] == [True], begin
+
+
+@pytest.mark.needs("gdb-multiarch", "mips-linux-gnu-as")
+def test_lines(folder: Path) -> None:
+    """GDB shows the line of an overlay that is loaded, and otherwise its name."""
+    asked = stub(folder, SAME, SLOT)
+    (folder / "image").write_bytes(asked.line.machine.memory(rsp.RDRAM, 0, 4096))
+    make = TOP / "examples/python/make_elf.py"
+    for name, text, at in ("main", MAIN, "0"), ("one", SAME, "0x400"), ("two", SLOT, "0x400"):
+        (folder / f"{name}.s").write_text(text.replace("; ", "\n").replace("$0, $0, 0", "$0, $0, 0x400"))
+        succeeds(sys.executable, make, "--at", at, f"{name}.s", f"{name}.elf", cwd=folder, env=ENV)
+    parts = [f"--overlay 0x400 {it}.elf {it}.bin" for it in ("one", "two")]
+    connect = f"target remote | {sys.executable} -m rsp.gdb --rdram image {' '.join(parts)}"
+    side = run(*STUB, "--side", env=ENV).stdout.strip()
+    typed = [connect, "load", "monitor goto 10", "monitor checks", "monitor goto 23", "monitor checks"]
+    words = ["gdb-multiarch", "-nx", "-q", "-x", side, "main.elf", "-batch"]
+    words += [part for it in typed for part in ("-ex", it)]
+    shown = run(*words, cwd=folder, env=ENV).stdout
+    assert re.findall(re.escape(BRANCH) + r" \((.*)\)", shown) == ["two.elf", "two.s:4"], shown
 
 
 WRONG = {

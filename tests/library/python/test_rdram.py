@@ -5,12 +5,18 @@ plain machine, which sees what a DMA does by other bytes before it.
 """
 
 import random
+import re
+import sys
+from pathlib import Path
 from typing import List, Optional, Tuple
 
 import pytest
 
 import rsp
+from lib import TOP
+from lib.library import module
 from lib.library.module import loaded
+from lib.processes import succeeds
 from rsp import Reason
 from rsp.dmas import DmaWatch
 from rsp.gdb import Stub
@@ -105,7 +111,15 @@ def test_watches(seed: int) -> None:
         assert line.back() == (Reason.LIMIT, 0, None)
 
 
-SENT = """ori $1, $0, 0x1234
+def test_breakpoint() -> None:
+    """Just after a DMA that writes no watched byte."""
+    line = rsp.Timeline(loaded("mtc0 $0, $c0\nmtc0 $0, $c1\nmtc0 $0, $c2\nmtc0 $0, $c3\nnop\nbreak"))
+    line.dma_watches, line.breaks = {DmaWatch(rsp.RDRAM, 64, 8)}, {12, 16}
+    found = [line.run_to(ANY)[:2] for _ in range(3)]
+    assert found == [(Reason.BREAK, 3), (Reason.BREAK, 4), (Reason.HALT, 6)]
+
+
+SENT = """send: ori $1, $0, 0x1234
 ori $2, $0, 0x300
 sh $1, 2($0)
 mtc0 $0, $c0
@@ -113,6 +127,39 @@ mtc0 $2, $c1
 ori $3, $0, 7
 mtc0 $3, $c3
 break"""
+
+
+TYPED = """target remote | rsp-gdb
+load
+watch *(short *) 0x80000302
+continue
+continue
+reverse-continue
+monitor wrote 0x80000303
+"""
+# What GDB says, in this order: forwards, at the halt, and backwards.
+SHOWN = """New value = 4660
+8\tbreak
+halted after 8 steps
+Old value = 4660
+New value = 0
+7\tmtc0 $3, $c3
+step 6: 018 40831800 mtc0 $3, $c3 (sent.s:7), which took the byte from DMEM 003
+step 2: 008 a4010002 sh $1, 2($0) (sent.s:3)
+3\tsh $1, 2($0)"""
+
+
+@pytest.mark.needs("gdb-multiarch", "mips-linux-gnu-as")
+def test_typed(folder: Path) -> None:
+    """README's headline, of a byte of RDRAM, in GDB."""
+    (folder / "sent.s").write_text(SENT)
+    make = TOP / "examples/python/make_elf.py"
+    succeeds(sys.executable, make, "sent.s", "sent.elf", cwd=folder, env=module.ENV)
+    stub = f"{sys.executable} -m rsp.gdb"
+    side = succeeds(*stub.split(), "--side", env=module.ENV).strip()
+    words = "gdb-multiarch", "-nx", "-q", "-x", side, "sent.elf"
+    shown = succeeds(*words, cwd=folder, env=module.ENV, input=TYPED.replace("rsp-gdb", stub))
+    assert re.search(".*\n(?s:.*)".join(map(re.escape, SHOWN.splitlines())), shown), shown
 
 
 def test_monitor() -> None:

@@ -7,7 +7,7 @@ than a search among the single steps.
 import random
 import re
 from collections import Counter
-from typing import List, Tuple
+from typing import Any, List, Tuple
 
 import pytest
 
@@ -15,6 +15,7 @@ import rsp
 from lib.library.module import loaded
 from lib.pages import block_with, page
 from rsp import Found, Reason
+from rsp.dmas import DmaWatch, run_until_dma
 from rsp_conformance.table import ROWS
 
 # 160 turns. Each stores at changing places; every 32nd sends bytes to RDRAM and brings others, lets go of the
@@ -195,13 +196,34 @@ def test_interrupted(way: str) -> None:
     assert line.machine.reg(1) == (line.step + 2) // 3
 
 
-def test_runs_with_dmas() -> None:
-    """Only the first DMA to RDRAM since a mark ends a run: if each did, many would make it slow."""
+def test_continued_search() -> None:
+    """One that is ended after its first window each time comes to the first step after a few of them."""
+    line = rsp.Timeline(loaded("loop: j loop\nnop"))
+    line.goto(1000000)
+    line.is_interrupted = lambda: True
+    steps = [line.wrote("0x80000010").step for _ in range(3)]
+    assert steps == [1000000 - 4096, 1000000 - 65 * 4096, 0]
+
+
+def test_runs_with_dmas(monkeypatch: pytest.MonkeyPatch) -> None:
+    """After the first DMA to RDRAM none that writes no watched byte stops a run: if each did, a watch would
+    make it many times slower. Of those that do, 10,000 are made before it asks whether to end, and `goto`
+    stops at none."""
     line = rsp.Timeline(loaded("turn: mtc0 $0, $c0\nmtc0 $0, $c1\nmtc0 $0, $c3\nj turn\nnop\n"))
+    line.dma_watches = {DmaWatch(rsp.RDRAM, 8, 8), DmaWatch(rsp.IMEM, 0, 4096)}
+    runs: List[int] = []
+
+    def counted(*given: Any) -> rsp.Stop:
+        runs.append(line.step)
+        return run_until_dma(*given)
+
+    monkeypatch.setattr("rsp.timeline.run_until_dma", counted)
+    assert line.run_to(100000) == (Reason.LIMIT, 100000, None) and runs == [0, 0]
+    line.dma_watches = {DmaWatch(rsp.RDRAM, 7, 8)}
     asked: List[int] = []
     line.is_interrupted = lambda: asked.append(line.step) is not None  # type: ignore[func-returns-value]
-    line.run_to(100000)
-    assert asked == [0, 3]
+    assert line.run_to(200000) == (Reason.LIMIT, 200000, None) and asked == [100000, 149998, 199998]
+    assert line.goto(300000) == 300000 and asked[3:] == [200000]
 
 
 # Changes eight bytes in each 64 KiB of RDRAM, over and over, so that no two marks have a piece in common.

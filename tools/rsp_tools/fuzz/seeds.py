@@ -44,7 +44,7 @@ def short_texts() -> Iterator[str]:
 def calls() -> Iterator[bytes]:
     """Each call three times, on a machine with history and on a session. fuzz/calls.c numbers the calls."""
     made = bytes([0, 0, 4, 9, *bytes(64), 37, 0, 2])
-    return (made + bytes([number, 0, 1, 0, 4, 1, 2, 3]) * 3 for number in range(48))
+    return (made + bytes([number, 0, 1, 0, 4, 1, 2, 3]) * 3 for number in range(50))
 
 
 def scripts() -> Iterator[bytes]:

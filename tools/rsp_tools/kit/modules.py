@@ -53,7 +53,7 @@ PROGRAM = Crate("rsp_main", "src/main.rt", "rsp", (HEAP,), "rsp_main.made")
 LIBRARY = Crate("rsp_c", "src/lib.rt --crate-type staticlib", "lib", (HEAP,), "rsp_c.made")
 # The library in WebAssembly has a mark of its own, because it has the helpers inside, which cc compiles on
 # other systems: a change of a helper makes only this file stale.
-WEB = LIBRARY._replace(end="wasm", parts=(*WITH_HEAP, *helpers.FILES), made="rsp_wasm.made")
+WEB = LIBRARY._replace(end="wasm", parts=(*WITH_HEAP, *helpers.WEB), made="rsp_wasm.made")
 # What is kept to make compiled/ again sooner: the modules, and what their checks found.
 KEPT = LIBRARY.out / "systems"
 

@@ -10,7 +10,7 @@ from .modules import module
 from .rewriting import PSHUFB, rewritten, with_swizzle, without_processor
 from .toolchain import llvm
 
-TRIPLE = "wasm64-unknown-unknown"
+KERNEL, TRIPLE = "wasm", "wasm64-unknown-unknown"  # the first as tools/recipe names it
 FEATURES = ["-msimd128", "-mbulk-memory"]
 CLANG = [f"--target={TRIPLE}", *FEATURES, "-ffreestanding"]
 # Without the name of the processor, because heap.c would ask it for its instruction sets.
@@ -39,12 +39,12 @@ def objects(at: Path) -> List[Path]:
         llvm(
             "clang", *CLANG, "-O2", "-fno-builtin", "-c", "-o", at / f"{name}.o", places.RUNTIME / f"{name}.c"
         )
-    return [*(at / f"{name}.o" for name in LINKED), *helpers.objects(llvm, TRIPLE, at, *FEATURES)]
+    return [*(at / f"{name}.o" for name in LINKED), *helpers.objects(llvm, KERNEL, TRIPLE, at, *FEATURES)]
 
 
 def link(out: Path, files: List[Path], *words: str) -> None:
     """Links files to a module that exports the calls of brsp.h, malloc and free. Its stack is at 0, so that a
     call that needs more is stopped."""
-    exported = [f"--export={it}" for it in [*header.calls(), "malloc", "free"]]
+    exported = [f"--export={it}" for it in [*header.web_calls(), "malloc", "free"]]
     stack = ["--stack-first", "-z", f"stack-size={header.stack()}"]
     llvm("wasm-ld", "-m", "wasm64", "--no-entry", "--strip-all", *stack, *exported, *words, "-o", out, *files)

@@ -1,7 +1,7 @@
 """Writes the calls, structs and numbers of the library for Rust, JavaScript and Python, and the regular calls
 as methods for C++ as well.
 
-It reads those that are proved in crates/rsp_c/src, and the others in library/c/brsp_helpers.h. Comments of
+It reads those that are proved in crates/rsp_c/src, and the others in headers of library/c. Comments of
 Rust's structs are those of the crates, unless comments.tsv has another one for who writes a program. Nobody
 who builds the library needs this: its files are committed.
 """
@@ -22,8 +22,13 @@ def comments() -> Dict[str, str]:
 
 
 def library() -> Interface:
-    """What the library exports: the proved calls, and the helpers over them."""
+    """What the library exports for each language: the proved calls, and the helpers over them."""
     return joined(crate.interface(), header.interface(header.HELPERS))
+
+
+def native() -> Interface:
+    """What it exports outside WebAssembly."""
+    return joined(library(), header.interface(header.DMAS))
 
 
 def files() -> Dict[str, str]:
@@ -32,7 +37,7 @@ def files() -> Dict[str, str]:
     made = [
         rust.files(found, comments(), methods),
         javascript.files(found, methods),
-        python.files(found, methods),
+        python.files(native(), methods),
         c.files(proved),
         cpp.files(methods),
     ]

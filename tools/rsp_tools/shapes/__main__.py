@@ -1,5 +1,5 @@
 """tools/shapes writes the calls, structs and numbers of the library for Rust, JavaScript and Python, as it
-reads them in crates/rsp_c/src and in library/c/brsp_helpers.h, and for these and C++ the methods of regular
+reads them in crates/rsp_c/src and in headers of library/c, and for these and C++ the methods of regular
 calls, with the comments of library/c/brsp.h. It needs Python alone. With --check it writes nothing, and names
 each file that isn't as it would be written.
 

@@ -7,7 +7,7 @@ from typing import Dict, Iterator, List, Tuple
 from rsp_tools import TOP
 from rsp_tools.shapes.interface import PLAIN, Call, Field, Interface, Parameter, Struct, Type, groups, in_one
 
-HELPERS = "library/c/brsp_helpers.h"
+HELPERS, DMAS = "library/c/brsp_helpers.h", "library/c/brsp_dmas.h"
 ELEMENTS = {in_c: name for name, in_c in PLAIN.items()}
 PREFIX = "BRSP_"
 

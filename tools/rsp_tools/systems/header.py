@@ -1,4 +1,4 @@
-"""What library/c/brsp.h and brsp_helpers.h declare, the version of the project, and templates with both."""
+"""What the headers of library/c declare, the version of the project, and templates with both."""
 
 import re
 from pathlib import Path
@@ -22,12 +22,17 @@ def declared(path: Path) -> List[str]:
 
 def helpers() -> List[str]:
     """Those of the helpers."""
-    return declared(places.HELPERS)
+    return declared(places.HELPERS) + declared(places.DMAS)
 
 
 def calls() -> List[str]:
     """All that the library exports."""
     return declared(places.HEADER) + helpers()
+
+
+def web_calls() -> List[str]:
+    """All that it exports in WebAssembly."""
+    return declared(places.HEADER) + declared(places.HELPERS)
 
 
 def interface() -> str:

@@ -29,7 +29,7 @@ def link_library(to: Path, triple: str, assembly: Path) -> None:
     words: List[Word] = ["-install_name", "@rpath/libbrsp.dylib", "-current_version", header.version()]
     words += ["-compatibility_version", header.interface(), "-exported_symbols_list", exports]
     with tempfile.TemporaryDirectory() as at:
-        link(to, triple, "-dylib", *words, made, *helpers.objects(call, triple, Path(at)))
+        link(to, triple, "-dylib", *words, made, *helpers.objects(call, KERNEL, triple, Path(at)))
 
 
 def link_program(to: Path, triple: str, *parts: Path) -> None:

@@ -49,14 +49,14 @@ def make_library(out: Path, at: Path) -> None:
     exports = at / "rsp.def"
     exports.write_text("".join(f"{it}\n" for it in ("LIBRARY brsp.dll", "EXPORTS", *header.calls())))
     words = ["-shared", "-s", SAME, BASE, *recipe.words(TARGET.name, "link", "link-library")]
-    gnu = [at / "gnu.o", *helpers.objects(call, GNU, at)]
+    gnu = [at / "gnu.o", *helpers.objects(call, TARGET.name, GNU, at)]
     parts = *gnu, resources(at, "brsp.dll", "VFT_DLL"), exports
     call(TARGET.compiler, *words, "-o", out / TARGET.shared, *parts)
     for name in "libbrsp.dll.a", "brsp.lib":
         words = ["-m", "i386:x86-64", "-D", "brsp.dll", "-l", str(out / "lib" / name)]
         call("llvm-dlltool", *words, "-d", exports)
     call("llvm-ar", "rcsD", out / "lib/libbrsp.a", *gnu)
-    msvc = [at / "msvc.o", *helpers.objects(call, MSVC, at)]
+    msvc = [at / "msvc.o", *helpers.objects(call, TARGET.name, MSVC, at)]
     # It names the objects by their paths from where the library is.
     call("llvm-lib", "/out:brsp_static.lib", *(it.name for it in msvc), folder=at)
     shutil.copyfile(at / "brsp_static.lib", out / "lib/brsp_static.lib")
