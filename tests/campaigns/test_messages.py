@@ -70,10 +70,10 @@ def test_difference_of_a_word_with_ignored_bits(folder: Path) -> None:
     words = ("python:emulator:WrongShift", "--instructions", "sra")
     output = output_of(folder, *words, "--cases", 200, "--programs", 1)
     assert re.search(rf"SRA-g2-1-\d+ \({IGNORED} at \w+; ", output), output
-    assert re.search(rf"PROGRAM-g3-1-000000: step \d+, {IGNORED}: \$\d+: expected", output), output
+    assert re.search(rf"PROGRAM-g4-1-000000: step \d+, {IGNORED}: \$\d+: expected", output), output
     assert results_of(folder)["program-0-1.json"]["kinds"]["SRA"][0] == 1
-    output = campaign(*words, "--case", "PROGRAM-g3-1-000000", folder).stdout
-    pattern = rf"PROGRAM-g3-1-000000 is cut down to 1 step from address \w+:\n\w+: {IGNORED}\n"
+    output = campaign(*words, "--case", "PROGRAM-g4-1-000000", folder).stdout
+    pattern = rf"PROGRAM-g4-1-000000 is cut down to 1 step from address \w+:\n\w+: {IGNORED}\n"
     assert re.search(pattern, output), output
 
 
