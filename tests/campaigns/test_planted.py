@@ -138,7 +138,7 @@ def generated(program: Path, folder: Path, numbers: range, *names: str) -> None:
     assert not [*generate.generate([ROWS[name.lower()] for name in names], write, folder)]
 
 
-@pytest.mark.parametrize("cases", (0, 20), ids=("small set", "new cases"))
+@pytest.mark.parametrize("cases", (0, 24), ids=("small set", "new cases"))
 def test_core_agrees_in_vectors(cases: int, program: Path, folder: Path) -> None:
     """A core that was written from the pages alone passes the vectors, and new ones, steps and programs."""
     if cases:
