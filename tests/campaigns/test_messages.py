@@ -26,9 +26,9 @@ from rsp_conformance.table import ROWS, ignored_bits, row_of
 if is_here("python:numpy"):
     import numpy as np
     from rsp_conformance.campaign.compare import kinds_of, named
-    from rsp_conformance.campaign.generator import END, cases_of
+    from rsp_conformance.campaign.generator import END, cases_of, memories_of
     from rsp_conformance.campaign.operands_read import in_brief
-    from rsp_conformance.campaign.worker_process import check_cases
+    from rsp_conformance.campaign.worker_process import Cases, check_cases
 
 pytestmark = [pytest.mark.needs("cc", "python:numpy"), pytest.mark.usefixtures("library")]
 
@@ -155,7 +155,8 @@ def test_bytes_that_differ(kind: str, folder: Path) -> None:
 
 def test_differences_that_are_shown() -> None:
     """Of a task as many as of a batch, because to show one takes longer than to run a thousand cases."""
-    batches = check_cases(faulty(5), "sb", "1", 0, 2 * BATCH, np.zeros(BATCH, END))
+    cases = Cases(faulty(5), "sb", "1", memories_of("sb", "1"))
+    batches = check_cases(cases, 0, 2 * BATCH, np.zeros(BATCH, END))
     assert [len(batch.get("shown", [])) for batch in batches] == [0, SHOWN, 0]
 
 

@@ -32,7 +32,7 @@ pytestmark = [pytest.mark.needs("cc", "python:numpy"), pytest.mark.usefixtures("
 CORE = CONFORMANCE / "second/second.c"
 CASES = 65536
 PROGRAM_RANGES = ((0, 4), (5, 19), (20, 99))  # until one of them has a difference
-OPTIONS = {"instructions": [*ROWS], "steps": 1000, "limit": 20, "files": [], "whole": False}
+OPTIONS = {"instructions": [*ROWS], "steps": 1000, "limit": 20, "files": [], "stored": "", "whole": False}
 DMEM, IMEM, RDRAM = 0, 4096, 8192
 
 

@@ -6,7 +6,7 @@ It sends the result of each batch to the campaign.
 import mmap
 import time
 from multiprocessing.connection import Connection
-from typing import Iterator, List, Set
+from typing import Dict, Iterator, List, Set, Tuple
 
 import numpy as np
 import rsp
@@ -26,10 +26,22 @@ WHY_NOT_THERE = f"because the emulator answers that the word is reserved (status
 class Cases:
     """Cases of an instruction on both sides."""
 
-    def __init__(self, spec: str, name: str, seed: str) -> None:
-        self.name, self.seed, self.memories = name, seed, memories_of(name, seed)
+    def __init__(self, spec: str, name: str, seed: str, memories: Array) -> None:
+        self.name, self.seed, self.memories = name, seed, memories
         self.sides, self.expected = Sides(spec, self.memories), np.zeros(BATCH, END)
         self.kinds: Set[str] = set()  # those whose first case was shown
+
+    def made(self, at: int, n: int) -> Tuple[Array, Dict[str, Array]]:
+        """Cases, and which of them depend on each rule of our own choice."""
+        return cases_of(self.name, self.seed, at, n)
+
+    def run(self, at: int, cases: Array, ends: Array) -> Array:
+        """Runs cases on both sides, and returns which differ."""
+        return self.sides.run(cases, self.expected[: len(cases)], ends)
+
+    def title(self, number: int) -> str:
+        """The name of a case."""
+        return name_of(self.name, self.seed, number)
 
     def memories_after(self, case: Array, expected: Array, got: Array) -> List[str]:
         """The differences in memories, by address if the emulator executed the case and can show them."""
@@ -41,7 +53,7 @@ class Cases:
     def head(self, number: int, case: Array) -> str:
         """The name of a case, with its word."""
         pc = int(case["state"]["pc"])
-        return f"{name_of(self.name, self.seed, number)} ({named(int(case['word']), pc)} at {pc:03x}"
+        return f"{self.title(number)} ({named(int(case['word']), pc)} at {pc:03x}"
 
     def describe(self, number: int, case: Array, expected: Array, got: Array, in_full: bool) -> str:
         """A case that differs, on one line, or on several with all that it reads."""
@@ -63,9 +75,9 @@ class Cases:
 
     def batch(self, at: int, n: int, ends: Array, room: int, in_full: bool) -> Result:
         """The result of `n` cases, with at most `room` shown, because showing one takes milliseconds."""
-        cases, choices = cases_of(self.name, self.seed, at, n)
+        cases, choices = self.made(at, n)
         ends["status"] = UNDONE
-        differ = self.sides.run(cases, self.expected[:n], ends[:n])
+        differ = self.run(at, cases, ends[:n])
         statuses = ends["status"][:n]
         if (statuses == UNDONE).any():
             raise CampaignFault("it answered too few cases")
@@ -99,10 +111,10 @@ class Cases:
 
 
 def check_cases(
-    spec: str, name: str, seed: str, start: int, count: int, ends: Array, in_full: bool = False
+    cases: Cases, start: int, count: int, ends: Array, in_full: bool = False
 ) -> Iterator[Result]:
     """Yields an empty result when both sides have begun, and then the result of each batch."""
-    cases, room = Cases(spec, name, seed), SHOWN
+    room = SHOWN
     yield {"count": 0, "unseen": cases.sides.unseen}
     for at in range(start, start + count, BATCH):
         result = cases.batch(at, min(BATCH, start + count - at), ends, room, in_full)
@@ -114,12 +126,18 @@ def main(shared: int, pipe: int) -> None:
     """The ends of the present batch are in shared memory, so the parent knows which cases are done."""
     connection, used = Connection(pipe), 0.0
     (spec, name, seed, start, count), options = connection.recv()
-    if name == PROGRAM:
+    if options["stored"]:
+        from .stored_cases import results_of  # here, because it builds on this module
+
+        ends = np.frombuffer(mmap.mmap(shared, 0), END)
+        results = results_of(spec, name, start, count, ends, options)
+    elif name == PROGRAM:
         check = console_programs.check_programs if spec.startswith("console:") else check_programs
         results = check(spec, seed, start, count, options["instructions"], options["steps"])
     else:
         ends = np.frombuffer(mmap.mmap(shared, 0), END)
-        results = check_cases(spec, name, seed, start, count, ends, options["whole"])
+        cases = Cases(spec, name, seed, memories_of(name, seed))
+        results = check_cases(cases, start, count, ends, options["whole"])
     try:
         for result in results:
             before, used = used, time.process_time()
