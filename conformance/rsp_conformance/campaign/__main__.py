@@ -28,7 +28,7 @@ from .hashes import library
 from .output_folder import MOST, OutputFolder, settings_in
 from .known import Known, gone, is_known, known_in, lines_for, write_known
 from .report import html_table, is_as_known, results_in, summary, task_of, text_table
-from .protocol import PROGRAM, VERSION, VERSIONS, Result, name_of, plural
+from .protocol import ALL_WORDS, PROGRAM, VERSION, VERSIONS, WORDS, Result, name_of, plural
 from .supervise import check
 from .workers import options_of, results
 
@@ -221,7 +221,7 @@ def folder_of(text: str) -> str:
 def case_of(text: str) -> Tuple[str, str, int, int]:
     """The instruction, the seed, the first and the last number of a case's name."""
     found = re.fullmatch(r"(\w+?)(?:-g(\d+))?-([a-z0-9]+)-(\d+)(?:\.\.(\d+))?", text)
-    if found and found[1].lower() in (*INSTRUCTIONS, PROGRAM):
+    if found and found[1].lower() in (*INSTRUCTIONS, PROGRAM, WORDS):
         first, last, version = int(found[4]), int(found[5] or found[4]), int(found[2] or 1)
         name = found[1].lower()
         if version != (own := VERSIONS.get(name, VERSION)):
@@ -255,6 +255,8 @@ def arguments() -> argparse.Namespace:
         help="writes such a list of all differences of this campaign",
     )
     add("--stored", type=folder_of, metavar="FOLDER", help="runs test vectors, and no random cases")
+    reserved = f"also {ALL_WORDS} words, of which the reserved ones have to be refused (no)"
+    add("--reserved", action="store_true", help=reserved)
     add("--scheduler", metavar="ADDRESS", help="runs the tasks on a cluster of Dask")
     case = name_of("vadd", "7", 123)
     names = f"{case}, {case}..000130, or {name_of(PROGRAM, '7', 5)}"
@@ -266,6 +268,8 @@ def arguments() -> argparse.Namespace:
         stop("it needs a folder OUT")
     if args.stored and (args.case or args.emulator.startswith("console:")):
         stop("--stored is neither for --case nor for a console")
+    if args.reserved and (args.stored or args.emulator.startswith("console:")):
+        stop("--reserved is neither for --stored nor for a console")
     if args.write_known and args.case:
         stop("--case writes no list of known differences")
     if args.write_known and args.write_known.exists() and not args.known:

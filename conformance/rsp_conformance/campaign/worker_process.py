@@ -14,7 +14,7 @@ import rsp
 from . import CampaignFault, Unusable, console_programs, operands_read
 from .generator import END, Array, cases_of, memories_of
 from .random_programs import check_programs
-from .protocol import BATCH, NOT_THERE, PROGRAM, RESERVED, SHOWN, UNDONE, UNSHOWN, Kinds, Result, name_of
+from .protocol import BATCH, NOT_THERE, PROGRAM, RESERVED, SHOWN, UNDONE, UNSHOWN, WORDS, Kinds, Result, name_of
 from .explaining import command_for
 from .known import choices_of
 from .compare import Sides, differences, in_brief, kinds_of, named
@@ -135,8 +135,10 @@ def main(shared: int, pipe: int) -> None:
         check = console_programs.check_programs if spec.startswith("console:") else check_programs
         results = check(spec, seed, start, count, options["instructions"], options["steps"])
     else:
+        from .reserved_words import ReservedWords  # here, because it builds on this module
+
         ends = np.frombuffer(mmap.mmap(shared, 0), END)
-        cases = Cases(spec, name, seed, memories_of(name, seed))
+        cases = (ReservedWords if name == WORDS else Cases)(spec, name, seed, memories_of(name, seed))
         results = check_cases(cases, start, count, ends, options["whole"])
     try:
         for result in results:
