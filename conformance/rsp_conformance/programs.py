@@ -320,7 +320,7 @@ SP_WORDS = {0: "SP_MEM_ADDR", 1: "SP_DRAM_ADDR", 2: "SP_RD_LEN", 3: "SP_WR_LEN",
 
 
 def add_sp(program: Program, case: Case) -> None:
-    """MFC0 and MTC0 of registers that start nothing, a DMA's addresses, SP_STATUS, the semaphore; and DMAs."""
+    """MFC0 and MTC0: a DMA's addresses, SP_STATUS, the semaphore, and DMAs."""
     number, random = int(case.name[-3:]), Random("sp", case.name)
     c, value, t = (0, 1, 4, 7)[number % 4], random.below(1 << 32), case.fields["t"] or 5
     if c != 4 and not is_older(case):

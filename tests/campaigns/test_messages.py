@@ -28,7 +28,7 @@ if is_here("python:numpy"):
     from rsp_conformance.campaign.compare import kinds_of, named
     from rsp_conformance.campaign.generator import END, cases_of, memories_of
     from rsp_conformance.campaign.operands_read import in_brief
-    from rsp_conformance.campaign.worker_process import Cases, check_cases
+    from rsp_conformance.campaign.batches import Cases, check_cases
 
 pytestmark = [pytest.mark.needs("cc", "python:numpy"), pytest.mark.usefixtures("library")]
 

@@ -14,7 +14,7 @@ MISSED lists the faults that one of these doesn't find. No fault is missed by al
 import ctypes
 import re
 from pathlib import Path
-from typing import Any, Dict, Iterator, List, Tuple
+from typing import Any, Dict, Iterator, List, Set, Tuple
 
 import pytest
 
@@ -43,7 +43,7 @@ def table(name: str) -> Dict[int, List[str]]:
 
 
 BUGS = {0: [*ROWS], **{bug: names.split(",") for bug, (_, names, _) in table("bugs.tsv").items()}}
-MISSED = {
+MISSED: Dict[str, Set[int]] = {
     "cases": set(),
     "programs": {11, 24, 33, 64, 97, 104},
     "vectors": {14, 25, 61, 97, 98},

@@ -38,7 +38,9 @@ def test_emulator_that_takes_all_words(folder: Path) -> None:
     """It differs at each word of which the instruction table has no row."""
     source = folder / "nop.c"
     source.write_text(block_with("docs/CAMPAIGN.md", '#include "cases.h"'))
-    emulator = compiled(folder / "nop.so", "-O2", "-shared", "-fPIC", f"-I{HEADERS}", f"-I{TOP}/library/c", source)
+    emulator = compiled(
+        folder / "nop.so", "-O2", "-shared", "-fPIC", f"-I{HEADERS}", f"-I{TOP}/library/c", source
+    )
     output = output_of(folder / "out", emulator, *WORDS)
     words = words_of(np.arange(ALL_WORDS))
     known = np.any([words & row.mask == row.value for row in ROWS.values()], 0)

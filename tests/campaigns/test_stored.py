@@ -18,7 +18,9 @@ COUNTS = {name.lower(): (len(entries_in(VECTORS, name)), 0, 0) for name in NAMES
 PROGRAMS = sum(len(manifest_in(VECTORS, name)["programs"]) for name in NAMES)
 
 
-@pytest.mark.parametrize("emulator", ["", "python:emulator:Machine", EMULATOR], ids=["object", "python", "command"])
+@pytest.mark.parametrize(
+    "emulator", ["", "python:emulator:Machine", EMULATOR], ids=["object", "python", "command"]
+)
 def test_library_agrees(emulator: str, folder: Path) -> None:
     """Each adapter is given all cases, also those whose DMA is past a campaign's RDRAM, and all programs."""
     output = output_of(folder, emulator or built("library"), *STORED)
@@ -65,7 +67,11 @@ class Mine(Machine):
 @pytest.mark.parametrize("name, word", [("VADD-007", ""), ("VADD-1", "VADD-1.imem")])
 def test_fault(name: str, word: str, folder: Path) -> None:
     """A case, or a program, at which an adapter crashes is named, and the others are run."""
-    first = (VECTORS / f"programs/{word}").read_bytes()[:4].hex() if word else entries_in(VECTORS, "VADD")[7]["word"]
+    first = (
+        (VECTORS / f"programs/{word}").read_bytes()[:4].hex()
+        if word
+        else entries_in(VECTORS, "VADD")[7]["word"]
+    )
     (folder / "mine.py").write_text(CRASHES.replace("WORD", first))
     words = ("python:mine:Mine", "--stored", VECTORS, "--instructions", "vadd", "--here", "out")
     ended = campaign(*words, cwd=folder)
@@ -74,5 +80,7 @@ def test_fault(name: str, word: str, folder: Path) -> None:
 
 
 def test_instruction_that_is_missing(folder: Path) -> None:
-    output = output_of(folder, f"node {TOP}/examples/js/cases.mjs", "--stored", VECTORS, "--instructions", "vadd,sra")
+    output = output_of(
+        folder, f"node {TOP}/examples/js/cases.mjs", "--stored", VECTORS, "--instructions", "vadd,sra"
+    )
     assert f"VADD ({COUNTS['vadd'][0]} of {COUNTS['vadd'][0]} cases)" in output

@@ -2,11 +2,12 @@
 
 EMULATOR is FILE.so, plugin:FILE.so, python:MODULE:CLASS, or a command; docs/CAMPAIGN.md describes each. OUT
 is the campaign's folder: a file for each task, table.txt, table.html, and in programs/ the programs that
-differ, cut down. With --stored the cases and programs are those of test vectors. A campaign that was stopped continues when it is started again: tasks with a result in OUT
-aren't run again, as long as the emulator's files have the same contents. They are the files that EMULATOR
-names, and those of --files. With --case, OUT gives the instructions of a program. The last 20 lines that an
-emulator writes are shown with its fault. The status is 0 if nothing differs except what the file of --known
-lists, 1 if something else differs, and 2, with a sentence, if a task isn't done or the campaign can't begin.
+differ, cut down. With --stored the cases and programs are those of test vectors. A campaign that was stopped
+continues when it is started again: tasks with a result in OUT aren't run again, as long as the emulator's
+files have the same contents. They are the files that EMULATOR names, and those of --files. With --case, OUT
+gives the instructions of a program. The last 20 lines that an emulator writes are shown with its fault. The
+status is 0 if nothing differs except what the file of --known lists, 1 if something else differs, and 2, with
+a sentence, if a task isn't done or the campaign can't begin.
 """
 
 import argparse

@@ -49,9 +49,11 @@ REPEATED = 8 // np.array([len(set(lanes)) for lanes in SELECTED.tolist()])
 # How many skips (in eights), counts and lengths a DMA may have, by its kind: in one of 16 cases each one row
 # of any length, up to 256 rows, two rows with any skip, and two rows or up to 256, which overlap in DMEM if
 # they have more than its bytes; otherwise up to four short rows.
-TRANSFERS = np.array([(512, 1, 4096), (3, 256, 8), (512, 2, 25), (1, 2, 4096), (1, 256, 32), *11 * [(9, 4, 25)]])
-# Where a DMA begins in RDRAM: in one of 16 cases each close to the end of RDRAM or of its addresses, which the
-# DMA may pass, otherwise in the lower half of RDRAM, whose end it doesn't pass then.
+TRANSFERS = np.array(
+    [(512, 1, 4096), (3, 256, 8), (512, 2, 25), (1, 2, 4096), (1, 256, 32), *11 * [(9, 4, 25)]]
+)
+# Where a DMA begins in RDRAM: in one of 16 cases each close to the end of RDRAM or of its addresses, which
+# the DMA may pass, otherwise in the lower half of RDRAM, whose end it doesn't pass then.
 ENDS, NEAR_END = np.array([MEMORIES - RDRAM, 1 << 24, *14 * [0]]), 1024
 FIRST_EDGE = 116  # a byte from here on chooses an edge
 EDGE = LANES[np.arange(256) % len(LANES)].astype(np.uint16)

@@ -14,7 +14,18 @@ from .protocol import ALL_WORDS, PROGRAM, VERSION, VERSIONS, WORDS, Result, Task
 from .report import file_of, result_in, task_of
 
 # The options that decide a campaign's cases and programs.
-SETTINGS = ("emulator", "instructions", "seed", "cases", "size", "programs", "programs_size", "steps", "stored", "reserved")
+SETTINGS = (
+    "emulator",
+    "instructions",
+    "seed",
+    "cases",
+    "size",
+    "programs",
+    "programs_size",
+    "steps",
+    "stored",
+    "reserved",
+)
 MOST = 1 << 53  # the numbers of a campaign are smaller
 # What it means that a campaign has another hash.
 CHANGED = {

@@ -10,7 +10,7 @@ import numpy as np
 
 from .generator import Array, cases_of
 from .protocol import RESERVED, UNSHOWN
-from .worker_process import Cases
+from .batches import Cases
 
 OPCODES_FROM = 13  # the bits of a case's number that aren't its opcode
 STATES_OF = "add"  # any instruction, whose cases have any state

@@ -21,7 +21,7 @@ from .emulators import digest, load_all, memories_in
 from .generator import BANKS, CASE, END, IMEM, MEMORIES, RDRAM, STATE, Array
 from .protocol import PROGRAM, RESERVED, UNSHOWN, Options, Result
 from .stored import named_in
-from .worker_process import Cases, check_cases
+from .batches import Cases, check_cases
 
 LENGTH = 1 << 17  # of the RDRAM of the vectors, whose DMAs are in WINDOW, or close to an end
 WINDOW_DOWN, END_DOWN = bench.WINDOW - 0x2000, LENGTH - (MEMORIES - RDRAM)
@@ -120,7 +120,9 @@ class StoredCases(Cases):
         load_all(self.emulator, place.memories)
         self.emulator.run(1)
         state, memories = self.emulator.get(), memories_in(self.emulator)
-        end["state"], end["changed"] = np.frombuffer(bytes(state), STATE)[0], digest()(place.memories, memories)
+        end["state"], end["changed"] = np.frombuffer(bytes(state), STATE)[0], digest()(
+            place.memories, memories
+        )
         self.memories_found[case.tobytes()] = in_words(quadwords(place.memories_after, memories))
         is_same = state == place.before and memories == place.memories
         end["status"] = RESERVED if is_same else 0  # last: it says that the case is done
@@ -167,15 +169,13 @@ def check_programs(spec: str, entries: List[Entry], folder: Path) -> Iterator[Re
         return
     for entry in entries:
         images = (memory_in(folder / f"{entry['name']}.{kind}") for kind in ("imem", "dmem", "after"))
-        found, result = complaints.of_program(entry, Program(emulator, entry["steps"]), *images), {"count": 1}
-        if found:
-            line = f"{entry['name']}: {in_brief(found)}"
-            kinds = {entry["name"].rpartition("-")[0]: [1, line]}
-            result.update(differ=1, kinds=kinds, shown=[line])
-        yield result
+        found = complaints.of_program(entry, Program(emulator, entry["steps"]), *images)
+        line = f"{entry['name']}: {in_brief(found)}" if found else ""
+        kinds = {entry["name"].rpartition("-")[0]: [1, line]}
+        yield {"count": 1, **({"differ": 1, "kinds": kinds, "shown": [line]} if found else {})}
 
 
-def results_of(
+def results_of_stored(
     spec: str, name: str, start: int, count: int, ends: Array, options: Options
 ) -> Iterator[Result]:
     """The results of a task."""
