@@ -94,15 +94,15 @@ class Program:
         case.pc, case.word = 4 * self.words, word
         self.emit(f".word 0x{word:08x}")
 
-    def close(self, case: Case, at: int, fields: Layout) -> None:
-        """Adds a case, whose results are at an address."""
+    def close(self, case: Case, at: int, fields: Layout, choice: str = "") -> None:
+        """Adds a case, whose results are at an address, and show a choice."""
         entry = {"name": case.name, "pc": f"{case.pc:03x}", "word": f"{case.word:08x}", "text": ""}
         entry.update(at=f"{at:03x}", layout=self.layout(fields))
         # The programs don't show the choices of the other forms.
-        if case.row.form in JUMPS and not is_older(case):
-            entry["choice"] = "branch in a delay slot"
-        elif case.choice and case.row.form not in (*JUMPS, *SP_MOVES, "break"):
-            entry["choice"] = case.choice
+        if case.row.form not in (*JUMPS, *SP_MOVES, "break"):
+            choice = case.choice or ""
+        if choice:
+            entry["choice"] = choice
         self.cases.append(entry)
 
 
@@ -312,7 +312,7 @@ def save_jump(program: Program, case: Case, path: int) -> None:
     saved.word("path", path)
     if links:
         saved.word("link", fields["d"] if row.form == "link register" else 31)
-    program.close(case, saved.start, saved.fields)
+    program.close(case, saved.start, saved.fields, "" if is_older(case) else "branch in a delay slot")
 
 
 SP_WORDS = {0: "SP_MEM_ADDR", 1: "SP_DRAM_ADDR", 2: "SP_RD_LEN", 3: "SP_WR_LEN",
@@ -380,7 +380,7 @@ def add_transfer(program: Program, case: Case) -> None:
         transfer(program, IMEM_END, 3, LONGEST - 1)
     if inside != result:
         transfer(program, result, 2, AREA - 1)
-    program.close(case, saved.start, saved.fields)
+    program.close(case, saved.start, saved.fields, "skip of the last row" if skip > 7 else "")
 
 
 def add_break(program: Program, case: Case) -> None:

@@ -316,5 +316,7 @@ def cases_of(name: str, seed: str, start: int, count: int) -> Tuple[Array, Dict[
     cases["state"]["words"][:, 0] = 0
     word = word_of(row, fields)
     cases["word"] = np.where(d.one_in(10), word | d.any() & ignored_bits(row), word)
-    found = vectors.choices(row, fields, cases["state"]["pc"], cases["state"]["npc"], fields.get("at"))
+    state = cases["state"]
+    value = state["words"][d.all, fields["t"]] if "t" in fields else 0
+    found = vectors.choices(row, fields, state["pc"], state["npc"], fields.get("at"), cases["word"], value)
     return cases, {choice: holds & np.ones(count, bool) for choice, holds in found}
