@@ -19,10 +19,15 @@ import sys
 from pathlib import Path
 from typing import Any, Dict, Iterator, List, Tuple
 
-from steps import MALFORMED, printable
+Difference = Tuple[str, str, str]  # what differs, what is expected, and what was found
 
 MEMORY = 4096
-Difference = Tuple[str, str, str]  # what differs, what is expected, and what was found
+MALFORMED = (ValueError, KeyError, TypeError, AttributeError, IndexError, RecursionError)  # of no manifest
+
+
+def printable(text: str) -> str:
+    """A text on one line, with each character that controls a terminal as its escape, such as \\x1b."""
+    return "".join(c if c.isprintable() else c.encode("unicode_escape").decode() for c in text)
 
 
 def fields_of(program: Dict[str, Any]) -> Dict[int, str]:

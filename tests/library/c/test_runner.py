@@ -109,7 +109,9 @@ def test_changed(
     (folder / "choice.bin").write_bytes(with_number(false, 16 + 8, 1))
     ran = run(runner, folder / "changed.bin", folder / "choice.bin")
     form = rf"SW-000 \((sw .*\(.*\))%s\), {re.escape(name)}: expected (\w{{{digits}}}), got (\w{{{digits}}})"
-    found = re.fullmatch(rf"{form % ''}\n{form % ', choice'}\n38 passed, 2 failed\nfailed: 2 of SW\n", ran.stdout)
+    found = re.fullmatch(
+        rf"{form % ''}\n{form % ', choice'}\n38 passed, 2 failed\nfailed: 2 of SW\n", ran.stdout
+    )
     assert ran.returncode == 1 and found, ran.stdout
     assert found.groups()[:3] == found.groups()[3:]
     assert int(found[2], 16) ^ int(found[3], 16) in (1, 1 << 8, 1 << 16), ran.stdout
