@@ -14,8 +14,9 @@ if is_here("python:numpy"):
     import numpy as np
     from rsp_conformance.campaign.build import built
     from rsp_conformance.campaign.emulators import Object
-    from rsp_conformance.campaign.generator import END, MEMORIES, RDRAM, SELECTED, Draw
+    from rsp_conformance.campaign.generator import END, IMEM, MEMORIES, RDRAM, SELECTED, Draw
     from rsp_conformance.campaign.generator import bytes_of, cases_of, memories_of
+    from rsp_conformance.campaign.random_programs import program_of
 
 pytestmark = pytest.mark.needs("cc", "python:numpy")
 
@@ -111,6 +112,19 @@ def test_transfers() -> None:
     assert last[at < end // 2].max() <= end
     passes = ((last > edge) & (at < edge) & (at > edge - 2048) for edge in (end, 1 << 24))
     assert all(them.sum() > 50 for them in (*passes, (count + 1) * length > 4096))
+
+
+def test_signals_in_programs(library: object) -> None:
+    """Random programs write numbers of LUI to SP_STATUS, which neither halt nor set single step."""
+    found = 0
+    for number in range(8):
+        memories = program_of([name for name in ROWS if name != "break"], "t", number)[0].memories
+        words = np.frombuffer(memories, ">u4", 1024, IMEM).astype(np.int64)
+        places = np.nonzero(words & 0xFFE07800 == 0x40802000)[0]
+        assert (words[places - 1] >> 26 == 15).all()
+        assert (words[places - 1] >> 16 & 31 == words[places] >> 16 & 31).all()
+        found += len(places)
+    assert found > 30
 
 
 def test_limits_of_clamps() -> None:
