@@ -40,7 +40,6 @@ def test_planted_fault(bug: int, name: str, folder: Path) -> None:
 def test_known(folder: Path) -> None:
     """A list of known differences holds for vectors, too."""
     words = (core_with(104, folder), "--stored", VECTORS, "--instructions", "mtc0", "--here")
-    assert campaign(*words, folder / "0").returncode == 1
     assert campaign(*words, "--write-known", folder / "known.tsv", folder / "1").returncode == 0
     assert campaign(*words, "--known", folder / "known.tsv", folder / "2").returncode == 0
 
