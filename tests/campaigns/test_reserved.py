@@ -1,4 +1,4 @@
-"""Reserved words in a campaign (--reserved): those of the instruction table. CAMPAIGN.md runs the second core."""
+"""Reserved words in a campaign (--reserved). CAMPAIGN.md runs the second core, which agrees."""
 
 from pathlib import Path
 
