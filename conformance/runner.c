@@ -1,5 +1,6 @@
-/* runner FILE..: runs the test vectors of `flat`, and prints for each case that differs its first difference. A file that has something else is
- * refused. To test another machine, link its brsp_new, brsp_free, brsp_load, brsp_memory, brsp_set, brsp_get and brsp_step instead of the library,
+/* runner [--strict] FILE..: runs the test vectors of `flat`, and prints for each case that differs its first difference, and at the end how many cases
+ * of each instruction failed, and were skipped because brsp_step returned BRSP_RESERVED. The status is 0 if none failed and one passed, otherwise 1;
+ * with --strict also if one was skipped; 2 if a file is refused because it has something else. To test another machine, link its brsp_new, brsp_free, brsp_load, brsp_memory, brsp_set, brsp_get and brsp_step instead of the library,
  * and compile library/c/helpers/texts.c with it. */
 #include "brsp_helpers.h"
 #include <stdio.h>
@@ -12,6 +13,29 @@ typedef struct { const uint8_t *at, *end; } rest;                   /* the bytes
 enum { RDRAM_LENGTH = 1 << 17, LONGEST_FILE = 1 << 24 };
 static uint8_t expected[8192 + RDRAM_LENGTH], found[8192 + RDRAM_LENGTH];
 static char text[128]; /* of the case's instruction: bank 3 */
+
+enum { FAILED = 1, SKIPPED = 2, NO_CASE = -1, LOST = -2 }; /* what becomes of a case, other than 0 if it passes */
+/* How many cases of an instruction failed, and were skipped. The last one is of all instructions for which there is no room. */
+static struct { char name[sizeof((head *)0)->name + 1]; uint32_t counts[SKIPPED + 1]; } tallies[256];
+
+static void count_case(const char *name, int what)
+{
+    enum { LAST = sizeof tallies / sizeof *tallies - 1 };
+    char instruction[sizeof tallies->name] = "";
+    memcpy(instruction, name, sizeof instruction - 1);
+    if (strrchr(instruction, '-')) *strrchr(instruction, '-') = 0;
+    size_t at = 0;
+    while (at < LAST && *tallies[at].name && strcmp(tallies[at].name, instruction) != 0) at++;
+    memcpy(tallies[at].name, at < LAST ? instruction : "others", at < LAST ? sizeof instruction : sizeof "others");
+    tallies[at].counts[what]++;
+}
+
+static uint32_t total(int what)
+{
+    uint32_t sum = 0;
+    for (size_t at = 0; at < sizeof tallies / sizeof *tallies; at++) sum += tallies[at].counts[what];
+    return sum;
+}
 
 static uint32_t length_of(uint32_t bank) { return bank < 2 ? 4096 : bank == 2 ? RDRAM_LENGTH : sizeof text - 1; }
 
@@ -76,26 +100,42 @@ static const brsp_part *first_lost(brsp_machine *m, const brsp_state *before)
     return count ? parts : NULL;
 }
 
-/* Runs the case that comes next, and takes it. Returns 1 if it differs, -1 if it isn't a case, -2 if the machine doesn't keep what it gets. */
+static void print_counts(const char *what, int which)
+{
+    const char *between = ": ";
+    if (!total(which)) return;
+    printf("%s", what);
+    for (size_t at = 0; at < sizeof tallies / sizeof *tallies; at++) {
+        if (!tallies[at].counts[which]) continue;
+        printf("%s%u of %s", between, tallies[at].counts[which], shown(tallies[at].name, sizeof tallies->name));
+        between = ", ";
+    }
+    printf("\n");
+}
+
+/* Runs the case that comes next, and takes it. Returns what becomes of it. */
 static int run(brsp_machine *m, rest *file)
 {
     static brsp_part parts[BRSP_PARTS + sizeof found / 16];
     brsp_state before, after, got;
     head h;
     rest r = *file;
-    if (!take(&r, &h, sizeof h) || h.has_choice > 1 || h.size < sizeof h || h.size > (size_t)(file->end - file->at)) return -1;
+    if (!take(&r, &h, sizeof h) || h.has_choice > 1 || h.size < sizeof h || h.size > (size_t)(file->end - file->at)) return NO_CASE;
     file->at = r.end = file->at + h.size;
-    if (!take(&r, &before, sizeof before) || !take(&r, &after, sizeof after)) return -1;
+    if (!take(&r, &before, sizeof before) || !take(&r, &after, sizeof after)) return NO_CASE;
     memset(expected, 0, sizeof expected);
     memset(text, 0, sizeof text);
-    if (!put_pieces(r, h.pieces, 0)) return -1;
+    if (!put_pieces(r, h.pieces, 0)) return NO_CASE;
     for (uint32_t bank = 0; bank < 3; bank++) brsp_load(m, bank, 0, expected + 4096 * bank, length_of(bank));
     static int is_checked;
     int is_set = brsp_set(m, &before) == BRSP_OK;
     const brsp_part *lost = is_set && !is_checked++ ? first_lost(m, &before) : NULL;
-    if (lost) return fprintf(stderr, "the machine doesn't keep what brsp_set and brsp_load gave it, before any step: %.23s\n", lost->name), -2;
+    if (lost) return fprintf(stderr, "the machine doesn't keep what brsp_set and brsp_load gave it, before any step: %.23s\n", lost->name), LOST;
     put_pieces(r, h.pieces, 1);
-    int is_made = is_set && brsp_step(m) == BRSP_OK && brsp_get(m, &got) == BRSP_OK;
+    uint32_t status = is_set ? brsp_step(m) : BRSP_OUT_OF_RANGE;
+    count_case(h.name, 0);
+    if (status == BRSP_RESERVED) return count_case(h.name, SKIPPED), SKIPPED;
+    int is_made = status == BRSP_OK && brsp_get(m, &got) == BRSP_OK;
     size_t count = brsp_structure_parts(BRSP_OF_STATE, &after, &got, parts, BRSP_PARTS);
     for (uint32_t bank = 0; bank < 3; bank++) {
         const uint8_t *here = expected + 4096 * bank;
@@ -104,6 +144,7 @@ static int run(brsp_machine *m, rest *file)
         count += brsp_memory_parts(bank, here, there, length_of(bank), parts + count, length_of(bank) / 16);
     }
     if (is_made && !count) return 0;
+    count_case(h.name, FAILED);
     printf("%s (", shown(h.name, sizeof h.name));
     printf("%s%s", shown(text, sizeof text), h.has_choice ? ", choice" : "");
     if (is_made) print_operands(h.word, &before, parts);
@@ -111,11 +152,11 @@ static int run(brsp_machine *m, rest *file)
     unsigned long long a = parts->value[0], b = parts->value[1], c = parts->other[0], d = parts->other[1];
     if (is_made) printf("), %.23s: expected %.*llx%0*llx, got %.*llx%0*llx%s\n", parts->name, high, a, low, b, high, c, low, d, count > 1 ? ", and more" : "");
     else printf("), isn't executed\n");
-    return 1;
+    return FAILED;
 }
 
-/* Runs the cases of a file, and counts them. Returns 0 if it is refused. */
-static int run_file(brsp_machine *m, const char *path, uint32_t *cases, uint32_t *failed)
+/* Runs the cases of a file. Returns 0 if it is refused. */
+static int run_file(brsp_machine *m, const char *path)
 {
     static uint8_t data[LONGEST_FILE];
     FILE *file = fopen(path, "rb");
@@ -128,25 +169,30 @@ static int run_file(brsp_machine *m, const char *path, uint32_t *cases, uint32_t
     if (is_longer) return fprintf(stderr, "%s has more than %d bytes\n", shown(path, strlen(path)), LONGEST_FILE), 0;
     if (!take(&r, magic, sizeof magic) || memcmp(magic, "RSPCASES\2\0\0", sizeof magic) != 0 || !take(&r, &number, sizeof number))
         return fprintf(stderr, "%s has no flat vectors\n", shown(path, strlen(path))), 0;
-    for (uint32_t k = 1; k <= number; k++, ++*cases) {
-        int is_wrong = run(m, &r);
-        if (is_wrong == -2) return 0;
-        if (is_wrong < 0) return fprintf(stderr, "%s: case %u of %u isn't whole, or has what no case has\n", shown(path, strlen(path)), k, number), 0;
-        *failed += (uint32_t)is_wrong;
+    for (uint32_t k = 1; k <= number; k++) {
+        int what = run(m, &r);
+        if (what == LOST) return 0;
+        if (what == NO_CASE) return fprintf(stderr, "%s: case %u of %u isn't whole, or has what no case has\n", shown(path, strlen(path)), k, number), 0;
     }
     if (r.at != r.end) return fprintf(stderr, "%s has bytes after its last case\n", shown(path, strlen(path))), 0;
     return 1;
 }
 
-int main(int count, char **files)
+int main(int count, char **words)
 {
     brsp_machine m = BRSP_NONE;
-    uint32_t cases = 0, failed = 0;
-    int is_refused = brsp_new(&m, found + 8192, RDRAM_LENGTH, 0) != BRSP_OK;
-    for (int i = 1; i < count && !is_refused; i++) is_refused = !run_file(&m, files[i], &cases, &failed);
+    int is_refused = brsp_new(&m, found + 8192, RDRAM_LENGTH, 0) != BRSP_OK, is_strict = 0;
+    for (int i = 1; i < count && !is_refused; i++)
+        if (!strcmp(words[i], "--strict")) is_strict = 1;
+        else is_refused = !run_file(&m, words[i]);
     brsp_free(&m);
     if (is_refused) return 2;
-    printf("%u passed, %u failed\n", cases - failed, failed);
+    uint32_t failed = total(FAILED), skipped = total(SKIPPED), passed = total(0) - failed - skipped;
+    printf("%u passed, %u failed", passed, failed);
+    if (skipped) printf(", %u skipped", skipped);
+    printf("\n");
+    print_counts("failed", FAILED);
+    print_counts("skipped", SKIPPED);
     if (fflush(stdout) || ferror(stdout)) return fprintf(stderr, "standard output takes no more\n"), 2;
-    return failed || !cases;
+    return failed || !passed || (is_strict && skipped);
 }

@@ -380,10 +380,12 @@ def window_of(row: Row, seed: str, number: int) -> int:
     return WRAPPING if number % 4 == 3 else 16 * random.below(250)
 
 
-def choices(row: Row, fields: Dict[str, Any], pc: Any, npc: Any, address: Any) -> Iterator[Tuple[str, Any]]:
+def choices(
+    row: Row, fields: Dict[str, Any], pc: Any, npc: Any, address: Any, word: Any, value: Any
+) -> Iterator[Tuple[str, Any]]:
     """The rules of an instruction that we chose ourselves, each with whether a case depends on it.
 
-    All numbers may be arrays.
+    All numbers may be arrays; `value` is that of register t.
     """
     if row.name in MPEG:
         yield "MPEG row", True
@@ -392,8 +394,12 @@ def choices(row: Row, fields: Dict[str, Any], pc: Any, npc: Any, address: Any) -
         yield "address not a multiple of 16", address % 16 != 0
     if row.form in ("from control", "to control"):
         yield "control register 3", fields["c"] == 3
+        yield "register number", word >> 13 & 7 > 0
     if row.form in ("from sp", "to sp"):
         yield "DPC register as a stored word", fields["c"] >= 8
+        yield "register number", word >> 15 & 1 > 0
+    if row.form == "to sp":
+        yield "skip of the last row", (fields["c"] & 14 == 2) & (value >> 20 & 0xFF8 > 0)
     if "branch" in row.form or "jump" in row.form or row.form == "link register":
         yield "branch in a delay slot", npc != (pc + 4) % 4096
     if row.name in ("jal", "jalr") or row.name.endswith("zal"):
@@ -409,7 +415,9 @@ def choice_of(row: Row, case: Case) -> Optional[str]:
     if row.name in ("ltv", "stv"):
         base = int(case.before.get(f"r{case.fields['base']}", "0"), 16)
         address = base + signed(case.fields["off"], 7) * SCALE["t"]
-    return next((name for name, holds in choices(row, case.fields, pc, npc, address) if holds), None)
+    value = int(case.before.get(f"r{case.fields.get('t')}", "0"), 16)
+    found = choices(row, case.fields, pc, npc, address, case.word, value)
+    return next((name for name, holds in found if holds), None)
 
 
 def make_case(row: Row, seed: str, number: int, window: Optional[int] = None) -> Case:

@@ -6,7 +6,7 @@ This file writes their text and their data, and run_programs.py runs them.
 """
 
 import copy
-from typing import Any, Callable, Dict, Iterator, List, Sequence, Tuple
+from typing import Any, Callable, Dict, Iterator, List, Optional, Sequence, Tuple
 
 from rsp_conformance import bench
 from rsp_conformance.bench import ONES_DATA, accumulator_data, accumulator_program
@@ -25,7 +25,9 @@ LAST_WORD = 1016  # a case that would pass it goes to the next program
 JUMPS = ("branch one", "branch two", "jump", "jump register", "link register")
 SP_MOVES = ("from sp", "to sp")
 DIVIDING = ("lane", "nothing")  # the forms whose programs set the divider, and show it
-STATUS_SIGNALS = 0x7F80
+STATUS_BITS = 0x7FC0  # of SP_STATUS: the interrupt on BREAK, and the signals
+# The bytes of RDRAM that a DMA moves, and the most of its rows; and where it may write to IMEM.
+RDRAM_AREA, AREA, LONGEST, IMEM_END = 0x800, 320, 128, 0x1FA0
 CONTROLS = ("vco", "vcc", "vce")
 
 
@@ -92,13 +94,15 @@ class Program:
         case.pc, case.word = 4 * self.words, word
         self.emit(f".word 0x{word:08x}")
 
-    def close(self, case: Case, at: int, fields: Layout) -> None:
-        """Adds a case, whose results are at an address."""
+    def close(self, case: Case, at: int, fields: Layout, choice: str = "") -> None:
+        """Adds a case, whose results are at an address, and show a choice."""
         entry = {"name": case.name, "pc": f"{case.pc:03x}", "word": f"{case.word:08x}", "text": ""}
         entry.update(at=f"{at:03x}", layout=self.layout(fields))
         # The programs don't show the choices of the other forms.
-        if case.choice and case.row.form not in (*JUMPS, *SP_MOVES, "break"):
-            entry["choice"] = case.choice
+        if case.row.form not in (*JUMPS, *SP_MOVES, "break"):
+            choice = case.choice or ""
+        if choice:
+            entry["choice"] = choice
         self.cases.append(entry)
 
 
@@ -236,46 +240,93 @@ def add_vectors(program: Program, case: Case) -> None:
     program.close(case, saved.start, saved.fields)
 
 
-def add_jump(program: Program, case: Case) -> None:
-    """A branch or jump, forward or backward. The words that are executed add up a number, which is stored."""
-    fields, row = case.fields, case.row
-    by_register = row.form in ("jump register", "link register")
-    if by_register and fields["s"] == 0:
+def is_older(case: Case) -> bool:
+    """Whether a case of a jump, MFC0 or MTC0 is of the older kinds: four of each 24 aren't."""
+    return int(case.name[-3:]) % 24 < 20
+
+
+def begun_jump(program: Program, case: Case) -> int:
+    """Begins a case of a branch or jump. Returns the register in which the executed words add up a number."""
+    fields = case.fields
+    if is_by_register(case) and fields["s"] == 0:
         fields["s"] = 5  # register 0 can't hold the target
     used = {fields.get("s"), fields.get("t"), fields.get("d"), 31, 0}
     path = next(number for number in range(1, 32) if number not in used)
-    backward, label = int(case.name[-1]) % 2 == 1, case.name.lower().replace("-", "")
-    setting = {*keys(case, "r")} | ({f"r{fields['s']}"} if by_register else set())
     program.emit(f"addiu ${path}, $0, 0")
-    # Before the tested word come those that load, and those of a backward jump's target.
-    pc = 4 * (program.words + len(setting) + (5 if backward else 0))
-    target = pc - 12 if backward else pc + 12
-    if by_register:
-        key = f"r{fields['s']}"
+    return path
+
+
+def is_by_register(case: Case) -> bool:
+    return case.row.form in ("jump register", "link register")
+
+
+def set_for_jump(program: Program, case: Case, words: int) -> int:
+    """Sets the registers of a branch or jump, and returns its target's address, which is some words after
+    those that set the registers.
+    """
+    setting = {*keys(case, "r")} | ({f"r{case.fields['s']}"} if is_by_register(case) else set())
+    target = 4 * (program.words + len(setting) + words)
+    if is_by_register(case):
+        key = f"r{case.fields['s']}"
         case.before[key] = f"{int(case.before.get(key, '0'), 16) & 0xFFFFF003 | target:08x}"
     set_scalars(program, case)
+    return target
+
+
+def add_jump(program: Program, case: Case) -> None:
+    """A branch or jump, forward or backward. The words that are executed add up a number, which is stored."""
+    if not is_older(case):
+        return add_jump_in_slot(program, case)
+    backward, label = int(case.name[-1]) % 2 == 1, case.name.lower().replace("-", "")
+    path = begun_jump(program, case)
+    # Before the tested word come those that load, and those of a backward jump's target.
+    target = set_for_jump(program, case, 2 if backward else 3)
     if backward:
         program.emit(f"beq $0, $0, {label}over", "nop", f"addiu ${path}, ${path}, 4")
         program.emit(f"beq $0, $0, {label}out", "nop", f"{label}over:")
-    program.test(case, word_of(row, {**fields, "imm": (target - pc - 4) // 4, "target": target // 4}))
+    distance = -4 if backward else 2
+    program.test(case, word_of(case.row, {**case.fields, "imm": distance, "target": target // 4}))
     program.emit(f"addiu ${path}, ${path}, 1", f"addiu ${path}, ${path}, 2", f"{label}out:")
+    return save_jump(program, case, path)
+
+
+def add_jump_in_slot(program: Program, case: Case) -> None:
+    """A branch or jump in the delay slot of a taken branch. A branch counts from npc, which is the target of
+    the first one. Counted from its own address, it comes to another branch, and out.
+    """
+    label = case.name.lower().replace("-", "")
+    path = begun_jump(program, case)
+    target = set_for_jump(program, case, 8)
+    program.emit(f"beq $0, $0, {label}first")
+    program.test(case, word_of(case.row, {**case.fields, "imm": 2, "target": target // 4}))
+    steps = [f"addiu ${path}, ${path}, {1 << step}" for step in range(6)]
+    program.emit(*steps[:2], f"beq $0, $0, {label}out", "nop", f"{label}first:", *steps[2:], f"{label}out:")
+    save_jump(program, case, path)
+
+
+def save_jump(program: Program, case: Case, path: int) -> None:
+    """Stores the number of the executed words, and the link."""
+    fields, row = case.fields, case.row
     links = row.name == "jal" or row.name.endswith("zal") or row.form == "link register"
     saved = Saved(program, words=1 + links)
     saved.word("path", path)
     if links:
         saved.word("link", fields["d"] if row.form == "link register" else 31)
-    program.close(case, saved.start, saved.fields)
+    program.close(case, saved.start, saved.fields, "" if is_older(case) else "branch in a delay slot")
 
 
-SP_WORDS = {0: "SP_MEM_ADDR", 1: "SP_DRAM_ADDR", 4: "signals of SP_STATUS", 7: "SP_SEMAPHORE"}
+SP_WORDS = {0: "SP_MEM_ADDR", 1: "SP_DRAM_ADDR", 2: "SP_RD_LEN", 3: "SP_WR_LEN",
+            4: "signals of SP_STATUS", 7: "SP_SEMAPHORE"}  # fmt: skip
 
 
 def add_sp(program: Program, case: Case) -> None:
-    """MFC0 and MTC0 of registers that start nothing: a DMA's addresses, the signals, the semaphore."""
+    """MFC0 and MTC0: a DMA's addresses, SP_STATUS, the semaphore, and DMAs."""
     number, random = int(case.name[-3:]), Random("sp", case.name)
     c, value, t = (0, 1, 4, 7)[number % 4], random.below(1 << 32), case.fields["t"] or 5
-    if c == 4:
-        value &= 0x1FFFE00  # a clear and a set bit for each signal
+    if c != 4 and not is_older(case):
+        return add_transfer(program, case)
+    if c == 4:  # a clear and a set bit for each signal, and for the interrupt on BREAK
+        value &= 0x1FFFE00 if is_older(case) else 0x1FFFF80
     word = word_of(case.row, {"c": c, "t": t})
     program.emit(f"lw ${t}, {program.put(f'{value:08x}')}($0)")
     if case.row.form == "to sp":
@@ -287,10 +338,49 @@ def add_sp(program: Program, case: Case) -> None:
             program.emit("mfc0 $0, $c7")
         program.test(case, word)
     if c == 4:
-        program.emit(f"andi ${t}, ${t}, 0x{STATUS_SIGNALS:x}")
+        program.emit(f"andi ${t}, ${t}, 0x{STATUS_BITS:x}")
     saved = Saved(program, words=1)
     saved.word(SP_WORDS[c], t)
-    program.close(case, saved.start, saved.fields)
+    if not is_older(case):  # BREAK is to raise no interrupt
+        program.emit("addiu $1, $0, 0x80", "mtc0 $1, $c4")
+    return program.close(case, saved.start, saved.fields)
+
+
+def transfer(program: Program, inside: int, to: int, value: int, tested: Optional[Case] = None) -> None:
+    """Starts a DMA of RDRAM_AREA by writing a value to SP register 2 or 3, and waits for its end."""
+    for number, given in ((0, inside), (1, RDRAM_AREA), (to, value)):
+        program.emit(f"lw $1, {program.put(f'{given:08x}')}($0)")
+        if number == to and tested and tested.row.form == "to sp":
+            program.test(tested, word_of(tested.row, {"c": to, "t": 1}))
+        else:
+            program.emit(f"mtc0 $1, $c{number}")
+    program.emit("mfc0 $1, $c6", f"bne $1, $0, {4 * program.words - 4}", "nop")
+
+
+def add_transfer(program: Program, case: Case) -> None:
+    """MFC0 and MTC0 of a DMA of some rows: to RDRAM, to DMEM, or past the end of IMEM. Before it RDRAM_AREA
+    is written, and after it read back; SP registers are read between them.
+    """
+    number, random, which = int(case.name[-3:]), Random("dma", case.name), case.fields["c"] % 4
+    skip, count, length = (random.below(it) for it in random.pick(((72, 4, 25), (16, 16, 8))))
+    value = skip << 20 | count << 12 | length
+    source = program.put(random.bytes(AREA), 8)
+    saved = Saved(program, AREA // 16, words=4)
+    result = saved.field("transferred", AREA)
+    inside = (source + 16, result, 0, IMEM_END)[number % 4]
+    transfer(program, source, 3, AREA - 1)
+    transfer(program, inside, 2 if number % 2 else 3, value, case)
+    for register in range(4):
+        if case.row.form == "from sp" and register == which:
+            program.test(case, word_of(case.row, {"c": register, "t": 2}))
+        else:
+            program.emit(f"mfc0 $2, $c{register}")
+        saved.word(SP_WORDS[register], 2)
+    if inside == IMEM_END:
+        transfer(program, IMEM_END, 3, LONGEST - 1)
+    if inside != result:
+        transfer(program, result, 2, AREA - 1)
+    program.close(case, saved.start, saved.fields, "skip of the last row" if skip > 7 else "")
 
 
 def add_break(program: Program, case: Case) -> None:

@@ -14,8 +14,9 @@ if is_here("python:numpy"):
     import numpy as np
     from rsp_conformance.campaign.build import built
     from rsp_conformance.campaign.emulators import Object
-    from rsp_conformance.campaign.generator import END, MEMORIES, RDRAM, SELECTED, Draw
+    from rsp_conformance.campaign.generator import END, IMEM, MEMORIES, RDRAM, SELECTED, Draw
     from rsp_conformance.campaign.generator import bytes_of, cases_of, memories_of
+    from rsp_conformance.campaign.random_programs import program_of
 
 pytestmark = pytest.mark.needs("cc", "python:numpy")
 
@@ -43,7 +44,7 @@ def test_stored_cases() -> None:
     digest = hashlib.sha256()
     for name in ROWS:
         digest.update(cases_of(name, "7", 0, 200)[0].tobytes() + memories_of(name, "7").tobytes())
-    assert digest.hexdigest() == "f6bc9736220b76245e40fd76083e1e53a24679837de28af5af7e106b76c78264"
+    assert digest.hexdigest() == "ec80ba21f1049fb4af6578f3ccc8d7d25aed6c5a4079ed6f18e4f5905383c8f4"
     far = Draw("vadd", "7", 10**12, 2).raw.tobytes()
     assert (
         hashlib.sha256(far).hexdigest() == "d9b5daebb0124cc920a051d28930b4b187f5d92b8920784b39d5b55b78d25619"
@@ -99,14 +100,31 @@ def test_addresses_of_choices() -> None:
 
 
 def test_transfers() -> None:
-    """Each bit of a skip, a count and a length is set in DMAs of MTC0, and none passes the end of RDRAM."""
+    """Each bit of a skip, a count and a length is set in DMAs of MTC0. Some pass the end of RDRAM, some 2^24,
+    and some have rows that overlap in DMEM; those that begin in the lower half of RDRAM stay in it."""
     cases, each = cases_of("mtc0", "t", 0, 1 << 16)[0], np.arange(1 << 16)
     word, at = cases["word"].astype(np.int64), cases["state"]["sp"][:, 1].astype(np.int64)
-    starts = np.isin(word >> 11 & 15, (2, 3))
+    starts, end = np.isin(word >> 11 & 15, (2, 3)), MEMORIES - RDRAM
     value, at = cases["state"]["words"][each, word >> 16 & 31].astype(np.int64)[starts], at[starts]
     assert all((value >> bit & 1).sum() > 100 for bit in range(32))
-    skip, count, length = value >> 20 & ~7, value >> 12 & 255, (value & 4095 | 7) + 1
-    assert (at + count * (length + skip) + length).max() <= MEMORIES - RDRAM
+    skip, count, length = value >> 20 & 0xFF8, value >> 12 & 255, (value & 4095 | 7) + 1
+    last = at + count * (length + skip) + length
+    assert last[at < end // 2].max() <= end
+    passes = ((last > edge) & (at < edge) & (at > edge - 2048) for edge in (end, 1 << 24))
+    assert all(them.sum() > 50 for them in (*passes, (count + 1) * length > 4096))
+
+
+def test_signals_in_programs(library: object) -> None:
+    """Random programs write numbers of LUI to SP_STATUS, which neither halt nor set single step."""
+    found = 0
+    for number in range(8):
+        memories = program_of([name for name in ROWS if name != "break"], "t", number)[0].memories
+        words = np.frombuffer(memories, ">u4", 1024, IMEM).astype(np.int64)
+        places = np.nonzero(words & 0xFFE07800 == 0x40802000)[0]
+        assert (words[places - 1] >> 26 == 15).all()
+        assert (words[places - 1] >> 16 & 31 == words[places] >> 16 & 31).all()
+        found += len(places)
+    assert found > 30
 
 
 def test_limits_of_clamps() -> None:

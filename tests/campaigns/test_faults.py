@@ -82,7 +82,7 @@ def test_difference_that_depends_on_what_ran_before(name: str, number: int, step
     emulator."""
     words = (f"python:emulator:{name}", "--instructions", "xor", "--cases", 0, "--programs", 2)
     output, why = output_of(folder, *words), "because it depends on what the emulator ran before"
-    form = rf"PROGRAM-g3-1-00000{number}: {step} xor .*: expected .*; not cut down, {why}"
+    form = rf"PROGRAM-g4-1-00000{number}: {step} xor .*: expected .*; not cut down, {why}"
     assert re.search(form, output), output
     assert counts_of(folder) == {"program": (2, 1, 0)}
 
@@ -125,7 +125,7 @@ def test_output_without_an_end(emulator: str, why: str, folder: Path) -> None:
 
 def test_lost_register(folder: Path) -> None:
     output = campaign("python:emulator:Forgets", "--cases", 0, "--programs", 1, "--here", folder).stdout
-    form = r"(?m)PROGRAM-g3-1-000000: step 0, .*: \$5: expected [0-9a-f]{8}, got 0{8}$"
+    form = r"(?m)PROGRAM-g4-1-000000: step 0, .*: \$5: expected [0-9a-f]{8}, got 0{8}$"
     assert re.search(form, output), output
 
 

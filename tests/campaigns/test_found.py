@@ -49,7 +49,7 @@ def test_sequence_in_programs(program: Path, folder: Path) -> None:
     found = programs_in(folder)
     assert found
     for cut in found:
-        assert re.match(r"PROGRAM-g3-1-\d{6}: step \d+, vxor ", cut["shown"])
+        assert re.match(r"PROGRAM-g4-1-\d{6}: step \d+, vxor ", cut["shown"])
         assert ([line.split()[1] for line in cut["listing"]], cut["steps"]) == (["lqv", "vxor"], 2)
         assert_replays(program, folder, cut)
 

@@ -47,6 +47,6 @@ def test_programs(folder: Path) -> None:
     """A program of what agrees, and one that differs, cut down to its SRA."""
     assert program_of(folder / "agrees", "lui,sw")[1] == 0
     output, differ = program_of(folder / "differs", "lui,sw,sra")
-    assert differ == 1 and "PROGRAM-g3-1-000000: step " in output
-    output = campaign(COMMAND, "--case", "PROGRAM-g3-1-000000", folder / "differs").stdout
-    assert "PROGRAM-g3-1-000000 is cut down to 1 step from address " in output and ": sra $" in output
+    assert differ == 1 and "PROGRAM-g4-1-000000: step " in output
+    output = campaign(COMMAND, "--case", "PROGRAM-g4-1-000000", folder / "differs").stdout
+    assert "PROGRAM-g4-1-000000 is cut down to 1 step from address " in output and ": sra $" in output

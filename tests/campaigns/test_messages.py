@@ -26,9 +26,9 @@ from rsp_conformance.table import ROWS, ignored_bits, row_of
 if is_here("python:numpy"):
     import numpy as np
     from rsp_conformance.campaign.compare import kinds_of, named
-    from rsp_conformance.campaign.generator import END, cases_of
+    from rsp_conformance.campaign.generator import END, cases_of, memories_of
     from rsp_conformance.campaign.operands_read import in_brief
-    from rsp_conformance.campaign.worker_process import check_cases
+    from rsp_conformance.campaign.batches import Cases, check_cases
 
 pytestmark = [pytest.mark.needs("cc", "python:numpy"), pytest.mark.usefixtures("library")]
 
@@ -70,10 +70,10 @@ def test_difference_of_a_word_with_ignored_bits(folder: Path) -> None:
     words = ("python:emulator:WrongShift", "--instructions", "sra")
     output = output_of(folder, *words, "--cases", 200, "--programs", 1)
     assert re.search(rf"SRA-g2-1-\d+ \({IGNORED} at \w+; ", output), output
-    assert re.search(rf"PROGRAM-g3-1-000000: step \d+, {IGNORED}: \$\d+: expected", output), output
+    assert re.search(rf"PROGRAM-g4-1-000000: step \d+, {IGNORED}: \$\d+: expected", output), output
     assert results_of(folder)["program-0-1.json"]["kinds"]["SRA"][0] == 1
-    output = campaign(*words, "--case", "PROGRAM-g3-1-000000", folder).stdout
-    pattern = rf"PROGRAM-g3-1-000000 is cut down to 1 step from address \w+:\n\w+: {IGNORED}\n"
+    output = campaign(*words, "--case", "PROGRAM-g4-1-000000", folder).stdout
+    pattern = rf"PROGRAM-g4-1-000000 is cut down to 1 step from address \w+:\n\w+: {IGNORED}\n"
     assert re.search(pattern, output), output
 
 
@@ -155,7 +155,8 @@ def test_bytes_that_differ(kind: str, folder: Path) -> None:
 
 def test_differences_that_are_shown() -> None:
     """Of a task as many as of a batch, because to show one takes longer than to run a thousand cases."""
-    batches = check_cases(faulty(5), "sb", "1", 0, 2 * BATCH, np.zeros(BATCH, END))
+    cases = Cases(faulty(5), "sb", "1", memories_of("sb", "1"))
+    batches = check_cases(cases, 0, 2 * BATCH, np.zeros(BATCH, END))
     assert [len(batch.get("shown", [])) for batch in batches] == [0, SHOWN, 0]
 
 

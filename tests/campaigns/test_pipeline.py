@@ -54,5 +54,5 @@ def test_hazard_with_pauses(planted: int, folder: Path) -> None:
 def test_wrong_count(folder: Path) -> None:
     """It is a fault of the core."""
     output = output_of(folder, pipelined(0, "-DCOUNT=7"), "--cases", 0, "--programs", 1)
-    assert re.search(r"PROGRAM-g3-1-000000: of \d+ steps it returned that 7 are done", output), output
+    assert re.search(r"PROGRAM-g4-1-000000: of \d+ steps it returned that 7 are done", output), output
     assert counts_of(folder) == {"program": (1, 1, 1)}

@@ -80,7 +80,7 @@ def test_layout_of_states() -> None:
 
 def used_by(rows: Iterable[Row]) -> Set[str]:
     """The instructions of the programs of these instructions, besides those that the programs test."""
-    texts = (one.lines for row in rows for one in programs.programs_of(row, "1", range(20)))
+    texts = (one.lines for row in rows for one in programs.programs_of(row, "1", range(24)))
     lines = [line for text in texts for line in text if not line.endswith(":")]
     return {line.split("#")[0].split()[0].upper() for line in lines} - {"NOP", ".WORD"}
 

@@ -146,7 +146,7 @@ def test_campaign(hazard: int, folder: Path) -> None:
     edit, status = f"s/hazard = 0; initial.*/hazard = {hazard};/", int(hazard > 0)
     output = typed(folder, "conformance/generate --hex", "verilator --cc", edit=edit, status=status)
     assert f"\n42000 cases and 50 programs: {50 * (hazard > 0)} differ" in output, output
-    assert hazard != 2 or block_with(PAGE, "PROGRAM-g3") in output, output
+    assert hazard != 2 or block_with(PAGE, "PROGRAM-g4") in output, output
     assert bool(programs := programs_in(folder / "programs")) == bool(hazard), output
     for program in programs:
         replay = f"+replay={folder}/programs/programs/{program['name']}.hex"

@@ -381,6 +381,33 @@ def test_runner_of_a_line_that_is_no_case(line: str, folder: Path) -> None:
     assert NO_CASES[line] in ran.stdout and ran.stdout.rstrip("\n").isprintable(), ran.stdout
 
 
+PROGRAM = {"name": "A-1", "layouts": {"L0": [["x", 0, 1]]}, "cases": []}
+A_PROGRAM_CASE = {"name": "A", "text": "", "at": "000", "layout": "L0"}
+# Manifests of programs that are none, with what is said of them. None has a control character in the answer.
+NO_PROGRAMS: Dict[str, Any] = {
+    "RecursionError: ": "[" * 100000,
+    "TypeError: ": 5,
+    "KeyError: 'programs'": {},
+    r"'../\x1b[2J' is no name": {"programs": [{**PROGRAM, "name": "../\x1b[2J"}]},
+    "is no field": {"programs": [{**PROGRAM, "layouts": {"L0": [["x", 0, 1 << 60]]}}]},
+    "KeyError: 'L1'": {"programs": [{**PROGRAM, "cases": [{**A_PROGRAM_CASE, "layout": "L1"}]}]},
+    "text is no text": {"programs": [{**PROGRAM, "cases": [{**A_PROGRAM_CASE, "text": 5}]}]},
+    "invalid literal for int": {"programs": [{**PROGRAM, "cases": [{**A_PROGRAM_CASE, "at": "\x1b"}]}]},
+    "No such file or directory": {"programs": [PROGRAM]},
+}
+
+
+@pytest.mark.parametrize("why", NO_PROGRAMS)
+def test_runner_of_a_manifest_of_no_programs(why: str, folder: Path) -> None:
+    """It is refused in a sentence, and nothing of it reaches a terminal as it is."""
+    (folder / "mine.py").write_text("class Rsp: pass\n")
+    content = NO_PROGRAMS[why]
+    (folder / "A.json").write_text(content if isinstance(content, str) else json.dumps(content))
+    ran = run(sys.executable, TOP / "conformance/programs.py", "A.json", cwd=folder)
+    assert ran.returncode == 1 and ran.stdout.startswith("programs.py: can't read "), ran.stdout
+    assert why in ran.stdout and ran.stdout.rstrip("\n").isprintable(), ran.stdout
+
+
 def test_names_that_control_a_terminal(folder: Path) -> None:
     """They are printed as escapes."""
     (folder / "mine.py").write_text(NOP.replace("raise NotImplementedError", "pass"))

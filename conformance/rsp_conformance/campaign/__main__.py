@@ -2,11 +2,12 @@
 
 EMULATOR is FILE.so, plugin:FILE.so, python:MODULE:CLASS, or a command; docs/CAMPAIGN.md describes each. OUT
 is the campaign's folder: a file for each task, table.txt, table.html, and in programs/ the programs that
-differ, cut down. A campaign that was stopped continues when it is started again: tasks with a result in OUT
-aren't run again, as long as the emulator's files have the same contents. They are the files that EMULATOR
-names, and those of --files. With --case, OUT gives the instructions of a program. The last 20 lines that an
-emulator writes are shown with its fault. The status is 0 if nothing differs except what the file of --known
-lists, 1 if something else differs, and 2, with a sentence, if a task isn't done or the campaign can't begin.
+differ, cut down. With --stored the cases and programs are those of test vectors. A campaign that was stopped
+continues when it is started again: tasks with a result in OUT aren't run again, as long as the emulator's
+files have the same contents. They are the files that EMULATOR names, and those of --files. With --case, OUT
+gives the instructions of a program. The last 20 lines that an emulator writes are shown with its fault. The
+status is 0 if nothing differs except what the file of --known lists, 1 if something else differs, and 2, with
+a sentence, if a task isn't done or the campaign can't begin.
 """
 
 import argparse
@@ -21,13 +22,14 @@ from typing import Any, Callable, List, NoReturn, Tuple
 from rsp_conformance.command_line import parser_of, printable, write_output
 from rsp_conformance.safe_files import FileFault, write_file
 from rsp_conformance.table import ROWS as INSTRUCTIONS
+from rsp_conformance.vectors import VectorsFault, names_in
 
 from . import CampaignFault
 from .hashes import library
 from .output_folder import MOST, OutputFolder, settings_in
 from .known import Known, gone, is_known, known_in, lines_for, write_known
 from .report import html_table, is_as_known, results_in, summary, task_of, text_table
-from .protocol import PROGRAM, VERSION, VERSIONS, Result, name_of, plural
+from .protocol import ALL_WORDS, PROGRAM, VERSION, VERSIONS, WORDS, Result, name_of, plural
 from .supervise import check
 from .workers import options_of, results
 
@@ -209,10 +211,18 @@ def known_of(text: str) -> Known:
         raise argparse.ArgumentTypeError(str(fault)) from None
 
 
+def folder_of(text: str) -> str:
+    try:
+        names_in(Path(text))
+    except VectorsFault as fault:
+        raise argparse.ArgumentTypeError(str(fault)) from None
+    return str(Path(text).resolve())
+
+
 def case_of(text: str) -> Tuple[str, str, int, int]:
     """The instruction, the seed, the first and the last number of a case's name."""
     found = re.fullmatch(r"(\w+?)(?:-g(\d+))?-([a-z0-9]+)-(\d+)(?:\.\.(\d+))?", text)
-    if found and found[1].lower() in (*INSTRUCTIONS, PROGRAM):
+    if found and found[1].lower() in (*INSTRUCTIONS, PROGRAM, WORDS):
         first, last, version = int(found[4]), int(found[5] or found[4]), int(found[2] or 1)
         name = found[1].lower()
         if version != (own := VERSIONS.get(name, VERSION)):
@@ -245,6 +255,9 @@ def arguments() -> argparse.Namespace:
         metavar="FILE",
         help="writes such a list of all differences of this campaign",
     )
+    add("--stored", type=folder_of, metavar="FOLDER", help="runs test vectors, and no random cases")
+    reserved = f"also {ALL_WORDS} words, of which the reserved ones have to be refused (no)"
+    add("--reserved", action="store_true", help=reserved)
     add("--scheduler", metavar="ADDRESS", help="runs the tasks on a cluster of Dask")
     case = name_of("vadd", "7", 123)
     names = f"{case}, {case}..000130, or {name_of(PROGRAM, '7', 5)}"
@@ -254,6 +267,10 @@ def arguments() -> argparse.Namespace:
     args: argparse.Namespace = parser.parse_intermixed_args()
     if not args.out and not args.case:
         stop("it needs a folder OUT")
+    if args.stored and (args.case or args.emulator.startswith("console:")):
+        stop("--stored is neither for --case nor for a console")
+    if args.reserved and (args.stored or args.emulator.startswith("console:")):
+        stop("--reserved is neither for --stored nor for a console")
     if args.write_known and args.case:
         stop("--case writes no list of known differences")
     if args.write_known and args.write_known.exists() and not args.known:
@@ -284,7 +301,7 @@ def main() -> int:
         stop(fault)
     try:
         return 0 if (show(args) if args.case else run(args)) else DIFFERS
-    except (CampaignFault, FileFault) as fault:
+    except (CampaignFault, FileFault, VectorsFault) as fault:
         stop(fault)
     except OSError as fault:
         stop(f"{fault.filename}: {fault.strerror}" if fault.filename else fault)

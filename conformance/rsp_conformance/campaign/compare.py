@@ -79,13 +79,14 @@ class Sides:
         self.hidden = [(word, mask) for word, mask in enumerate(hidden.view("<u8")) if mask]
 
     def run(self, cases: Array, expected: Array, ends: Array) -> Array:
-        """Runs cases on both sides, and returns which ends differ.
-
-        The bits that the emulator doesn't show become those of the library.
-        """
+        """Runs cases on both sides, and returns which ends differ."""
         self.library.fill(cases, expected)
         self.emulator.fill(cases, ends)
-        ours, theirs = (side.view("<u8").reshape(len(cases), -1) for side in (expected, ends))
+        return self.differ(expected, ends)
+
+    def differ(self, expected: Array, ends: Array) -> Array:
+        """Which ends differ, after the bits that the emulator doesn't show have become those expected."""
+        ours, theirs = (side.view("<u8").reshape(len(ends), -1) for side in (expected, ends))
         for word, mask in self.hidden:
             theirs[:, word] ^= (theirs[:, word] ^ ours[:, word]) & mask
         return (ours != theirs).any(1)

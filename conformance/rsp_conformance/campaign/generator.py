@@ -47,9 +47,14 @@ OFFSETS, HIGH = np.array([0, 1, 63, 64, 127]), np.array([0, 0, 1, 0xFFFFF])
 SELECTED = np.array([[selected(e, lane) for lane in range(8)] for e in range(16)])
 REPEATED = 8 // np.array([len(set(lanes)) for lanes in SELECTED.tolist()])
 # How many skips (in eights), counts and lengths a DMA may have, by its kind: in one of 16 cases each one row
-# of any length, up to 256 rows, or two rows with any skip, and otherwise up to four short rows. None passes
-# the end of RDRAM, because each begins in its lower half.
-TRANSFERS = np.array([(512, 1, 4096), (3, 256, 8), (512, 2, 25), *13 * [(9, 4, 25)]])
+# of any length, up to 256 rows, two rows with any skip, and two rows or up to 256, which overlap in DMEM if
+# they have more than its bytes; otherwise up to four short rows.
+TRANSFERS = np.array(
+    [(512, 1, 4096), (3, 256, 8), (512, 2, 25), (1, 2, 4096), (1, 256, 32), *11 * [(9, 4, 25)]]
+)
+# Where a DMA begins in RDRAM: in one of 16 cases each close to the end of RDRAM or of its addresses, which
+# the DMA may pass, otherwise in the lower half of RDRAM, whose end it doesn't pass then.
+ENDS, NEAR_END = np.array([MEMORIES - RDRAM, 1 << 24, *14 * [0]]), 1024
 FIRST_EDGE = 116  # a byte from here on chooses an edge
 EDGE = LANES[np.arange(256) % len(LANES)].astype(np.uint16)
 # Lanes close to a limit of the comparisons, (b * TIMES + PLUS) ^ FLIP: b, -b, ~b, b + 1, b - 1, 1 - b, -b -
@@ -263,7 +268,9 @@ def sp(row: Row, d: Draw, state: Array, fields: Fields) -> None:
         c = np.where(d.one_in(2), d.pick(SP_NUMBERS), c)
     t, starts = d.below(32), (c == 2) | (c == 3)
     put(state, d, t, np.where(starts, transfer(d), d.mixed(EDGES, 32)))
-    state["sp"][:, 1] = np.where(starts, d.below(1024) * 8, state["sp"][:, 1])
+    at, end = d.below(1024) * 8, d.pick(ENDS)
+    at = np.where(end > 0, end - 8 - at % NEAR_END, at)
+    state["sp"][:, 1] = np.where(starts, at, state["sp"][:, 1])
     fields.update(t=t, c=c)
 
 
@@ -309,5 +316,7 @@ def cases_of(name: str, seed: str, start: int, count: int) -> Tuple[Array, Dict[
     cases["state"]["words"][:, 0] = 0
     word = word_of(row, fields)
     cases["word"] = np.where(d.one_in(10), word | d.any() & ignored_bits(row), word)
-    found = vectors.choices(row, fields, cases["state"]["pc"], cases["state"]["npc"], fields.get("at"))
+    state = cases["state"]
+    value = state["words"][d.all, fields["t"]] if "t" in fields else 0
+    found = vectors.choices(row, fields, state["pc"], state["npc"], fields.get("at"), cases["word"], value)
     return cases, {choice: holds & np.ones(count, bool) for choice, holds in found}

@@ -13,11 +13,11 @@ from rsp_conformance.safe_files import read_file, write_file
 from rsp_conformance.table import ROWS
 
 from . import CampaignFault
-from .protocol import FAULT, FIELDS, NOT_THERE, PROGRAM, Kinds
+from .protocol import FAULT, FIELDS, NOT_THERE, PROGRAM, WORDS, Kinds
 
 HEAD, EVERY, CHOICE, AND = "instruction\tdiffers\treason", "*", "choice: ", "; "
 Known = Dict[Tuple[str, str], str]  # the reasons
-NAMES = {name.upper() for name in ROWS}
+NAMES, OTHERS = {name.upper() for name in ROWS}, (PROGRAM.upper(), WORDS.upper())
 
 
 def known_in(path: Path) -> Known:
@@ -31,7 +31,7 @@ def known_in(path: Path) -> Known:
         is_line = what in ofs or what.startswith(CHOICE)
         if number == 1 and line == HEAD:
             continue
-        if number == 1 or not is_line or who not in (*NAMES, PROGRAM.upper(), EVERY) or not reason.strip():
+        if number == 1 or not is_line or who not in (*NAMES, *OTHERS, EVERY) or not reason.strip():
             form = HEAD.replace("\t", ", ")
             raise CampaignFault(
                 f"{path}, line {number}: '{printable(line[:60])}' isn't {form} of a difference"

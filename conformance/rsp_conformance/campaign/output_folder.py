@@ -8,13 +8,24 @@ from typing import Any, Dict, List
 from rsp_conformance.command_line import printable
 from rsp_conformance.safe_files import MOST_JSON, read_file, write_file
 
-from . import CampaignFault
+from . import CampaignFault, stored
 from .hashes import files_of, hashes, other_hashes
-from .protocol import PROGRAM, VERSION, VERSIONS, Result, Task, plural
+from .protocol import ALL_WORDS, PROGRAM, VERSION, VERSIONS, WORDS, Result, Task, plural
 from .report import file_of, result_in, task_of
 
 # The options that decide a campaign's cases and programs.
-SETTINGS = ("emulator", "instructions", "seed", "cases", "size", "programs", "programs_size", "steps")
+SETTINGS = (
+    "emulator",
+    "instructions",
+    "seed",
+    "cases",
+    "size",
+    "programs",
+    "programs_size",
+    "steps",
+    "stored",
+    "reserved",
+)
 MOST = 1 << 53  # the numbers of a campaign are smaller
 # What it means that a campaign has another hash.
 CHANGED = {
@@ -41,11 +52,16 @@ class OutputFolder:
         self.files, self.earlier_results = files_of(args.emulator, args.files), 0
         self.settings: Dict[str, Any] = {"generator": [VERSION, *VERSIONS.values()]}
         self.settings.update({key: getattr(args, key) for key in SETTINGS})
+        self.settings["stored"] = stored.mark_of(args.stored)
         self.settings["hashes"] = hashes(args.emulator, args.files)
-        kinds = ((args.cases, args.size, args.instructions), (args.programs, args.programs_size, [PROGRAM]))
+        kinds = (
+            (args.cases, args.size, args.instructions),
+            (ALL_WORDS * args.reserved, args.size, [WORDS]),
+            (args.programs, args.programs_size, [PROGRAM]),
+        )
         self.tasks: List[Task] = [
             (name, first, min(size, count - first))
-            for count, size, names in kinds
+            for count, size, names in (stored.kinds_of(args) if args.stored else kinds)
             for first in range(0, count, size)
             for name in names
         ]

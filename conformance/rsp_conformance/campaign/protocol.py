@@ -9,7 +9,11 @@ Kinds = Dict[str, List[Any]]  # by kinds of differences, as known.py says: how m
 
 VERSION = 2  # of the generator: another version gives the cases of the same numbers other names
 PROGRAM = "program"  # in place of an instruction, in a task of programs
-VERSIONS = {PROGRAM: 3, "mfc0": 3, "mtc0": 3}  # of the generators that have changed by themselves
+VERSIONS = {PROGRAM: 4, "mfc0": 4, "mtc0": 4}  # of the generators that have changed by themselves
+WORDS, ALL_WORDS = (
+    "reserved",
+    1 << 19,
+)  # in place of an instruction, in a task of reserved words; and how many
 # What can differ in a case: the parts of an end, and what is no part of one.
 FIELDS = (
     *("scalar registers", "vector registers", "accumulators", "VCO", "VCC", "VCE", "divider", "pc", "npc"),

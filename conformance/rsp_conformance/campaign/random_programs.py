@@ -9,6 +9,7 @@ from typing import Iterator, List, Sequence, Set, Tuple
 
 import numpy as np
 import rsp
+from rsp_conformance.table import word_of
 
 from . import CampaignFault
 from .dependences import Pairs, met, with_dependences
@@ -29,9 +30,21 @@ def edged(raw: Array) -> Array:
     return np.where(raw >> 8 >= FIRST_EDGE, EDGE[raw & 255], raw << 3 | raw >> 13).astype("<u2")
 
 
+def with_signals(words: Array, pairs: Pairs, choice: Array) -> Tuple[Array, Pairs]:
+    """The words, of which some become a LUI and an MTC0 that writes its number to SP_STATUS; and the other
+    dependences. Such a number changes signals, by pairs of bits, and neither halts nor sets single step.
+    """
+    first = 2 * np.nonzero(choice[::2] >> 10 & 63 == 0)[0]
+    t, number = choice[first] >> 16 & 31, choice[first] >> 32 & 0xFFFF
+    words[first] = word_of(INSTRUCTIONS["lui"], {"t": t, "imm": number})
+    words[first + 1] = word_of(INSTRUCTIONS["mtc0"], {"t": t, "c": 4})
+    gone = {*(4 * first).tolist(), *(4 * first + 4).tolist()}
+    return words, {ends: kind for ends, kind in pairs.items() if not gone & {*ends}}
+
+
 @functools.lru_cache(1)
 def words_of(names: Tuple[str, ...], seed: str) -> Array:
-    """WORDS words of each instruction, none of which halts the machine or sets single step."""
+    """WORDS words of each instruction, none of which halts the machine or sets single step by any number."""
     words = np.array([cases_of(name, f"{seed} of programs", 0, WORDS)[0]["word"] for name in names], np.int64)
     if "mtc0" in names:
         row = words[names.index("mtc0")]
@@ -44,7 +57,7 @@ def program_of(names: Sequence[str], seed: str, number: int) -> Tuple[Program, P
     other words are of eight instructions that the program chooses.
 
     Branches and jumps go forward by a few words, and JR and JALR are rare, because each program would
-    otherwise soon be in a small loop.
+    otherwise soon be in a small loop. Some write signals of SP_STATUS.
     """
     choice = (generator("program", f"{seed}/{number}").random_raw(LENGTH + 8) >> 1).astype(np.int64)
     few, choice = choice[:8] % len(names), choice[8:]
@@ -56,6 +69,8 @@ def program_of(names: Sequence[str], seed: str, number: int) -> Tuple[Program, P
     words = np.where(np.isin(forms, ("branch one", "branch two")), words & ~0xFFFF | 1 + on % 7, words)
     words = np.where(np.isin(forms, ("jump register", "link register")) & (choice >> 24 & 15 > 0), 0, words)
     words = np.where(forms == "jump", words & ~0x3FF | np.arange(LENGTH) + 2 + on % 5 & 0x3FF, words)
+    if {"lui", "mtc0"} <= {*names}:
+        words, pairs = with_signals(words, pairs, choice)
     raw = generator("memories of programs", f"{seed}/{number}").random_raw(MEMORIES // 8)
     memories = edged(raw.view("<u2")).view(np.uint8)
     memories[IMEM : IMEM + 4096] = words.astype(">u4").view(np.uint8)

@@ -118,7 +118,8 @@ def last_line(results: List[Result], known: Known) -> str:
     count, differ, faults, *others = (sum(line[key] for line in lines.values()) for key in keys)
     apart = dict(zip(("not there", "not shown", "known"), others))
     more_counts = "".join(f", {number} {what}" for what, number in apart.items() if number)
-    programs, met = (lines.get(PROGRAM, nothing())[key] for key in ("count", "met"))
+    of_programs = lines.get(PROGRAM, nothing())
+    programs, met = of_programs["count"] - of_programs["unshown"], of_programs["met"]
     kinds = ", ".join(f"{kind} {number}" for kind, number in met.items())
     seconds = plural(round(sum(result["processor"] for result in results)), "second")
     unseen = printable(", ".join(dict.fromkeys(part for result in results for part in result["unseen"])))

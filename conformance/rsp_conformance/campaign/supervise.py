@@ -34,6 +34,7 @@ from rsp_conformance.command_line import printable
 from . import CampaignFault
 from .hashes import hashes, other_hashes
 from .search import fewest
+from .stored import stored_name
 from .protocol import (
     BATCH,
     END_BYTES,
@@ -229,13 +230,18 @@ def cause_of(task: Task, number: int, first: int, options: Options) -> Optional[
     return number - count + 1 if count else None
 
 
-def fault_of(task: Task, number: int, cause: Optional[int], why: str) -> Result:
+def title(task: Task, number: int, options: Options) -> str:
+    """The name of a case or a program."""
+    return stored_name(options, task[1], number) if options["stored"] else name_of(*task[1:3], number)
+
+
+def fault_of(task: Task, number: int, cause: Optional[int], why: str, options: Options) -> Result:
     """The result of a case with a fault, which counts as a difference."""
     if cause is None:
         why += "; no run of cases before it was found that shows it again"
     elif cause < number:
-        why += f"; the shortest run that shows it begins with {name_of(*task[1:3], cause)}"
-    line = f"{name_of(*task[1:3], number)}: {why}"
+        why += f"; the shortest run that shows it begins with {title(task, cause, options)}"
+    line = f"{title(task, number, options)}: {why}"
     return {
         "count": 1,
         "differ": 1,
@@ -261,7 +267,7 @@ def run_in_children(task: Task, options: Options) -> Result:
             return {**result, "given up": child.fault}
         number = at + min(child.done(), BATCH - 1, end - at - 1)  # a child may end after a batch's last case
         cause = cause_of(task, number, first, options)
-        add(result, fault_of(task, number, cause, child.fault))
+        add(result, fault_of(task, number, cause, child.fault, options))
         faulty = number if cause is None or cause < at else cause
         ranges[:0] = [(low, high) for low, high in ((at, faulty), (faulty + 1, end)) if low < high]
     return result
@@ -287,7 +293,7 @@ def show_anew(task: Task, result: Result, options: Options) -> None:
 
 def number_in(line: str) -> int:
     """The number in the name at the beginning of a line."""
-    found = re.match(r"\w+-\w+-\w+-(\d+)", line)
+    found = re.match(r"(?:\w+-)+(\d+)", line)
     return int(found[1]) if found else 0
 
 

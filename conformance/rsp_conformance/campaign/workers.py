@@ -26,7 +26,7 @@ AHEAD = 1000  # the most tasks that wait or run; an adaptive cluster grows by ho
 
 def options_of(args: argparse.Namespace) -> Options:
     """The options of a campaign that its tasks need."""
-    names = ("instructions", "steps", "limit", "files")
+    names = ("instructions", "steps", "limit", "files", "stored")
     return {**{name: getattr(args, name) for name in names}, "whole": False}
 
 

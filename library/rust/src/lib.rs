@@ -20,6 +20,7 @@ mod calls;
 #[doc(hidden)]
 pub mod cases;
 mod compare;
+mod console;
 mod difference;
 mod error;
 mod faults;
@@ -39,6 +40,7 @@ mod stops;
 mod texts;
 
 pub use compare::{first_difference, Emulator, FirstDifference, Quadword};
+pub use console::Console;
 pub use difference::{Part, Place};
 pub use error::{AssemblyFault, RspError, VERSION};
 pub use faults::Fault;

@@ -10,7 +10,7 @@ import re
 import struct
 import subprocess
 from pathlib import Path
-from typing import Dict, Tuple
+from typing import Dict, List, Tuple
 
 import pytest
 
@@ -109,7 +109,9 @@ def test_changed(
     (folder / "choice.bin").write_bytes(with_number(false, 16 + 8, 1))
     ran = run(runner, folder / "changed.bin", folder / "choice.bin")
     form = rf"SW-000 \((sw .*\(.*\))%s\), {re.escape(name)}: expected (\w{{{digits}}}), got (\w{{{digits}}})"
-    found = re.fullmatch(rf"{form % ''}\n{form % ', choice'}\n38 passed, 2 failed\n", ran.stdout)
+    found = re.fullmatch(
+        rf"{form % ''}\n{form % ', choice'}\n38 passed, 2 failed\nfailed: 2 of SW\n", ran.stdout
+    )
     assert ran.returncode == 1 and found, ran.stdout
     assert found.groups()[:3] == found.groups()[3:]
     assert int(found[2], 16) ^ int(found[3], 16) in (1, 1 << 8, 1 << 16), ran.stdout
@@ -143,7 +145,7 @@ def test_line_of_page(runner: Path, program: Path, folder: Path) -> None:
     assert struct.unpack("<I", data[to : to + 4])[0] == int(expected, 16)
     (folder / "changed").write_bytes(with_number(data, to, int(result, 16)))
     exchanged = line.replace(expected, "*").replace(result, expected).replace("*", result)
-    assert run(runner, folder / "changed").stdout == f"{exchanged}19 passed, 1 failed\n"
+    assert run(runner, folder / "changed").stdout == f"{exchanged}19 passed, 1 failed\nfailed: 1 of CFC2\n"
 
 
 MINE = block_with("conformance/README.md", '#include "brsp.h"')  # the page's emulator, which executes nothing
@@ -171,7 +173,19 @@ def test_emulator_of_page(compiler: str, end: str, folder: Path, vectors: bytes,
     (folder / f"mine.{end}").write_text(MINE)
     ran = run_linked(folder / f"mine.{end}", compiler, library, vectors)
     assert ran.returncode == 1 and ran.stdout.startswith("SW-000 (sw ")
-    assert ran.stdout.endswith("\n0 passed, 20 failed\n")
+    assert ran.stdout.endswith("\n0 passed, 20 failed\nfailed: 20 of SW\n")
+
+
+@pytest.mark.parametrize("words, status", [([], 0), (["--strict"], 1)])
+def test_skipped_cases(words: List[str], status: int, folder: Path, vectors: bytes, library: Path) -> None:
+    """What the emulator lacks is skipped, and named; with --strict that is a failure."""
+    knows_vnop = "if ((memories[1][state.pc + 3] & 63) != 0x37) return BRSP_RESERVED;"
+    (folder / "mine.c").write_text(MINE.replace("    state.pc =", f"    {knows_vnop}\n    state.pc ="))
+    run_linked(folder / "mine.c", "cc", library, vectors)
+    succeeds("conformance/generate", "--flat", "--of", TOP / "conformance/vectors", folder, "VNOP", "ADDU")
+    ran = run(folder / "mine", *words, folder / "flat/VNOP.bin", folder / "flat/ADDU.bin")
+    lines = "20 passed, 0 failed, 20 skipped\nskipped: 20 of ADDU\n"
+    assert (ran.stdout, ran.returncode) == (lines, status)
 
 
 # Lines of it, and what makes them lose what they get, by what the runner names.
