@@ -11,7 +11,7 @@ from typing import Iterator, List, Set
 import numpy as np
 import rsp
 
-from . import CampaignFault, Unusable, console_programs, operands_read
+from . import CampaignFault, Unusable, console_programs, operands_read, stated
 from .generator import END, Array, cases_of, memories_of
 from .random_programs import check_programs
 from .protocol import BATCH, NOT_THERE, PROGRAM, RESERVED, SHOWN, UNDONE, UNSHOWN, Kinds, Result, name_of
@@ -27,7 +27,9 @@ class Cases:
     """Cases of an instruction on both sides."""
 
     def __init__(self, spec: str, name: str, seed: str) -> None:
-        self.name, self.seed, self.memories = name, seed, memories_of(name, seed)
+        self.name, self.seed = name, seed
+        is_stated = stated.is_stated(seed)
+        self.memories = stated.memories_of(seed) if is_stated else memories_of(name, seed)
         self.sides, self.expected = Sides(spec, self.memories), np.zeros(BATCH, END)
         self.kinds: Set[str] = set()  # those whose first case was shown
 
@@ -63,7 +65,10 @@ class Cases:
 
     def batch(self, at: int, n: int, ends: Array, room: int, in_full: bool) -> Result:
         """The result of `n` cases, with at most `room` shown, because showing one takes milliseconds."""
-        cases, choices = cases_of(self.name, self.seed, at, n)
+        is_stated = stated.is_stated(self.seed)
+        cases, choices = (
+            (stated.case_in(self.seed)[1], {}) if is_stated else cases_of(self.name, self.seed, at, n)
+        )
         ends["status"] = UNDONE
         differ = self.sides.run(cases, self.expected[:n], ends[:n])
         statuses = ends["status"][:n]
