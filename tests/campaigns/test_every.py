@@ -11,6 +11,7 @@ from typing import Any, Dict, List
 
 import pytest
 
+from lib import TOP
 from lib.campaigns import SOURCES, campaign, core_with, faulty
 from lib.processes import STRICT, Ended, compiled, run, succeeds
 from rsp_conformance import HERE
@@ -19,7 +20,7 @@ from rsp_conformance.table import ROWS
 
 pytestmark = [pytest.mark.needs("cc", "python:numpy"), pytest.mark.usefixtures("library")]
 
-SECOND = HERE / "second/second.c"
+TOOLS, SECOND = TOP / "tools", HERE / "second/second.c"
 PLUGIN = "/usr/lib/x86_64-linux-gnu/mupen64plus/mupen64plus-rsp-z64.so"
 LONG = pytest.mark.outside("whole runs of an instruction, and all bugs, take 25 minutes of processor")
 
@@ -216,6 +217,22 @@ def test_wrong_case(words: str, sentence: str) -> None:
     """A case as a text that is none."""
     ended = campaign(faulty(1), "--case", words)
     assert ended.returncode == 2 and sentence in ended.stderr and ended.stderr.count("\n") == 1, ended.stderr
+
+
+@pytest.mark.parametrize(
+    "system",
+    [
+        pytest.param("wasm", marks=pytest.mark.needs("node", "clang", "wasm-ld")),
+        pytest.param("linux-aarch64", marks=pytest.mark.needs("aarch64-linux-gnu-gcc", "qemu-aarch64")),
+    ],
+)
+def test_other_system(system: str) -> None:
+    """The worker is made for the system, and runs there: the first seconds of edges agree."""
+    output = succeeds(TOOLS / "python", "measure.every", system, "--edges", "--limit", 4, "--jobs", 1)
+    found = re.fullmatch(
+        rf"{system}: (\d+) cases: 0 differ, 0 crashes or hangs; \d+ seconds of processor\n", output
+    )
+    assert found and int(found[1]) > 1000, output
 
 
 def test_open_fails(folder: Path) -> None:
