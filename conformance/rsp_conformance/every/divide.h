@@ -6,8 +6,9 @@ static uint32_t reciprocal_entries[512], root_entries[512];
 
 static uint32_t root_entry(uint32_t i)
 {
-    uint64_t a = i % 2 ? (512 + i) / 2 : 512 + i, b = 0; /* b becomes the greatest number with a * b * b < 2^44 */
-    while (a * (b + 1) * (b + 1) < (uint64_t)1 << 44) b++;
+    uint64_t a = i % 2 ? (512 + i) / 2 : 512 + i, b = 0; /* b becomes the greatest number with a * b * b < 2^44, bit by bit */
+    for (uint64_t bit = 1 << 18; bit; bit /= 2)
+        if (a * (b + bit) * (b + bit) < (uint64_t)1 << 44) b += bit;
     return (uint32_t)(b / 2 % 65536);
 }
 

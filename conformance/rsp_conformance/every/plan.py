@@ -31,7 +31,7 @@ LANES, NUMBERS, MANY = 1024, 128, 4096
 PAIRS, FIRST = 1 << 22, 1 << 13  # positions of all pairs, and of the pairs of edges
 CASE_EDGES = 1 << 16  # the first cases of each lattice
 # The seconds that a position takes on the library, for the time to go until there is a measured one.
-SECONDS = {"edges": 7e-6, "pairs": 7e-6, "uppers": 9e-6, "divides": 9e-6, "divide edges": 9e-6, "words": 6e-4}
+SECONDS = {"edges": 7e-6, "pairs": 7e-6, "uppers": 9e-6, "divides": 5e-6, "divide edges": 5e-6, "words": 6e-4}
 SECONDS["cases"] = 1.2e-6
 
 # The lattices of each form of instructions that second.c computes: how many bits each has, and what it tries.
