@@ -171,7 +171,9 @@ def test_without_lanes(folder: Path) -> None:
     old = changed(folder, flags="-Dcases_lanes=no_lanes")
     ended = every(old, "vand")
     says = r"has no cases_lanes: compile it again, with the side.h of this clone. It makes \d+ pairs a second"
-    assert re.search(rf"{says}, .* hours of a processor; only --edges is run; --limit ", ended.stdout)
+    assert re.search(
+        rf"{says}, .* hours of a processor; only --edges is run, in about \d+ minutes; --limit ", ended.stdout
+    )
     assert ended.returncode == 0 and table(ended.stdout)["VAND pairs"].startswith("0 of 2^32")
     other = compiled(folder / "other.so", "-shared", "-fPIC", "-x", "c", "/dev/null")
     ended = every(other, "vand")

@@ -153,8 +153,10 @@ def is_too_slow(run: Any, args: argparse.Namespace, tests: Any) -> bool:
     worker.kill()
     speed = max(1, int(worker.progress["cases"]) + 8)
     hours = sum(test.positions * test.cases for test in pairs) / speed / 3600
+    minutes = sum(test.edges * max(test.cases, 8) for test in tests) / speed / 60
     again = "" if args.emulator.startswith(PLUGIN) else ": compile it again, with the side.h of this clone"
-    how = "it runs for --limit seconds" if args.limit else "only --edges is run; --limit SECONDS runs more"
+    edges = f"only --edges is run, in about {minutes:,.0f} minutes; --limit SECONDS runs more"
+    how = "it runs for --limit seconds" if args.limit else edges
     write_output(
         f"{args.emulator} has no cases_lanes{again}. It makes {speed} pairs a second, so that all pairs of"
         f" these instructions take {hours:,.0f} hours of a processor; {how}.\n"

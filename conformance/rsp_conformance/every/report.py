@@ -100,7 +100,7 @@ def table_of(tests: List[Test], outcomes: Dict[Test, Outcome]) -> List[Dict[str,
         outcome = outcomes.get(test, Outcome())
         line = lines.setdefault((test.instruction, test.label), dict.fromkeys(COLUMNS, 0))
         line.update(instruction=test.instruction.upper(), test=test.label, what=test.what)
-        line["cases"] += outcome.counts["positions"] * test.cases
+        line["cases"] += outcome.counts["positions"] * test.cases - outcome.counts["unshown"]
         line["of"] += test.positions * test.cases
         line["differ"] += outcome.counts["differ"]
         line["not shown"] += outcome.counts["unshown"]
