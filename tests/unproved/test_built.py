@@ -86,6 +86,13 @@ def assert_agrees(emulator: Path, out: Path, *words: object) -> None:
     assert len(counts) > 100 and all(it[0] and it[1:] == (0, 0) for it in counts.values()), counts
 
 
+def assert_lanes_agree(emulator: Path) -> None:
+    """The same of batches of lanes (conformance/every)."""
+    env = {**os.environ, "PATH": f"{Path(sys.executable).parent}:{os.environ['PATH']}"}
+    output = succeeds(CAMPAIGN.parent / "every", emulator, "vcl", "--edges", "--jobs", 1, env=env)
+    assert re.search(r"(?m)^VCL +edges +all 58720256 +none differs", output), output
+
+
 @pytest.mark.needs("python:numpy")
 def test_library(built: Path, library: Path, folder: Path) -> None:
     """Cases of each instruction, and 200 programs of up to 100,000 steps."""
@@ -142,9 +149,9 @@ def test_core_in_a_campaign(cargo: Any, folder: Path) -> None:
         "--target-dir",
         folder / "target",
     )
-    assert_agrees(
-        folder / "target/release/libcore_cases.so", folder / "out", "--cases", 256, "--programs", 100
-    )
+    core = folder / "target/release/libcore_cases.so"
+    assert_agrees(core, folder / "out", "--cases", 256, "--programs", 100)
+    assert_lanes_agree(core)
 
 
 @pytest.mark.parametrize(

@@ -147,7 +147,11 @@ def show(args: argparse.Namespace) -> bool:
     Returns whether all differences are known.
     """
     name, seed, first, last = args.case
-    if args.out:
+    if is_stated := " " in seed:
+        from .stated import case_in  # here, because it needs numpy
+
+        name = case_in(seed)[0]
+    if args.out and not is_stated:
         settings = settings_in(args.out)
         args.instructions, args.steps = settings["instructions"], settings["steps"]
     options = {**options_of(args), "whole": first == last}
@@ -220,7 +224,9 @@ def folder_of(text: str) -> str:
 
 
 def case_of(text: str) -> Tuple[str, str, int, int]:
-    """The instruction, the seed, the first and the last number of a case's name."""
+    """The instruction, the seed, the first and the last number of a case's name; or, as a seed, a text."""
+    if " " in text:
+        return "", text, 0, 0
     found = re.fullmatch(r"(\w+?)(?:-g(\d+))?-([a-z0-9]+)-(\d+)(?:\.\.(\d+))?", text)
     if found and found[1].lower() in (*INSTRUCTIONS, PROGRAM, WORDS):
         first, last, version = int(found[4]), int(found[5] or found[4]), int(found[2] or 1)
@@ -260,7 +266,7 @@ def arguments() -> argparse.Namespace:
     add("--reserved", action="store_true", help=reserved)
     add("--scheduler", metavar="ADDRESS", help="runs the tasks on a cluster of Dask")
     case = name_of("vadd", "7", 123)
-    names = f"{case}, {case}..000130, or {name_of(PROGRAM, '7', 5)}"
+    names = f"{case}, {case}..000130, {name_of(PROGRAM, '7', 5)}, or 'vadd $v1, $v2, $v3 v2=0005..'"
     add("--case", type=case_of, metavar="NAME", help=f"shows {names}")
     add("emulator", metavar="EMULATOR")
     add("out", metavar="OUT", type=Path, nargs="?")
@@ -287,19 +293,24 @@ def arguments() -> argparse.Namespace:
     return args
 
 
-def main() -> int:
-    """Runs a campaign, or shows cases, and returns the exit status."""
-    args = arguments()
+def need_modules() -> None:
+    """Raises a CampaignFault if the library or a module that isn't ours can't be had."""
     try:
         library()
         import numpy  # noqa: F401
         import rsp  # noqa: F401
-    except (CampaignFault, ImportError) as fault:
-        if getattr(fault, "name", "") == "numpy":
+    except ImportError as fault:
+        if fault.name == "numpy":
             how = "apt-get install python3-numpy, and begin with PATH=/usr/bin:$PATH (or pip install numpy)"
-            stop(f"{sys.executable} has no numpy: {how}")
-        stop(fault)
+            raise CampaignFault(f"{sys.executable} has no numpy: {how}") from None
+        raise CampaignFault(fault) from None
+
+
+def main() -> int:
+    """Runs a campaign, or shows cases, and returns the exit status."""
+    args = arguments()
     try:
+        need_modules()
         return 0 if (show(args) if args.case else run(args)) else DIFFERS
     except (CampaignFault, FileFault, VectorsFault) as fault:
         stop(fault)

@@ -29,6 +29,18 @@ void cases_look(void *at, uint8_t *memories);
 void cases_step(void *at, uint32_t steps);
 uint32_t cases_steps(void *at, uint32_t steps); /* optional, in place of cases_step: without a pause, and it returns how many steps are done */
 
+/* For conformance/every: operations on all lanes. Each is `group` words without a branch, of which the last one is an instruction of the vector unit.
+ * They are in IMEM from address 0 on, and if they aren't new, then they are there already. */
+enum { CASES_OPERATIONS = 128, CASES_WORDS = 1024 };
+typedef struct brsp_operations { uint32_t count, group, are_new, words[CASES_WORDS]; } brsp_operations;
+/* What each operation leaves: the vector register that bits 10 to 6 of its last word name, the accumulators, and the flags. */
+typedef struct brsp_lane_ends {
+    uint16_t result[CASES_OPERATIONS][8], high[CASES_OPERATIONS][8], middle[CASES_OPERATIONS][8], low[CASES_OPERATIONS][8];
+    brsp_flag_bits flags[CASES_OPERATIONS];
+} brsp_lane_ends;
+/* Sets all registers, with 0 as pc, and executes the operations. Returns how many words ended with BRSP_OK before the first other one. */
+uint32_t cases_lanes(void *at, const brsp_state *state, const brsp_operations *operations, brsp_lane_ends *ends);
+
 static inline uint64_t cases_digest_of(const uint8_t *before, const uint8_t *after, size_t n) /* of (address, byte) for each byte that has changed */
 {
     uint64_t sum = 0;

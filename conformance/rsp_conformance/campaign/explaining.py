@@ -53,9 +53,14 @@ def memory(row: Row, fields: Dict[str, int], state: rsp.State, memories: bytes) 
         yield from [f"dmem.000={memories[:wrapped].hex()}"] * bool(wrapped)
 
 
+def keys_of(name: str, word: int, state: rsp.State, memories: bytes) -> str:
+    """All that the instruction of a case reads, as KEY=HEX."""
+    row, fields = ROWS[name], fields_of(ROWS[name], word)
+    given = [*registers(fields, texts_of(numbers_of(state))), *memory(row, fields, state, memories)]
+    return " ".join(given)
+
+
 def command_for(name: str, word: int, state: rsp.State, memories: bytes, difference: str) -> str:
     """The command that explains what is expected in a difference of a case; nothing if there is none."""
-    row, what = ROWS[name], name_of_value(difference)
-    fields = fields_of(row, word)
-    given = [*registers(fields, texts_of(numbers_of(state))), *memory(row, fields, state, memories)]
-    return f"tools/define why '{rsp.text(word, state.pc)}' {what} {' '.join(given)}" if what else ""
+    what, keys = name_of_value(difference), keys_of(name, word, state, memories)
+    return f"tools/define why '{rsp.text(word, state.pc)}' {what} {keys}" if what else ""

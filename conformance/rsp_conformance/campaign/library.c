@@ -24,6 +24,20 @@ static void side_look(brsp_machine *m, uint8_t *memories, size_t to)
         brsp_memory(m, bank, 0, memories + start_of[bank], start_of[bank + 1] - start_of[bank]);
 }
 
+#define SIDE_LANES lanes
+static void lanes(brsp_machine *m, uint32_t vd, brsp_lane_ends *ends, uint32_t i)
+{
+    brsp_lanes result;
+    brsp_accumulators accumulators;
+    brsp_vreg(m, vd, &result);
+    brsp_acc(m, &accumulators);
+    brsp_flags(m, ends->flags + i);
+    memcpy(ends->result[i], result.lanes, 16);
+    memcpy(ends->high[i], accumulators.high, 16);
+    memcpy(ends->middle[i], accumulators.middle, 16);
+    memcpy(ends->low[i], accumulators.low, 16);
+}
+
 #include "side.h"
 
 /* No part of the interface: the digest for emulators in other languages. */

@@ -29,7 +29,12 @@ UNDONE, UNSHOWN, RESERVED = 0xFFFFFFFF, 0xFFFFFFFE, 105
 
 
 def name_of(what: str, seed: str, number: int) -> str:
-    """The name of a case, or of a program: VADD-g2-7-000123, with the generator's version."""
+    """The name of a case, or of a program: VADD-g2-7-000123, with the generator's version.
+
+    A case without a number has no name, except that of its instruction: its text is in the place of a seed.
+    """
+    if " " in seed:
+        return what.upper()
     return f"{what.upper()}-g{VERSIONS.get(what, VERSION)}-{seed}-{number:06d}"
 
 

@@ -13,7 +13,10 @@
  * A core with a pipeline also defines SIDE_STEPS as the name of a function
  *   static uint32_t SIDE_STEPS(side_machine *m, uint32_t n);
  * which executes n instructions of a program without a pause, and returns how many are done. It stops after the first one that doesn't end as done.
- * Only then the pipeline is empty: after each instruction, as `side_step` leaves it, no hazard between two instructions can show. */
+ * Only then the pipeline is empty: after each instruction, as `side_step` leaves it, no hazard between two instructions can show.
+ * A core that has something faster than `side_get` for a vector register, the accumulators and the flags may define SIDE_LANES as the name of a function
+ *   static void SIDE_LANES(side_machine *m, uint32_t vd, brsp_lane_ends *ends, uint32_t i);
+ * which puts them into row i of `ends`. library.c does. */
 #include <stdlib.h>
 #ifdef __cplusplus
 extern "C" {
@@ -59,6 +62,33 @@ void cases_set(void *at, const brsp_state *state) { side_set(&((side_opened *)at
 void cases_get(void *at, brsp_state *state) { side_get(&((side_opened *)at)->m, state); }
 void cases_load(void *at, const uint8_t *memories) { side_load(&((side_opened *)at)->m, memories, CASES_MEMORIES); }
 void cases_look(void *at, uint8_t *memories) { side_look(&((side_opened *)at)->m, memories, CASES_MEMORIES); }
+
+#ifndef SIDE_LANES
+#define SIDE_LANES side_lanes
+static void side_lanes(side_machine *m, uint32_t vd, brsp_lane_ends *ends, uint32_t i)
+{
+    brsp_state s;
+    side_get(m, &s);
+    memcpy(ends->result[i], s.vectors[vd], 16);
+    memcpy(ends->high[i], s.accumulators.high, 16);
+    memcpy(ends->middle[i], s.accumulators.middle, 16);
+    memcpy(ends->low[i], s.accumulators.low, 16);
+    ends->flags[i] = s.flags;
+}
+#endif
+uint32_t cases_lanes(void *at, const brsp_state *state, const brsp_operations *operations, brsp_lane_ends *ends)
+{
+    side_machine *m = &((side_opened *)at)->m;
+    const uint32_t *words = operations->words, group = operations->group;
+    if (!side_set(m, state)) return 0;
+    for (uint32_t i = 0; operations->are_new && i < operations->count * group; i++) side_put(m, 4 * i, words[i]);
+    for (uint32_t i = 0; i < operations->count; i++) {
+        for (uint32_t j = 0; j < group; j++) if (side_step(m) != BRSP_OK) return i * group + j;
+        SIDE_LANES(m, words[i * group + group - 1] >> 6 & 31, ends, i);
+    }
+    return operations->count * group;
+}
+
 #ifdef SIDE_STEPS
 uint32_t cases_steps(void *at, uint32_t n) { return SIDE_STEPS(&((side_opened *)at)->m, n); }
 void cases_step(void *at, uint32_t n) { SIDE_STEPS(&((side_opened *)at)->m, n); }

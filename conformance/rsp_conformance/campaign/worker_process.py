@@ -10,13 +10,21 @@ from typing import Iterator, Tuple
 
 import numpy as np
 
-from . import CampaignFault, Unusable, console_programs
+from . import CampaignFault, Unusable, console_programs, stated
 from .batches import Cases, check_cases
 from .generator import END, Array, memories_of
 from .protocol import PROGRAM, WORDS, Options, Result
 from .random_programs import check_programs
 from .reserved_words import ReservedWords
 from .stored_cases import results_of_stored
+
+
+def cases_on_both_sides(spec: str, name: str, seed: str) -> Cases:
+    """The cases of a task by their kind."""
+    if stated.is_stated(seed):
+        return stated.StatedCase(spec, name, seed, stated.memories_of(seed))
+    kind = ReservedWords if name == WORDS else Cases
+    return kind(spec, name, seed, memories_of(name, seed))
 
 
 def results_of(task: Tuple[str, str, str, int, int], options: Options, ends: Array) -> Iterator[Result]:
@@ -28,8 +36,7 @@ def results_of(task: Tuple[str, str, str, int, int], options: Options, ends: Arr
         check = console_programs.check_programs if spec.startswith("console:") else check_programs
         yield from check(spec, seed, start, count, options["instructions"], options["steps"])
     else:
-        kind = ReservedWords if name == WORDS else Cases
-        cases = kind(spec, name, seed, memories_of(name, seed))
+        cases = cases_on_both_sides(spec, name, seed)
         yield from check_cases(cases, start, count, ends, options["whole"])
 
 

@@ -1,6 +1,6 @@
 //! An emulator as a shared object of a campaign's cases: the functions of `conformance/rsp_conformance/campaign/cases.h`.
 
-use crate::{Bank, Emulator, State, StepEnd};
+use crate::{Bank, Emulator, FlagBits, State, StepEnd};
 use std::ops::Range;
 use std::panic::{catch_unwind, AssertUnwindSafe};
 use std::{process, slice};
@@ -38,6 +38,31 @@ pub struct End {
     state: State,
     status: u32,
     changed: u64,
+}
+
+/// The most operations of a batch, and all words of IMEM.
+const OPERATIONS: usize = 128;
+const WORDS: usize = 1024;
+
+/// Operations on all lanes, each of `group` words, for `conformance/every`.
+#[doc(hidden)]
+#[repr(C)]
+pub struct Operations {
+    count: u32,
+    group: u32,
+    are_new: u32,
+    words: [u32; WORDS],
+}
+
+/// What each operation leaves.
+#[doc(hidden)]
+#[repr(C)]
+pub struct LaneEnds {
+    result: [[u16; 8]; OPERATIONS],
+    high: [[u16; 8]; OPERATIONS],
+    middle: [[u16; 8]; OPERATIONS],
+    low: [[u16; 8]; OPERATIONS],
+    flags: [FlagBits; OPERATIONS],
 }
 
 /// An emulator, and the memories before a case and after it.
@@ -99,6 +124,38 @@ impl<E: Emulator + Default> Side<E> {
         }
         End { state, status, changed }
     }
+
+    /// Executes operations, and returns how many words are done before the first that isn't.
+    fn lanes(&mut self, state: &State, operations: &Operations, ends: &mut LaneEnds) -> u32 {
+        let (count, group) = (operations.count as usize, operations.group as usize);
+        let words = &operations.words[..count * group];
+        self.emulator.set(state);
+        if operations.are_new != 0 {
+            let mut imem = self.before[IMEM..RDRAM].to_vec();
+            imem.chunks_exact_mut(4).zip(words).for_each(|(bytes, word)| bytes.copy_from_slice(&word.to_be_bytes()));
+            self.emulator.load(Bank::Imem, 0, &imem);
+        }
+        for (i, word) in words.iter().enumerate() {
+            if !matches!(self.emulator.case(), StepEnd::Done) {
+                return i as u32;
+            }
+            if (i + 1) % group == 0 {
+                ends.put(i / group, (word >> 6 & 31) as usize, &self.emulator.get());
+            }
+        }
+        words.len() as u32
+    }
+}
+
+impl LaneEnds {
+    /// Puts what an operation leaves into its row.
+    fn put(&mut self, row: usize, vd: usize, state: &State) {
+        self.result[row] = state.vectors[vd];
+        self.high[row] = state.accumulators.high;
+        self.middle[row] = state.accumulators.middle;
+        self.low[row] = state.accumulators.low;
+        self.flags[row] = state.flags;
+    }
 }
 
 /// A panic has printed its message: no caller in C may see it unwind.
@@ -139,6 +196,16 @@ pub unsafe fn load<E: Emulator + Default>(side: *mut Side<E>, memories: *const u
 pub unsafe fn look<E: Emulator>(side: *mut Side<E>, memories: *mut u8) {
     let memories = slice::from_raw_parts_mut(memories, MEMORIES);
     guarded(|| banks(MEMORIES).for_each(|(bank, range)| (*side).emulator.memory(bank, 0, &mut memories[range])));
+}
+
+#[doc(hidden)]
+pub unsafe fn lanes<E: Emulator + Default>(
+    side: *mut Side<E>,
+    state: *const State,
+    operations: *const Operations,
+    ends: *mut LaneEnds,
+) -> u32 {
+    guarded(|| (*side).lanes(&*state, &*operations, &mut *ends))
 }
 
 #[doc(hidden)]
@@ -213,6 +280,17 @@ macro_rules! cases {
         #[no_mangle]
         unsafe extern "C" fn cases_look(side: *mut $crate::cases::Side<$emulator>, memories: *mut u8) {
             $crate::cases::look(side, memories)
+        }
+
+        /// Executes operations on all lanes.
+        #[no_mangle]
+        unsafe extern "C" fn cases_lanes(
+            side: *mut $crate::cases::Side<$emulator>,
+            state: *const $crate::State,
+            operations: *const $crate::cases::Operations,
+            ends: *mut $crate::cases::LaneEnds,
+        ) -> u32 {
+            $crate::cases::lanes(side, state, operations, ends)
         }
 
         /// Makes steps.
