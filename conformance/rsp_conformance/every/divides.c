@@ -18,7 +18,7 @@ static void put_words(brsp_operations *operations, uint32_t is_root)
     operations->count = ALL / NUMBERS, operations->group = 2 * NUMBERS, operations->are_new = 1;
 }
 /* A number whose answer differs, as a case of the instruction for its low half. */
-static void tell(const test *t, const brsp_state *s, uint32_t x, uint32_t expected, uint32_t got)
+static void add_difference(const test *t, const brsp_state *s, uint32_t x, uint32_t expected, uint32_t got)
 {
     brsp_case in = { *s, vector_word(function_of(t), 0, 2, 0, 24) };
     brsp_end right = { .status = BRSP_OK }, wrong;
@@ -50,10 +50,10 @@ static void run_numbers(const test *t, uint32_t high, uint32_t low)
     for (uint32_t i = 0; done == all && i < CHECKED; i++) {
         uint32_t x = high << 16 | ((low + i) & 0xFFFF), expected = divided((int32_t)x, (int)is_root);
         uint16_t lower = left.result[i / NUMBERS][i % NUMBERS], upper = left.result[(i + 1) / NUMBERS][NUMBERS + (i + 1) % NUMBERS];
-        if (((uint32_t)upper << 16 | lower) != expected) tell(t, &s, x, expected, (uint32_t)upper << 16 | lower);
+        if (((uint32_t)upper << 16 | lower) != expected) add_difference(t, &s, x, expected, (uint32_t)upper << 16 | lower);
     }
     if (done < operations.group) shared->missing += CHECKED;
-    if (done < all) tell(t, &s, high << 16 | low, 0, ~0u);
+    if (done < all) add_difference(t, &s, high << 16 | low, 0, ~0u);
 }
 /* 2^25 positions: a high half, and 128 low ones. */
 void divide_numbers(const test *t, uint64_t position)

@@ -66,7 +66,8 @@ static void sp_registers(const test *t, uint32_t n, brsp_case *in)
 }
 static void all_transfers(const test *t, uint32_t n, brsp_case *in) /* 512 lengths, 4 counts, 4 skips, 4 addresses, 4 others, both directions */
 {
-    static const uint32_t counts[] = { 0, 1, 3, 7 }, skips[] = { 0, 8, 0xFF8, 0x123 }, ats[] = { 0, 0x1008, 0xFF8, 0x17F0 }, rams[] = { 0, 0x1238, 0x3FF8, 0xFFFFF8 };
+    static const uint32_t counts[] = { 0, 1, 3, 7 }, skips[] = { 0, 8, 0xFF8, 0x123 };
+    static const uint32_t ats[] = { 0, 0x1008, 0xFF8, 0x17F0 }, rams[] = { 0, 0x1238, 0x3FF8, 0xFFFFF8 };
     in->state.sp[0] = ats[n >> 13 & 3], in->state.sp[1] = rams[n >> 15 & 3];
     in->state.pc = 0x400, in->state.npc = 0x404;
     uint32_t count = n % 64 ? counts[n >> 9 & 3] : some(256);
@@ -80,7 +81,8 @@ static void all_vectors(const test *t, uint32_t n, brsp_case *in) /* e, vt, vs, 
     in->word = t->value | (n & 15) << 21 | (n >> 4 & 31) << 16 | (n >> 9 & 31) << 11 | (n >> 14 & 31) << 6;
     if (t->value == 0x4A00001D && some(2)) in->word = (in->word & ~(15u << 21)) | (8 + some(3)) << 21;
 }
-static void all_sources(const test *t, uint32_t n, brsp_case *in) /* of divides and VMOV: all numbers in each lane, with DIV_IN loaded and not; of VSAR: in each part */
+/* Of divides and VMOV all numbers in each lane, with DIV_IN loaded and not; of VSAR all numbers in each part of an accumulator. */
+static void all_sources(const test *t, uint32_t n, brsp_case *in)
 {
     uint16_t value = (uint16_t)(n >> 4);
     brsp_state *s = &in->state;
