@@ -9,8 +9,8 @@ from typing import Any, Callable, Dict, List, Tuple
 
 import z3
 
+from .. import kit
 from ..arrays import Array
-from ..kit import Constant
 from .operations import CLAIMS, OPERATIONS, Claim, Interval, width_of
 from .products import MIXED, RANGES, SIGNED, UNSIGNED, product
 from .vectors import Vector, bits, known, resized
@@ -31,14 +31,17 @@ class Truth:
 class Number:
     """A number that isn't known, from `low` to `high`: a signed bit vector of width_of(low, high) bits.
 
-    If it is known to be `factor[0]` times 2^`factor[1]`, a sum with a smaller number needs no adder.
+    If it is known to be `factor[0]` times 2^`factor[1]`, a sum with a smaller number needs no adder; if it is
+    known to be 2^`power`, one can divide by it.
     """
 
-    __slots__ = ("z", "low", "high", "factor")
+    __slots__ = ("z", "low", "high", "factor", "power")
     __hash__ = None  # type: ignore[assignment]
 
-    def __init__(self, z: Vector, low: int, high: int, factor: Any = None) -> None:
-        self.z, self.low, self.high, self.factor = z, low, high, factor
+    def __init__(self, z: Vector, low: int, high: int) -> None:
+        self.z, self.low, self.high = z, low, high
+        self.factor: Any = None
+        self.power: Any = None
 
     def __index__(self) -> int:
         raise TypeError("a definition takes an unknown number as an index")
@@ -276,7 +279,7 @@ def merged(test: Any, a: Any, b: Any) -> Any:
         return merged_numbers(test, a, b)
     if isinstance(a, tuple) and isinstance(b, tuple) and len(a) == len(b):
         return tuple(merged(test, x, y) for x, y in zip(a, b))
-    if type(a) is type(b) and slots_of(a) and not isinstance(a, (Constant, Array)):
+    if type(a) is type(b) and slots_of(a) and not isinstance(a, (kit.Constant, Array)):
         made_of = object.__new__(type(a))
         for name in slots_of(a):
             setattr(made_of, name, merged(test, getattr(a, name), getattr(b, name)))
@@ -322,6 +325,13 @@ def minus(a: Any, b: Any) -> Any:
     if low(a) >= high(b):
         return a - b
     return made("minus", (max(low(a) - high(b), 0), high(a) - low(b)), a, b)
+
+
+def int_div_euclid(a: Any, b: Any) -> Any:
+    """the q of a = q * b + r with 0 ≤ r < b, of a b above 0"""
+    if isinstance(b, Number) and b.power is not None:
+        return over_power_of_two(a, b.power)
+    return kit.int_div_euclid(a, b)
 
 
 def cast_signed(width: int, n: Any) -> Any:
@@ -378,7 +388,11 @@ def mask_l(truths: Any) -> Any:
 
 def power_of_two(e: Any) -> Any:
     """2 ^ e"""
-    return tabulated(lambda k: 1 << k)(e)
+    if not isinstance(e, Number):
+        return 1 << e
+    found = times_power_of_two(1, e)
+    found.power = e
+    return found
 
 
 def times_power_of_two(a: Any, e: Any) -> Any:

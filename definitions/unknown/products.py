@@ -142,3 +142,12 @@ def apart(condition: Any) -> Apart:
             condition = z3.substitute(condition, *found.swaps)
             facts += found.facts
             pairs.append(found.pair)
+
+
+def multiplied(z: Vector) -> Vector:
+    """A formula with multiplication in place of the products."""
+    found = apart(z)
+    made = found.condition
+    for pair in reversed(found.pairs):  # the lanes of a later pair may have earlier products
+        made = z3.substitute(made, (pair.symbol, pair.by_multiplication()))
+    return made

@@ -16,7 +16,7 @@ from typing import Any, Dict, List, NamedTuple, Optional, Sequence, Tuple, Union
 
 import z3
 
-from .products import Apart, apart
+from .products import Apart, apart, multiplied
 from .vectors import Vector
 
 # Faster here than Z3's own choice for QF_BV: VCH of a core in C takes 0.4 seconds instead of 60.
@@ -46,11 +46,7 @@ class Refuted(NamedTuple):
 
     def value(self, z: Vector) -> int:
         """The value of a bit vector there."""
-        found = apart(z)
-        made = found.condition
-        for pair in reversed(found.pairs):  # the lanes of a later pair may have earlier products
-            made = z3.substitute(made, (pair.symbol, pair.by_multiplication()))
-        return int(self.model.eval(made, model_completion=True).as_long())
+        return int(self.model.eval(multiplied(z), model_completion=True).as_long())
 
     def values(self) -> Dict[str, int]:
         """The values of the symbols on which it depends, by their names."""
