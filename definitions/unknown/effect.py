@@ -13,7 +13,6 @@ import z3
 from ..compiler import Compiler
 from ..modules import Library
 from ..states import STEP, Machine
-from ..working import computed
 from .compiler import UnknownCompiler
 from .numbers import Truth, at, condition, signed, truth, unsigned
 from .vectors import Vector, bits, concat
@@ -79,7 +78,7 @@ class Definitions:
     def effect(self, name: str, vd: int, vs: int, vt: int, element: int, get: Get) -> Effect:
         """What the instruction changes."""
         before = self.state(get, self.word_of(name, vd, vs, vt, element))
-        after = computed(lambda: self.step_of(before))[1]
+        after = self.step_of(before)[1]
         old, new = fields(before), fields(after)
         return {name: vector(name, value) for name, value in new.items() if differs(value, old[name])}
 
@@ -141,7 +140,7 @@ ONCE: List[Definitions] = []
 def definitions() -> Definitions:
     """The definitions of this repository."""
     if not ONCE:
-        ONCE.append(computed(Definitions))
+        ONCE.append(Definitions())
     return ONCE[0]
 
 
