@@ -137,10 +137,15 @@ def planes(effect: Effect, get: Get) -> Effect:
 ONCE: List[Definitions] = []
 
 
+def use(root: str) -> None:
+    """Takes the definitions of another repository from now on."""
+    ONCE[:] = [Definitions(root)]
+
+
 def definitions() -> Definitions:
-    """The definitions of this repository."""
+    """The definitions of this repository, or those that `use` took."""
     if not ONCE:
-        ONCE.append(Definitions())
+        use(HERE)
     return ONCE[0]
 
 

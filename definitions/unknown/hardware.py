@@ -6,11 +6,12 @@ import re
 import shutil
 import subprocess
 import tempfile
-from typing import Any, Dict, List, NamedTuple, Sequence
+from typing import Any, Dict, NamedTuple, Sequence
 
 import z3
 
 from ..states import BadInput
+from .products import lifted
 from .units import Ports, Shape, Unit, shape_of
 from .vectors import Vector
 
@@ -101,7 +102,7 @@ def unit_in(module: Any, shape: Shape, text: str, top: str) -> Unit:
     def output(name: str, given: Ports) -> Vector:
         pairs = [(leaf(terms[it]), as_sort(leaf(terms[it]), given[it])) for it in inputs]
         found = z3.simplify(z3.substitute(terms[name], *pairs))  # only what the instruction computes is left
-        return z3.If(found, z3.BitVecVal(1, 1), z3.BitVecVal(0, 1)) if z3.is_bool(found) else found
+        return z3.If(found, z3.BitVecVal(1, 1), z3.BitVecVal(0, 1)) if z3.is_bool(found) else lifted(found)
 
     return Unit(shape, inputs, outputs, output)
 
