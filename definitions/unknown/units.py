@@ -98,10 +98,9 @@ def given(unit: Unit, variant: Variant) -> Dict[str, Vector]:
     """The inputs: a symbol for each, except those that are fixed."""
     fixed = {"fn": function_of(variant.name), **variant.fixed}
     widths = unit.shape.inputs.items()
-    return {
-        name: z3.BitVecVal(fixed[name], width) if name in fixed else z3.BitVec(name, width)
-        for name, width in widths
-    }
+    found = {name: z3.BitVec(name, width) for name, width in widths}
+    found.update((name, z3.BitVecVal(value, found[name].size())) for name, value in fixed.items())
+    return found
 
 
 def field_of(ports: Ports, lanes: int, registers: Mapping[str, str], name: str) -> Vector:
