@@ -98,9 +98,12 @@ def unit_in(module: Any, shape: Shape, text: str, top: str) -> Unit:
     terms = terms_of(text, top, {name: len(port["bits"]) for name, port in ports.items()})
     inputs = [name for name, port in ports.items() if port["direction"] == "input"]
     outputs = [name for name in ports if name not in inputs]
+    for name in outputs:
+        if name not in terms:
+            raise BadInput(f"module {top}: the output `{name}` isn't driven")
 
     def output(name: str, given: Ports) -> Vector:
-        pairs = [pair for it in inputs for pair in pieces(terms[it], given[it])]
+        pairs = [pair for it in inputs if it in terms for pair in pieces(terms[it], given[it])]
         found = z3.simplify(z3.substitute(terms[name], *pairs))  # only what the instruction computes is left
         return z3.If(found, z3.BitVecVal(1, 1), z3.BitVecVal(0, 1)) if z3.is_bool(found) else lifted(found)
 
@@ -118,7 +121,8 @@ def terms_of(text: str, top: str, widths: Dict[str, int]) -> Dict[str, Any]:
     sorts = {name: "Bool" if width == 1 else f"(_ BitVec {width})" for name, width in widths.items()}
     lines = [f"(declare-const {name} {of})" for name, of in declared]
     lines += [f"(declare-const |port {name}| {of})" for name, of in sorts.items()]
-    ports = " ".join(f"(= |port {name}| |{top}_n {name}|)" for name in sorts)
+    named = [name for name in sorts if f"|{top}_n {name}|" in dict(defined)]  # an unused input isn't
+    ports = " ".join(f"(= |port {name}| |{top}_n {name}|)" for name in named)
     lines += ["(assert", *(f"(let (({name} {body}))" for name, body in defined), f"(and true true {ports})"]
     (found,) = z3.parse_smt2_string("\n".join(lines) + ")" * (len(defined) + 1))
     return {it.arg(0).decl().name()[5:]: it.arg(1) for it in found.children()[2:]}

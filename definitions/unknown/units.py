@@ -104,7 +104,7 @@ def given(unit: Unit, variant: Variant) -> Dict[str, Vector]:
 
 
 def field_of(ports: Ports, lanes: int, registers: Mapping[str, str], name: str) -> Vector:
-    """A field of the state before, of the ports; lanes that a unit hasn't are 0, but all lanes of vt are b."""
+    """A field of the state before. Lanes that a unit hasn't are 0, except that all lanes of vt are b."""
     register, _, lane = name.partition("_")
     if register in registers:
         port, at = registers[register], int(lane)
