@@ -128,6 +128,11 @@ def terms_of(text: str, top: str, widths: Dict[str, int]) -> Dict[str, Any]:
     return {it.arg(0).decl().name()[5:]: it.arg(1) for it in found.children()[2:]}
 
 
+def is_whole(term: Any) -> bool:
+    """Whether a formula takes all bits of a symbol, as Yosys does for one bit."""
+    return bool(term.decl().kind() == z3.Z3_OP_EXTRACT and term.size() == term.arg(0).size())
+
+
 def pieces(term: Any, value: Vector) -> Iterator[Tuple[Any, Any]]:
     """The symbols that Yosys makes of an input, each with its part of a value: a piece for each part that is
     used alone, and a truth value for one bit."""
@@ -138,7 +143,7 @@ def pieces(term: Any, value: Vector) -> Iterator[Tuple[Any, Any]]:
         for part in term.children():
             end -= part.size()
             yield from pieces(part, bits(value, end, part.size()))
-    elif term.decl().kind() == z3.Z3_OP_ITE:
+    elif term.decl().kind() in (z3.Z3_OP_ITE, z3.Z3_OP_EQ) or is_whole(term):
         yield from pieces(term.arg(0), value)
     else:
         raise BadInput(f"Yosys gives an input as {term}, which isn't read here")
