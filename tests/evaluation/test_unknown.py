@@ -283,7 +283,8 @@ def test_products(folder: Path) -> None:
     """All 2^32 pairs; and ranges that are too narrow by one are found."""
     ranges = [(name[-2:].upper(), *ends) for name, ends in products.RANGES.items()]
     words = {f"-D{name}_{end}": value for name, *both in ranges for end, value in zip(("LOW", "HIGH"), both)}
-    for wrong in ({}, {"-DUU_LOW": 1}, {"-DSS_HIGH": words["-DSS_HIGH"] - 1}):
+    narrower: List[Dict[str, int]] = [{}, {"-DUU_LOW": 1}, {"-DSS_HIGH": words["-DSS_HIGH"] - 1}]
+    for wrong in narrower:
         given = [f"{word}=INT64_C({value})" for word, value in {**words, **wrong}.items()]
         compiled(folder / "products", "-std=gnu11", "-O2", *given, TOP / "tests/evaluation/products.c")
         ended = run(folder / "products", timeout=1000)
