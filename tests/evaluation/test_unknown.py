@@ -12,6 +12,7 @@ from typing import Any, Dict, List
 import pytest
 
 from definitions import unknown
+from definitions.__main__ import main
 from lib import TOP
 from lib.evaluation import COMMIT, vectors
 from lib.processes import compiled, run, succeeds
@@ -274,6 +275,14 @@ def test_bad_words(words: Any, message: str, folder: Path) -> None:
     (folder / "a b.sv").write_text("")
     ended = run(TOP / "tools/define", *words, cwd=folder)
     assert ended.returncode == 2 and message in ended.stdout and ended.stdout.count("\n") == 1
+
+
+def test_without_z3(monkeypatch: pytest.MonkeyPatch, capfd: pytest.CaptureFixture[str]) -> None:
+    """The two commands name what is missing, and all others are as they were."""
+    monkeypatch.setattr(unknown, "HAS_Z3", False)
+    assert [main([name]) for name in ("prove", "formulas")] == [2, 2]
+    assert capfd.readouterr().err == f"define: {unknown.LACK}\n" * 2
+    assert "python3-z3" in unknown.LACK and main(["check"]) == 0
 
 
 @pytest.mark.outside("20 s of processor")
