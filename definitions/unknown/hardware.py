@@ -20,7 +20,7 @@ STATE = ("dff", "dlatch", "sr", "ff")  # what cells of Yosys with a state end in
 SECONDS = 600
 # `memory_map` makes multiplexers of a table that is read from a file.
 SCRIPT = (
-    "read_verilog -sv -formal {words} {path}; prep -flatten -top {top}; memory_map; opt_clean;"
+    "read_verilog -sv -formal {words} {path}; prep -flatten -top {top}; memory_map; opt -fast;"
     " write_json {folder}/unit.json; write_smt2 {folder}/unit.smt2"
 )
 
