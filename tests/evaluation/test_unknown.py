@@ -290,11 +290,9 @@ def test_without_z3(monkeypatch: pytest.MonkeyPatch, capfd: pytest.CaptureFixtur
 @pytest.mark.timeout(1800)
 def test_products(folder: Path) -> None:
     """All 2^32 pairs; and ranges that are too narrow by one are found."""
-    ranges = [(name[-2:].upper(), *ends) for name, ends in products.RANGES.items()]
-    words = {f"-D{name}_{end}": value for name, *both in ranges for end, value in zip(("LOW", "HIGH"), both)}
-    narrower: List[Dict[str, int]] = [{}, {"-DUU_LOW": 1}, {"-DSS_HIGH": words["-DSS_HIGH"] - 1}]
-    for wrong in narrower:
-        given = [f"{word}=INT64_C({value})" for word, value in {**words, **wrong}.items()]
-        compiled(folder / "products", "-std=gnu11", "-O2", *given, TOP / "tests/evaluation/products.c")
-        ended = run(folder / "products", timeout=1000)
+    order = (products.UNSIGNED, products.SIGNED, products.MIXED)
+    stated = [end for kind in order for end in products.RANGES[kind.name()]]
+    compiled(folder / "products", "-std=gnu11", "-O2", TOP / "tests/evaluation/products.c")
+    for wrong in ([], [1, *stated[1:]], [*stated[:3], stated[3] - 1, *stated[4:]]):
+        ended = run(folder / "products", *(wrong or stated), timeout=1000)
         assert (ended.stdout == "4294967296 pairs\n") == (ended.returncode == 0) == (not wrong)
