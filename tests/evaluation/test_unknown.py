@@ -293,6 +293,7 @@ def test_products(folder: Path) -> None:
     order = (products.UNSIGNED, products.SIGNED, products.MIXED)
     stated = [end for kind in order for end in products.RANGES[kind.name()]]
     compiled(folder / "products", "-std=gnu11", "-O2", TOP / "tests/evaluation/products.c")
-    for wrong in ([], [1, *stated[1:]], [*stated[:3], stated[3] - 1, *stated[4:]]):
+    narrower: List[List[int]] = [[], [1, *stated[1:]], [*stated[:3], stated[3] - 1, *stated[4:]]]
+    for wrong in narrower:
         ended = run(folder / "products", *(wrong or stated), timeout=1000)
         assert (ended.stdout == "4294967296 pairs\n") == (ended.returncode == 0) == (not wrong)
