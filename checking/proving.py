@@ -9,6 +9,7 @@ from definitions.unknown.solver import Proved, Refuted, Solver
 from .errors import Stuck, Wrong
 from .executor.values import Byte, Value, alike, bits, joined, known, same, vector
 from .library import Caller
+from .prepared import symbols_of
 from .registers import LANES, Registers
 from .starts import Begun
 from .states import FIELDS, FLAGS, PLANES, SIZE, field
@@ -50,6 +51,7 @@ class Proof:
         changed = {name: value for name, value in self.effect.items() if not self.is_result(name)}
         self.wanted.update((name, value) for name, value in changed.items() if name in FIELDS)
         self.paths = 0
+        self.results: Dict[str, Value] = {}  # the lanes of vd that were compared
 
     def is_result(self, name: str) -> bool:
         """Whether a field of the effect is a lane of the unknown register vd."""
@@ -83,6 +85,7 @@ class Proof:
 
     def check(self, caller: Caller, before: Dict[int, Byte]) -> None:
         """All that has to hold after the step."""
+        self.results = {}
         written = {*caller.memory.written}
         out = self.state_of(caller)
         for name in ORDER:
@@ -128,8 +131,13 @@ class Proof:
         lane, result = name[-1], self.effect[f"v3_{name[-1]}"]
         if_vd, otherwise = self.by_number(got, name)
         self.agree(name, otherwise, self.wanted[name], 16, [z3.Not(self.is_vd(name))])
+        if lane in self.results and alike(self.results[lane], if_vd):
+            return
+        self.results[lane] = if_vd
         if not self.is_by_accumulator(if_vd, result, lane, out):
-            self.agree(f"lane {lane} of vd", if_vd, result, 16, [self.is_vd(name)] if alike(if_vd, got) else [])
+            self.agree(
+                f"lane {lane} of vd", if_vd, result, 16, [self.is_vd(name)] if alike(if_vd, got) else []
+            )
 
     def is_vd(self, name: str) -> Any:
         """That a lane is one of register vd."""
@@ -141,6 +149,8 @@ class Proof:
         if isinstance(got, int) or got.decl().kind() != z3.Z3_OP_ITE:
             return got, got
         condition, yes, no = got.children()
+        if symbols_of(condition) != {"vd"}:
+            return got, got
         what = f"{self.case.title} whether {name} is vd"
         if not isinstance(self.solver.holds(condition == self.is_vd(name), self.path, what), Proved):
             return got, got
@@ -243,6 +253,8 @@ class Proof:
             return
         if_vd, otherwise = self.by_number(got, name)
         # if the register is vd, the symbol of vd's old lane is that of this lane
-        if_vd = known(z3.substitute(vector(if_vd, 16), (registers.lanes["vd"][int(name[-1])], vector(want, 16))))
+        if_vd = known(
+            z3.substitute(vector(if_vd, 16), (registers.lanes["vd"][int(name[-1])], vector(want, 16)))
+        )
         self.agree(what, if_vd, want, 16, [self.is_vd(name)])
         self.agree(what, otherwise, want, 16, [z3.Not(self.is_vd(name))])

@@ -1,7 +1,7 @@
 """Registers whose numbers are unknown, so that one proof is for all 32,768 choices of vd, vs and vt.
 
-A load from an unknown address is a choice among 32 registers. Once Z3 has proved that it gives the lanes of register
-vs, say, eight fresh symbols stand for these lanes, so that Z3 doesn't meet the choice again in each product.
+A load from an unknown address is a choice among 32 registers. Once Z3 has proved that it is the address of
+register vs, say, eight fresh symbols stand for the lanes of vs, so that Z3 doesn't meet the choice in each product.
 """
 
 from typing import Any, Dict, List, Optional
@@ -10,25 +10,17 @@ import z3
 
 from definitions.unknown.solver import Proved, Solver
 
-from .executor.values import Byte, Value, joined
-from .prepared import symbols_of
+from .executor.values import Byte, Value, same
 from .states import symbol
 
 LANES = range(8)
-VECTOR = 16  # bytes of a register
+COUNT = 32
 
 
-def chosen_lane(number: Any, lane: int) -> Any:
-    """A lane of the register with an unknown number."""
-
-    def tree(first: int, count: int) -> Any:
-        if count == 1:
-            return symbol(f"v{first}_{lane}")
-        half, bit = count // 2, count.bit_length() - 2
-        is_upper = z3.Extract(bit, bit, number) == 1
-        return z3.If(is_upper, tree(first + half, half), tree(first, half))
-
-    return tree(0, 32)
+def is_register(values: List[Byte], number: int) -> bool:
+    """Whether some bytes are the lanes of a register before the step."""
+    lanes = [(symbol(f"v{number}_{lane}"), k) for lane in LANES for k in (0, 1)]
+    return all(map(same, values, lanes))
 
 
 class Registers:
@@ -45,17 +37,16 @@ class Registers:
         parts = [z3.BitVecVal(template >> 21, 11), *(self.numbers[it] for it in ("vt", "vs", "vd"))]
         return z3.Concat(*parts, z3.BitVecVal(template & 63, 6))
 
-    def loaded(self, at: Value, values: List[Byte]) -> List[Byte]:
-        """The bytes that an unknown address gives: the symbols of a register, if they are its lanes."""
-        for name in self.numbers if len(values) == VECTOR else ():
-            if name in symbols_of(at) and all(self.is_lane(name, lane, values) for lane in LANES):
-                return [(symbol, k) for symbol in self.lanes[name] for k in (0, 1)]
-        return values
-
-    def is_lane(self, name: str, lane: int, values: List[Byte]) -> bool:
-        loaded = joined(values[2 * lane : 2 * lane + 2])
-        condition = loaded == chosen_lane(self.numbers[name], lane)
-        return isinstance(self.solver.holds(condition, (), f"lane {lane} of {name} as it is loaded"), Proved)
+    def loaded(self, at: Value, found: List[int], parts: List[List[Byte]]) -> Optional[List[Byte]]:
+        """What an unknown address gives: the symbols of a register, if it is that register's address."""
+        if len(parts) != COUNT or not all(is_register(values, n) for n, values in enumerate(parts)):
+            return None
+        for name, number in self.numbers.items():
+            address = z3.Concat(z3.BitVecVal(0, 64 - 9), number, z3.BitVecVal(0, 4)) + found[0]
+            condition = z3.simplify(at == address)
+            if isinstance(self.solver.holds(condition, (), f"whether a load is of {name}"), Proved):
+                return [(lane, k) for lane in self.lanes[name] for k in (0, 1)]
+        return None
 
     def lane_of(self, field: str) -> Optional[Any]:
         """The symbol of a lane of register 1 or 2, which stand for vs and vt in formulas."""

@@ -57,6 +57,10 @@ def semantics_of(name: str) -> Semantics:
     return found
 
 
+# What a load from an unknown address gives, of the address, the addresses that it can be, and the bytes at each.
+Loaded = Callable[[Value, List[int], List[List[Byte]]], Optional[List[Byte]]]
+
+
 class Processor:
     """One processor, on one path. `sides` says which sides the first branches on unknowns take."""
 
@@ -89,16 +93,9 @@ class Processor:
             self.check_alignment(at, count, is_aligned)
             return self.memory.load(at, count)
         found = addresses_of(self.solved, self.path, at, count, is_aligned)
-        parts = [joined(self.memory.load(it, count)) for it in found]
-
-        def tree(low: int, high: int) -> Any:
-            if all(alike(it, parts[low]) for it in parts[low:high]):
-                return vector(parts[low], 8 * count)
-            middle = (low + high) // 2
-            return z3.If(z3.ULT(at, found[middle]), tree(low, middle), tree(middle, high))
-
-        values = split(tree(0, len(found)), count)
-        return self.loaded(at, values) if self.loaded else values
+        parts = [self.memory.load(it, count) for it in found]
+        values = self.loaded(at, found, parts) if self.loaded else None
+        return values or split(choice(at, found, [joined(it) for it in parts], 8 * count), count)
 
     def store(self, at: Value, values: Sequence[Byte], is_aligned: bool = False) -> None:
         """Writes bytes. What is at another address than an unknown one keeps what it holds."""
@@ -277,6 +274,15 @@ class Processor:
                 raise Stuck(f"the call isn't over after {LONGEST_CALL} instructions")
         if not alike(self.general[RSP], start + 8):
             raise Wrong(f"rsp isn't as it was before the call, but {self.general[RSP]}")
+
+
+def choice(at: Any, found: Sequence[int], parts: Sequence[Value], width: int) -> Value:
+    """The part for an address, which is one of these, by bisection."""
+    if all(alike(it, parts[0]) for it in parts):
+        return parts[0]
+    middle = len(found) // 2
+    halves = (choice(at, found[it], parts[it], width) for it in (slice(middle), slice(middle, None)))
+    return chosen(z3.ULT(at, found[middle]), *halves, width)
 
 
 def target(to: Value) -> int:
