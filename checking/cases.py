@@ -1,8 +1,6 @@
 """The words that are proved: each computing instruction, with unknown or with known registers."""
 
-from typing import Iterator, List, Optional, Sequence, Tuple
-
-import z3
+from typing import Any, Dict, Iterator, Sequence
 
 from definitions.unknown.effect import definitions, effect_of
 from definitions.unknown.solver import Solver
@@ -19,32 +17,32 @@ ROUNDS = ("vrndp", "vrndn")  # these depend on the lowest bit of vs
 
 
 def unknown_registers(solver: Solver, name: str, element: int) -> Iterator[Case]:
-    """An instruction with all registers."""
+    """An instruction with all registers. In its formulas 3, 1 (or 4, which is even) and 2 stand for them."""
     for odd in (0, 1) if name in ROUNDS else (None,):
-        registers = Registers(solver, odd)
+        registers = Registers(solver, definitions().word_of(name, 0, 0, 0, element), odd)
         vs = 4 if odd == 0 else 1
+        names = {f"v{vs}": "vs", "v2": "vt"}
 
-        def get(field: str, registers: Registers = registers, vs: int = vs) -> object:
-            lane = registers.lane_of(
-                field.replace(f"v{vs}_", "v1_") if field.startswith(f"v{vs}_") else field
-            )
-            return symbol(field) if lane is None else lane
+        def get(field: str, lanes: Dict[str, Any] = registers.lanes, names: Dict[str, str] = names) -> Any:
+            register, _, lane = field.partition("_")
+            return lanes[names[register]][int(lane)] if register in names else symbol(field)
 
-        title = f"{name} e={element}, all registers" + (
-            f", vs {'odd' if odd else 'even'}" if odd is not None else ""
-        )
-        word = registers.word(definitions().word_of(name, 0, 0, 0, element))
-        yield Case(name, title, word, effect_of(name, 3, vs, 2, element, get), registers)
+        parity = "" if odd is None else ", vs odd" if odd else ", vs even"
+        effect = effect_of(name, 3, vs, 2, element, get)
+        yield Case(name, f"{name} e={element}, all registers{parity}", registers.word(), effect, registers)
 
 
 def known_registers(name: str, element: int, pattern: Sequence[int]) -> Case:
     """An instruction with some registers."""
     vd, vs, vt = pattern
-    title = f"{name} e={element}, vd={vd} vs={vs} vt={vt}"
-    return Case(
-        name,
-        title,
-        definitions().word_of(name, vd, vs, vt, element),
-        effect_of(name, vd, vs, vt, element, symbol),
-        None,
-    )
+    word = definitions().word_of(name, vd, vs, vt, element)
+    effect = effect_of(name, vd, vs, vt, element, symbol)
+    return Case(name, f"{name} e={element}, vd={vd} vs={vs} vt={vt}", word, effect, None)
+
+
+def cases(solver: Solver, name: str, element: int, patterns: Sequence[Sequence[int]]) -> Iterator[Case]:
+    """An instruction with an element: a divide with some registers, another with all."""
+    if name in DIVIDES:
+        yield from (known_registers(name, element, pattern) for pattern in patterns)
+    else:
+        yield from unknown_registers(solver, name, element)

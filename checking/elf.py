@@ -52,7 +52,7 @@ class Elf:
             raise BadLibrary(f"its headers can't be read ({fault!r})") from None
 
     def program_headers(self) -> Iterator[Tuple[int, ...]]:
-        """Of each: type, flags, offset, address, physical address, size in the file and in memory, alignment."""
+        """Of each: type, flags, offset, two addresses, size in the file and in memory, alignment."""
         (start,), (size, count) = struct.unpack_from("<Q", self.data, 32), struct.unpack_from(
             "<HH", self.data, 54
         )

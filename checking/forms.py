@@ -12,8 +12,8 @@ SOME = 20  # instructions that are kept of each form
 
 
 class Form(NamedTuple):
-    """A mnemonic with its operands, such as "r64,rsp128", and what they held: s (symbols), n (numbers), m (both), a (an
-    unknown address), i (an immediate number)."""
+    """A mnemonic with its operands, such as "r64,rsp64", and what they held: s (symbols), n (numbers),
+    m (both), a (an unknown address), i (an immediate number)."""
 
     name: str
     operands: str

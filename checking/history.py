@@ -1,4 +1,4 @@
-"""Where a library keeps a machine's history: a ring of entries, the index after the newest, and their number."""
+"""Where a library keeps a machine's history: a ring of entries, the index after the newest, their number."""
 
 from typing import Dict, List, NamedTuple, Set, Tuple
 

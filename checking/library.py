@@ -1,8 +1,8 @@
 """The machine code of a library with the calls of brsp.h, and a caller that makes them over symbols.
 
 Nothing is known of how the library lays a machine out: its own calls put symbols into it, and read them back.
-Each call has to keep what the ABI of x86-64 says that it keeps, and may use no other memory than its caller gave
-it, what brsp_new allocated, its stack, and the library's bytes that are only for reading.
+Each call has to keep what the ABI of x86-64 says that it keeps, and may use no other memory than its caller
+gave it, what brsp_new allocated, its stack, and the library's bytes that are only for reading.
 """
 
 import hashlib

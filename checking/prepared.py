@@ -76,7 +76,7 @@ def machine_bytes(caller: Caller) -> Set[int]:
 
 
 class Prepared:
-    """A machine after brsp_load of all memories and brsp_set of a state, all of symbols, and where all that is."""
+    """A machine after brsp_load of all memories, all of symbols, and where it has them."""
 
     def __init__(self, library: Library, history: History, depth: int = 4) -> None:
         self.library, self.history, self.depth = library, history, depth

@@ -20,7 +20,7 @@ NUMBER = 8  # bytes of a number of the history
 
 
 class Case(NamedTuple):
-    """A word, and what it changes: formulas for fields, and for the accumulators as a whole (acc0 to acc7)."""
+    """A word, and what it changes: formulas for fields, and for whole accumulators (acc0 to acc7)."""
 
     name: str
     title: str
@@ -173,7 +173,7 @@ class Proof:
     def check_memory(
         self, caller: Caller, before: Dict[int, Byte], written: Set[int], out: List[Byte]
     ) -> None:
-        """That the machine is what brsp_set would make of the new state, and that nothing else has changed."""
+        """That the machine is what brsp_set would make of the new state, and nothing else has changed."""
         changed = {at for at in written if at not in before or not same(before[at], caller.memory.bytes[at])}
         self.check_history(caller, changed)
         layout, fields = self.prepared.layout, {*self.changed_fields()}
@@ -213,7 +213,7 @@ class Proof:
         if not self.is_done or not self.prepared.depth:
             return set()
         history = self.prepared.history
-        found = {*history.entry_at(caller, self.begun.start.index)}
+        found = {*history.entry_at(caller, self.begun.start.next_entry)}
         return found.union(*(range(at, at + NUMBER) for at in history.numbers(caller).values()))
 
     def check_history(self, caller: Caller, changed: Set[int]) -> None:
@@ -221,8 +221,8 @@ class Proof:
         depth, start = self.prepared.depth, self.begun.start
         if not depth or not changed:
             return
-        entry = start.index % depth
-        wanted = {"index": entry + 1, "count": min(start.count + 1, depth)}
+        entry = start.next_entry % depth
+        wanted = {"index": entry + 1, "count": min(start.entries + 1, depth)}
         for name, at in self.prepared.history.numbers(caller).items():
             got = joined(caller.memory.load(at, NUMBER))
             if self.is_done and got != wanted[name]:

@@ -1,4 +1,4 @@
-"""The states in which a step begins: where the machine continues, single step, halted, and what its history has."""
+"""The states in which a step begins: where the machine continues, single step, halted, its history."""
 
 from typing import Any, Dict, List, NamedTuple
 
@@ -23,8 +23,8 @@ class Start(NamedTuple):
     fixed: Dict[str, Value]
     after: Dict[str, Value]
     status: int
-    index: int  # of the history
-    count: int
+    next_entry: int  # the index after the newest entry of the history
+    entries: int
     is_everywhere: bool  # whether IMEM has the word at each address, because pc is unknown
 
 
@@ -79,4 +79,4 @@ class Begun:
     def __init__(self, prepared: Prepared, start: Start) -> None:
         self.prepared, self.start = prepared, start
         self.state: List[Byte] = symbols(start.fixed)
-        self.caller = prepared.start(self.state, start.index, start.count)
+        self.caller = prepared.start(self.state, start.next_entry, start.entries)

@@ -32,7 +32,7 @@ FIELDS = fields()
 # The bits that a symbol stands for, from which one on and how many, in fields that don't take all numbers.
 # Of SP_STATUS, sp4, it is `halted`.
 SHAPES = {"loaded": (0, 1), "interrupt": (0, 1), "pc": (2, 10), "npc": (2, 10), "sp4": (0, 1)}
-# What is always a number: register 0, the byte without a meaning, and SP registers, of which few values are read.
+# What is always a number: register 0, the byte without a meaning, and SP registers that few numbers fit.
 CONSTANT: Dict[str, Value] = {"x0": 0, "zero": 0}
 CONSTANT.update({f"sp{n}": 0xFF8 if n in (2, 3) else 0 for n in (0, 1, 2, 3, 5, 6, 7)})
 # A machine that continues at 0, and isn't halted.

@@ -1,8 +1,8 @@
 """Tries the executor against the processor, as proofs use it.
 
-A trial executes one instruction that a proof executed. What was unknown there are symbols here, and only afterwards
-numbers take their place in what the executor gives. Then all registers, the flags that aren't undefined, the memory
-and the next address have to be those of the processor.
+A trial executes one instruction that a proof executed. What was unknown there are symbols here, and only
+afterwards numbers take their place in what the executor gives. Then all registers, the flags that aren't
+undefined, the memory and the next address have to be those of the processor.
 """
 
 import random
@@ -26,6 +26,7 @@ AROUND = 512  # bytes of data before and after the middle
 EDGES = (0, 1, 0x7FFF, 0x8000, 0x8001, 0xFFFF, 0x7F, 0x80, 0xFF, 0xFF80, 0x100, 0xFFFE)
 FLOW = ("call", "jmp", "ret")
 NO_ACCESS = ("lea", "nop")
+USERS = ("j", "set", "cmov", "adc", "sbb")  # of flags
 STEPS = 8  # how many addresses an unknown address has
 Swap = Tuple[Any, Any]
 
@@ -85,12 +86,16 @@ class Trial:
         for n in addresses:
             fixed |= self.place_operand(n)
         self.give_targets()
-        cpu.general = [x if n in fixed else self.symbol(f"g{n}", x, 64) for n, x in enumerate(self.general)]
-        cpu.xmm = [split(self.symbol(f"x{n}", x, 128), 16) for n, x in enumerate(self.xmm)]
+        cpu.general, cpu.xmm = [*self.general], [split(x, 16) for x in self.xmm]
+        if self.it.name == "cdqe":
+            cpu.general[0] = self.symbol("g0", self.general[0], 64)
+        if self.it.name == "pblendvb":
+            cpu.xmm[0] = split(self.symbol("x0", self.xmm[0], 128), 16)
         memory.bytes.update(enumerate(self.data, self.start))
         for n in range(len(self.it.operands)):
-            self.give_kind(cpu, n)
-        cpu.flags = {name: self.flag(name) for name in FLAGS}
+            self.give_kind(cpu, n, fixed)
+        is_used = self.it.name.startswith(USERS) and self.draw.random() < 0.7
+        cpu.flags = {name: self.flag(name) if is_used else x for name, x in self.flags.items()}
         cpu.sides = (True,)
         return cpu
 
@@ -101,9 +106,7 @@ class Trial:
         return found
 
     def flag(self, name: str) -> Truth:
-        """A symbol or a truth value, as drawn."""
-        if self.draw.random() < 0.3:
-            return self.flags[name]
+        """A symbol for a flag."""
         found = z3.Bool(name)
         self.swaps.append((found, z3.BoolVal(self.flags[name])))
         return found
@@ -134,22 +137,32 @@ class Trial:
         elif self.it.name in FLOW and not self.it.is_number(0):
             self.general[REGISTERS[self.it.operands[0].reg][0]] = self.native.taken
 
-    def give_kind(self, cpu: Processor, n: int) -> None:
-        """Puts symbols or numbers into an operand, as it was in a proof."""
+    def give_kind(self, cpu: Processor, n: int, fixed: "set[int]") -> None:
+        """Puts symbols into an operand that had some in a proof, unless it is the register of an address."""
         kind, operand = self.form.kinds[n], self.it.operands[n]
         if self.it.is_xmm(n):
             number = XMM[operand.reg]
-            if kind != "s":
-                cpu.xmm[number] = self.mixed(kind, cpu.xmm[number], self.xmm[number].to_bytes(16, "little"))
-        elif self.it.is_memory(n):
-            if self.it.name not in NO_ACCESS:
-                self.give_memory(cpu, n, kind)
-        elif kind == "n":
+            symbols = split(self.symbol(f"x{number}", self.xmm[number], 128), 16)
+            cpu.xmm[number] = self.mixed(kind, symbols, self.xmm[number].to_bytes(16, "little"))
+        elif self.it.is_memory(n) and self.it.name not in NO_ACCESS:
+            self.give_memory(cpu, n, kind)
+        elif kind == "s" and operand.reg in REGISTERS:
             number = REGISTERS[operand.reg][0]
-            cpu.general[number] = self.general[number]
+            if number not in fixed:
+                cpu.general[number] = self.symbol(f"g{number}", self.general[number], 64)
+        elif kind == "a":
+            self.give_address_parts(cpu, n)
+
+    def give_address_parts(self, cpu: Processor, n: int) -> None:
+        """Symbols for the registers of an address that isn't used."""
+        memory = self.it.operands[n].mem
+        for number in {REGISTERS[it][0] for it in (memory.base, memory.index) if it in REGISTERS}:
+            cpu.general[number] = self.symbol(f"g{number}", self.general[number], 64)
 
     def mixed(self, kind: str, values: Sequence[Byte], numbers: bytes) -> List[Byte]:
         """Bytes of which none is a symbol, or half of the lanes are."""
+        if kind == "s":
+            return [*values]
         pieces: List[Byte] = []
         for at in range(0, len(numbers), 2):
             is_number = kind == "n" or self.draw.random() < 0.5
@@ -166,8 +179,7 @@ class Trial:
         offset = at - self.start
         numbers = bytes(self.data[offset : offset + count])
         symbols = [(self.symbol(f"m{at + k}", numbers[k], 8), 0) for k in range(count)]
-        kind = "s" if kind == "a" else kind
-        cpu.memory.bytes.update(enumerate(symbols if kind == "s" else self.mixed(kind, symbols, numbers), at))
+        cpu.memory.bytes.update(enumerate(self.mixed("s" if kind == "a" else kind, symbols, numbers), at))
 
     def give_address(self, cpu: Processor, n: int, size: int) -> None:
         """Lets the base, or the index, be one of some numbers."""

@@ -25,7 +25,6 @@ from .values import (
     negated,
     split,
     truth,
-    vector,
     zero_extended,
 )
 
@@ -57,7 +56,7 @@ def semantics_of(name: str) -> Semantics:
     return found
 
 
-# What a load from an unknown address gives, of the address, the addresses that it can be, and the bytes at each.
+# What a load from an unknown address gives: of it, of the addresses that it can be, and of the bytes at each.
 Loaded = Callable[[Value, List[int], List[List[Byte]]], Optional[List[Byte]]]
 
 
@@ -94,7 +93,7 @@ class Processor:
             return self.memory.load(at, count)
         found = addresses_of(self.solved, self.path, at, count, is_aligned)
         parts = [self.memory.load(it, count) for it in found]
-        values = self.loaded(at, found, parts) if self.loaded else None
+        values = self.loaded(at, found, parts) if self.loaded is not None else None
         return values or split(choice(at, found, [joined(it) for it in parts], 8 * count), count)
 
     def store(self, at: Value, values: Sequence[Byte], is_aligned: bool = False) -> None:
@@ -108,8 +107,8 @@ class Processor:
         for it in addresses_of(self.solved, self.path, at, count, is_aligned):
             old, new = self.memory.load(it, count), []  # type: List[Byte], List[Byte]
             for low in range(0, count, size):
-                pieces = (joined(values[low : low + size]), joined(old[low : low + size]))
-                new += split(chosen(at == it, *pieces, 8 * size), size)
+                piece, kept = joined(values[low : low + size]), joined(old[low : low + size])
+                new += split(chosen(at == it, piece, kept, 8 * size), size)
             self.memory.store(it, new)
 
     @staticmethod
@@ -281,8 +280,9 @@ def choice(at: Any, found: Sequence[int], parts: Sequence[Value], width: int) ->
     if all(alike(it, parts[0]) for it in parts):
         return parts[0]
     middle = len(found) // 2
-    halves = (choice(at, found[it], parts[it], width) for it in (slice(middle), slice(middle, None)))
-    return chosen(z3.ULT(at, found[middle]), *halves, width)
+    lower = choice(at, found[:middle], parts[:middle], width)
+    upper = choice(at, found[middle:], parts[middle:], width)
+    return chosen(z3.ULT(at, found[middle]), lower, upper, width)
 
 
 def target(to: Value) -> int:
