@@ -16,9 +16,9 @@ from .report import FAILED, SKIPPED, Outcome, Report, timed
 DESCRIPTION = """Checks, without the kit, what everybody can check by public tools:
 
 - the definitions against the program: the stored vectors and the examples, by tools/define;
-- the machine code of the library in library/c against the definitions: for each computing instruction Z3 proves
-  that a step changes exactly what its definition says, for all operands, flags and accumulators, and that
-  brsp_back undoes it; nothing but the machine, its stack and its caller's buffers is used;
+- the machine code of the library in library/c against the definitions: for each computing instruction Z3
+  proves that a step changes exactly what its definition says, for all operands, flags and accumulators, and
+  that brsp_back undoes it; nothing but the machine, its stack and its caller's buffers is used;
 - the program that reads machine code for Z3 against the processor.
 
 Status 0: all passed; 1: something failed; 3: the machine code wasn't checked; 2: the words are wrong."""
@@ -134,9 +134,7 @@ def check_library(report: Report, words: argparse.Namespace) -> None:
         return
     report.say(f"library: {path}, sha256 {library.sum}")
     if words.library:
-        report.say(
-            "This library isn't built from compiled/ by this command: what is proved holds of this file alone."
-        )
+        report.say("Its sources aren't those of compiled/: what is proved holds of this file alone.")
     report.facts.update(library=path, sum=library.sum, code=library.code_size())
     if words.planted:
         check_plants(report, path)

@@ -5,7 +5,7 @@ from typing import Dict, List, Optional, Sequence, Set
 
 from definitions.unknown.solver import Solver
 
-from .cases import PATTERNS, cases, known_registers
+from .cases import cases, known_registers
 from .errors import Stuck, Wrong
 from .forms import Form, Forms
 from .history import find_history
@@ -57,7 +57,7 @@ class Machine:
     def replay(self, case: Case, refuted: Refutation) -> List[str]:
         """What the library and the definitions give for the operands of a refutation."""
         try:
-            return replayed(self.path, case, refuted.values)
+            return replayed(self.path, case, refuted)
         except Wrong as why:
             return [f"the case can't be replayed: {why}"]
 
@@ -93,7 +93,7 @@ def check_trials(forms: Dict[Form, Set[bytes]], seed: str) -> List[str]:
 
 
 def check_plant(machine: Machine, plant: Plant, folder: str) -> List[str]:
-    """A planted fault, which has to be refused for the right reason; an equal change, which has to be proved."""
+    """A planted fault, which has to be refused for its reason; an equal change, which has to be proved."""
     path = os.path.join(folder, "planted.so")
     planted(machine.begun, plant, path)
     try:

@@ -17,6 +17,7 @@ from .states import FIELDS, FLAGS, PLANES, SIZE, field
 # The accumulators come first, because a result is compared for any accumulator once these are right.
 ORDER = sorted(FIELDS, key=lambda name: name.rstrip("01234567") not in PLANES)
 NUMBER = 8  # bytes of a number of the history
+UNDONE = " after brsp_back"
 
 
 class Case(NamedTuple):
@@ -33,8 +34,9 @@ class Refutation(Wrong):
     """A field that isn't as the definition says, with values of the symbols for which it isn't."""
 
     def __init__(self, name: str, got: int, want: int, values: Dict[str, int]) -> None:
-        super().__init__(f"{name} is {got:x}, and the definition gives {want:x}")
-        self.values = values
+        self.values, self.is_undone = values, name.endswith(UNDONE)
+        wanted = "was" if self.is_undone else "the definition gives"
+        super().__init__(f"{name} is {got:x}, and {wanted} {want:x}")
 
 
 class Proof:
@@ -247,7 +249,7 @@ class Proof:
 
     def check_undone(self, name: str, got: Value, want: Value) -> None:
         """That a field is as before."""
-        registers, what = self.case.registers, f"{name} after brsp_back"
+        registers, what = self.case.registers, f"{name}{UNDONE}"
         if registers is None or "_" not in name or name[0] != "v":
             self.agree(what, got, want, 8 * FIELDS[name][1])
             return

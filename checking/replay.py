@@ -10,7 +10,7 @@ from definitions.working import computed
 
 from .agreement import TOP
 from .errors import Wrong
-from .proving import Case
+from .proving import Case, Refutation
 from .states import FIELDS, FLAGS, PLANES, SIZE, START, shape
 
 
@@ -43,11 +43,11 @@ def word_of(case: Case, values: Mapping[str, int]) -> int:
     return case.registers.template | registers["vt"] << 16 | registers["vs"] << 11 | registers["vd"] << 6
 
 
-def by_library(path: str, word: int, numbers: Mapping[str, int]) -> Dict[str, int]:
-    """The fields after the step, as the library gives them."""
+def by_library(path: str, word: int, numbers: Mapping[str, int], back: bool) -> Dict[str, int]:
+    """The fields after the step, perhaps undone, as the library gives them."""
     state = b"".join(numbers[name].to_bytes(size, "little") for name, (_, size) in FIELDS.items())
     words = [os.path.join(TOP, "tools/python"), "checking.calling"]
-    given = f"{os.path.abspath(path)}\n{word:08x}\n{state.hex()}\n"
+    given = f"{os.path.abspath(path)}\n{word:08x}\n{state.hex()}\n{int(back)}\n"
     try:
         ended = subprocess.run(
             words, input=given, capture_output=True, text=True, timeout=SECONDS, check=False
@@ -95,17 +95,15 @@ def state_of(numbers: Mapping[str, int]) -> Dict[str, Any]:
     return found
 
 
-def replayed(path: str, case: Case, values: Mapping[str, int]) -> List[str]:
+def replayed(path: str, case: Case, refuted: Refutation) -> List[str]:
     """What the library and the definitions give: a line for each field that differs."""
-    numbers, word = numbers_of(case, values), word_of(case, values)
-    got, want = by_library(path, word, numbers), by_definitions(word, numbers)
+    numbers, word = numbers_of(case, refuted.values), word_of(case, refuted.values)
+    got = by_library(path, word, numbers, refuted.is_undone)
+    want = numbers if refuted.is_undone else by_definitions(word, numbers)
     operands = ", ".join(f"{name} = {x:x}" for name, x in numbers.items() if x and name not in START)
     head = f"word {word:08x} with {operands or 'all registers 0'}"
     differing = [name for name in FIELDS if got[name] != want[name]]
     if not differing:
-        return [
-            f"{head}: the library gives what the definitions give, so the proof failed for another reason"
-        ]
-    return [
-        f"{head}: {it} is {got[it]:x} by the library, {want[it]:x} by the definitions" for it in differing
-    ]
+        return [f"{head}: the library gives what the definitions give; the proof failed for another reason"]
+    of = "before the step that was undone" if refuted.is_undone else "by the definitions"
+    return [f"{head}: {it} is {got[it]:x} by the library, {want[it]:x} {of}" for it in differing]

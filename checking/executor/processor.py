@@ -79,9 +79,7 @@ class Processor:
         self.trail: List[int] = []  # the addresses of what was executed
         self.solved = Solved()
         self.observe: Optional[Callable[["Processor", Instruction], None]] = None
-        self.loaded: Optional[
-            Callable[[Value, List[Byte]], List[Byte]]
-        ] = None  # for loads from unknown addresses
+        self.loaded: Optional[Loaded] = None
         self.decoded: Dict[int, Instruction] = {}
 
     # Memory
