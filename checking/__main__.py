@@ -22,6 +22,9 @@ DESCRIPTION = """Checks, without the kit, what everybody can check by public too
 - the program that reads machine code for Z3 against the processor.
 
 Status 0: all passed; 1: something failed; 3: the machine code wasn't checked; 2: the words are wrong."""
+QUICK = 9  # the element of a quick check
+STATED = "vadd"  # what it tries from all states
+PAIRS = 20  # of instructions, of a whole check
 HOURS = "This takes some 30 minutes on four processors (--quick: 4 minutes of one)."
 MINUTES = "This takes some 4 minutes of one processor."
 
@@ -93,10 +96,13 @@ def check_code(report: Report, words: argparse.Namespace, path: str) -> None:
     from .workers import Job, worked
 
     patterns = PATTERNS[:1] if words.quick else PATTERNS
-    elements = [9] if words.quick else ELEMENTS
-    jobs = [Job(name, element, patterns) for name in words.names for element in elements]
-    jobs += [Job(name, None, patterns) for name in words.names[:1] if words.quick]
-    jobs += [Job(name, None, patterns) for name in words.names if not words.quick]
+    elements = [QUICK] if words.quick else ELEMENTS
+    jobs = [Job("element", name, element, patterns) for name in words.names for element in elements]
+    jobs += [
+        Job(kind, name) for kind in ("other states", "copies") for name in words.names if not words.quick
+    ]
+    jobs += [Job("other states", STATED)] * words.quick + [Job("counted copies", "vadd")]
+    jobs += [Job("pair", str(number)) for number in range(1 if words.quick else PAIRS)]
     count = words.jobs or (1 if words.quick else len(os.sched_getaffinity(0)))
     forms, executed, read = {}, {}, set()  # type: ignore[var-annotated]
     for done in worked(jobs, count, path, words.smt2, os.getpid() % 10):

@@ -94,6 +94,7 @@ class Caller:
         self.handle = self.buffer("handle", 8)
         self.memory.bytes.update(dict.fromkeys(range(self.handle, self.handle + 8), 0))
         self.new(depth)
+        self.result = self.buffer("result", 4096)
         self.state, self.out, self.bank = (
             self.buffer(*it) for it in (("state", SIZE), ("out", SIZE), ("bank", 4096))
         )

@@ -1,11 +1,14 @@
 """The parts of ./check that prove the machine code."""
 
 import os
+import random
 from typing import Dict, List, Optional, Sequence, Set
 
+from definitions.unknown.effect import definitions
 from definitions.unknown.solver import Solver
 
-from .cases import cases, known_registers
+from .cases import ELEMENTS, PATTERNS, cases, known_registers
+from .copies import Copies, machines
 from .errors import Stuck, Wrong
 from .forms import Form, Forms
 from .history import find_history
@@ -18,6 +21,8 @@ from .replay import replayed
 from .starts import Begun, Start, starts, usual
 from .trials import tried
 
+BRANCHING = ("vrcp", "vrcpl", "vrsq", "vrsql")  # whose code branches on an operand
+
 
 class Machine:
     """A library that is proved: its machines in all states, one solver, and what proofs executed."""
@@ -29,6 +34,7 @@ class Machine:
         self.prepared = Prepared(self.library, self.history)
         self.begun = self.begin(usual())
         self.others: Optional[List[Begun]] = None
+        self.in_copies: Optional[Copies] = None
 
     def begin(self, start: Start, prepared: Optional[Prepared] = None) -> Begun:
         """A machine in a state, with a record of what it executes."""
@@ -36,11 +42,31 @@ class Machine:
         found.caller.observe = self.forms.observe
         return found
 
+    def without(self) -> Prepared:
+        """A machine without a history."""
+        return Prepared(self.library, self.history, 0)
+
+    def copies(self) -> Copies:
+        """The copies of the loop."""
+        if self.in_copies is None:
+            begun = machines(self.prepared, self.without())
+            for it in begun:
+                it.caller.observe = self.forms.observe
+            self.in_copies = Copies(self.solver, begun)
+        return self.in_copies
+
+    def check_pair(self, draw: random.Random) -> List[str]:
+        """Two steps in one call, of two instructions that are drawn."""
+        names = [name for name in definitions().computing if name not in BRANCHING]
+        pair = [
+            known_registers(draw.choice(names), draw.choice(ELEMENTS), draw.choice(PATTERNS)) for _ in "ab"
+        ]
+        return self.copies().prove_pair(*pair)
+
     def states(self) -> List[Begun]:
         """The machine in all other states, and one without a history."""
         if self.others is None:
-            without = self.begin(usual(), Prepared(self.library, self.history, 0))
-            self.others = [*map(self.begin, starts()), without]
+            self.others = [*map(self.begin, starts()), self.begin(usual(), self.without())]
         return self.others
 
     def prove(self, begun: Begun, case: Case) -> List[str]:
@@ -72,17 +98,6 @@ class Machine:
         for begun in self.states():
             self.prove(begun, known_registers(name, ELEMENT, PATTERN))
         return [begun.start.title for begun in self.states()[:-1]] + ["without a history"]
-
-    def facts(self) -> Dict[str, object]:
-        """What was executed and read."""
-        executed = {at + n for at, it in self.library.decoded.items() for n in range(it.size)}
-        return {
-            "library": self.path,
-            "sum": self.library.sum,
-            "executed": len(executed),
-            "code": self.library.code_size(),
-            "read": len(self.library.read),
-        }
 
 
 def check_trials(forms: Dict[Form, Set[bytes]], seed: str) -> List[str]:

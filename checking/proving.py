@@ -53,6 +53,7 @@ class Proof:
         changed = {name: value for name, value in self.effect.items() if not self.is_result(name)}
         self.wanted.update((name, value) for name, value in changed.items() if name in FIELDS)
         self.paths = 0
+        self.trail: List[int] = []  # the addresses of what the call executed
         self.results: Dict[str, Value] = {}  # the lanes of vd that were compared
 
     def is_result(self, name: str) -> bool:
@@ -76,6 +77,8 @@ class Proof:
         addresses = range(0, 4096, 4) if start.is_everywhere else [start.fixed["pc"]]
         for pc in addresses:
             self.prepared.put_word(caller, self.case.word, pc)
+        if self.call != "brsp_step":  # these look at the next word, which does nothing
+            self.prepared.put_word(caller, 0, start.fixed["npc"])
         caller.sides = sides
         caller.loaded = self.case.registers.loaded if self.case.registers else None
         before = dict(caller.memory.bytes)
@@ -83,6 +86,7 @@ class Proof:
         status = caller.call(self.call, caller.handle, *self.arguments)
         if status != start.status:
             raise Wrong(f"{self.call} returns {status}, and not {start.status}")
+        self.trail = caller.processor.trail if caller.processor else []
         return caller, before
 
     def check(self, caller: Caller, before: Dict[int, Byte]) -> None:

@@ -1,6 +1,7 @@
 """Proofs in several processes, each with a machine of its own."""
 
 import multiprocessing
+import random
 from concurrent.futures import ProcessPoolExecutor
 from typing import Dict, Iterator, List, NamedTuple, Optional, Sequence, Set
 
@@ -14,14 +15,30 @@ MACHINES: List[Machine] = []  # that of this process
 
 
 class Job(NamedTuple):
-    """An instruction with an element; without one from all other states."""
+    """What is proved of an instruction: one element, all other states, all copies of the loop. A pair has the
+    seed by which it is drawn as its name."""
 
+    kind: str
     name: str
-    element: Optional[int]
-    patterns: Sequence[Sequence[int]]
+    element: int = 0
+    patterns: Sequence[Sequence[int]] = ()
 
     def title(self) -> str:
-        return f"{self.name}, {'other states' if self.element is None else f'element {self.element}'}"
+        found = {
+            "element": f"{self.name}, element {self.element}",
+            "pair": f"a pair of steps in one call, {self.name}",
+        }
+        return found.get(self.kind) or f"{self.name}, {self.kind}"
+
+    def run(self, machine: Machine) -> Sequence[str]:
+        """Proves it."""
+        if self.kind == "element":
+            return machine.check(self.name, self.element, self.patterns)
+        if self.kind == "other states":
+            return machine.check_states(self.name)
+        if self.kind == "pair":
+            return machine.check_pair(random.Random(self.name))
+        return machine.copies().prove(self.name) if self.kind == "copies" else machine.copies().count()
 
 
 class Done(NamedTuple):
@@ -41,11 +58,7 @@ def begin(path: str, folder: Optional[str], drawn: int) -> None:
 def work(job: Job) -> Done:
     """Does a job by the machine of this process."""
     machine = MACHINES[0]
-    if job.element is None:
-        outcome = timed(job.title(), lambda: machine.check_states(job.name))
-    else:
-        element = job.element
-        outcome = timed(job.title(), lambda: machine.check(job.name, element, job.patterns))
+    outcome = timed(job.title(), lambda: job.run(machine))
     executed = {at: it.size for at, it in machine.library.decoded.items()}
     return Done(outcome, machine.forms.found, executed, machine.library.read)
 

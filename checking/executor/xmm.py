@@ -20,6 +20,7 @@ from .values import (
     same,
     sign_extended,
     split,
+    truth,
     vector,
     zero_extended,
 )
@@ -255,6 +256,16 @@ def blend(cpu: Processor, it: Instruction) -> None:
 
 
 # Between xmm and general registers
+
+
+@executes("ptest")
+def test(cpu: Processor, it: Instruction) -> None:
+    """zf: the operands have no bit in common; cf: the second one has none that the first lacks."""
+    a, b = joined(cpu.vector(it, 0)), joined(cpu.vector(it, 1))
+    common = computed(lambda x, y: x & y, 128, a, b)
+    beyond = computed(lambda x, y: ~x & y, 128, a, b)
+    cpu.set_flags(common, 128, truth(beyond == 0), False)
+    cpu.flags.update(sf=False, pf=False)
 
 
 @executes("pmovmskb")

@@ -65,6 +65,16 @@ def test_states(machine: Machine) -> None:
     assert "halted" in machine.check_states("vadd")
 
 
+def test_copies(machine: Machine) -> None:
+    """All copies of the loop that calls on a machine reach, and two steps in one call."""
+    draw = random.Random(COMMIT)
+    assert machine.copies().count() == [
+        "6 of 10 copies of the loop are executed; the others are those of sessions"
+    ]
+    machine.copies().prove(draw.choice([name for name in definitions().computing if name not in DIVIDES]))
+    machine.check_pair(draw)
+
+
 @pytest.mark.parametrize("plant", PLANTS, ids=lambda plant: plant.title)
 def test_planted(machine: Machine, plant: Plant, folder: Path) -> None:
     outcome = timed(plant.title, lambda: check_plant(machine, plant, str(folder)))

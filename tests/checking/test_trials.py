@@ -1,7 +1,7 @@
 """The executor of machine code beside the processor, instruction by instruction.
 
-Each instruction is executed with symbols as its operands. A test fails if, with numbers in place of the symbols,
-a register, a flag, a byte or the next address isn't that of the processor.
+Each instruction is executed with symbols as its operands. A test fails if, with numbers in place of the
+symbols, a register, a flag, a byte or the next address isn't that of the processor.
 """
 
 import os
@@ -32,7 +32,7 @@ XMM = """
 f30f6f840f90000000 440f110c0f 0f284c2420 66480f6ed8 0f1711 f30f10ca
 660fedc4 660fd9ca 660fe5ca 660fe4ca 660ff5ca 660f65ca 660f383aca 660f3809ca 660fdfca 660f71e10f 660f73d906
 660f6bca 660f383309 660f3820ca 660f380001 f20f70ca1b 0fc6ca4e 660f3a0fca03 660f3a0eca5a 660f3810ca 660f69ca
-660fd7c1 660fc4c803 660fc5c105
+660fd7c1 660fc4c803 660fc5c105 660f3817c9 660f3817ca
 """.split()
 # What has to be a number: the mask of a shuffle, the target of a call, the count of the shift of a double number.
 NUMBERS = {"660f380001": "sn", "ffd0": "n"}
