@@ -5,7 +5,7 @@ from typing import Any, Dict, FrozenSet, List, NamedTuple, Set
 import z3
 
 from .errors import Wrong
-from .executor.values import Byte, Value, bits, known, split, vector
+from .executor.values import Byte, Value, bits, joined, known, split, vector
 from .history import History, set_numbers
 from .library import BANKS, Caller, Library, narrow
 from .states import CONSTANT, FIELDS, field, shape, symbols
@@ -42,7 +42,7 @@ class Layout:
         for at in machine_bytes(caller):
             byte = caller.memory.bytes[at]
             names = frozenset() if isinstance(byte, int) else symbols_of(byte[0]) & FIELDS.keys()
-            if names:
+            if names and not isinstance(known(z3.simplify(joined([byte]))), int):
                 self.bytes[at], self.fields[at] = byte, names
 
     def form(self, at: int, state: List[Byte]) -> Byte:

@@ -184,7 +184,7 @@ class Proof:
         self.check_history(caller, changed)
         layout, fields = self.prepared.layout, {*self.changed_fields()}
         for at in changed:
-            self.check_place(caller, at, fields)
+            self.check_place(caller, at, fields, before.get(at))
         for at, names in layout.fields.items():
             if names & fields:
                 self.agree_byte(
@@ -198,21 +198,26 @@ class Proof:
             found += [f"v{n}_{lane}" for n in range(32) for lane in LANES]
         return [*found, *self.begun.start.after] if self.is_done else []
 
-    def check_place(self, caller: Caller, at: int, fields: Set[str]) -> None:
-        """That a changed byte may change."""
+    def check_place(self, caller: Caller, at: int, fields: Set[str], old: Optional[Byte]) -> None:
+        """That a byte which isn't written as it was may change, or has the same value."""
         region, place = caller.memory.region(at, 1, "written"), self.prepared.places.get(at)
-        if place:
-            raise Wrong(f"byte {place.offset:x} of {place.bank} is written")
+        names = self.prepared.layout.fields.get(at, frozenset())
         if region in caller.allocated:
-            names = self.prepared.layout.fields.get(at, frozenset())
-            if names and not names & fields:
-                raise Wrong(f"a byte of {', '.join(sorted(names))} is written")
-            if not names and at not in self.history_bytes(caller):
-                raise Wrong(
-                    f"byte {at - region.start} of {region.name} is written, which is no field or history"
-                )
-        elif at in range(caller.handle, caller.handle + 8):
-            raise Wrong("the handle isn't as it was")
+            is_history = not names and not place and at in self.history_bytes(caller)
+            if is_history or names & fields:
+                return
+        elif at not in range(caller.handle, caller.handle + 8):
+            return
+        what = f"byte {place.offset:x} of {place.bank}" if place else f"a byte of {', '.join(sorted(names))}"
+        what = (
+            what
+            if place or names
+            else f"byte {at - region.start} of {region.name}, which is no field or history,"
+        )
+        new = caller.memory.bytes[at]
+        if old is None or isinstance(old, int) and isinstance(new, int):
+            raise Wrong(f"{what} is written")
+        self.agree_byte(what, new, old)
 
     def history_bytes(self, caller: Caller) -> Set[int]:
         """The bytes of the history that a step may write: one entry, and two numbers."""

@@ -47,7 +47,7 @@ def machine(library: Path) -> Machine:
 
 
 def test_drawn(machine: Machine) -> None:
-    """One instruction whole, six with an element, a divide with an element and a choice of registers; then what
+    """One instruction whole, six with an element, a divide with an element and some registers; then what
     these proofs executed is tried on the processor."""
     draw = random.Random(COMMIT)
     names = [name for name in definitions().computing if name not in DIVIDES]
@@ -82,7 +82,7 @@ def test_planted(machine: Machine, plant: Plant, folder: Path) -> None:
 
 
 def test_operands(machine: Machine, folder: Path) -> None:
-    """What is said of psubsw in place of paddsw: the operands, and what the library and the definitions give."""
+    """What is said of psubsw in place of paddsw: operands, and what the library and the definitions give."""
     plant = PLANTS[0]
     *_, replay = check_plant(machine, plant, str(folder))
     assert replay.startswith("word 4b2208d0 with v1_0 = ") and replay.endswith(" by the definitions")

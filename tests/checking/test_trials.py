@@ -34,7 +34,7 @@ f30f6f840f90000000 440f110c0f 0f284c2420 66480f6ed8 0f1711 f30f10ca
 660f6bca 660f383309 660f3820ca 660f380001 f20f70ca1b 0fc6ca4e 660f3a0fca03 660f3a0eca5a 660f3810ca 660f69ca
 660fd7c1 660fc4c803 660fc5c105 660f3817c9 660f3817ca
 """.split()
-# What has to be a number: the mask of a shuffle, the target of a call, the count of the shift of a double number.
+# What has to be a number: the mask of a shuffle, and the target of a call.
 NUMBERS = {"660f380001": "sn", "ffd0": "n"}
 # Loads and stores whose address is unknown.
 ADDRESSES = {"f30f6f840f90000000": "sa", "440f110c0f": "as", "4c034108": "sa", "0fb601": "sa"}
