@@ -15,6 +15,7 @@ from .states import BadInput, Machine
 from .steps import Steps
 from .syntax import ends_in_type
 from .working import say, work
+from . import unknown
 
 HERE = os.path.dirname(os.path.dirname(os.path.abspath(__file__)))
 RUN = "Rattle.rsp_bench.specs.Run"
@@ -22,6 +23,7 @@ DESCRIPTION = """Computes the definitions of crates/*/specs, without the kit and
 
 The bytes, files and statuses of run, asm and dis are those of `rsp`. Status 0: all is well; 1: a fault or a
 difference; 2: a wrong argument."""
+Z3_COMMANDS = ("formulas", "prove")
 Command = Callable[[], int]
 
 
@@ -64,7 +66,27 @@ def parser() -> ArgumentParser:
     )
     covered.add_argument("--table", metavar="FILE", help="a file for the whole table")
     add("check", "Reads all definitions, and names what isn't computed")
+    if unknown.HAS_Z3:
+        add_z3_commands(add)
     return found
+
+
+def add_z3_commands(add: Callable[..., ArgumentParser]) -> None:
+    """The commands that need Z3's module of Python."""
+    from .unknown import commands  # here, because all else works without Z3
+
+    about = "Compares formulas of unknown operands with test vectors, and proves their intervals"
+    commands.add_formulas(add("formulas", about, "file+"))
+    commands.add_prove(add("prove", "Proves that a unit of a core in SystemVerilog equals the definitions"))
+
+
+def z3_command(words: argparse.Namespace) -> Command:
+    """A command that needs Z3."""
+    from .unknown import commands
+
+    if words.command == "formulas":
+        return lambda: commands.formulas(words.root, words)
+    return lambda: commands.prove_file(words)
 
 
 def check(library: Library) -> int:
@@ -86,6 +108,8 @@ def command_of(words: argparse.Namespace) -> Tuple[Command, Callable[[], str]]:
     """The command that is asked for, and how far it has come."""
     if not os.path.isdir(os.path.join(words.root, "crates")):
         raise BadInput(f"{words.root} has no folder `crates` of definitions")
+    if words.command in Z3_COMMANDS:
+        return z3_command(words), lambda: ""
     library = Library(words.root)
     compiler = Compiler(library)
     programs = Programs(compiler)
@@ -111,6 +135,9 @@ def command_of(words: argparse.Namespace) -> Tuple[Command, Callable[[], str]]:
 
 def main(arguments: List[str]) -> int:
     """Runs a command, and returns its status."""
+    if not unknown.HAS_Z3 and any(it in arguments for it in Z3_COMMANDS):
+        say(f"define: {unknown.LACK}")
+        return 2
     words = parser().parse_args(arguments)
     found: List[Tuple[Command, Callable[[], str]]] = []
 

@@ -12,7 +12,6 @@ from ..arrays import Array
 from ..compiler import Compiler
 from ..modules import Library
 from ..states import Machine, before
-from ..working import computed
 from .effect import FLAGS, LANES, ONE, ZERO, Definitions
 from .numbers import Number, Truth, condition, signed, unsigned
 from .products import multiplied
@@ -156,9 +155,9 @@ class Agreement:
     def compare(self, case: Mapping[str, Any]) -> None:
         """Compares the state after a case with what the definitions give."""
         keys, memories = before(case)
-        known = computed(lambda: self.known.step_of(self.known.state(keys, memories)))[1]
+        known = self.known.step_of(self.known.state(keys, memories))[1]
         state = self.state(keys, memories, int(case["word"], 16))
-        found = computed(lambda: self.unknown.step_of(state))[1]
+        found = self.unknown.step_of(state)[1]
         pending = [
             it
             for name in known.__slots__

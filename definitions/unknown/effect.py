@@ -13,7 +13,6 @@ import z3
 from ..compiler import Compiler
 from ..modules import Library
 from ..states import STEP, Machine
-from ..working import computed
 from .compiler import UnknownCompiler
 from .numbers import Truth, at, condition, signed, truth, unsigned
 from .vectors import Vector, bits, concat
@@ -79,7 +78,7 @@ class Definitions:
     def effect(self, name: str, vd: int, vs: int, vt: int, element: int, get: Get) -> Effect:
         """What the instruction changes."""
         before = self.state(get, self.word_of(name, vd, vs, vt, element))
-        after = computed(lambda: self.step_of(before))[1]
+        after = self.step_of(before)[1]
         old, new = fields(before), fields(after)
         return {name: vector(name, value) for name, value in new.items() if differs(value, old[name])}
 
@@ -138,10 +137,15 @@ def planes(effect: Effect, get: Get) -> Effect:
 ONCE: List[Definitions] = []
 
 
+def use(root: str) -> None:
+    """Takes the definitions of another repository from now on."""
+    ONCE[:] = [Definitions(root)]
+
+
 def definitions() -> Definitions:
-    """The definitions of this repository."""
+    """The definitions of this repository, or those that `use` took."""
     if not ONCE:
-        ONCE.append(computed(Definitions))
+        use(HERE)
     return ONCE[0]
 
 

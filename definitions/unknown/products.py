@@ -151,3 +151,51 @@ def multiplied(z: Vector) -> Vector:
     for pair in reversed(found.pairs):  # the lanes of a later pair may have earlier products
         made = z3.substitute(made, (pair.symbol, pair.by_multiplication()))
     return made
+
+
+def lane_in(x: Vector) -> Tuple[Vector, str]:
+    """The 16 bits that a wider vector extends, and how: "signed" or "unsigned"; "" if it doesn't."""
+    lane, more = z3.simplify(bits(x, 0, 16)), x.size() - 16
+    for kind, extend in (("unsigned", z3.ZeroExt), ("signed", z3.SignExt)):
+        solver = z3.Solver()
+        solver.set("timeout", 2000)
+        solver.add(x != extend(more, lane))
+        if solver.check() == z3.unsat:
+            return lane, kind
+    return lane, ""
+
+
+def lifted_product(node: Any) -> Any:
+    """A multiplication of two extended lanes, perhaps also by constants, by a product; None for another."""
+    constants = [it for it in node.children() if z3.is_bv_value(it)]
+    factors = [it for it in node.children() if not z3.is_bv_value(it)]
+    width = node.size()
+    if len(factors) != 2 or width < 32:
+        return None
+    (a, kind_a), (b, kind_b) = map(lane_in, factors)
+    if not kind_a or not kind_b:
+        return None
+    if (kind_a, kind_b) == ("unsigned", "signed"):
+        a, b, kind_a, kind_b = b, a, kind_b, kind_a
+    function = MIXED if kind_a != kind_b else SIGNED if kind_a == "signed" else UNSIGNED
+    made = product(function, a, b)
+    found = made if width == 32 else (z3.ZeroExt if function is UNSIGNED else z3.SignExt)(width - 32, made)
+    for it in constants:
+        found = it * found
+    return found
+
+
+def lifted(z: Vector) -> Vector:
+    """A formula of somebody else's with products in place of multiplications of lanes."""
+    todo, seen, swaps = [z], set(), []  # type: Any, Set[int], List[Tuple[Any, Vector]]
+    while todo:
+        node = todo.pop()
+        if node.get_id() in seen:
+            continue
+        seen.add(node.get_id())
+        found = lifted_product(node) if node.decl().kind() == z3.Z3_OP_BMUL else None
+        if found is None:
+            todo += node.children()
+        else:
+            swaps.append((node, found))
+    return z3.substitute(z, *swaps) if swaps else z
