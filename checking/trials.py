@@ -49,6 +49,8 @@ class Trial:
         self.native, self.form, self.draw = native, form, draw
         self.it = decoded(self.moved(code), native.slot)
         self.general = [edge_number(draw, 4) for _ in range(16)]
+        if form.name == "bsr":  # which is tried as it is used, of numbers that aren't 0
+            self.general = [x if x & mask(16) else x | 1 << draw.randrange(16) for x in self.general]
         self.general[RSP] = native.data + 256
         self.xmm = [edge_number(draw, 8) for _ in range(16)]
         self.flags = {name: draw.random() < 0.5 for name in FLAGS}
@@ -226,7 +228,7 @@ class Trial:
                 raise Wrong(f"{self.form}: {self.it.text}: {name} is {want:x} on the processor, not {got:x}")
 
     def exclude_zero(self) -> None:
-        """bsr is tried as it is used, of a number that isn't 0."""
+        """The same of a symbol."""
         source = self.cpu.get(self.it, 1)
         if not isinstance(source, int):
             self.cpu.path.append(source != 0)
