@@ -49,6 +49,7 @@ class Library:
         names = {it.name for it in self.elf.relocations if it.name} - {*self.elf.exports}
         self.imports = {name: IMPORTS + 16 * n for n, name in enumerate(sorted(names))}
         self.segments = self.elf.image(BASE, self.imports)
+        self.observe: Any = None  # is told of each instruction, unless a caller has another observer
         self.decoded: Dict[int, Instruction] = {}  # what was executed, by the addresses
         self.read: Set[int] = set()  # the addresses of constants that were read
 
@@ -137,7 +138,8 @@ class Caller:
         """A processor at the entry of a call, whose registers hold what any caller leaves there."""
         cpu = Processor(self.memory, SLOT, self.hooks(name == "brsp_new"))
         cpu.path, cpu.sides, cpu.taken = self.path, self.sides, self.taken
-        cpu.observe, cpu.loaded, cpu.decoded = self.observe, self.loaded, self.library.decoded
+        cpu.observe, cpu.loaded = self.observe or self.library.observe, self.loaded
+        cpu.decoded = self.library.decoded
         for n in range(16):
             cpu.general[n] = cpu.general[n] if n == 4 else z3.BitVec(f"caller_{n}", 64)
             cpu.xmm[n] = [(z3.BitVec(f"caller_xmm{n}", 128), k) for k in range(16)]

@@ -18,7 +18,7 @@ from .planted import ELEMENT, PATTERN, Plant, planted
 from .prepared import Prepared
 from .proving import Case, Proof, Refutation
 from .replay import replayed
-from .starts import Begun, Start, starts, usual
+from .starts import Begun, starts, usual
 from .trials import tried
 
 BRANCHING = ("vrcp", "vrcpl", "vrsq", "vrsql")  # whose code branches on an operand
@@ -30,17 +30,12 @@ class Machine:
     def __init__(self, path: str, solver: Solver) -> None:
         self.path, self.solver, self.forms = path, solver, Forms()
         self.library = Library(path)
+        self.library.observe = self.forms.observe
         self.history = find_history(self.library)
         self.prepared = Prepared(self.library, self.history)
-        self.begun = self.begin(usual())
+        self.begun = Begun(self.prepared, usual())
         self.others: Optional[List[Begun]] = None
         self.in_copies: Optional[Copies] = None
-
-    def begin(self, start: Start, prepared: Optional[Prepared] = None) -> Begun:
-        """A machine in a state, with a record of what it executes."""
-        found = Begun(prepared or self.prepared, start)
-        found.caller.observe = self.forms.observe
-        return found
 
     def without(self) -> Prepared:
         """A machine without a history."""
@@ -49,10 +44,7 @@ class Machine:
     def copies(self) -> Copies:
         """The copies of the loop."""
         if self.in_copies is None:
-            begun = machines(self.prepared, self.without())
-            for it in begun:
-                it.caller.observe = self.forms.observe
-            self.in_copies = Copies(self.solver, begun)
+            self.in_copies = Copies(self.solver, machines(self.prepared, self.without()))
         return self.in_copies
 
     def check_pair(self, draw: random.Random) -> List[str]:
@@ -66,7 +58,8 @@ class Machine:
     def states(self) -> List[Begun]:
         """The machine in all other states, and one without a history."""
         if self.others is None:
-            self.others = [*map(self.begin, starts()), self.begin(usual(), self.without())]
+            self.others = [Begun(self.prepared, start) for start in starts()]
+            self.others.append(Begun(self.without(), usual()))
         return self.others
 
     def prove(self, begun: Begun, case: Case) -> List[str]:
@@ -103,8 +96,8 @@ class Machine:
 def check_trials(forms: Dict[Form, Set[bytes]], seed: str) -> List[str]:
     """The executor beside the processor."""
     counts = tried(Native(), forms, seed)
-    names = {form.name for form in forms}
-    return [f"{sum(counts.values())} trials of {len(forms)} forms of {len(names)} mnemonics"]
+    names = {form.name for form in counts}
+    return [f"{sum(counts.values())} trials of {len(counts)} forms of {len(names)} mnemonics"]
 
 
 def check_plant(machine: Machine, plant: Plant, folder: str) -> List[str]:

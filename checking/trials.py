@@ -24,6 +24,7 @@ from .native import FLAG_BITS, After, Native
 TIMES = 20
 AROUND = 512  # bytes of data before and after the middle
 EDGES = (0, 1, 0x7FFF, 0x8000, 0x8001, 0xFFFF, 0x7F, 0x80, 0xFF, 0xFF80, 0x100, 0xFFFE)
+UNTRIED = ("cpuid",)  # brsp_new asks which processor this is, and the executor says one that has everything
 FLOW = ("call", "jmp", "ret")
 NO_ACCESS = ("lea", "nop")
 USERS = ("j", "set", "cmov", "adc", "sbb")  # of flags
@@ -253,7 +254,7 @@ class Trial:
 def tried(native: Native, forms: Dict[Form, Any], seed: str) -> Dict[Form, int]:
     """Tries each form some times, and returns how often."""
     draw, counts = random.Random(seed), {}
-    for form in sorted(forms):
+    for form in sorted(it for it in forms if it.name not in UNTRIED):
         codes = sorted(forms[form])
         for n in range(TIMES):
             Trial(native, form, codes[n % len(codes)], draw).run()
