@@ -104,15 +104,18 @@ def check_code(report: Report, words: argparse.Namespace, path: str) -> None:
     jobs += [Job("other states", STATED)] * words.quick + [Job("counted copies", "vadd")]
     jobs += [Job("pair", str(number)) for number in range(1 if words.quick else PAIRS)]
     count = words.jobs or (1 if words.quick else len(os.sched_getaffinity(0)))
-    forms, executed, read = {}, {}, set()  # type: ignore[var-annotated]
-    for done in worked(jobs, count, path, words.smt2, os.getpid() % 10):
+    forms, executed, read, again = {}, {}, set(), 0  # type: ignore[var-annotated]
+    for done in worked(jobs, count, path, words.smt2, int(report.facts["sum"], 16) % 10):
         report.add(done.outcome)
         for form, codes in done.forms.items():
             forms.setdefault(form, set()).update(codes)
         executed.update(done.executed)
         read |= done.read
+        again += done.again
     report.add(timed("the executor beside the processor", lambda: check_trials(forms, path)))
     report.facts.update(executed=sum(executed.values()), read=len(read))
+    if words.smt2:
+        report.say(f"cvc5 answered {again} conditions again")
 
 
 def check_plants(report: Report, path: str) -> None:

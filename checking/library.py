@@ -27,7 +27,7 @@ NEW_STACK, STACK_SIZE = 131072, 8192  # BRSP_STACK and BRSP_MACHINE_STACK
 ARGUMENTS = (7, 6, 2, 1, 8, 9)  # rdi, rsi, rdx, rcx, r8, r9
 KEPT = {3: "rbx", 5: "rbp", 12: "r12", 13: "r13", 14: "r14", 15: "r15"}
 CLOBBERED = (1, 2, 6, 7, 8, 9, 10, 11)
-DATA = "the library's data"
+DATA, STACK_NAME = "the library's data", "the stack"
 IMAGE_SIZE = 64
 BANKS = {"dmem": 4096, "imem": 4096, "image": IMAGE_SIZE}  # in the order of brsp_bank
 CALLS = ("brsp_new", "brsp_load", "brsp_set", "brsp_get", "brsp_step", "brsp_back", "brsp_history")
@@ -111,14 +111,14 @@ class Caller:
         """The address of a buffer of the caller, with room round it."""
         at = BUFFERS + 8192 * (len(self.buffers) + 1)
         self.buffers[name] = at
-        self.memory.add(Region(at, size, f"the caller's buffer `{name}`", True, None))
+        self.memory.add(Region(at, size, buffer_name(name), True, None))
         return at
 
     def set_stack(self, size: int) -> None:
         """The stack below the return address, which nobody may write."""
-        self.memory.remove("the stack")
+        self.memory.remove(STACK_NAME)
         self.memory.remove("the return address")
-        self.memory.add(Region(SLOT - size, size, "the stack", True, None))
+        self.memory.add(Region(SLOT - size, size, STACK_NAME, True, None))
         self.memory.add(Region(SLOT, 8, "the return address", False, None))
         self.memory.bytes.update(enumerate(split(RETURN, 8), SLOT))
 
@@ -207,6 +207,11 @@ class Caller:
         if count:
             cpu.store(number(to), split(value, 1) * count)
         returned(cpu, to)
+
+
+def buffer_name(name: str) -> str:
+    """The name of the region of a buffer."""
+    return f"the caller's buffer `{name}`"
 
 
 def number(x: Value) -> int:

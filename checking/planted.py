@@ -200,7 +200,7 @@ PLANTS = [
     Plant("a shift by 14 in place of 15", "vadd", change("psrlw", b"\x0f", b"\x0e"), "the definition gives"),
     Plant("the low parts of accumulators to the middle", "vadd", plane, "the definition gives"),
     Plant("a store a megabyte behind the machine", "vadd", write(behind), "which no call may use"),
-    Plant("a store to DMEM", "vadd", write(byte_of_dmem), "byte 64 of dmem is"),
+    Plant("a store to DMEM", "vadd", write(byte_of_dmem), "byte 64 of dmem is written"),
     Plant("a store to register 20", "vadd", write(lambda site: address_of(site, "v20_0")), "v20_0"),
     Plant("rbx destroyed", "vadd", on_return(b"\x31\xdb"), "rbx isn't as it was"),
     Plant("the direction flag set", "vadd", on_return(b"\xfd"), "the direction flag"),

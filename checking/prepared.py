@@ -7,7 +7,7 @@ import z3
 from .errors import Wrong
 from .executor.values import Byte, Value, bits, joined, known, split, vector
 from .history import History, set_numbers
-from .library import BANKS, Caller, Library, narrow
+from .library import BANKS, Caller, Library, buffer_name, narrow
 from .states import CONSTANT, FIELDS, field, shape, symbols
 
 
@@ -106,6 +106,8 @@ class Prepared:
         """A caller whose machine has this state, and a history with these numbers and unknown entries."""
         caller = self.caller.copy()
         set_state(caller, state)
+        for name in ("state", "bank", "image"):  # no later call gets these
+            caller.memory.remove(buffer_name(name))
         if self.depth:
             set_numbers(caller, self.history, index, count)
         return caller

@@ -8,7 +8,7 @@ from definitions.unknown.solver import Proved, Refuted, Solver
 
 from .errors import Stuck, Wrong
 from .executor.values import Byte, Value, alike, bits, joined, known, same, vector
-from .library import Caller
+from .library import STACK_NAME, Caller
 from .prepared import symbols_of
 from .registers import LANES, Registers
 from .starts import Begun
@@ -137,13 +137,12 @@ class Proof:
         lane, result = name[-1], self.effect[f"v3_{name[-1]}"]
         if_vd, otherwise = self.by_number(got, name)
         self.agree(name, otherwise, self.wanted[name], 16, [z3.Not(self.is_vd(name))])
-        if lane in self.results and alike(self.results[lane], if_vd):
-            return
-        self.results[lane] = if_vd
-        if not self.is_by_accumulator(if_vd, result, lane, out):
-            self.agree(
-                f"lane {lane} of vd", if_vd, result, 16, [self.is_vd(name)] if alike(if_vd, got) else []
-            )
+        if alike(if_vd, got):  # nothing in it says which register it is
+            self.agree(f"lane {lane} of vd", if_vd, result, 16, [self.is_vd(name)])
+        elif lane not in self.results or not alike(self.results[lane], if_vd):
+            if not self.is_by_accumulator(if_vd, result, lane, out):
+                self.agree(f"lane {lane} of vd", if_vd, result, 16)
+            self.results[lane] = if_vd  # it is the same for all registers
 
     def is_vd(self, name: str) -> Any:
         """That a lane is one of register vd."""
@@ -204,20 +203,27 @@ class Proof:
         names = self.prepared.layout.fields.get(at, frozenset())
         if region in caller.allocated:
             is_history = not names and not place and at in self.history_bytes(caller)
-            if is_history or names & fields:
-                return
-        elif at not in range(caller.handle, caller.handle + 8):
+            may_change = is_history or bool(names & fields)
+        else:
+            may_change = region.name == STACK_NAME or bool(self.arguments) and region.start == caller.result
+        if may_change or old is not None and self.is_same(old, caller.memory.bytes[at]):
             return
-        what = f"byte {place.offset:x} of {place.bank}" if place else f"a byte of {', '.join(sorted(names))}"
-        what = (
-            what
-            if place or names
-            else f"byte {at - region.start} of {region.name}, which is no field or history,"
+        if place or names:
+            what = (
+                f"byte {place.offset:x} of {place.bank}" if place else f"a byte of {', '.join(sorted(names))}"
+            )
+        else:
+            what = f"byte {at - region.start} of {region.name}, which is no field or history,"
+        raise Wrong(f"{what} is written")
+
+    def is_same(self, old: Byte, new: Byte) -> bool:
+        """Whether a byte has the same value on this path."""
+        if isinstance(old, int) and isinstance(new, int):
+            return old == new
+        same_value = vector(joined([old]), 8) == vector(joined([new]), 8)
+        return isinstance(
+            self.solver.holds(same_value, self.path, "a byte that is written as it was"), Proved
         )
-        new = caller.memory.bytes[at]
-        if old is None or isinstance(old, int) and isinstance(new, int):
-            raise Wrong(f"{what} is written")
-        self.agree_byte(what, new, old)
 
     def history_bytes(self, caller: Caller) -> Set[int]:
         """The bytes of the history that a step may write: one entry, and two numbers."""

@@ -11,6 +11,7 @@ from .forms import Form
 from .parts import Machine
 from .report import Outcome, timed
 
+SECONDS = 600  # for Z3 to answer a condition; the slowest took 11 seconds of an idle processor
 MACHINES: List[Machine] = []  # that of this process
 
 
@@ -48,19 +49,23 @@ class Done(NamedTuple):
     forms: Dict[Form, Set[bytes]]
     executed: Dict[int, int]  # addresses with sizes
     read: Set[int]
+    again: int  # the conditions that cvc5 answered again
 
 
 def begin(path: str, folder: Optional[str], drawn: int) -> None:
     """Makes the machine of a process."""
-    MACHINES[:] = [Machine(path, Solver(folder=folder, drawn=drawn))]
+    MACHINES[:] = [Machine(path, Solver(SECONDS, folder, drawn))]
 
 
 def work(job: Job) -> Done:
     """Does a job by the machine of this process."""
     machine = MACHINES[0]
+    before = machine.solver.repeated
     outcome = timed(job.title(), lambda: job.run(machine))
     executed = {at: it.size for at, it in machine.library.decoded.items()}
-    return Done(outcome, machine.forms.found, executed, machine.library.read)
+    return Done(
+        outcome, machine.forms.found, executed, machine.library.read, machine.solver.repeated - before
+    )
 
 
 def worked(jobs: Sequence[Job], count: int, path: str, folder: Optional[str], drawn: int) -> Iterator[Done]:

@@ -8,7 +8,7 @@ from ..errors import Stuck, Wrong
 from .values import Truth, Value
 
 MOST = 8192  # bytes between the least and the greatest address
-SECONDS = 60
+SECONDS = 600
 
 
 class Solved:

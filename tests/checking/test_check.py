@@ -29,6 +29,7 @@ from checking.executor.addresses import Solved  # noqa: E402
 from checking.library import Library  # noqa: E402
 from checking.parts import Machine, check_plant, check_trials  # noqa: E402
 from checking.planted import PLANTS, Plant  # noqa: E402
+from checking.workers import SECONDS  # noqa: E402
 from definitions.unknown.effect import definitions  # noqa: E402
 from definitions.unknown.solver import Solver, Unanswered  # noqa: E402
 
@@ -43,7 +44,7 @@ AARCH64 = 183
 
 @pytest.fixture(scope="module")
 def machine(library: Path) -> Machine:
-    return Machine(str(library / "libbrsp.so"), Solver())
+    return Machine(str(library / "libbrsp.so"), Solver(SECONDS))
 
 
 def test_drawn(machine: Machine) -> None:
