@@ -8,10 +8,11 @@ from ..modules import Global, Library
 from ..syntax import Expression
 from . import numbers
 
-# What is computed otherwise than kit.py does: for what is known the same, for what isn't a formula.
+# What is computed otherwise than kit.py does: the same of what is known, and a formula of what isn't.
 KIT: Dict[str, Any] = {
     "kit_minus": numbers.minus, "kit_min": numbers.smaller, "kit_int_min": numbers.smaller,
-    "kit_int_max": numbers.greater, "kit_int_div_euclid": numbers.int_div_euclid, "kit_not": numbers.opposite, "kit_cast_signed": numbers.cast_signed,
+    "kit_int_max": numbers.greater, "kit_int_div_euclid": numbers.int_div_euclid,
+    "kit_not": numbers.opposite, "kit_cast_signed": numbers.cast_signed,
     "kit_leading_zeros": numbers.leading_zeros, "kit_to_be_bytes": numbers.to_be_bytes,
     "kit_bit_at": numbers.bit_at, "kit_mask_l": numbers.mask_l,
     "opposite": numbers.opposite, "both": numbers.both, "either": numbers.either, "chosen": numbers.chosen,

@@ -6,14 +6,14 @@ import re
 import shutil
 import subprocess
 import tempfile
-from typing import Any, Dict, NamedTuple, Sequence
+from typing import Any, Dict, Iterator, NamedTuple, Sequence, Tuple
 
 import z3
 
 from ..states import BadInput
 from .products import lifted
 from .units import Ports, Shape, Unit, shape_of
-from .vectors import Vector
+from .vectors import Vector, bits
 
 YOSYS = "yosys"
 STATE = ("dff", "dlatch", "sr", "ff")  # what cells of Yosys with a state end in
@@ -98,9 +98,12 @@ def unit_in(module: Any, shape: Shape, text: str, top: str) -> Unit:
     terms = terms_of(text, top, {name: len(port["bits"]) for name, port in ports.items()})
     inputs = [name for name, port in ports.items() if port["direction"] == "input"]
     outputs = [name for name in ports if name not in inputs]
+    for name in outputs:
+        if name not in terms:
+            raise BadInput(f"module {top}: the output `{name}` isn't driven")
 
     def output(name: str, given: Ports) -> Vector:
-        pairs = [(leaf(terms[it]), as_sort(leaf(terms[it]), given[it])) for it in inputs]
+        pairs = [pair for it in inputs if it in terms for pair in pieces(terms[it], given[it])]
         found = z3.simplify(z3.substitute(terms[name], *pairs))  # only what the instruction computes is left
         return z3.If(found, z3.BitVecVal(1, 1), z3.BitVecVal(0, 1)) if z3.is_bool(found) else lifted(found)
 
@@ -111,27 +114,36 @@ def terms_of(text: str, top: str, widths: Dict[str, int]) -> Dict[str, Any]:
     """The formulas of all ports. Yosys gives a function of the module's state for each signal; these become
     names within one formula, because Z3 would write out each function where it is used."""
     text = re.sub(r"\((\|[^|]+\|) state\)", r"\1", re.sub(r" *;.*", "", text))
-    declared = re.findall(rf"\(declare-fun (\|{top}#\d+\|) \(\|{top}_s\|\) (Bool|\(_ BitVec \d+\))\)", text)
-    defined = re.findall(
-        rf"(?s)\(define-fun (\|{top}(?:#\d+|_n [^|]+)\|) \(\(state \|{top}_s\|\)\) (?:Bool|\(_ BitVec \d+\)) (.*?)\)\n",
-        text,
-    )
+    sort = r"(Bool|\(_ BitVec \d+\))"
+    declared = re.findall(rf"\(declare-fun (\|{top}#\d+\|) \(\|{top}_s\|\) {sort}\)", text)
+    head = rf"\(define-fun (\|{top}(?:#\d+|_n [^|]+)\|) \(\(state \|{top}_s\|\)\) {sort}"
+    defined = [(name, body) for name, _, body in re.findall(rf"(?s){head} (.*?)\)\n", text)]
     sorts = {name: "Bool" if width == 1 else f"(_ BitVec {width})" for name, width in widths.items()}
-    lines = [f"(declare-const {name} {sort})" for name, sort in declared]
-    lines += [f"(declare-const |port {name}| {sort})" for name, sort in sorts.items()]
-    ports = " ".join(f"(= |port {name}| |{top}_n {name}|)" for name in sorts)
+    lines = [f"(declare-const {name} {of})" for name, of in declared]
+    lines += [f"(declare-const |port {name}| {of})" for name, of in sorts.items()]
+    named = [name for name in sorts if f"|{top}_n {name}|" in dict(defined)]  # an unused input isn't
+    ports = " ".join(f"(= |port {name}| |{top}_n {name}|)" for name in named)
     lines += ["(assert", *(f"(let (({name} {body}))" for name, body in defined), f"(and true true {ports})"]
     (found,) = z3.parse_smt2_string("\n".join(lines) + ")" * (len(defined) + 1))
     return {it.arg(0).decl().name()[5:]: it.arg(1) for it in found.children()[2:]}
 
 
-def leaf(term: Any) -> Any:
-    """The input itself, in what Yosys makes of an input of one bit."""
-    while term.num_args() > 1 or term.decl().kind() != z3.Z3_OP_UNINTERPRETED:
-        term = term.arg(0)
-    return term
+def is_whole(term: Any) -> bool:
+    """Whether a formula takes all bits of a symbol, as Yosys does for one bit."""
+    return bool(term.decl().kind() == z3.Z3_OP_EXTRACT and term.size() == term.arg(0).size())
 
 
-def as_sort(term: Any, value: Vector) -> Any:
-    """A vector of one bit as the truth value that Yosys has."""
-    return value == 1 if z3.is_bool(term) else value
+def pieces(term: Any, value: Vector) -> Iterator[Tuple[Any, Any]]:
+    """The symbols that Yosys makes of an input, each with its part of a value: a piece for each part that is
+    used alone, and a truth value for one bit."""
+    if term.num_args() == 0:
+        yield term, value == 1 if z3.is_bool(term) else value
+    elif term.decl().kind() == z3.Z3_OP_CONCAT:
+        end = term.size()
+        for part in term.children():
+            end -= part.size()
+            yield from pieces(part, bits(value, end, part.size()))
+    elif term.decl().kind() in (z3.Z3_OP_ITE, z3.Z3_OP_EQ) or is_whole(term):
+        yield from pieces(term.arg(0), value)
+    else:
+        raise BadInput(f"Yosys gives an input as {term}, which isn't read here")

@@ -13,18 +13,19 @@ from .vectors import Vector
 
 # Z3's operations as SystemVerilog writes them; {0} and {1} are variables.
 FORMS = {
-    z3.Z3_OP_BADD: "{0} + {1}", z3.Z3_OP_BSUB: "{0} - {1}", z3.Z3_OP_BMUL: "{0} * {1}",
-    z3.Z3_OP_BAND: "{0} & {1}", z3.Z3_OP_BOR: "{0} | {1}", z3.Z3_OP_BXOR: "{0} ^ {1}",
-    z3.Z3_OP_BNOT: "~{0}", z3.Z3_OP_BNEG: "-{0}", z3.Z3_OP_CONCAT: "{{{0}, {1}}}",
+    z3.Z3_OP_BSUB: "{0} - {1}", z3.Z3_OP_BNOT: "~{0}", z3.Z3_OP_BNEG: "-{0}", z3.Z3_OP_NOT: "!{0}",
     z3.Z3_OP_ITE: "{0} ? {1} : {2}", z3.Z3_OP_EQ: "{0} == {1}",
     z3.Z3_OP_SLT: "$signed({0}) < $signed({1})", z3.Z3_OP_SLEQ: "$signed({0}) <= $signed({1})",
     z3.Z3_OP_SGT: "$signed({0}) > $signed({1})", z3.Z3_OP_SGEQ: "$signed({0}) >= $signed({1})",
-    z3.Z3_OP_ULT: "{0} < {1}", z3.Z3_OP_ULEQ: "{0} <= {1}", z3.Z3_OP_UGT: "{0} > {1}", z3.Z3_OP_UGEQ: "{0} >= {1}",
+    z3.Z3_OP_ULT: "{0} < {1}", z3.Z3_OP_ULEQ: "{0} <= {1}", z3.Z3_OP_UGT: "{0} > {1}",
+    z3.Z3_OP_UGEQ: "{0} >= {1}",
     z3.Z3_OP_BSHL: "{0} << {1}", z3.Z3_OP_BLSHR: "{0} >> {1}", z3.Z3_OP_BASHR: "$signed({0}) >>> {1}",
-    z3.Z3_OP_AND: "{0} & {1}", z3.Z3_OP_OR: "{0} | {1}", z3.Z3_OP_NOT: "!{0}",
 }  # fmt: skip
-JOINED = {z3.Z3_OP_BADD: " + ", z3.Z3_OP_BMUL: " * ", z3.Z3_OP_BAND: " & ", z3.Z3_OP_BOR: " | ", z3.Z3_OP_BXOR: " ^ ",
-          z3.Z3_OP_AND: " & ", z3.Z3_OP_OR: " | "}  # fmt: skip
+# Those that Z3 also has with more operands.
+JOINED = {
+    z3.Z3_OP_BADD: " + ", z3.Z3_OP_BMUL: " * ", z3.Z3_OP_BAND: " & ", z3.Z3_OP_BOR: " | ",
+    z3.Z3_OP_BXOR: " ^ ", z3.Z3_OP_AND: " & ", z3.Z3_OP_OR: " | ",
+}  # fmt: skip
 INPUTS = ("element", "odd", *OF_A_LANE, "div_in", "div_out", "loaded")
 
 
@@ -88,7 +89,8 @@ def function_of(name: str, ports: Ports, rule: Dict[str, Vector]) -> str:
     total = sum(z.size() for z in rule.values())
     arguments = ", ".join(f"input [{z.size() - 1}:0] {port}" for port, z in ports.items())
     seen: Dict[int, str] = {z.get_id(): port for port, z in ports.items()}
-    declared, assigned = [], []
+    declared: List[str] = []
+    assigned: List[str] = []
     for z in rule.values():
         for node in nodes_of(z, seen):
             operands = [seen[child.get_id()] for child in node.children()]
@@ -98,7 +100,7 @@ def function_of(name: str, ports: Ports, rule: Dict[str, Vector]) -> str:
             assigned.append(f"  {seen[node.get_id()]} = {text_of(node, operands)};")
     outputs = ", ".join(seen[z.get_id()] for z in reversed([*rule.values()]))
     head = [
-        f"// {name.upper()}: a lane, by the definitions of rsp. It returns {{{', '.join(reversed([*rule]))}}}.",
+        f"// {name.upper()} in a lane, by the definitions of rsp: {{{', '.join(reversed([*rule]))}}}",
         f"function automatic [{total - 1}:0] insn_{name}({arguments});",
     ]
     return "\n".join([*head, *declared, *assigned, f"  insn_{name} = {{{outputs}}};", "endfunction"]) + "\n"

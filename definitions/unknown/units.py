@@ -98,14 +98,13 @@ def given(unit: Unit, variant: Variant) -> Dict[str, Vector]:
     """The inputs: a symbol for each, except those that are fixed."""
     fixed = {"fn": function_of(variant.name), **variant.fixed}
     widths = unit.shape.inputs.items()
-    return {
-        name: z3.BitVecVal(fixed[name], width) if name in fixed else z3.BitVec(name, width)
-        for name, width in widths
-    }
+    found = {name: z3.BitVec(name, width) for name, width in widths}
+    found.update((name, z3.BitVecVal(value, found[name].size())) for name, value in fixed.items())
+    return found
 
 
 def field_of(ports: Ports, lanes: int, registers: Mapping[str, str], name: str) -> Vector:
-    """A field of the state before, of the ports; lanes that a unit hasn't are 0, but all lanes of vt are b."""
+    """A field of the state before. Lanes that a unit hasn't are 0, except that all lanes of vt are b."""
     register, _, lane = name.partition("_")
     if register in registers:
         port, at = registers[register], int(lane)

@@ -5,7 +5,6 @@ what the definitions say. That both agree doesn't show that either is right.
 """
 
 import json
-import subprocess
 from pathlib import Path
 from typing import Any, Dict, NamedTuple
 
@@ -18,13 +17,12 @@ from definitions.modules import Library
 from definitions.states import Machine, differences
 from definitions.working import computed
 from lib import TOP
-from lib.evaluation import LINES, answered, command, compiler, faulty, vectors
+from lib.evaluation import COMMIT, LINES, answered, command, compiler, faulty, vectors
 from lib.processes import run, succeeds
 from lib.script_cases import ScriptCase, all_cases
 from rsp_conformance.seeded_random import Random
 
 SYNTAX = "Rattle.rsp_syntax.specs"
-COMMIT = subprocess.run(["git", "rev-parse", "HEAD"], cwd=TOP, capture_output=True, text=True).stdout.strip()
 VECTORS = sorted(TOP.glob("conformance/vectors/steps/*.jsonl"))
 CASES = [case for case in all_cases() if case.expected.status == 0]
 UNUSED = Path(__file__).with_name("unused.tsv")

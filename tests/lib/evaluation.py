@@ -1,5 +1,6 @@
 """What the tests of the package `definitions` share."""
 
+import subprocess
 from pathlib import Path
 from typing import Dict, List, Optional
 
@@ -10,6 +11,7 @@ from definitions.programs import IMAGE_BYTES, Session
 from lib import TOP
 from rsp_conformance.seeded_random import Random
 
+COMMIT = subprocess.run(["git", "rev-parse", "HEAD"], cwd=TOP, capture_output=True, text=True).stdout.strip()
 LINES = [
     line.strip()
     for path in sorted(TOP.glob("microcode/*.s"))

@@ -35,6 +35,7 @@ PACKAGES = {
     "/usr/lib/llvm-*/lib/clang/*/lib/linux/libclang_rt.fuzzer-x86_64.a": "libclang-rt-14-dev",
     "/usr/lib/python3*/ensurepip": "python3-venv",
     "/usr/lib/python3/dist-packages/numpy": "python3-numpy",
+    "/usr/lib/python3/dist-packages/z3": "python3-z3",
     "python:ensurepip": "python3-venv",
     "chromedriver": "chromium-driver",
     "/usr/include/mupen64plus": "libmupen64plus-dev",
