@@ -112,7 +112,8 @@ def check_code(report: Report, words: argparse.Namespace, path: str) -> None:
         executed.update(done.executed)
         read |= done.read
         again += done.again
-    report.add(timed("the executor beside the processor", lambda: check_trials(forms, path)))
+    if forms:
+        report.add(timed("the executor beside the processor", lambda: check_trials(forms, path)))
     report.facts.update(executed=sum(executed.values()), read=len(read))
     if words.smt2:
         report.say(f"cvc5 answered {again} conditions again")
@@ -124,11 +125,18 @@ def check_plants(report: Report, path: str) -> None:
 
     from .parts import Machine, check_plant
     from .planted import PLANTS
+    from .workers import SECONDS
 
-    machine = Machine(path, Solver())
+    made: List[Machine] = []
+
+    def make() -> List[str]:
+        made.append(Machine(path, Solver(SECONDS)))
+        return []
+
+    report.add(timed("the library without a fault", make))
     with tempfile.TemporaryDirectory(prefix="rsp-check-") as folder:
-        for plant in PLANTS:
-            report.add(timed(f"planted: {plant.title}", lambda: check_plant(machine, plant, folder)))
+        for plant in PLANTS if made else ():
+            report.add(timed(f"planted: {plant.title}", lambda: check_plant(made[0], plant, folder)))
 
 
 def check_library(report: Report, words: argparse.Namespace) -> None:

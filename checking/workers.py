@@ -3,7 +3,7 @@
 import multiprocessing
 import random
 from concurrent.futures import ProcessPoolExecutor
-from typing import Dict, Iterator, List, NamedTuple, Optional, Sequence, Set
+from typing import Dict, Iterator, List, NamedTuple, Optional, Sequence, Set, Tuple
 
 from definitions.unknown.solver import Solver
 
@@ -13,6 +13,7 @@ from .report import Outcome, timed
 
 SECONDS = 600  # for Z3 to answer a condition; the slowest took 11 seconds of an idle processor
 MACHINES: List[Machine] = []  # that of this process
+GIVEN: List[Tuple[str, Optional[str], int]] = []
 
 
 class Job(NamedTuple):
@@ -53,19 +54,28 @@ class Done(NamedTuple):
 
 
 def begin(path: str, folder: Optional[str], drawn: int) -> None:
-    """Makes the machine of a process."""
-    MACHINES[:] = [Machine(path, Solver(SECONDS, folder, drawn))]
+    """Says of what the machine of a process is made."""
+    MACHINES.clear()
+    GIVEN[:] = [(path, folder, drawn)]
+
+
+def machine() -> Machine:
+    """The machine of this process."""
+    if not MACHINES:
+        path, folder, drawn = GIVEN[0]
+        MACHINES.append(Machine(path, Solver(SECONDS, folder, drawn)))
+    return MACHINES[0]
 
 
 def work(job: Job) -> Done:
     """Does a job by the machine of this process."""
-    machine = MACHINES[0]
-    before = machine.solver.repeated
-    outcome = timed(job.title(), lambda: job.run(machine))
-    executed = {at: it.size for at, it in machine.library.decoded.items()}
-    return Done(
-        outcome, machine.forms.found, executed, machine.library.read, machine.solver.repeated - before
-    )
+    outcome = timed(job.title(), lambda: job.run(machine()))
+    if not MACHINES:  # the library can't even make one
+        return Done(outcome, {}, {}, set(), 0)
+    library, solver = MACHINES[0].library, MACHINES[0].solver
+    executed = {at: it.size for at, it in library.decoded.items()}
+    again, solver.repeated = solver.repeated, 0
+    return Done(outcome, MACHINES[0].forms.found, executed, library.read, again)
 
 
 def worked(jobs: Sequence[Job], count: int, path: str, folder: Optional[str], drawn: int) -> Iterator[Done]:

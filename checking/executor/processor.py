@@ -253,6 +253,8 @@ class Processor:
             to = semantics_of(it.name)(self, it)
         except (Stuck, Wrong) as why:
             raise type(why)(f"{why} (at {at:x}: {it.text})") from None
+        except (AssertionError, IndexError, KeyError, ValueError, z3.Z3Exception) as fault:
+            raise Stuck(f"its operands can't be computed: {fault!r} (at {at:x}: {it.text})") from None
         self.trail.append(at)
         return at + it.size if to is None else to
 

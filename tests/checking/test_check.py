@@ -29,7 +29,7 @@ from checking.executor.addresses import Solved  # noqa: E402
 from checking.library import Library  # noqa: E402
 from checking.parts import Machine, check_plant, check_trials  # noqa: E402
 from checking.planted import PLANTS, Plant  # noqa: E402
-from checking.workers import SECONDS  # noqa: E402
+from checking.workers import SECONDS, Job, begin, work  # noqa: E402
 from definitions.unknown.effect import definitions  # noqa: E402
 from definitions.unknown.solver import Solver, Unanswered  # noqa: E402
 
@@ -179,6 +179,19 @@ def test_bad_library(library: Path, folder: Path, change: Any, said: str) -> Non
     (folder / "bad.so").write_bytes(data)
     with pytest.raises(BadLibrary, match=said):
         Library(str(folder / "bad.so"))
+
+
+def test_unknown_instruction(machine: Machine, folder: Path) -> None:
+    """A library that begins otherwise: the instruction is named, and nothing is proved."""
+    data = bytearray(machine.library.elf.data)
+    at = machine.library.elf.exports["brsp_new"]
+    segment = next(it for it in machine.library.elf.headers if it[0] == 1 and it[3] <= at < it[3] + it[5])
+    data[segment[2] + at - segment[3] : segment[2] + at - segment[3] + 2] = b"\x0f\x0b"
+    (folder / "other.so").write_bytes(data)
+    begin(str(folder / "other.so"), None, 0)
+    outcome = work(Job("element", "vadd")).outcome
+    said = "brsp_new: there is no semantics of this mnemonic (at"
+    assert outcome.result == FAILED and outcome.notes[0].startswith(said) and "ud2" in outcome.notes[0]
 
 
 def test_missing_library(monkeypatch: pytest.MonkeyPatch, folder: Path, capsys: Any) -> None:
