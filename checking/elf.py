@@ -9,6 +9,16 @@ STRINGS, DYNSYM = 5, 11
 RELOCATIONS, RELOCATIONS_SIZE, CALLS, CALLS_SIZE = 7, 8, 23, 2
 ABSOLUTE, CELL, JUMP, RELATIVE = 1, 6, 7, 8
 X86_64, SHARED = 62, 3
+# What reading a file of wrong headers raises.
+UNREADABLE = (
+    struct.error,
+    LookupError,
+    ValueError,
+    ArithmeticError,
+    MemoryError,
+    RuntimeError,
+    StopIteration,
+)
 
 
 class BadLibrary(Exception):
@@ -48,7 +58,15 @@ class Elf:
             self.names = [*self.symbols()]
             self.exports = {name: at for name, at in self.names if at}
             self.relocations = [*self.relocated()]
-        except (struct.error, KeyError, IndexError, ValueError, RuntimeError, StopIteration) as fault:
+        except (
+            struct.error,
+            LookupError,
+            ValueError,
+            RuntimeError,
+            StopIteration,
+            OverflowError,
+            MemoryError,
+        ) as fault:
             raise BadLibrary(f"its headers can't be read ({fault!r})") from None
 
     def program_headers(self) -> Iterator[Tuple[int, ...]]:
