@@ -21,6 +21,7 @@ LAYERS = {
     "lib": TESTS / "lib",
     "rsp_tools": TOP / "tools/rsp_tools",
     "rsp_conformance": TOP / "conformance/rsp_conformance",
+    "checking": TOP / "checking",
     "definitions": TOP / "definitions",
 }
 ALONE = ("rsp_conformance", "definitions")
