@@ -25,7 +25,7 @@ Status 0: all passed; 1: something failed; 3: the machine code wasn't checked; 2
 QUICK = 9  # the element of a quick check
 STATED = "vadd"  # what it tries from all states
 PAIRS = 20  # of instructions, of a whole check
-HOURS = "This takes some 30 minutes on four processors (--quick: 4 minutes of one)."
+HOURS = "This takes about two hours of processor time (--quick: 4 minutes)."
 MINUTES = "This takes some 4 minutes of one processor."
 
 
