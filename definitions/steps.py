@@ -78,9 +78,8 @@ class Steps:
         for difference in wrong:
             print(f"{case['name']} ({case['text']}{choice}), {in_words(difference)}")
         if wrong:
-            print(
-                f"  tools/define why {case['name']} {name_for_why(wrong[0])} explains what the definitions give"
-            )
+            command = f"tools/define why {case['name']} {name_for_why(wrong[0])}"
+            print(f"  {command} explains what the definitions give")
 
     def progress(self) -> str:
         """How many cases were compared."""

@@ -211,8 +211,8 @@ def test_sources_that_are_changed(stranger: User) -> None:
 
 
 def test_change_that_is_committed(stranger: User) -> None:
-    """git status doesn't show it, so the message names a commit that can be built. A change that isn't committed
-    can be put aside."""
+    """git status doesn't show it, so the message names a commit that can be built. A change that isn't
+    committed can be put aside."""
     commit = "git -c user.name=me -c user.email=me@example.org commit -qam more"
     prints(stranger, f"git clone -q . ~/committed && cd ~/committed && echo >>{SOURCE} && {commit}")
     said = stranger.types(f"cd ~/committed && {FIRST}").stderr

@@ -162,7 +162,9 @@ def test_core_in_a_campaign(cargo: Any, folder: Path) -> None:
 OLD_CARGO = "echo cargo 1.65.0"
 NO_TOOLCHAIN = "echo error: no default >&2; echo 'help: run rustup default stable.' >&2; exit 1"
 NO_NETWORK = """
-case $1 in --version) echo "${0##*/} 1.95.0" ;; *) echo "error: no matching package named x" && exit 101 ;; esac
+case $1 in --version) echo "${0##*/} 1.95.0" && exit ;; esac
+echo "error: no matching package named x"
+exit 101
 """
 OTHER_CARGOS = {
     "": "unproved: there is no cargo: install Rust 1.88 or later: rustup.rs has it, .* cargo-web and .*\\n",
@@ -175,7 +177,7 @@ OTHER_CARGOS = {
 @pytest.mark.needs("/usr/share/cargo/registry/memchr-*")
 @pytest.mark.parametrize("script", OTHER_CARGOS, ids=("none", "old", "no toolchain", "no network"))
 def test_other_cargo(script: str, folder: Path) -> None:
-    """A machine without cargo, with one of other days, with rustup's without a toolchain, or without network."""
+    """A machine without cargo, with one of other days, with rustup's and no toolchain, or no network."""
     for tool in "sh", "dirname", "readlink", "python3", "git":
         (folder / tool).symlink_to(str(shutil.which(tool, path="/usr/bin:/bin")))
     for tool in ("cargo", "rustc") if script else ():

@@ -32,7 +32,7 @@ def output_of(*words: object) -> str:
 
 
 def version_of(tool: str) -> str:
-    """What `TOOL --version` prints. It refuses a tool that fails, such as that of rustup without a toolchain."""
+    """What `TOOL --version` prints. It refuses one that fails, such as rustup's without a toolchain."""
     ended = subprocess.run([tool, "--version"], capture_output=True, text=True, cwd=TOP)
     if ended.returncode:
         said = ended.stderr.strip().splitlines() or [f"status {ended.returncode}"]
