@@ -157,6 +157,10 @@ def refusal_of(program: str) -> Optional[str]:
         return f"{program} can't be started: {fault.strerror}"
     if ended.stdout == b"ok\n":
         return None
+    if ended.returncode and not ended.stdout:
+        return (
+            f"{program} isn't built, or doesn't begin: it ended with status {ended.returncode} and no reply"
+        )
     return f"{program} doesn't run scripts as rsp does: it answers `pc 0` by {ended.stdout[:40]!r}"
 
 

@@ -61,7 +61,7 @@ def test_no_program(tool: str, folder: Path) -> None:
     ended = run(folder / "conformance" / tool, *words, cwd=folder, env={"PATH": "/usr/bin:/bin"})
     why, sentence, _ = ended.stdout.split("\n")
     assert ended.returncode == 1 and "compiled/ has no assembly" in why
-    assert sentence.startswith(f"{tool}: {folder}/rsp doesn't run scripts as rsp does: ")
+    assert sentence.startswith(f"{tool}: {folder}/rsp isn't built, or doesn't begin: ")
 
 
 @pytest.mark.needs("cc", "python:numpy")

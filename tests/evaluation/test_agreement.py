@@ -6,7 +6,7 @@ what the definitions say. That both agree doesn't show that either is right.
 
 import json
 from pathlib import Path
-from typing import Any, Dict, NamedTuple
+from typing import Any, Dict, NamedTuple, Tuple
 
 import pytest
 
@@ -50,8 +50,45 @@ def test_spoilt_vector(folder: Path) -> None:
     assert ended.returncode == 1 and ended.stdout.splitlines() == [
         f"{head}r3: the vector has 00000001, the definitions give 03030303",
         f"{head}dmem {address}: the vector has {wrong}, the definitions give {byte[:2]}",
+        f"  tools/define why {case['name']} r3 explains what the definitions give",
         "0 passed, 1 failed",
     ]
+
+
+# Stored vectors, wrong values of a register, and what is said of them.
+SPOILT = {
+    ("VADD", "v9", "80007fff99cb000180007ffe5d52ffa1"): (
+        "$v9 lane 2: the vector has 99cb, the definitions give 99ca (the first of 2 lanes that differ)",
+        "v9.2 is 99ca after it",
+    ),
+    ("VADD", "v9", "80007fff99ca000180007fff5d52ffa2"): (
+        "$v9 lane 7: the vector has ffa2, the definitions give ffa1",
+        "v9.7 is ffa1 after it",
+    ),
+    ("VLT", "vcc", "00cb"): (
+        "vcc: the vector has 00cb, the definitions give 00c3",
+        "compare.3 is 0 after it",
+    ),
+    ("VADD", "a3", "ffff001f0002"): (
+        "a3: the vector has ffff001f0002, the definitions give ffff001f0001",
+        "a3 is ffff001f0001 after it",
+    ),
+}
+
+
+@pytest.mark.parametrize("spoilt", SPOILT, ids=" ".join)
+def test_command_that_explains(spoilt: Tuple[str, str, str], folder: Path) -> None:
+    """The first lane that differs is named, and the next line is a command that explains this value."""
+    name, key, wrong = spoilt
+    said, why = SPOILT[spoilt]
+    case: Dict[str, Any] = json.loads(vectors(name)[0])
+    case["after"][key] = wrong
+    (folder / "steps.jsonl").write_text(json.dumps(case))
+    first, second, _ = run("tools/define", "steps", folder / "steps.jsonl").stdout.splitlines()
+    assert first == f"{case['name']} ({case['text']}), {said}"
+    command, _, rest = second.strip().partition(" explains ")
+    assert rest == "what the definitions give"
+    assert succeeds(*command.split()).startswith(f"{case['text']}: {why}")
 
 
 @pytest.mark.parametrize("case", CASES, ids=str)

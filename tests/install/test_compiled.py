@@ -210,6 +210,19 @@ def test_sources_that_are_changed(stranger: User) -> None:
         assert prints(stranger, f"CC=false {FIRST}") == REPLIES
 
 
+def test_change_that_is_committed(stranger: User) -> None:
+    """git status doesn't show it, so the message names a commit that can be built. A change that isn't
+    committed can be put aside."""
+    commit = "git -c user.name=me -c user.email=me@example.org commit -qam more"
+    prints(stranger, f"git clone -q . ~/committed && cd ~/committed && echo >>{SOURCE} && {commit}")
+    said = stranger.types(f"cd ~/committed && {FIRST}").stderr
+    (command,) = re.findall(r"(?m)^  (git .*)$", said)
+    assert prints(stranger, f"cd ~/committed && {command} 2>&1 && {FIRST}").endswith(REPLIES)
+    said = stranger.types(f"cd ~/committed && echo >>{SOURCE} && {FIRST}").stderr
+    command = re.findall(r"(?m)^  (git .*?)   ", said)[-1]
+    assert prints(stranger, f"cd ~/committed && {command} && {FIRST}").endswith(REPLIES)
+
+
 def test_work_tree_is_clean_afterwards(stranger: User) -> None:
     """And its line ends are those of the commit, though core.autocrlf is set."""
     assert prints(stranger, "git status --porcelain") == ""

@@ -61,6 +61,7 @@ def installed(stranger: User) -> User:
     return stranger
 
 
+@pytest.mark.timeout(900)  # a block of CONTRIBUTING builds all crates
 @pytest.mark.parametrize("block", typed_blocks(), ids=str)
 def test_block(installed: User, block: Block) -> None:
     """Each block of a page that is marked as run. `rsp` is that of the clone."""

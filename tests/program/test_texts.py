@@ -259,7 +259,8 @@ def test_explanation(refusal: List[str], rsp: Any, folder: Path) -> None:
     expected += f"  {advice}\n".replace(" / ", "\n       ") if advice != "-" else ""
     result = rsp("asm", "text", "made", *at, "--explain")
     assert result[:2] == (1, b"") and result.errors.startswith(expected.encode())
-    assert re.fullmatch(OTHER_OPERANDS, result.errors[len(expected) :].decode())
+    rest = result.errors[len(expected) :].decode()
+    assert re.fullmatch(OTHER_OPERANDS, rest), f"{expected}is expected, and after it was said:\n{rest}"
 
 
 # The lines of SEVERAL that `--explain` names: the head of each fault, the numbers of the operands at fault,

@@ -154,7 +154,7 @@ def test_program_that_is_not_built(folder: Path) -> None:
     (folder / "rsp").write_text("#!/bin/sh\necho first >&2\necho no space >&2\nexit 1\n")
     (folder / "rsp").chmod(0o755)
     ended = run(TOP / "conformance/run", "--program", folder / "rsp")
-    why = f"run: {folder}/rsp doesn't run scripts as rsp does: it answers `pc 0` by b''\n"
+    why = f"run: {folder}/rsp isn't built, or doesn't begin: it ended with status 1 and no reply\n"
     assert (ended.returncode, ended.stdout) == (1, f"first\nno space\n{why}")
 
 

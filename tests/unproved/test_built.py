@@ -41,8 +41,9 @@ def proved_files() -> List[Tuple[str, int]]:
 def built() -> Path:
     need(*NEEDED)
     before = proved_files()
-    succeeds(UNPROVED, "build", *HOW, timeout=1400)
+    said = succeeds(UNPROVED, "build", *HOW, timeout=1400).splitlines()[-1]
     assert proved_files() == before
+    assert said == "UNPROVED: out/unproved/rsp-unproved, out/unproved/libbrsp-unproved.so and .a"
     return OUT
 
 
@@ -61,6 +62,15 @@ def test_tests_of_crates(built: Path) -> None:
     counts = re.findall(r"test result: ok\. (\d+) passed; 0 failed", output)
     written = [path.read_text().count("#[test]") for path in (TOP / "crates").glob("*/src/**/*.rt")]
     assert sum(map(int, counts)) == sum(written) > 0
+
+
+def test_crate_without_tests() -> None:
+    """It is refused, because cargo calls no tests `ok`, and the crates with tests are named."""
+    texts = {path: path.read_text() for path in (TOP / "crates").glob("*/src/**/*.rt")}
+    having = {path.relative_to(TOP).parts[1] for path, text in texts.items() if "#[test]" in text}
+    ended = run(UNPROVED, "test", "rsp_lanes", "rsp_compare")
+    named = re.fullmatch(r"unproved: no test is in rsp_compare, only in (.*)\.\n", ended.stdout)
+    assert ended.returncode == 1 and named and {*named[1].split(", ")} == having
 
 
 def test_vectors(built: Path) -> None:
@@ -113,10 +123,12 @@ def cargo(library: Path) -> Iterator[Any]:
 
 
 @pytest.mark.needs("rustfmt")
-def test_core_is_written(folder: Path) -> None:
-    """The modules of rsp-core are those that the crates give."""
+def test_core_is_written(folder: Path, capsys: Any) -> None:
+    """The modules of rsp-core are those that the crates give, and their number is printed."""
     core = shutil.copytree(crate.CORE, folder / "core", ignore=shutil.ignore_patterns("target"))
     crate.write(core)
+    count = sum(len([*(core / "src" / it).rglob("*.rs")]) for it in crate.MODULES) + 1  # simd.rs
+    assert capsys.readouterr().out == f"UNPROVED: {count} files in {core}/src\n"
     shown = subprocess.run(
         ["diff", "-r", "-x", "target", "-x", "Cargo.lock", crate.CORE, core], stdout=subprocess.PIPE
     )
@@ -154,16 +166,31 @@ def test_core_in_a_campaign(cargo: Any, folder: Path) -> None:
     assert_lanes_agree(core)
 
 
-@pytest.mark.parametrize(
-    "version, said", [("", "there is no cargo: install Rust 1.88"), ("1.65.0", "too old")]
-)
-def test_other_cargo(version: str, said: str, folder: Path) -> None:
-    """A machine without cargo, or with one of other days."""
+OLD_CARGO = "echo cargo 1.65.0"
+NO_TOOLCHAIN = "echo error: no default >&2; echo 'help: run rustup default stable.' >&2; exit 1"
+NO_NETWORK = """
+case $1 in --version) echo "${0##*/} 1.95.0" && exit ;; esac
+echo "error: no matching package named x"
+exit 101
+"""
+OTHER_CARGOS = {
+    "": "unproved: there is no cargo: install Rust 1.88 or later: rustup.rs has it, .* cargo-web and .*\\n",
+    OLD_CARGO: "unproved: `cargo --version` says 'cargo 1.65.0', which is too old .* cargo-web and .*\\n",
+    NO_TOOLCHAIN: r"unproved: `cargo --version` fails: help: run rustup default stable\.\n",
+    NO_NETWORK: r".*\nunproved: cargo can't get a crate: without crates.io add --debian\.\n",
+}
+
+
+@pytest.mark.needs("/usr/share/cargo/registry/memchr-*")
+@pytest.mark.parametrize("script", OTHER_CARGOS, ids=("none", "old", "no toolchain", "no network"))
+def test_other_cargo(script: str, folder: Path) -> None:
+    """A machine without cargo, with one of other days, with rustup's and no toolchain, or no network."""
     for tool in "sh", "dirname", "readlink", "python3", "git":
         (folder / tool).symlink_to(str(shutil.which(tool, path="/usr/bin:/bin")))
-    if version:
-        (folder / "cargo").write_text(f"#!/bin/sh\necho cargo {version}\n")
-        (folder / "cargo").chmod(0o755)
+    for tool in ("cargo", "rustc") if script else ():
+        (folder / tool).write_text(f"#!/bin/sh\n{script}\n")
+        (folder / tool).chmod(0o755)
     ended = run(UNPROVED, env={**os.environ, "PATH": str(folder)})
-    assert ended.returncode == 1 and said in ended.stdout and "cargo-web" in ended.stdout
-    assert ended.stdout.count("\n") == 1
+    assert ended.returncode == 1 and re.fullmatch(
+        OTHER_CARGOS[script], ended.stdout.strip("\n") + "\n"
+    ), ended.stdout

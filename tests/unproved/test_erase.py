@@ -82,9 +82,9 @@ def test_message(folder: Path) -> None:
     lines = source.read_text().split("\n")
     lines.append("fn wrong() -> u8 { true }")
     source.write_text("\n".join(lines))
-    ended = run(top / "tools/unproved", "test", "--debian", "rsp_numbers")
+    ended = run(top / "tools/unproved", "test", "--debian", "rsp_lanes")
     assert ended.returncode == 1 and f"--> crates/rsp_numbers/src/sign.rt:{len(lines)}:20" in ended.stdout
     source.write_text("\nghost x;\n")
-    ended = run(top / "tools/unproved", "test", "--debian", "rsp_numbers")
+    ended = run(top / "tools/unproved", "test", "--debian", "rsp_lanes")
     said = "unproved: crates/rsp_numbers/src/sign.rt:2: the eraser doesn't know this form of `ghost`.\n"
     assert (ended.returncode, ended.stdout) == (1, said)

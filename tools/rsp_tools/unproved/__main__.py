@@ -2,7 +2,7 @@
 
 build             out/unproved/rsp-unproved, and libbrsp-unproved.so and .a there; also without a COMMAND
 run [WORD..]      builds the program, and runs it with these words, such as `run run SCRIPT`
-test [CRATE..]    runs the crates' own tests
+test [CRATE..]    runs the tests in the crates, few of which have any
 crate             writes library/rsp-core, the emulator as one crate for Rust
 
 --checked   optimized, and each overflow ends the program
@@ -20,7 +20,9 @@ import shutil
 import sys
 from typing import List
 
-from rsp_tools.unproved import OUT, crate, workspace
+from rsp_tools import TOP
+from rsp_tools.crates import LINES
+from rsp_tools.unproved import OUT, crate, stop, workspace
 from rsp_tools.unproved.cargo import Cargo
 from rsp_tools.unproved.link import link_library
 
@@ -33,6 +35,8 @@ def build(cargo: Cargo) -> None:
     made = OUT / "target" / cargo.profile
     link_library(made / "librsp_c.a")
     place(made / "rsp_main")
+    at = OUT.relative_to(TOP)
+    print(f"UNPROVED: {at}/rsp-unproved, {at}/libbrsp-unproved.so and .a")
 
 
 def place(program: "os.PathLike[str]") -> None:
@@ -46,6 +50,10 @@ def run(cargo: Cargo, words: List[str]) -> None:
     cargo.run("build", "-p", "rsp_main", "--quiet")
     place(OUT / "target" / cargo.profile / "rsp_main")
     os.execv(OUT / "rsp-unproved", [str(OUT / "rsp-unproved"), *words])
+
+
+def has_tests(name: str) -> bool:
+    return any("#[test]" in path.read_text() for path in workspace.sources(name))
 
 
 def test(cargo: Cargo, crates: List[str]) -> None:
@@ -64,6 +72,8 @@ def main(words: List[str]) -> None:
         sys.exit(0 if wanted else 2)
     if command == "crate":
         return crate.write()
+    if command == "test" and (without := [it for it in words if not has_tests(it)]):
+        stop(f"no test is in {' or '.join(without)}, only in {', '.join(filter(has_tests, LINES))}")
     profile = next((OPTIONS[it] for it in options if OPTIONS[it]), "quick")
     OUT.mkdir(parents=True, exist_ok=True)
     with open(OUT / "lock", "w") as lock:  # two runs at once take turns; what `run` becomes holds no lock

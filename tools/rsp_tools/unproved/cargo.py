@@ -15,7 +15,6 @@ from rsp_tools.unproved.workspace import VERSIONS
 OLDEST = (1, 88)  # the first whose `if` takes `let` among conditions
 RUST = "Rust 1.88 or later: rustup.rs has it, and Debian's packages cargo-web and rustc-web"
 DEBIAN = Path("/usr/share/cargo/registry")
-PACKAGES = " ".join(f"librust-{it}-dev" for it in VERSIONS)
 # What cargo says if it can't get a crate.
 MISSING = re.compile(
     r"no matching package named|failed to select a version|[uU]nable to update|can't (update|checkout)"
@@ -32,12 +31,21 @@ def output_of(*words: object) -> str:
     return ended.stdout.strip() if ended.returncode == 0 else ""
 
 
+def version_of(tool: str) -> str:
+    """What `TOOL --version` prints. It refuses one that fails, such as rustup's without a toolchain."""
+    ended = subprocess.run([tool, "--version"], capture_output=True, text=True, cwd=TOP)
+    if ended.returncode:
+        said = ended.stderr.strip().splitlines() or [f"status {ended.returncode}"]
+        stop(f"`{tool} --version` fails: {said[-1].rstrip('.')}")
+    return ended.stdout.strip()
+
+
 def rustc() -> str:
     """The version of rustc, such as `rustc 1.95.0 (59807616e 2026-04-14)`. It refuses one that is too old."""
     for tool in "cargo", "rustc":
         if not shutil.which(tool):
             stop(f"there is no {tool}: install {RUST}")
-        said = output_of(tool, "--version")
+        said = version_of(tool)
         number = re.match(rf"{tool} (\d+)\.(\d+)", said)
         if not number or tuple(map(int, number.groups())) < OLDEST:
             stop(f"`{tool} --version` says {said!r}, which is too old or no version: install {RUST}")
@@ -51,10 +59,15 @@ def commit() -> str:
     return f", commit {name}{' with changes' * bool(changed)}" if name else ""
 
 
+def missing_packages() -> str:
+    """Those of Debian's packages that aren't installed."""
+    return " ".join(f"librust-{it}-dev" for it in VERSIONS if not any(DEBIAN.glob(f"{it}-[0-9]*")))
+
+
 def words_of_debian() -> List[str]:
     """cargo's words for Debian's crates in place of those of crates.io."""
-    if not (DEBIAN / f"byteorder-{VERSIONS['byteorder']}").parent.is_dir():
-        stop(f"{DEBIAN} isn't there: install Debian's packages {PACKAGES}")
+    if packages := missing_packages():
+        stop(f"{DEBIAN} lacks crates: install Debian's packages {packages}")
     replaced = 'source.crates-io.replace-with="debian"', f'source.debian.directory="{DEBIAN}"'
     return ["--offline", *(word for it in replaced for word in ("--config", it))]
 
@@ -99,7 +112,9 @@ class Cargo:
                 printed.append(re.sub(r"\b(crates/rsp_\w+/src/[\w/]+)\.rs\b", r"\1.rt", line))
                 print(printed[-1], end="", file=sys.stderr, flush=True)
         if ran.returncode and MISSING.search("".join(printed)):
-            stop(f"cargo can't get a crate: without crates.io install Debian's {PACKAGES}, and add --debian")
+            packages = missing_packages()
+            advice = f"install Debian's packages {packages}, and add --debian" if packages else "add --debian"
+            stop(f"cargo can't get a crate: without crates.io {advice}")
         if ran.returncode:
             sys.exit(1)
         return "".join(printed)

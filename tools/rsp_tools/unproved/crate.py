@@ -110,3 +110,4 @@ def write(core: Path = CORE) -> None:
         stop("there is no rustfmt (Debian's package rustfmt-web)")
     if ended.returncode:
         stop("rustfmt refuses what is written")
+    print(f"UNPROVED: {len(made)} files in {core}/src")
