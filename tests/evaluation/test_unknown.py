@@ -168,8 +168,9 @@ LANES_TEXT = (TOP / "examples/hdl/lanes.sv").read_text()
 @pytest.mark.needs("yosys")
 @pytest.mark.timeout(3600)
 def test_lanes() -> None:
-    """All rules of lanes.sv, and its divides."""
-    said = succeeds("tools/define", "prove", FORMULAS, "--top", "lane", LANES, stderr=None, timeout=3500)
+    """All rules of lanes.sv, and its divides. On a busy machine some take longer than a user waits."""
+    words = ("prove", FORMULAS, "--top", "lane", LANES, "--seconds", 900)
+    said = succeeds("tools/define", *words, stderr=None, timeout=3500)
     assert said.endswith("43 proved, 0 failed\n")
 
 
