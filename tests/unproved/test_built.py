@@ -176,7 +176,7 @@ exit 101
 OTHER_CARGOS = {
     "": "unproved: there is no cargo: install Rust 1.88 or later: rustup.rs has it, .* cargo-web and .*\\n",
     OLD_CARGO: "unproved: `cargo --version` says 'cargo 1.65.0', which is too old .* cargo-web and .*\\n",
-    NO_TOOLCHAIN: r"unproved: `cargo --version` fails: help: run rustup default stable\.\n",
+    NO_TOOLCHAIN: r"unproved: `cargo --version` fails: error: no default; help: run rustup default .*\n",
     NO_NETWORK: r".*\nunproved: cargo can't get a crate: without crates.io add --debian\.\n",
 }
 

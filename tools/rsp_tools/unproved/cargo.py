@@ -35,8 +35,8 @@ def version_of(tool: str) -> str:
     """What `TOOL --version` prints. It refuses one that fails, such as rustup's without a toolchain."""
     ended = subprocess.run([tool, "--version"], capture_output=True, text=True, cwd=TOP)
     if ended.returncode:
-        said = ended.stderr.strip().splitlines() or [f"status {ended.returncode}"]
-        stop(f"`{tool} --version` fails: {said[-1].rstrip('.')}")
+        said = [line.rstrip(".") for line in ended.stderr.splitlines()] or [f"status {ended.returncode}"]
+        stop(f"`{tool} --version` fails: {'; '.join(said[:2])}")  # an error and a help, before a trace
     return ended.stdout.strip()
 
 

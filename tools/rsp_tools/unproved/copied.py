@@ -1,4 +1,4 @@
-"""tests/all --unproved [WORD..]: all tests, on the program and the library that tools/unproved builds.
+"""tests/all --unproved [--debian] [WORD..]: all tests, on what tools/unproved builds.
 
 They run in out/unproved/clone, a copy of this clone as it is, in which what tools/unproved has built lies
 where the proved program and library would. So nothing unproved gets into the clone, and nothing there has a
@@ -62,13 +62,14 @@ def place_built() -> None:
 
 
 def main(words: List[str]) -> None:
-    debian = ["--debian"] if Path(OUT / "debian").exists() else []
+    debian = ["--debian"] if "--debian" in words or Path(OUT / "debian").exists() else []
     if subprocess.run([TOP / "tools/unproved", "build", *debian]).returncode:
         sys.exit(1)
     copy_clone()
     place_built()
     os.chdir(COPY)
-    os.execve("tests/all", ["tests/all", *words], {**os.environ, "RSP_UNPROVED": str(OUT)})
+    tests = ["tests/all", *(it for it in words if it != "--debian")]
+    os.execve("tests/all", tests, {**os.environ, "RSP_UNPROVED": str(OUT)})
 
 
 main(sys.argv[1:])
