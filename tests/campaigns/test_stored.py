@@ -1,6 +1,7 @@
 """Test vectors in a campaign (--stored): each kind of adapter runs their cases and programs."""
 
 import re
+import shlex
 from pathlib import Path
 
 import pytest
@@ -79,7 +80,6 @@ def test_fault(name: str, word: str, folder: Path) -> None:
 
 
 def test_instruction_that_is_missing(folder: Path) -> None:
-    output = output_of(
-        folder, f"node {TOP}/examples/js/cases.mjs", "--stored", VECTORS, "--instructions", "vadd,sra"
-    )
+    node = shlex.join(["node", str(TOP / "examples/js/cases.mjs")])  # a path that may have a blank
+    output = output_of(folder, node, "--stored", VECTORS, "--instructions", "vadd,sra")
     assert f"VADD ({COUNTS['vadd'][0]} of {COUNTS['vadd'][0]} cases)" in output

@@ -31,7 +31,7 @@ pytestmark = pytest.mark.needs("/usr/lib/python3/dist-packages/z3")
 STEPS = sorted(path.stem for path in TOP.glob("conformance/vectors/steps/*.jsonl"))
 FORMULAS = "definitions/lane.sv"
 UNIT = (TOP / FORMULAS).read_text()
-LANES = f"--include={TOP}/examples/hdl"
+LANES = "--include=examples/hdl"
 LANE_RULES = 36
 
 

@@ -13,7 +13,7 @@ import pytest
 from lib import TOP
 from lib.processes import run, succeeds
 from rsp_tools.shapes import files, stale
-from rsp_tools.shapes.header import HELPERS
+from rsp_tools.shapes.header import DMAS, HELPERS
 from rsp_tools.shapes.methods import HEADER, REFUSALS
 
 # The files that declare what there is. The others are made of the calls alone.
@@ -38,7 +38,7 @@ def copy_with(folder: Path, changes: Dict[str, Tuple[str, str]]) -> None:
     """Copies what the command reads and writes, with these changes."""
     for name in ("tools", *(f"crates/{crate}/{part}" for crate in READ for part in ("src", "specs"))):
         shutil.copytree(TOP / name, folder / name)
-    for name in (HEADER, HELPERS, REFUSALS, *files()):
+    for name in (HEADER, HELPERS, DMAS, REFUSALS, *files()):
         (folder / name).parent.mkdir(parents=True, exist_ok=True)
         shutil.copy(TOP / name, folder / name)
     for name, (old, new) in changes.items():

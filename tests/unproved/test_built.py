@@ -100,7 +100,7 @@ def assert_lanes_agree(emulator: Path) -> None:
     """The same of batches of lanes (conformance/every)."""
     env = {**os.environ, "PATH": f"{Path(sys.executable).parent}:{os.environ['PATH']}"}
     output = succeeds(CAMPAIGN.parent / "every", emulator, "vcl", "--edges", "--jobs", 1, env=env)
-    assert re.search(r"(?m)^VCL +edges +all 58720256 +none differs", output), output
+    assert re.search(r"(?m)^VCL +edges +all 7 x 2\^23 +none differs", output), output
 
 
 @pytest.mark.needs("python:numpy")
