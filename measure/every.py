@@ -19,12 +19,8 @@ from typing import Any, Callable, Dict, List, Tuple
 from rsp_conformance import TOP
 from rsp_conformance.campaign import CampaignFault
 from rsp_conformance.campaign.build import library_object
-from rsp_conformance.campaign.generator import memories_of
-from rsp_conformance.campaign.stated import MEMORIES
-from rsp_conformance.every import build, report
+from rsp_conformance.every import build
 from rsp_conformance.every.__main__ import Progress, commit
-from rsp_conformance.every.plan import WORDS, tests_of
-from rsp_conformance.every.processes import Emulator, Run, ordered
 from rsp_conformance.table import ROWS
 from rsp_tools.targets import TARGETS
 
@@ -92,6 +88,12 @@ SYSTEMS: Dict[str, Callable[[Path], Tuple[List[str], str]]] = {
 
 def lines_of(system: str, args: argparse.Namespace, folder: Path) -> List[Dict[str, Any]]:
     """Runs the tests of a system, and prints what they found."""
+    from rsp_conformance.campaign.generator import memories_of  # here, because these need numpy
+    from rsp_conformance.campaign.stated import MEMORIES
+    from rsp_conformance.every import report
+    from rsp_conformance.every.plan import WORDS, tests_of
+    from rsp_conformance.every.processes import Emulator, Run, ordered
+
     program, library = SYSTEMS[system](folder)
     run = Run(program, Emulator(library, "", True), memories_of(*MEMORIES).tobytes())
     run.patience = 600.0
@@ -102,11 +104,15 @@ def lines_of(system: str, args: argparse.Namespace, folder: Path) -> List[Dict[s
     run.run(jobs, args.jobs, time.time() + args.limit, Progress(jobs, args.jobs).update)
     for line in report.found_lines(system, tests, run.outcomes):
         print(line)
-    return report.table_of(tests, run.outcomes)
+    table = report.table_of(tests, run.outcomes)
+    print(f"{system}: {report.summary(table)}", flush=True)
+    return table
 
 
 def written(system: str, lines: List[Dict[str, Any]]) -> None:
     """Puts the lines of a system into the table."""
+    from rsp_conformance.every import report
+
     first, *rows = report.tsv(lines, system, commit()).splitlines()
     old = TABLE.read_text().splitlines()[1:] if TABLE.exists() else []
     kept = [row for row in old if row.partition("\t")[0] != system]
@@ -130,7 +136,6 @@ def main() -> int:
     for system in args.systems or SYSTEMS:
         with tempfile.TemporaryDirectory() as folder:
             lines = lines_of(system, args, Path(folder))
-        print(f"{system}: {report.summary(lines)}", flush=True)
         differs |= any(line["differ"] or line["faults"] for line in lines)
         if args.write:
             written(system, lines)
